@@ -1,0 +1,80 @@
+-- What clap's answer says of a command line.
+use Rattle.std.proofs.Common.{◌≡◌, ◌≤◌, ◌∙◌, true, List, [], ◌∷◌, length, refl, sym, ap, inl, inr, arith}
+use Rattle.std.specs.Prelude.{◌≢◌, Option, None, codes}
+use Rattle.clap.specs.Words.{App, HasKind, HasMatchesOf, IsAmong, Kinds, Row, Text, fault_of, first_of, first_value, found_of, is_simple, is_simple_and_free, kind_of, matches_of, rows_of}
+use Rattle.clap.proofs.WalkLemmas.{first_value-rows}
+use Rattle.clap.specs.declared.error.kind.ErrorKind.{ErrorKind}
+use Rattle.clap.specs.declared.error.kind.ErrorKind.TheVariants as kind
+use Rattle.clap.specs.declared.error.Error.{Error}
+use Rattle.clap.specs.declared.parser.matches.ArgMatches.{ArgMatches}
+use Rattle.napt.specs.CommandLine.{files, files_in, help, line_by, line_of_words, mistake, napt_app}
+use Rattle.napt.proofs.OneKind.{one_fault}
+
+pub napt_is_simple : is_simple napt_app ≡ true
+napt_is_simple = refl
+
+pub napt_is_free : is_simple_and_free napt_app ≡ true
+napt_is_free = refl
+
+one_napt_fault : (words : List Text) → length (fault_of napt_app words) ≤ 1
+one_napt_fault words = one_fault napt_app refl refl words
+
+-- a line of which clap finds no fault gives its files
+pub taken_line : (app : App) (words : List Text) (m : ArgMatches) → app ≡ napt_app → HasMatchesOf app words m
+    → (is_simple_and_free app ≡ true → fault_of app words ≡ [])
+    → line_of_words words ≡ files (files_in (rows_of (found_of m)))
+unfolding line_of_words
+taken_line app words m is matches none =
+    let free : is_simple_and_free app ≡ true = ap is_simple_and_free is ∙ napt_is_free in
+    let simple : is_simple app ≡ true = ap is_simple is ∙ napt_is_simple in
+    let no_fault : fault_of napt_app words ≡ [] = ap (λ (a : App). fault_of a words) (sym is) ∙ none free in
+    let rows : rows_of (found_of m) ≡ matches_of napt_app words = (matches simple).0 ∙ ap (λ (a : App). matches_of a words) is in
+    rw (no_fault, rows) refl
+
+-- a list of one kind at most, with this kind among them, is this kind alone
+only_kind : (k : ErrorKind) (kinds : Kinds) → length kinds ≤ 1 → IsAmong k kinds → kinds ≡ k ∷ []
+only_kind k [] h among = absurd among
+only_kind k (x ∷ []) h (inl e) = ap (λ y. y ∷ []) (sym e)
+only_kind k (x ∷ []) h (inr among) = absurd among
+only_kind k (x ∷ y ∷ more) h among = absurd (omega arith)
+
+fault_is : (app : App) (words : List Text) (e : Error) → app ≡ napt_app
+    → (is_simple_and_free app ≡ true → HasKind (fault_of app words) e) → kind_of e ≢ kind.OutOfMemory
+    → fault_of napt_app words ≡ kind_of e ∷ []
+fault_is app words e is fails memory = go (fails (ap is_simple_and_free is ∙ napt_is_free))
+  where
+    go : HasKind (fault_of app words) e → fault_of napt_app words ≡ kind_of e ∷ []
+    go (inl m) = absurd (memory m)
+    go (inr among) = only_kind (kind_of e) (fault_of napt_app words) (one_napt_fault words) (rw is at among)
+
+-- a line at which clap shows its help asks for it
+pub help_line : (app : App) (words : List Text) (e : Error) → app ≡ napt_app
+    → (is_simple_and_free app ≡ true → HasKind (fault_of app words) e) → kind_of e ≡ kind.DisplayHelp
+    → line_of_words words ≡ help
+unfolding line_of_words
+help_line app words e is fails shown =
+    let only = fault_is app words e is fails (λ m. cc) in
+    rw (only, shown) refl
+
+mistake_by : (k : ErrorKind) (rows : List Row) → k ≢ kind.DisplayHelp → line_by (k ∷ []) rows ≡ mistake
+mistake_by kind.DisplayHelp rows h = absurd (h refl)
+mistake_by _ rows h = refl
+
+-- and one that it refuses for another cause than memory is a mistake
+pub mistaken_line : (app : App) (words : List Text) (e : Error) → app ≡ napt_app
+    → (is_simple_and_free app ≡ true → HasKind (fault_of app words) e) → kind_of e ≢ kind.DisplayHelp → kind_of e ≢ kind.OutOfMemory
+    → line_of_words words ≡ mistake
+unfolding line_of_words
+mistaken_line app words e is fails shown memory =
+    rw (fault_is app words e is fails memory) (mistake_by (kind_of e) (matches_of napt_app words) shown)
+
+-- the files of the matches, as `get_str` reads them
+pub files_read : (m : ArgMatches) (config inside to_outside : Option Text)
+    → config ≡ first_value (found_of m) (codes "config") → inside ≡ first_value (found_of m) (codes "inside")
+    → to_outside ≡ first_value (found_of m) (codes "to-outside")
+    → files_in (rows_of (found_of m))
+    ≡ record { config = config; inside = inside; outside = None; to_outside = to_outside; to_inside = None; report = None }
+files_read m config inside to_outside a b c =
+    let read : (name : Text) → first_of name (rows_of (found_of m)) ≡ first_value (found_of m) name =
+    λ name. sym (first_value-rows (found_of m) name) in
+    rw (read (codes "config"), read (codes "inside"), read (codes "to-outside"), a, b, c) refl

@@ -1,0 +1,75 @@
+-- What a command line means, by what clap makes of its words.
+use Rattle.std.specs.Prelude.{List, [], ◌∷◌, Option, Some, None, codes, option_map, string_bytes}
+use Rattle.clap.specs.Words.{App, Kinds, Row, Rule, Text, fault_of, first_of, matches_of, new_app, new_rule, with_rule}
+use Rattle.clap.specs.declared.builder.action.ArgAction.TheVariants.{Set}
+use Rattle.clap.specs.declared.error.kind.ErrorKind.TheVariants.{DisplayHelp}
+use Rattle.napt.specs.declared.options.Options.{Options}
+use Rattle.napt.specs.declared.options.LineFault.{LineFault}
+use Rattle.napt.specs.declared.options.LineFault.TheVariants.{Help}
+
+-- `--name FILE`: a plain option that takes one value
+abbrev pub file_option : Text → Rule
+file_option name =
+    record (new_rule name) { long = Some name; action = Some Set; value_names = 1 }
+
+-- the command with an option for each name
+abbrev pub with_options : App → List Text → App
+with_options a [] = a
+with_options a (name ∷ more) = with_options (with_rule a (file_option name)) more
+
+abbrev pub option_names : List Text
+option_names = codes "config" ∷ codes "inside" ∷ codes "to-outside" ∷ []
+
+-- the program's command; clap adds `-h` and `--help` to it
+abbrev pub napt_app : App
+napt_app = with_options (new_app (codes "napt")) option_names
+
+-- the file that each option names
+pub record Files : Type 0 where
+  pub config : Option Text
+  pub inside : Option Text
+  pub outside : Option Text
+  pub to_outside : Option Text
+  pub to_inside : Option Text
+  pub report : Option Text
+
+abbrev pub files_of : Options → Files
+files_of o = record {
+  config = option_map string_bytes o.config;
+  inside = option_map string_bytes o.inside;
+  outside = option_map string_bytes o.outside;
+  to_outside = option_map string_bytes o.to_outside;
+  to_inside = option_map string_bytes o.to_inside;
+  report = option_map string_bytes o.report;
+}
+
+-- the values in clap's matches; three options are not known yet
+abbrev pub files_in : List Row → Files
+files_in rows = record {
+  config = first_of (codes "config") rows;
+  inside = first_of (codes "inside") rows;
+  outside = None;
+  to_outside = first_of (codes "to-outside") rows;
+  to_inside = None;
+  report = None;
+}
+
+-- what a command line comes to: files, a wish for help, or a mistake
+pub data Line : Type 0 where
+  files : Files → Line
+  help : Line
+  mistake : Line
+
+-- clap finds no fault in words that it takes, and shows its help as a fault of that kind
+abbrev pub line_by : Kinds → List Row → Line
+line_by [] rows = files (files_in rows)
+line_by (DisplayHelp ∷ more) rows = help
+line_by (other ∷ more) rows = mistake
+
+-- the words begin with the program's name
+unfoldable pub line_of_words : List Text → Line
+line_of_words words = line_by (fault_of napt_app words) (matches_of napt_app words)
+
+abbrev pub IsHelp : LineFault → Type 0
+IsHelp (Help text) = Unit {0}
+IsHelp _ = ⊥

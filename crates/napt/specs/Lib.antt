@@ -1,0 +1,4 @@
+pub mod CommandLine
+pub mod Stop
+pub mod Outgoing
+pub mod FirstRun

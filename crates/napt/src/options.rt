@@ -1,0 +1,159 @@
+//! The command line: which files the program reads and writes.
+ghost use Rattle.std.specs.Prelude.{◌≡◌, ◌≢◌, IfErr, IfOk, false, map, option_map, string_bytes};
+ghost use Rattle.clap.specs.Words.{app_of, first_value, found_of, kind_of, rule_of};
+ghost use Rattle.napt.specs.CommandLine.{IsHelp, file_option, files, files_of, help, line_of_words, mistake, napt_app};
+
+use clap::error::ErrorKind;
+use clap::{Arg, ArgAction, ArgMatches, Command, Error};
+use std::alloc::{AllocError, Global};
+
+const ABOUT: &str = "Network address and port translation for IPv4: reads a capture of the packets \
+that inside hosts send, and writes the capture of what leaves for the outside, with external \
+addresses and ports as sources.";
+
+const NOTES: &str = "Example:
+  napt --config napt.toml --inside inside.pcap --to-outside outside.pcap
+
+Exit status:
+  0  done
+  2  the command line is not understood
+  3  the configuration is refused
+  4  a capture is refused or cannot be read
+  5  the run failed, as for want of memory
+  6  a file cannot be opened, created or written
+
+With a status other than 0 one line on standard error says what is wrong.";
+
+// The options, each with its meaning, in the order of the help text.
+const OPTIONS: [(&str, &str); 3] = [
+    (
+        "config",
+        "Configuration in TOML [default: the built-in configuration]",
+    ),
+    (
+        "inside",
+        "Capture of what inside hosts send [default: standard input]",
+    ),
+    (
+        "to-outside",
+        "Capture of what leaves for the outside [default: standard output]",
+    ),
+];
+
+/// The file that each option names, `None` where the option is absent.
+#[derive(Debug, PartialEq, Eq, Drop)]
+pub struct Options {
+    /// The configuration; absent, the built-in one.
+    pub config: Option<String>,
+    /// The capture of what inside hosts send; absent, standard input.
+    pub inside: Option<String>,
+    /// The capture of what comes from the outside. No option gives it yet.
+    pub outside: Option<String>,
+    /// The capture that goes to the outside; absent, standard output.
+    pub to_outside: Option<String>,
+    /// The capture that goes to inside hosts. No option gives it yet.
+    pub to_inside: Option<String>,
+    /// The report. No option gives it yet.
+    pub report: Option<String>,
+}
+
+/// Why a command line gives no options.
+#[derive(Debug, PartialEq, Eq, Drop)]
+pub enum LineFault {
+    /// Help is asked for: its text, for standard output, with status 0.
+    Help(String),
+    /// The words are not understood.
+    Usage,
+    /// Memory ran out.
+    Memory,
+}
+
+impl From<AllocError> for LineFault {
+    ghost use Rattle.napt.specs.declared.options.LineFault.TheVariants.{Memory};
+
+    ghost from_gives = { λ _ fault. fault ≡ Memory };
+
+    fn from(_error: AllocError) -> LineFault {
+        LineFault::Memory
+    }
+}
+
+/// Reads the words of the command line, the program's name first, as `clap` reads them.
+///
+/// Each option is a long one with one value, in the word after it or after `=`. It stands at most
+/// once. A value begins with `-` only where it is `-` alone, or follows `=`. `-h` and `--help` ask
+/// for help, and there is no `--version`. `Memory` may come in place of any other answer.
+pub fn parse_words(alloc: Global, words: Vec<String>) -> Result<Options, LineFault>
+    ensures ok { IfOk result (λ o. line_of_words (map string_bytes words.items) ≡ files (files_of o)) }
+    ensures help { IfErr result (λ fault. IsHelp fault
+        → line_of_words (map string_bytes words.items) ≡ help) }
+    ensures usage { result ≡ Err LineFault.Usage
+        → line_of_words (map string_bytes words.items) ≡ mistake }
+{
+    let command = napt_command(alloc)?;
+    match command.try_get_matches_from(words.as_slice()) {
+        Ok(matches) => Ok(Options {
+            config: value_of(alloc, &matches, "config")?,
+            inside: value_of(alloc, &matches, "inside")?,
+            outside: None,
+            to_outside: value_of(alloc, &matches, "to-outside")?,
+            to_inside: None,
+            report: None,
+        }),
+        Err(error) => Err(fault_of(alloc, &error)?),
+    }
+}
+
+fn napt_command<'a>(alloc: Global) -> Result<Command<'a>, AllocError>
+    ensures { IfOk result (λ command. app_of command ≡ napt_app) }
+{
+    let mut command = Command::new(alloc, "napt")
+        .bin_name("napt")?
+        .about(ABOUT)
+        .after_help(NOTES);
+    for (name, meaning) in OPTIONS {
+        command = command.arg(file_arg(alloc, name, meaning))?;
+    }
+    Ok(command)
+}
+
+// A plain option that takes the name of a file.
+fn file_arg<'a>(alloc: Global, name: &'a str, meaning: &'a str) -> Arg<'a>
+    ensures rule { rule_of result ≡ file_option name.entry.now }
+    ensures local { result.global ≡ false }
+{
+    Arg::new(alloc, name)
+        .long(name)
+        .action(ArgAction::Set)
+        .value_name("FILE")
+        .help(meaning)
+}
+
+fn value_of(
+    alloc: Global,
+    matches: &ArgMatches<'_>,
+    name: &str,
+) -> Result<Option<String>, AllocError>
+    ensures { IfOk result (λ value. option_map string_bytes value
+        ≡ first_value (found_of matches.now) name.now) }
+{
+    match matches.get_str(name) {
+        Some(text) => Ok(Some(String::from_str(alloc, text)?)),
+        None => Ok(None),
+    }
+}
+
+fn fault_of(alloc: Global, error: &Error) -> Result<LineFault, AllocError>
+    ensures help { IfOk result (λ fault. IsHelp fault → kind_of error.now ≡ ErrorKind.DisplayHelp) }
+    ensures usage { result ≡ Ok LineFault.Usage
+        → (kind_of error.now ≢ ErrorKind.DisplayHelp) × (kind_of error.now ≢ ErrorKind.OutOfMemory) }
+{
+    match error.kind() {
+        ErrorKind::DisplayHelp => Ok(LineFault::Help(error.to_string(alloc)?)),
+        ErrorKind::OutOfMemory => Ok(LineFault::Memory),
+        _ => Ok(LineFault::Usage),
+    }
+}
+
+#[cfg(test)]
+mod tests;

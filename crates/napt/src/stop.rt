@@ -1,0 +1,185 @@
+//! Why the program stops before it is done: the fault line for standard error and the exit status.
+ghost use Rattle.std.specs.Prelude.{◌≡◌, IfOk, Some, string_bytes};
+ghost use Rattle.napt.specs.Stop.{capture_name, config_name, fault_text, line_of, role_name, status_of, status_of_fault, stop_text};
+
+use napt_capture::{CaptureFault, WriteFault};
+use napt_config::ConfigFault;
+use std::alloc::{AllocError, Global};
+use std::fmt;
+
+/// A file of the command line, by its option.
+#[derive(Clone, Copy, Debug, PartialEq, Eq)]
+pub enum Role {
+    /// The configuration.
+    Config,
+    /// The capture of what inside hosts send.
+    Inside,
+    /// The capture of what comes from the outside.
+    Outside,
+    /// The capture that goes to the outside.
+    ToOutside,
+    /// The capture that goes to inside hosts.
+    ToInside,
+    /// The text that counts what became of the packets.
+    Report,
+}
+
+impl Role {
+    // The name of the file's option, without its dashes.
+    fn name(self) -> &'static str
+        ensures { result.now ≡ role_name self }
+    {
+        match self {
+            Role::Config => "config",
+            Role::Inside => "inside",
+            Role::Outside => "outside",
+            Role::ToOutside => "to-outside",
+            Role::ToInside => "to-inside",
+            Role::Report => "report",
+        }
+    }
+}
+
+/// The fault of a run over one capture.
+#[derive(Clone, Copy, Debug, PartialEq, Eq)]
+pub enum FirstFault {
+    /// The inside capture is refused, or a read of it failed.
+    Capture(CaptureFault),
+    /// Memory ran out.
+    Memory,
+    /// A write of the outside capture failed.
+    Write(WriteFault),
+}
+
+impl FirstFault {
+    fn status(self) -> u8
+        ensures { result ≡ status_of_fault self }
+    {
+        match self {
+            FirstFault::Capture(_) => 4,
+            FirstFault::Memory => 5,
+            FirstFault::Write(_) => 6,
+        }
+    }
+}
+
+/// Why the program stops with a status other than 0.
+#[derive(Clone, Copy, Debug, PartialEq, Eq)]
+pub enum Stop {
+    /// The command line is not understood.
+    Usage,
+    /// Memory ran out while the command line was read.
+    LineMemory,
+    /// The configuration is refused.
+    Config(ConfigFault),
+    /// The file cannot be opened or created, or the configuration cannot be read.
+    File(Role),
+    /// The run failed.
+    Run(FirstFault),
+}
+
+/// The exit status: 2 for the command line, 3 for the configuration, 4 for a capture, 5 for want
+/// of memory, and 6 for a file.
+pub fn stop_status(stop: &Stop) -> u8
+    ensures { result ≡ status_of stop.now }
+{
+    match stop {
+        Stop::Usage => 2,
+        Stop::LineMemory => 5,
+        Stop::Config(_) => 3,
+        Stop::File(_) => 6,
+        Stop::Run(fault) => fault.status(),
+    }
+}
+
+/// The fault line, without its line feed. Fails only where memory runs out.
+pub fn stop_line(alloc: Global, stop: &Stop) -> Result<String, AllocError>
+    ensures { IfOk result (λ line. string_bytes line ≡ line_of stop.now) }
+{
+    format!(in alloc; "napt: {stop}")
+}
+
+/// The fault line after the program's name, as `config timer-too-short`.
+impl fmt::Display for Stop {
+    ghost output = { λ stop. Some (stop_text stop) };
+
+    fn fmt<W: fmt::Write>(&self, f: &mut fmt::Formatter<W>) -> fmt::Result {
+        match self {
+            Stop::Usage => f.write_str("usage"),
+            Stop::LineMemory => f.write_str("run memory"),
+            Stop::Config(fault) => {
+                f.write_str("config ")?;
+                f.write_str(name_of_config_fault(*fault))
+            }
+            Stop::File(role) => {
+                f.write_str("file ")?;
+                f.write_str(role.name())
+            }
+            Stop::Run(fault) => write!(f, "{fault}"),
+        }
+    }
+}
+
+/// The fault line of a run after the program's name, as `capture inside bad-fraction 3`.
+impl fmt::Display for FirstFault {
+    ghost output = { λ fault. Some (fault_text fault) };
+
+    fn fmt<W: fmt::Write>(&self, f: &mut fmt::Formatter<W>) -> fmt::Result {
+        match self {
+            FirstFault::Capture(fault) => {
+                let name = CaptureFaultName(*fault);
+                write!(f, "capture inside {name}")
+            }
+            FirstFault::Memory => f.write_str("run memory"),
+            FirstFault::Write(_) => f.write_str("write to-outside"),
+        }
+    }
+}
+
+/// A capture's fault, shown by its name, and by its record's number where it has one.
+#[derive(Clone, Copy, Debug)]
+struct CaptureFaultName(CaptureFault);
+
+impl fmt::Display for CaptureFaultName {
+    ghost output = { λ name. Some (capture_name name.0) };
+
+    fn fmt<W: fmt::Write>(&self, f: &mut fmt::Formatter<W>) -> fmt::Result {
+        match self.0 {
+            CaptureFault::NoHeader => f.write_str("no-header"),
+            CaptureFault::BadMagic => f.write_str("bad-magic"),
+            CaptureFault::BadVersion => f.write_str("bad-version"),
+            CaptureFault::BadLink => f.write_str("bad-link"),
+            CaptureFault::BadFraction(record) => write!(f, "bad-fraction {record}"),
+            CaptureFault::TooLong(record) => write!(f, "too-long {record}"),
+            CaptureFault::TooLarge => f.write_str("too-large"),
+            CaptureFault::Read => f.write_str("read"),
+            CaptureFault::Memory => f.write_str("memory"),
+        }
+    }
+}
+
+fn name_of_config_fault(fault: ConfigFault) -> &'static str
+    ensures { result.now ≡ config_name fault }
+{
+    match fault {
+        ConfigFault::NotToml => "not-toml",
+        ConfigFault::UnknownKey => "unknown-key",
+        ConfigFault::Missing => "missing",
+        ConfigFault::BadShape => "bad-shape",
+        ConfigFault::TooMany => "too-many",
+        ConfigFault::BadAddress => "bad-address",
+        ConfigFault::BadPrefix => "bad-prefix",
+        ConfigFault::BadNumber => "bad-number",
+        ConfigFault::BadWord => "bad-word",
+        ConfigFault::DoubleAddress => "double-address",
+        ConfigFault::PoolInside => "pool-inside",
+        ConfigFault::DoublePair => "double-pair",
+        ConfigFault::NotInPool => "not-in-pool",
+        ConfigFault::NotInside => "not-inside",
+        ConfigFault::TimerTooShort => "timer-too-short",
+        ConfigFault::Memory => "memory",
+    }
+}
+
+#[cfg(test)]
+mod tests;

@@ -1,0 +1,6 @@
+mod AnAnswer
+mod OneAnswer
+mod Progress
+mod Puts
+mod Steps
+mod Written

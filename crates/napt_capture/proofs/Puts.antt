@@ -1,0 +1,118 @@
+-- Texts that are written one behind the other.
+use Rattle.std.proofs.Common.{◌≡◌, ℕ, ◌+◌, ◌*◌, ◌^◌, ◌<◌, ◌≤◌, List, [], ◌∷◌, ◌++◌, length, take, drop, get_or, All, Option, Result, Ok, Err, sym, ap, ◌∙◌, subst, arith, length-append, take_all, append_assoc, append-nil, take-append-drop}
+use Rattle.std.proofs.Math.Seq.{take-append-add}
+use Rattle.std.proofs.lemmas.List.{take-append-le, take_more}
+use Rattle.std.proofs.lemmas.List.Elements.{All-head, All-tail}
+use Rattle.std.proofs.lemmas.List.Concat.{flat_map-append}
+use Rattle.std.specs.List.{flat_map}
+use Rattle.std.specs.Io.KnownBytes.{Appends, Keeps}
+use Rattle.std.proofs.KnownBytes.{Appends-trans, Appends-kept}
+use Rattle.napt_capture.specs.declared.fault.WriteFault.{WriteFault}
+use Rattle.napt_capture.specs.Contents.{Entry}
+use Rattle.napt_capture.specs.Text.{IsWritable, file_header, record_header, record_text, text}
+use Rattle.napt_capture.specs.Writing.{Puts, PutsAll, PutsFront}
+
+-- the first was written whole, and then the second
+pub PutsAll-append : {before mid written : ℕ} {old now new : Option (List ℕ)} (xs ys : List ℕ)
+    → PutsAll before old now xs mid → PutsAll mid now new ys written → PutsAll before old new (xs ++ ys) written
+PutsAll-append xs ys p q = record {
+  counted = omega (arith, length-append xs ys, p.counted, q.counted);
+  appended = Appends-trans _ _ _ xs ys p.appended q.appended;
+}
+
+-- or a front of the second
+pub PutsFront-append : {before mid : ℕ} {old now new : Option (List ℕ)} {fault : WriteFault} (xs ys : List ℕ)
+    → PutsAll before old now xs mid → PutsFront mid now new ys fault → PutsFront before old new (xs ++ ys) fault
+PutsFront-append {old} {new} xs ys p q = record {
+  taken = length xs + q.taken;
+  within = omega (arith, length-append xs ys, q.within);
+  counted = omega (arith, p.counted, q.counted);
+  appended = subst (Appends old new) (sym (take-append-add xs ys q.taken)) (Appends-trans _ _ _ xs (take q.taken ys) p.appended q.appended);
+}
+
+pub Puts-append : {before mid : ℕ} (old now new : Option (List ℕ)) (xs ys : List ℕ) (r : Result ℕ WriteFault)
+    → PutsAll before old now xs mid → Puts mid now new ys r → Puts before old new (xs ++ ys) r
+Puts-append old now new xs ys (Ok _) p q = PutsAll-append xs ys p q
+Puts-append old now new xs ys (Err _) p q = PutsFront-append xs ys p q
+
+-- a front of a text is a front of what is longer
+pub PutsFront-longer : {before : ℕ} {old new : Option (List ℕ)} {fault : WriteFault} (xs ys : List ℕ)
+    → PutsFront before old new xs fault → PutsFront before old new (xs ++ ys) fault
+PutsFront-longer {old} {new} xs ys p = record {
+  taken = p.taken;
+  within = omega (arith, length-append xs ys, p.within);
+  counted = p.counted;
+  appended = subst (Appends old new) (sym (take-append-le p.taken xs ys p.within)) p.appended;
+}
+
+-- a fault that counts from the front of the text says how much of it was written
+pub PutsFront-fault : {old new : Option (List ℕ)} {fault : WriteFault} (xs : List ℕ)
+    → PutsFront 0 old new xs fault → (fault.written ≤ length xs) × Appends old new (take fault.written xs)
+PutsFront-fault {old} {new} {fault} xs p =
+    let same : fault.written ≡ p.taken = omega (arith, p.counted) in
+    (omega (arith, p.within), subst (λ n. Appends old new (take n xs)) (sym same) p.appended)
+
+-- a fault behind the whole text
+pub PutsAll-fault : (old now new : Option (List ℕ)) {written : ℕ} (xs : List ℕ) (n : ℕ)
+    → PutsAll 0 old now xs written → Keeps now new → n ≡ written → (n ≤ length xs) × Appends old new (take n xs)
+PutsAll-fault old now new xs n p kept is =
+    let all : n ≡ length xs = omega (arith, p.counted, is) in
+    (omega arith, subst (Appends old new) (sym (take_all n xs (omega arith))) (Appends-kept old now new xs p.appended kept))
+
+pub PutsAll-same : {before written : ℕ} {old new : Option (List ℕ)} {xs ys : List ℕ} → xs ≡ ys → PutsAll before old new xs written → PutsAll before old new ys written
+PutsAll-same {before} {written} {old} {new} e p = subst (λ l. PutsAll before old new l written) e p
+
+pub PutsFront-same : {before : ℕ} {fault : WriteFault} {old new : Option (List ℕ)} {xs ys : List ℕ} → xs ≡ ys → PutsFront before old new xs fault → PutsFront before old new ys fault
+PutsFront-same {before} {fault} {old} {new} e p = subst (λ l. PutsFront before old new l fault) e p
+
+-- a record's text is no longer than the limit and its header
+pub length-record_text : (r : Entry) → IsWritable r → length (record_text r) ≤ 262160
+unfolding record_text record_header
+length-record_text r h = omega (arith, h.bytes)
+
+pub length-texts : (rs : List Entry) → All IsWritable rs → length (flat_map record_text rs) ≤ 262160 * length rs
+length-texts [] h = omega arith
+length-texts (r ∷ rs) h =
+    omega (arith, length-append (record_text r) (flat_map record_text rs), length-record_text r (All-head IsWritable r rs h), length-texts rs (All-tail IsWritable r rs h))
+
+-- the text with its first i records
+abbrev pub text_of_first : ℕ → List Entry → List ℕ
+text_of_first i rs = file_header ++ flat_map record_text (take i rs)
+
+-- one record more
+pub text_of_first-more : (i : ℕ) (rs : List Entry) (r : Entry) → i < length rs → r ≡ get_or rs i r
+    → text_of_first i rs ++ record_text r ≡ text_of_first (i + 1) rs
+text_of_first-more i rs r within is =
+    append_assoc file_header (flat_map record_text (take i rs)) (record_text r)
+    ∙ ap (λ l. file_header ++ l) (sym (ap (flat_map record_text) (take_more rs i r within ∙ ap (λ e. take i rs ++ e ∷ []) (sym is)) ∙ flat_map-append record_text (take i rs) (r ∷ []) ∙ ap (λ l. flat_map record_text (take i rs) ++ l) (append-nil (record_text r))))
+
+-- and the rest of the text
+pub text-split : (i : ℕ) (rs : List Entry) → text rs ≡ text_of_first i rs ++ flat_map record_text (drop i rs)
+unfolding text
+text-split i rs =
+    ap (λ l. file_header ++ flat_map record_text l) (sym (take-append-drop i rs))
+    ∙ ap (λ l. file_header ++ l) (flat_map-append record_text (take i rs) (drop i rs))
+    ∙ sym (append_assoc file_header (flat_map record_text (take i rs)) (flat_map record_text (drop i rs)))
+
+pub text_of_first-all : (i : ℕ) (rs : List Entry) → length rs ≤ i → text_of_first i rs ≡ text rs
+unfolding text
+text_of_first-all i rs past = ap (λ l. file_header ++ flat_map record_text l) (take_all i rs past)
+
+-- the whole text has a length that fits
+pub length-text : (rs : List Entry) → length rs < 2 ^ 32 → All IsWritable rs → length (text rs) < 2 ^ 64
+unfolding text file_header
+length-text rs few all = omega (arith, length-texts rs all)
+
+-- so there is room for one record more
+pub text_of_first-room : (i : ℕ) (rs : List Entry) (r : Entry) (written : ℕ) → i < length rs → r ≡ get_or rs i r
+    → length rs < 2 ^ 32 → All IsWritable rs → written ≡ 0 + length (text_of_first i rs) → written + length (record_text r) < 2 ^ 64
+text_of_first-room i rs r written within is few all counted =
+    let more = ap length (text_of_first-more i rs r within is) in
+    let split = ap length (text-split (i + 1) rs) in
+    omega (
+      arith,
+      counted,
+      sym (length-append (text_of_first i rs) (record_text r)) ∙ more,
+      split ∙ length-append (text_of_first (i + 1) rs) (flat_map record_text (drop (i + 1) rs)),
+      length-text rs few all,
+    )

@@ -1,0 +1,67 @@
+-- After each step the text so far is written, or a front of it.
+use Rattle.std.proofs.Common.{◌≡◌, ◌+◌, ◌≤◌, ℕ, List, length, take, Option, Result, Ok, Err, OnOk, IfErr, sym, rules}
+use Rattle.std.proofs.lemmas.Result.{err_from_is_err_and}
+use Rattle.std.specs.List.{flat_map}
+use Rattle.std.specs.Io.KnownBytes.{Appends, Keeps}
+use Rattle.std.proofs.KnownBytes.{Appends-kept}
+use Rattle.napt_capture.specs.declared.fault.WriteFault.{WriteFault}
+use Rattle.napt_capture.specs.Text.{file_header, record_text, text}
+use Rattle.napt_capture.specs.Writing.{PutsAll}
+use Rattle.napt_capture.proofs.Puts.{PutsAll-append, PutsFront-append, PutsFront-longer, PutsFront-fault, PutsAll-fault, PutsAll-same, PutsFront-same, text_of_first, text_of_first-more, text_of_first-all, text_of_first-room, text-split}
+use Rattle.napt_capture.proofs.writing.write_capture.Goals as goal
+
+-- what follows a flush that comes behind the whole text
+flushed_ok : (old now new : Option (List ℕ)) {written : ℕ} (r : Result (Unit {0}) WriteFault) (xs : List ℕ)
+    → PutsAll 0 old now xs written → Keeps now new → OnOk r (Appends old new xs)
+flushed_ok old now new (Ok _) xs p kept = Appends-kept old now new xs p.appended kept
+flushed_ok old now new (Err _) xs p kept = tt
+
+flushed_err : (old now new : Option (List ℕ)) {written : ℕ} (r : Result (Unit {0}) WriteFault) (xs : List ℕ)
+    → PutsAll 0 old now xs written → Keeps now new → IfErr r (λ fault. fault.written ≡ written)
+    → IfErr r (λ fault. (fault.written ≤ length xs) × Appends old new (take fault.written xs))
+flushed_err old now new (Ok _) xs p kept is = tt
+flushed_err old now new (Err fault) xs p kept is = PutsAll-fault old now new xs fault.written p kept is
+
+pub returns-in_err-written-clause-err : goal.returns-in_err-written-clause-err
+unfolding text file_header
+returns-in_err-written-clause-err g c =
+    let p = err_from_is_err_and c.from_residual.result c.from_residual.ensures.1 in
+    let front = PutsFront-longer file_header (flat_map record_text c.args.records.now) c.in_err-written.ensures.puts in
+    rw (p.1, p.2) (PutsFront-fault (text c.args.records.now) front)
+
+pub loop-packet-init : goal.loop-packet-init
+unfolding file_header
+loop-packet-init g c = (c.in_ok-written.ensures.puts, search rules)
+
+pub put_record-requires-clause-room : goal.put_record-requires-clause-room
+put_record-requires-clause-room g c =
+    text_of_first-room c.loop-packet.packet-index c.args.records.now c.packet-item.result _ c.loop-packet-test.true c.packet-item.is c.requires.few c.requires.writable c.loop-packet.invariant.0.counted
+
+pub returns-in_err-written-2-clause-err : goal.returns-in_err-written-2-clause-err
+returns-in_err-written-2-clause-err g c =
+    let i = c.loop-packet.packet-index in
+    let all = c.args.records.now in
+    let p = err_from_is_err_and c.from_residual-in_err-written-2.result c.from_residual-in_err-written-2.ensures.1 in
+    let both = PutsFront-append (text_of_first i all) (record_text c.packet-item.result) c.loop-packet.invariant.0 c.in_err-written-2.ensures.puts in
+    let more = PutsFront-same (text_of_first-more i all c.packet-item.result c.loop-packet-test.true c.packet-item.is) both in
+    let front = PutsFront-same (sym (text-split (i + 1) all)) (PutsFront-longer (text_of_first (i + 1) all) _ more) in
+    rw (p.1, p.2) (PutsFront-fault (text all) front)
+
+pub loop-packet-preserved : goal.loop-packet-preserved
+loop-packet-preserved g c =
+    let i = c.loop-packet.packet-index in
+    let all = c.args.records.now in
+    let both = PutsAll-append (text_of_first i all) (record_text c.packet-item.result) c.loop-packet.invariant.0 c.in_ok-written-2.ensures.puts in
+    (PutsAll-same (text_of_first-more i all c.packet-item.result c.loop-packet-test.true c.packet-item.is) both, search rules)
+
+pub returns-clause-ok : goal.returns-clause-ok
+returns-clause-ok g c =
+    let all = c.args.records.now in
+    let whole = PutsAll-same (text_of_first-all c.loop-packet.packet-index all c.loop-packet-test.false) c.loop-packet.invariant.0 in
+    flushed_ok _ _ _ c.finish.result (text all) whole c.finish.ensures.bytes
+
+pub returns-clause-err : goal.returns-clause-err
+returns-clause-err g c =
+    let all = c.args.records.now in
+    let whole = PutsAll-same (text_of_first-all c.loop-packet.packet-index all c.loop-packet-test.false) c.loop-packet.invariant.0 in
+    flushed_err _ _ _ c.finish.result (text all) whole c.finish.ensures.bytes c.finish.ensures.fault

@@ -1,0 +1,33 @@
+-- The text of a capture that is written: times in nanoseconds, numbers in little-endian order.
+use Rattle.std.specs.Prelude.{ℕ, ◌*◌, ◌/◌, ◌%◌, ◌<◌, ◌≤◌, ◌^◌, List, ◌++◌, length}
+use Rattle.std.specs.List.{flat_map}
+use Rattle.byteorder.specs.Endian.{little_bytes}
+use Rattle.napt_capture.specs.declared.TheConstants.{LARGEST_RECORD}
+use Rattle.napt_capture.specs.Contents.{Entry}
+
+-- magic of nanoseconds, version 2.4, zone 0, significant figures 0, snapshot length, link type 101 (raw IP)
+unfoldable pub file_header : List ℕ
+file_header =
+    little_bytes 4 0xa1b23c4d ++ little_bytes 2 2 ++ little_bytes 2 4 ++ little_bytes 4 0 ++ little_bytes 4 0
+    ++ little_bytes 4 LARGEST_RECORD ++ little_bytes 4 101
+
+-- seconds, nanoseconds, and twice the number of bytes
+unfoldable pub record_header : Entry → List ℕ
+record_header r =
+    little_bytes 4 (r.time / 1000000000) ++ little_bytes 4 (r.time % 1000000000)
+    ++ little_bytes 4 (length r.bytes) ++ little_bytes 4 (length r.bytes)
+
+unfoldable pub record_text : Entry → List ℕ
+record_text r = record_header r ++ r.bytes
+
+unfoldable pub text : List Entry → List ℕ
+text records = file_header ++ flat_map record_text records
+
+-- what the fields of the text have room for: a time below 2 ^ 32 seconds, and no more bytes than the limit
+pub record IsWritable (r : Entry) : Type 0 where
+  pub time : r.time < 2 ^ 32 * 1000000000
+  pub bytes : length r.bytes ≤ LARGEST_RECORD
+
+-- a record as it reads back: its original length is that of its bytes
+abbrev pub as_written : Entry → Entry
+as_written r = record r { original = length r.bytes }

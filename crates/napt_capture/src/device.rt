@@ -1,0 +1,58 @@
+//! The devices that captures are read from and written to. They answer as the readers and writers of std
+//! do, and count their failed calls in a number that contracts see.
+ghost use Rattle.std.specs.Prelude.{◌≡◌, ℕ, ◌+◌, ◌-◌, ◌^◌, ◌<◌, List, Option, OnOk};
+ghost use Rattle.std.specs.Io.{ReadsAtMost, WritesAtMost};
+ghost use Rattle.std.specs.Io.KnownBytes.{Keeps, ReadConsumes, WriteAppends};
+ghost use Rattle.napt_capture.specs.Device.{failed_calls, failed_writes};
+
+use thiserror::Error;
+
+/// A device refused a call. What it said is not kept.
+#[derive(Clone, Copy, Debug, PartialEq, Eq, Error)]
+#[error("the device failed")]
+pub struct DeviceFault;
+
+/// What captures are read from.
+pub trait Source {
+    // The bytes that reads will give from here on, where they are known.
+    ghost remaining: { Self → Option (List ℕ) };
+
+    // How many reads failed.
+    ghost failed: { Self → ℕ };
+
+    /// Takes the next bytes into the front of the buffer, and answers how many there are: none only at
+    /// the end, or where the buffer has no room. A read that fails takes none, and is counted; one
+    /// that was interrupted fails too.
+    fn read(&mut self, buffer: &mut [u8]) -> Result<usize, DeviceFault>
+        requires { failed self.old < 2 ^ 64 - 1 }
+        ensures bound { ReadsAtMost result buffer.new }
+        ensures bytes { ReadConsumes (remaining self.old) (remaining self.new) result buffer.new }
+        ensures count { failed self.new ≡ failed self.old + failed_calls result };
+}
+
+/// What captures are written to.
+pub trait Sink {
+    // The bytes that were written so far, where they are known.
+    ghost contents: { Self → Option (List ℕ) };
+
+    // How many writes and flushes failed.
+    ghost failed: { Self → ℕ };
+
+    // Nothing was written since the last good flush.
+    ghost is_flushed: { Self → Type 0 };
+
+    /// Writes some bytes of the front, and answers how many. A write that fails writes none. It is
+    /// counted, and so is a write of some bytes that answers 0.
+    fn write(&mut self, bytes: &[u8]) -> Result<usize, DeviceFault>
+        requires { failed self.old < 2 ^ 64 - 1 }
+        ensures bound { WritesAtMost result bytes.now }
+        ensures bytes { WriteAppends (contents self.old) (contents self.new) result bytes.now }
+        ensures count { failed self.new ≡ failed self.old + failed_writes result bytes.now };
+
+    /// Passes on what was written and is still held back.
+    fn flush(&mut self) -> Result<(), DeviceFault>
+        requires { failed self.old < 2 ^ 64 - 1 }
+        ensures bytes { Keeps (contents self.old) (contents self.new) }
+        ensures flushed { OnOk result (is_flushed self.new) }
+        ensures count { failed self.new ≡ failed self.old + failed_calls result };
+}

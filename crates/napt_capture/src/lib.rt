@@ -1,0 +1,34 @@
+//! Capture files of the libpcap savefile layout (pcap-savefile(5)): read in both orders of bytes and
+//! both units of time, written as nanoseconds in little-endian order.
+//!
+//! ```text
+//! file    magic (4) major (2) minor (2) zone (4) sigfigs (4) snapshot length (4) link type (4)
+//! record  seconds (4) fraction (4) captured length (4) original length (4), then the captured bytes
+//! ```
+#![tactic(auto)]
+
+mod contents;
+mod device;
+mod fault;
+mod laws;
+mod reading;
+mod spelling;
+mod watched;
+mod writing;
+
+pub use contents::{Capture, Record};
+pub use device::{DeviceFault, Sink, Source};
+pub use fault::{CaptureFault, WriteFault};
+pub use laws::{one_answer, reads_back};
+pub use reading::read_capture;
+pub use watched::Watched;
+pub use writing::{write_capture, write_text};
+
+/// The most bytes that a record may have: larger captured lengths are refused.
+pub const LARGEST_RECORD: u32 = 262_144;
+
+/// The most bytes that reading one capture asks its source for.
+pub const MOST_ASKED: u64 = 68_719_476_736;
+
+#[cfg(test)]
+mod tests;

@@ -1,0 +1,190 @@
+//! Reading a capture.
+ghost use Rattle.std.specs.Prelude.{◌≡◌, ◌+◌, ◌-◌, ◌*◌, ◌^◌, ◌<◌, ◌≤◌, ℕ, All, length, take, IfSome, IfOk, IfErr};
+ghost use Rattle.std.specs.Io.KnownBytes.{Consumes, IsAtEnd};
+ghost use Rattle.napt_capture.specs.Device.{failed_calls};
+ghost use Rattle.napt_capture.specs.Capture.{Answers, ReadsNoFurther, IsFileHeader, IsRefusedFile, IsRefusedRecord, MayAsk, failed_reads};
+ghost use Rattle.napt_capture.specs.Text.{IsWritable};
+ghost use Rattle.napt_capture.specs.Reading.{HasFields, IsWritableNext, ReadsFileHeader, ReadsNext, RefusesFile, RefusesRecord, StopsBy};
+
+use crate::contents::{Capture, Record};
+use crate::device::{DeviceFault, Source};
+use crate::fault::CaptureFault;
+use crate::spelling::Spelling;
+use crate::{LARGEST_RECORD, MOST_ASKED};
+use byteorder::{BigEndian, ByteOrder};
+use std::alloc::Global;
+
+/// The bytes of a file's header.
+const FILE_HEADER: usize = 24;
+
+/// The bytes of a record's header.
+const RECORD_HEADER: usize = 16;
+
+/// The link type of raw IP: packets begin with the IP header.
+const RAW: u32 = 101;
+
+/// The link type of raw IPv4.
+const RAW_IPV4: u32 = 228;
+
+/// What stands behind the records so far.
+#[derive(Drop)]
+enum Next {
+    /// A further record.
+    Whole(Record),
+    /// The end, and whether it comes inside a record.
+    End(bool),
+}
+
+/// What a record's header says.
+#[derive(Clone, Copy)]
+struct Fields {
+    time: u64,
+    captured: u32,
+    original: u32,
+}
+
+/// Reads a capture file: all records before its end, or its first fault. It asks for 24 bytes, and then for
+/// 16 and the captured bytes of each record, and for nothing past the header that holds a fault.
+///
+/// `Read` comes exactly where a read failed, in which case it was the last one; `Memory` where memory ran out.
+pub fn read_capture<R: Source>(alloc: Global, reader: &mut R) -> Result<Capture, CaptureFault>
+    requires { R.failed reader.old < 2 ^ 64 - 1 }
+    // Where the reader tells its bytes, they are read as what they are.
+    ensures answer { IfSome (R.remaining reader.old) (λ bytes. Answers bytes result) }
+    ensures asked { IfSome (R.remaining reader.old) (λ bytes.
+        IfSome (R.remaining reader.new) (λ left. ReadsNoFurther bytes left result)) }
+    // What was read can be written.
+    ensures writable { IfOk result (λ capture. All IsWritable capture.records) }
+    ensures few { IfOk result (λ capture. length capture.records < 2 ^ 32) }
+    ensures count { R.failed reader.new ≡ R.failed reader.old + failed_reads result }
+{
+    let spelling = read_file_header(reader)?;
+    let mut records = Vec::new(alloc);
+    let mut asked = FILE_HEADER as u64;
+    loop {
+        let number = records.len() as u64 + 1;
+        match read_record(alloc, reader, spelling, asked, number)? {
+            Next::Whole(record) => {
+                asked += RECORD_HEADER as u64 + record.bytes.len() as u64;
+                records.push(record)?;
+            }
+            Next::End(cut) => return Ok(Capture { records, cut }),
+        }
+    }
+}
+
+/// Fills the buffer as far as the source has bytes, and answers how far.
+fn fill<R: Source>(reader: &mut R, buffer: &mut [u8]) -> Result<usize, DeviceFault>
+    requires { R.failed reader.old < 2 ^ 64 - 1 }
+    ensures bound { IfOk result (λ n. n ≤ length buffer.new) }
+    ensures bytes { IfOk result (λ n. Consumes (R.remaining reader.old) (R.remaining reader.new) (take n buffer.new)) }
+    ensures end { IfOk result (λ n. n < length buffer.new → IsAtEnd (R.remaining reader.new)) }
+    ensures count { R.failed reader.new ≡ R.failed reader.old + failed_calls result }
+{
+    let mut filled = 0;
+    while filled < buffer.len() {
+        let count = reader.read(&mut buffer[filled..])?;
+        if count == 0 {
+            return Ok(filled);
+        }
+        filled += count;
+    }
+    Ok(filled)
+}
+
+fn read_file_header<R: Source>(reader: &mut R) -> Result<Spelling, CaptureFault>
+    requires { R.failed reader.old < 2 ^ 64 - 1 }
+    ensures ok { IfOk result (λ s. ReadsFileHeader s (R.remaining reader.old) (R.remaining reader.new)) }
+    ensures err { IfErr result (λ fault. StopsBy fault (RefusesFile fault (R.remaining reader.old) (R.remaining reader.new))) }
+    ensures count { R.failed reader.new ≡ R.failed reader.old + failed_reads result }
+{
+    let mut header = [0; FILE_HEADER];
+    let filled = fill(reader, &mut header)?;
+    if filled < FILE_HEADER {
+        return Err(CaptureFault::NoHeader);
+    }
+    spelling_of_file(&header)
+}
+
+/// The spelling that a file's header shows.
+fn spelling_of_file(header: &[u8]) -> Result<Spelling, CaptureFault>
+    requires { length header.now ≡ 24 }
+    ensures ok { IfOk result (λ s. IsFileHeader s header.now) }
+    ensures err { IfErr result (λ fault. IsRefusedFile header.now fault) }
+{
+    let Some(spelling) = Spelling::of_magic(BigEndian::read_u32(header)) else {
+        return Err(CaptureFault::BadMagic);
+    };
+    if spelling.short(&header[4..]) != 2 || spelling.short(&header[6..]) != 4 {
+        return Err(CaptureFault::BadVersion);
+    }
+    let link = spelling.long(&header[20..]);
+    if link != RAW && link != RAW_IPV4 {
+        return Err(CaptureFault::BadLink);
+    }
+    Ok(spelling)
+}
+
+/// Reads the record of this number, behind so many bytes.
+fn read_record<R: Source>(
+    alloc: Global,
+    reader: &mut R,
+    spelling: Spelling,
+    asked: u64,
+    number: u64,
+) -> Result<Next, CaptureFault>
+    requires can_fail { R.failed reader.old < 2 ^ 64 - 1 }
+    requires within { MayAsk asked 0 }
+    ensures ok { IfOk result (λ next. ReadsNext spelling asked (R.remaining reader.old) (R.remaining reader.new) next) }
+    ensures err { IfErr result (λ fault. StopsBy fault
+        (RefusesRecord spelling asked number fault (R.remaining reader.old) (R.remaining reader.new))) }
+    ensures writable { IfOk result IsWritableNext }
+    ensures count { R.failed reader.new ≡ R.failed reader.old + failed_reads result }
+{
+    if MOST_ASKED - asked < RECORD_HEADER as u64 {
+        return Err(CaptureFault::TooLarge);
+    }
+    let mut header = [0; RECORD_HEADER];
+    let filled = fill(reader, &mut header)?;
+    if filled < RECORD_HEADER {
+        return Ok(Next::End(filled > 0));
+    }
+    let fields = fields_of(spelling, &header, number)?;
+    if MOST_ASKED - asked - (RECORD_HEADER as u64) < fields.captured as u64 {
+        return Err(CaptureFault::TooLarge);
+    }
+    let mut bytes = vec![in alloc; 0; fields.captured as usize]?;
+    let filled = fill(reader, &mut bytes)?;
+    if filled < bytes.len() {
+        return Ok(Next::End(true));
+    }
+    Ok(Next::Whole(Record {
+        time: fields.time,
+        bytes,
+        original: fields.original,
+    }))
+}
+
+/// What the header of the record of this number says.
+fn fields_of(spelling: Spelling, header: &[u8], number: u64) -> Result<Fields, CaptureFault>
+    requires { length header.now ≡ 16 }
+    ensures ok { IfOk result (λ fields. HasFields spelling header.now fields) }
+    ensures time { IfOk result (λ fields. fields.time < 2 ^ 32 * 1000000000) }
+    ensures captured { IfOk result (λ fields. fields.captured ≤ LARGEST_RECORD) }
+    ensures err { (asked : ℕ) → MayAsk asked 16 → IfErr result (λ fault. IsRefusedRecord spelling asked number header.now fault) }
+{
+    let seconds = spelling.long(header);
+    let fraction = spelling.long(&header[4..]);
+    if fraction >= spelling.units_per_second() {
+        return Err(CaptureFault::BadFraction(number));
+    }
+    let captured = spelling.long(&header[8..]);
+    if captured > LARGEST_RECORD {
+        return Err(CaptureFault::TooLong(number));
+    }
+    Ok(Fields {
+        time: seconds as u64 * 1_000_000_000 + spelling.nanoseconds(fraction),
+        captured,
+        original: spelling.long(&header[12..]),
+    })
+}

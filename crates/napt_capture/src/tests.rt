@@ -1,0 +1,370 @@
+ghost use Rattle.std.specs.Prelude.{◌<◌, ◌*◌, ◌^◌, IfOk};
+ghost use Rattle.napt_capture.specs.Text.{IsWritable};
+
+use super::*;
+use std::alloc::{AllocError, Global};
+use std::io;
+use std::io::{Read, Write};
+use std::test::*;
+
+/// A capture of one packet of 30 bytes at 1.5 s, in microseconds and little-endian order.
+const ONE_PACKET: [u8; 70] = [
+    0xd4, 0xc3, 0xb2, 0xa1, 2, 0, 4, 0, 0, 0, 0, 0, 0, 0, 0, 0, 0xff, 0xff, 0, 0, 0x65, 0, 0, 0, //
+    1, 0, 0, 0, 0x20, 0xa1, 0x07, 0, 0x1e, 0, 0, 0, 0x1e, 0, 0, 0, //
+    0x45, 0, 0, 0x1e, 0, 1, 0, 0, 0x40, 0x11, 0x46, 0x92, 0x0a, 0, 0, 2, 0xc6, 0x33, 0x64, 7, //
+    0x13, 0x88, 0, 0x35, 0, 0x0a, 0x4f, 0x77, 0x68, 0x69,
+];
+
+/// The text that is written for that packet at 1.5 s, once its source address and checksums were changed.
+const WRITTEN: [u8; 70] = [
+    0x4d, 0x3c, 0xb2, 0xa1, 2, 0, 4, 0, 0, 0, 0, 0, 0, 0, 0, 0, 0, 0, 4, 0, 0x65, 0, 0, 0, //
+    1, 0, 0, 0, 0, 0x65, 0xcd, 0x1d, 0x1e, 0, 0, 0, 0x1e, 0, 0, 0, //
+    0x45, 0, 0, 0x1e, 0, 1, 0, 0, 0x40, 0x11, 0x14, 0x92, 0xcb, 0, 0x71, 1, 0xc6, 0x33, 0x64, 7, //
+    0x13, 0x88, 0, 0x35, 0, 0x0a, 0x1d, 0x77, 0x68, 0x69,
+];
+
+const HALF_PAST_ONE: u64 = 1_500_000_000;
+
+/// The header of the file in big-endian order, and that of the record.
+const BIG_HEADERS: [u8; 40] = [
+    0xa1, 0xb2, 0xc3, 0xd4, 0, 2, 0, 4, 0, 0, 0, 0, 0, 0, 0, 0, 0, 0, 0xff, 0xff, 0, 0, 0, 0x65, //
+    0, 0, 0, 1, 0, 0x07, 0xa1, 0x20, 0, 0, 0, 0x1e, 0, 0, 0, 0x1e,
+];
+
+/// Bytes that stand at a place in place of what stood there.
+type Change<'a> = (usize, &'a [u8]);
+
+fn changed(alloc: Global, changes: &[Change<'_>]) -> Result<Vec<u8>, AllocError> {
+    let mut bytes = ONE_PACKET.to_vec(alloc)?;
+    for (place, new) in changes {
+        for (i, byte) in new.iter().enumerate() {
+            if let Some(old) = bytes.get_mut(place.saturating_add(i)) {
+                *old = *byte;
+            }
+        }
+    }
+    Ok(bytes)
+}
+
+fn read(alloc: Global, bytes: &[u8]) -> Result<Capture, CaptureFault> {
+    read_capture(alloc, &mut Watched::new(bytes))
+}
+
+#[test]
+fn spellings_and_faults(rt: HostRuntime) -> Result<(), Fail> {
+    let same = Ok(Some(HALF_PAST_ONE));
+    let nanoseconds: &[u8] = &[0x4d, 0x3c, 0xb2, 0xa1, 2, 0, 4, 0];
+    let too_long: &[u8] = &[1, 0, 4, 0];
+    let a_second: &[u8] = &[0x40, 0x42, 0x0f, 0];
+    let rows: &[(&[Change<'_>], usize, Result<Option<u64>, CaptureFault>)] = &[
+        (&[], 70, same),
+        (&[(0, nanoseconds), (28, &[0, 0x65, 0xcd, 0x1d])], 70, same),
+        (&[(0, &BIG_HEADERS)], 70, same),
+        (
+            &[
+                (0, &BIG_HEADERS),
+                (0, &[0xa1, 0xb2, 0x3c, 0x4d]),
+                (28, &[0x1d, 0xcd, 0x65, 0]),
+            ],
+            70,
+            same,
+        ),
+        (&[(20, &[0xe4, 0, 0, 0])], 70, same),
+        (&[(20, &[1, 0, 0, 0])], 70, Err(CaptureFault::BadLink)),
+        (&[(6, &[3, 0])], 70, Err(CaptureFault::BadVersion)),
+        (&[(28, &[0x3f, 0x42, 0x0f, 0])], 70, Ok(Some(1_999_999_000))),
+        (&[(28, a_second)], 70, Err(CaptureFault::BadFraction(1))),
+        (
+            &[(28, a_second), (32, too_long)],
+            70,
+            Err(CaptureFault::BadFraction(1)),
+        ),
+        // A cut record has the faults of its header too.
+        (
+            &[(28, a_second), (32, too_long)],
+            41,
+            Err(CaptureFault::BadFraction(1)),
+        ),
+        (&[(32, too_long)], 70, Err(CaptureFault::TooLong(1))),
+        (&[(32, &[0, 0, 4, 0])], 70, Ok(None)),
+        (&[], 23, Err(CaptureFault::NoHeader)),
+        (&[(0, &[0])], 23, Err(CaptureFault::NoHeader)),
+        (&[], 0, Err(CaptureFault::NoHeader)),
+        (&[(0, &[0])], 70, Err(CaptureFault::BadMagic)),
+        // Each header goes before what stands behind it.
+        (
+            &[(6, &[3, 0]), (20, &[1, 0, 0, 0])],
+            70,
+            Err(CaptureFault::BadVersion),
+        ),
+        (
+            &[(20, &[1, 0, 0, 0]), (28, a_second)],
+            70,
+            Err(CaptureFault::BadLink),
+        ),
+    ];
+    for (changes, length, want) in rows {
+        let mut bytes = changed(rt.alloc(), changes)?;
+        bytes.truncate(*length);
+        match (read(rt.alloc(), &bytes), want) {
+            (Ok(capture), Ok(Some(time))) => {
+                assert_eq!(rt; capture.records.len(), 1);
+                assert!(rt; !capture.cut);
+                for record in &capture.records {
+                    assert_eq!(rt; record.time, *time);
+                    assert_eq!(rt; record.bytes.as_slice(), &ONE_PACKET[40..]);
+                    assert_eq!(rt; record.original, 30);
+                }
+            }
+            (Ok(capture), Ok(None)) => {
+                assert!(rt; capture.records.is_empty());
+                assert!(rt; capture.cut);
+            }
+            (Err(fault), Err(expected)) => assert_eq!(rt; fault, *expected),
+            (Ok(_), Err(expected)) => assert!(rt; false, "read in spite of {expected}"),
+            (Err(fault), Ok(_)) => assert!(rt; false, "refused: {fault}"),
+        }
+    }
+    Ok(())
+}
+
+#[test]
+fn short_and_cut_captures(rt: HostRuntime) -> Result<(), Fail> {
+    let empty = read(rt.alloc(), &ONE_PACKET[..24])?;
+    assert!(rt; empty.records.is_empty());
+    assert!(rt; !empty.cut);
+
+    // Three records, of which the last ends early: inside its bytes, or inside its header.
+    let mut bytes = ONE_PACKET.to_vec(rt.alloc())?;
+    bytes.extend_from_slice(&ONE_PACKET[24..])?;
+    bytes.extend_from_slice(&ONE_PACKET[24..])?;
+    for length in [161, 133, 132, 131, 117] {
+        bytes.truncate(length);
+        let cut = read(rt.alloc(), &bytes)?;
+        assert_eq!(rt; cut.records.len(), 2, "{length} bytes");
+        assert!(rt; cut.cut, "{length} bytes");
+    }
+    bytes.truncate(116);
+    assert!(rt; !read(rt.alloc(), &bytes)?.cut);
+    Ok(())
+}
+
+/// Gives its bytes, at most so many at a time, and fails at one read.
+#[derive(Drop)]
+struct Flaky<'a> {
+    rest: &'a [u8],
+    most: usize,
+    good_reads: usize,
+    kind: io::ErrorKind,
+}
+
+impl<'a> Read for Flaky<'a> {
+    fn read(&mut self, buffer: &mut [u8]) -> io::Result<usize> {
+        match self.good_reads.checked_sub(1) {
+            None => {
+                self.good_reads = usize::MAX;
+                Err(io::Error::from(self.kind))
+            }
+            Some(left) => {
+                self.good_reads = left;
+                let count = self.most.min(buffer.len());
+                Read::read(&mut self.rest, &mut buffer[..count])
+            }
+        }
+    }
+}
+
+#[test]
+fn each_read_fails_in_turn(rt: HostRuntime) -> Result<(), Fail> {
+    // How many bytes a read gives, and how many reads the capture takes: the last finds the end.
+    for (most, reads) in [(100, 4), (16, 6), (1, 71)] {
+        for good_reads in 0..=reads {
+            for kind in [io::ErrorKind::BrokenPipe, io::ErrorKind::Interrupted] {
+                let rest = ONE_PACKET.as_slice();
+                let mut reader = Watched::new(Flaky {
+                    rest,
+                    most,
+                    good_reads,
+                    kind,
+                });
+                match read_capture(rt.alloc(), &mut reader) {
+                    Ok(capture) => {
+                        assert_eq!(rt; good_reads, reads);
+                        assert_eq!(rt; capture.records.len(), 1);
+                        assert!(rt; !capture.cut);
+                    }
+                    Err(fault) => {
+                        assert!(rt; good_reads < reads);
+                        assert_eq!(rt; fault, CaptureFault::Read);
+                    }
+                }
+            }
+        }
+    }
+    Ok(())
+}
+
+/// What a disk does once so many calls were good.
+#[derive(Clone, Copy, PartialEq, Eq, Debug)]
+enum Trouble {
+    WriteFails,
+    WriteTakesNone,
+    FlushFails,
+}
+
+/// Keeps what is written, at most so many bytes at a time.
+#[derive(Drop)]
+struct Disk {
+    held: Vec<u8>,
+    most: usize,
+    good_writes: usize,
+    trouble: Trouble,
+    flushes: usize,
+}
+
+impl Write for Disk {
+    fn write(&mut self, bytes: &[u8]) -> io::Result<usize> {
+        match self.good_writes.checked_sub(1) {
+            None if self.trouble == Trouble::WriteTakesNone => Ok(0),
+            None => Err(io::Error::from(io::ErrorKind::Interrupted)),
+            Some(left) => {
+                self.good_writes = left;
+                let count = self.most.min(bytes.len());
+                self.held.extend_from_slice(&bytes[..count])?;
+                Ok(count)
+            }
+        }
+    }
+
+    fn flush(&mut self) -> io::Result<()> {
+        self.flushes = self.flushes.saturating_add(1);
+        match self.trouble {
+            Trouble::FlushFails => Err(io::Error::from(io::ErrorKind::BrokenPipe)),
+            _ => Ok(()),
+        }
+    }
+}
+
+fn make_disk(alloc: Global, most: usize, good_writes: usize, trouble: Trouble) -> Disk {
+    Disk {
+        held: Vec::new(alloc),
+        most,
+        good_writes,
+        trouble,
+        flushes: 0,
+    }
+}
+
+/// The packet that is written.
+fn packet(alloc: Global, time: u64) -> Result<Record, AllocError>
+    requires { time < 2 ^ 32 * 1000000000 }
+    ensures { IfOk result IsWritable }
+{
+    let bytes = Vec::from_slice(alloc, &WRITTEN[40..])?;
+    // The length on the link is not written.
+    Ok(Record {
+        time,
+        bytes,
+        original: 1500,
+    })
+}
+
+#[test]
+fn one_packet_is_written(rt: HostRuntime) -> Result<(), Fail> {
+    let records = [packet(rt.alloc(), HALF_PAST_ONE)?];
+    let mut writer = Watched::new(make_disk(rt.alloc(), 100, 100, Trouble::WriteFails));
+    assert_eq!(rt; write_capture(&mut writer, &records), Ok(()));
+    let disk = writer.into_inner();
+    assert_eq!(rt; disk.held.as_slice(), WRITTEN.as_slice());
+    assert_eq!(rt; disk.flushes, 1);
+    Ok(())
+}
+
+#[test]
+fn each_write_fails_in_turn(rt: HostRuntime) -> Result<(), Fail> {
+    let records = [packet(rt.alloc(), HALF_PAST_ONE)?];
+    for trouble in [
+        Trouble::WriteFails,
+        Trouble::WriteTakesNone,
+        Trouble::FlushFails,
+    ] {
+        for good_writes in 0..=70u8 {
+            let mut writer = Watched::new(make_disk(rt.alloc(), 1, good_writes as usize, trouble));
+            let result = write_capture(&mut writer, &records);
+            let disk = writer.into_inner();
+            let written = good_writes as u64;
+            if good_writes == 70 && trouble != Trouble::FlushFails {
+                assert_eq!(rt; result, Ok(()));
+            } else {
+                assert_eq!(rt; result, Err(WriteFault { written }));
+            }
+            assert_eq!(rt; disk.held.as_slice(), &WRITTEN[..good_writes as usize]);
+
+            let mut writer = Watched::new(make_disk(rt.alloc(), 1, good_writes as usize, trouble));
+            let again = write_text(&mut writer, &WRITTEN);
+            assert_eq!(rt; again, result);
+            assert_eq!(rt;
+                writer.into_inner().held.as_slice(),
+                &WRITTEN[..good_writes as usize]
+            );
+        }
+    }
+    Ok(())
+}
+
+#[test]
+fn what_is_written_reads_back(rt: HostRuntime) -> Result<(), Fail> {
+    let records = [
+        packet(rt.alloc(), 4_294_967_295_999_999_999)?,
+        packet(rt.alloc(), 0)?,
+    ];
+    let mut text = Vec::new(rt.alloc());
+    assert_eq!(rt;
+        write_capture(&mut Watched::new(&mut text), &records),
+        Ok(())
+    );
+    let capture = read(rt.alloc(), &text)?;
+    assert!(rt; !capture.cut);
+    assert_eq!(rt; capture.records.len(), 2);
+    for (record, time) in capture.records.iter().zip([4_294_967_295_999_999_999, 0]) {
+        assert_eq!(rt; record.time, time);
+        assert_eq!(rt; record.bytes.as_slice(), &WRITTEN[40..]);
+        assert_eq!(rt; record.original, 30);
+    }
+
+    let mut text = Vec::new(rt.alloc());
+    assert_eq!(rt; write_capture(&mut Watched::new(&mut text), &[]), Ok(()));
+    assert_eq!(rt; text.as_slice(), &WRITTEN[..24]);
+    Ok(())
+}
+
+#[test]
+fn faults_say_where_they_are(rt: HostRuntime) -> Result<(), Fail> {
+    let texts = [
+        (
+            CaptureFault::TooLong(7),
+            "record 7 has more than 262144 bytes",
+        ),
+        (
+            CaptureFault::BadFraction(1),
+            "the time of record 1 has a fraction of a second or more",
+        ),
+        (
+            CaptureFault::TooLarge,
+            "the capture is longer than 68719476736 bytes",
+        ),
+        (
+            CaptureFault::BadLink,
+            "the capture's link type is neither 101 (raw IP) nor 228 (raw IPv4)",
+        ),
+    ];
+    for (fault, text) in texts {
+        assert_eq!(rt; fault.to_string(rt.alloc())?.as_str(), text);
+    }
+    let fault = WriteFault { written: 24 };
+    assert_eq!(rt;
+        fault.to_string(rt.alloc())?.as_str(),
+        "writing failed after 24 bytes"
+    );
+    Ok(())
+}

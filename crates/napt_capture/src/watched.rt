@@ -1,0 +1,100 @@
+//! Any reader or writer of std as a source or a sink.
+ghost use Rattle.std.specs.Prelude.{◌≡◌};
+
+use crate::device::{DeviceFault, Sink, Source};
+use std::io::{Read, Write};
+
+/// A reader or writer of std that counts its failed calls. Each call is handed on once, and tells what
+/// the device tells.
+#[derive(Drop)]
+pub struct Watched<D> {
+    device: D,
+    failed: u64,
+    flushed: bool,
+}
+
+impl<D> Watched<D> {
+    ghost use Rattle.napt_capture.specs.Watched.{device_of, failed_of};
+
+    /// Watches the device from here on.
+    pub fn new(device: D) -> Self
+        ensures device { device_of result ≡ device }
+        ensures count { failed_of result ≡ 0 }
+    {
+        Watched {
+            device,
+            failed: 0,
+            flushed: false,
+        }
+    }
+
+    /// The device again.
+    pub fn into_inner(self) -> D
+        ensures { result ≡ device_of self }
+    {
+        let Watched {
+            device,
+            failed: _,
+            flushed: _,
+        } = self;
+        device
+    }
+}
+
+impl<D: Read> Source for Watched<D> {
+    ghost use Rattle.napt_capture.specs.Watched.{device_of, failed_of};
+
+    ghost remaining = { λ w. D.remaining (device_of w) };
+
+    ghost failed = { λ w. failed_of w };
+
+    fn read(&mut self, buffer: &mut [u8]) -> Result<usize, DeviceFault> {
+        match self.device.read(buffer) {
+            Ok(count) => Ok(count),
+            Err(_) => {
+                self.failed += 1;
+                Err(DeviceFault)
+            }
+        }
+    }
+}
+
+impl<D: Write> Sink for Watched<D> {
+    ghost use Rattle.std.specs.Prelude.{IsTrue};
+    ghost use Rattle.napt_capture.specs.Watched.{device_of, failed_of};
+
+    ghost contents = { λ w. D.contents (device_of w) };
+
+    ghost failed = { λ w. failed_of w };
+
+    ghost is_flushed = { λ w. IsTrue w.flushed };
+
+    fn write(&mut self, bytes: &[u8]) -> Result<usize, DeviceFault> {
+        self.flushed = false;
+        match self.device.write(bytes) {
+            Ok(count) => {
+                if count == 0 && !bytes.is_empty() {
+                    self.failed += 1;
+                }
+                Ok(count)
+            }
+            Err(_) => {
+                self.failed += 1;
+                Err(DeviceFault)
+            }
+        }
+    }
+
+    fn flush(&mut self) -> Result<(), DeviceFault> {
+        match self.device.flush() {
+            Ok(()) => {
+                self.flushed = true;
+                Ok(())
+            }
+            Err(_) => {
+                self.failed += 1;
+                Err(DeviceFault)
+            }
+        }
+    }
+}

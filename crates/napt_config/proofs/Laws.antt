@@ -1,0 +1,307 @@
+-- What a table configures keeps the rules of a configuration.
+use Rattle.std.proofs.Common.{◌≡◌, ℕ, ◌+◌, ◌-◌, ◌%◌, ◌^◌, ◌<◌, ◌≤◌, ◌==◌, Bool, true, false, not, ℤ, pos, negsuc, List, [], ◌∷◌, ◌++◌, length, get_or, Some, Ok, nat_lt, nat_le, nat_cmp, is_some, refl, sym, ap, subst, ◌∙◌, ltb-true, leb-true, eqb-true, length-append, arith}
+use Rattle.std.specs.Prelude.{All, ok_or, codes}
+use Rattle.std.specs.BTreeMap.{insert_entry}
+use Rattle.std.specs.List.{list_any, before_first, after_first}
+use Rattle.std.specs.List.Sorted.{IsStrictlySortedBy}
+use Rattle.std.specs.Map.{keys_of, values_of}
+use Rattle.std.proofs.lemmas.Bool.{and_parts, not-true}
+use Rattle.std.proofs.lemmas.List.Elements.{All-push, All-nil}
+use Rattle.std.proofs.lemmas.List.Folds.{list_any_at}
+use Rattle.std.proofs.lemmas.Map.Views.{All-keys-insert_entry, All-values-insert_entry}
+use Rattle.std.proofs.lemmas.Option.{cond_some, option_and_then_some}
+use Rattle.toml.specs.Data.{Data, Items, Members}
+use Rattle.napt_config.specs.declared.fault.ConfigFault.TheVariants.{BadAddress, BadPrefix, BadNumber, DoubleAddress, Missing, TooMany, PoolInside, NotInside, NotInPool, DoublePair, TimerTooShort, UnknownKey}
+use Rattle.napt_config.specs.declared.settings.Timers.{Timers}
+use Rattle.napt_config.specs.Network.{Network, IsNetwork, have_address}
+use Rattle.napt_config.specs.Text.{address_of, network_of, network_at, number_of, is_slash}
+use Rattle.napt_config.specs.Rules.{Rules, has, paired_with, IsTimer, AreTimers, IsInside, ArePairs, KeepsRules}
+use Rattle.napt_config.specs.Configured.{item_count, short_list, text_in, number_in, table_in, list_in, between, with_address, pool_in, with_prefix, prefixes_in, inside_in, filter_in, timer_at, timers_at, timers_in, default_timers, ring_at, ring_in, address_in, with_pair, pairs_at, pairs_in, required, optional, configured, knows_all_keys}
+use Rattle.napt_config.proofs.Addresses.{address_of-bound}
+use Rattle.napt_config.proofs.Chains.{reads, holds, ok_or_ok, optional_reads, each_keeps, each_adds}
+use Rattle.napt_config.proofs.PairEntries.{Pairs, sorted_inserted, one_more}
+use Rattle.napt_config.proofs.Pools.{AreDistinct, AreDistinct-push}
+
+-- ---- texts and numbers
+
+number_of-range : (least most n : ℕ) (text : List ℕ) → number_of least most text ≡ Some n → (least ≤ n) × (n ≤ most)
+unfolding number_of
+number_of-range least most n text is =
+    let (tests, same) = cond_some _ _ n is in
+    let range = (and_parts _ _ tests).1 in
+    let (low, high) = and_parts _ _ range in
+    let P : ℕ → Type 0 = λ k. (least ≤ k) × (k ≤ most) in
+    subst P same (leb-true _ _ low, leb-true _ _ high)
+
+network_at-is : (address bits : ℕ) (network : Network) → address < 2 ^ 32 → bits ≤ 32 → network_at address bits ≡ Some network → IsNetwork network
+network_at-is address bits network small few is =
+    let (test, same) = cond_some (address % 2 ^ (32 - bits) == 0) (record { address = address; bits = bits }) network is in
+    subst IsNetwork same (record { address = small; bits = few; no_host_bits = eqb-true _ _ test })
+
+network_of-is : (text : List ℕ) (network : Network) → network_of text ≡ Some network → IsNetwork network
+unfolding network_of
+network_of-is text network is =
+    option_and_then_some _ (address_of (before_first is_slash text)) network is λ address found more.
+    option_and_then_some _ (number_of 0 32 (after_first is_slash text)) network more λ bits counted made.
+    network_at-is address bits network (address_of-bound _ address found) (number_of-range 0 32 bits _ counted).1 made
+
+between-range : (least most n : ℕ) (z : ℤ) → between least most z ≡ Some n → (least ≤ n) × (n ≤ most)
+between-range least most n (pos k) is =
+    let (tests, same) = cond_some _ _ n is in
+    let (low, high) = and_parts _ _ tests in
+    let P : ℕ → Type 0 = λ k. (least ≤ k) × (k ≤ most) in
+    subst P same (leb-true _ _ low, leb-true _ _ high)
+between-range least most n (negsuc k) is = cc
+
+-- ---- lists
+
+short_list-counts : (key : List ℕ) (table : Members) (entries : Items) → short_list key table ≡ Ok entries → (1 ≤ item_count entries) × (item_count entries ≤ 16)
+unfolding short_list
+short_list-counts key table entries is =
+    reads (required key table) _ entries is λ value _ listed.
+    reads (list_in value) _ entries listed λ found _ ruled.
+    holds (nat_lt 0 (item_count found)) Missing _ entries ruled λ some more.
+    holds (nat_le (item_count found) 16) TooMany _ entries more λ few last.
+    let same : found ≡ entries = cc in
+    rw (← same) (ltb-true 0 (item_count found) some, leb-true (item_count found) 16 few)
+
+-- ---- pool
+
+pub record PoolStep (pool next : List ℕ) : Type 0 where
+  pub address : ℕ
+  pub small : address < 2 ^ 32
+  pub new : has pool address ≡ false
+  pub is : next ≡ pool ++ address ∷ []
+
+pool_step : (pool next : List ℕ) (entry : Data) → with_address pool entry ≡ Ok next → PoolStep pool next
+unfolding with_address
+pool_step pool next entry is =
+    reads (text_in entry) _ next is λ text _ read.
+    reads (ok_or (address_of text) BadAddress) _ next read λ address found ruled.
+    holds (not (has pool address)) DoubleAddress _ next ruled λ new last.
+    record {
+      address = address;
+      small = address_of-bound text address (ok_or_ok _ _ _ found);
+      new = not-true _ new;
+      is = cc;
+    }
+
+pub record PoolSoFar (pool : List ℕ) : Type 0 where
+  pub addresses : All (λ address. address < 2 ^ 32) pool
+  pub distinct : AreDistinct pool
+
+pool_keeps : (now next : List ℕ) (entry : Data) → PoolSoFar now → with_address now entry ≡ Ok next → PoolSoFar next
+pool_keeps now next entry start is =
+    let step = pool_step now next entry is in
+    subst PoolSoFar (sym step.is) (record {
+      addresses = All-push (λ address. address < 2 ^ 32) now step.address start.addresses step.small;
+      distinct = AreDistinct-push now step.address start.distinct step.new;
+    })
+
+pool_adds : (now next : List ℕ) (entry : Data) → with_address now entry ≡ Ok next → length next ≡ length now + 1
+pool_adds now next entry is =
+    let step = pool_step now next entry is in
+    ap length step.is ∙ length-append now (step.address ∷ [])
+
+pub record PoolRules (pool : List ℕ) : Type 0 where
+  pub some : 1 ≤ length pool
+  pub few : length pool ≤ 16
+  pub kept : PoolSoFar pool
+
+nothing_yet : PoolSoFar []
+nothing_yet = record { addresses = All-nil _; distinct = λ i j i_in j_in same. absurd (omega arith) }
+
+pub pool_in-keeps : (table : Members) (pool : List ℕ) → pool_in table ≡ Ok pool → PoolRules pool
+unfolding pool_in
+pool_in-keeps table pool is =
+    reads (short_list (codes "pool") table) _ pool is λ entries listed more.
+    let counts = short_list-counts (codes "pool") table entries listed in
+    let long = each_adds with_address length pool_adds [] pool entries more in
+    record { some = omega (arith, counts); few = omega (arith, counts); kept = each_keeps with_address PoolSoFar pool_keeps [] pool entries nothing_yet more }
+
+-- ---- inside
+
+inside_step : (now next : List Network) (entry : Data) → with_prefix now entry ≡ Ok next → (network : Network) × IsNetwork network × (next ≡ now ++ network ∷ [])
+unfolding with_prefix
+inside_step now next entry is =
+    reads (text_in entry) _ next is λ text _ read.
+    reads (ok_or (network_of text) BadPrefix) _ next read λ network found last.
+    (network, network_of-is text network (ok_or_ok _ _ _ found), cc)
+
+inside_keeps : (now next : List Network) (entry : Data) → All IsNetwork now → with_prefix now entry ≡ Ok next → All IsNetwork next
+inside_keeps now next entry start is =
+    let (network, is_network, made) = inside_step now next entry is in
+    subst (All IsNetwork) (sym made) (All-push IsNetwork now network start is_network)
+
+inside_adds : (now next : List Network) (entry : Data) → with_prefix now entry ≡ Ok next → length next ≡ length now + 1
+inside_adds now next entry is =
+    let (network, _, made) = inside_step now next entry is in
+    ap length made ∙ length-append now (network ∷ [])
+
+prefixes_in-keeps : (table : Members) (inside : List Network) → prefixes_in table ≡ Ok inside → IsInside inside
+unfolding prefixes_in
+prefixes_in-keeps table inside is =
+    reads (short_list (codes "inside") table) _ inside is λ entries listed more.
+    let counts = short_list-counts (codes "inside") table entries listed in
+    let long = each_adds with_prefix length inside_adds [] inside entries more in
+    record { some = omega (arith, counts); few = omega (arith, counts); networks = each_keeps with_prefix (All IsNetwork) inside_keeps [] inside entries (All-nil _) more }
+
+not_there : (test : ℕ → Bool) (xs : List ℕ) (i d : ℕ) (b : Bool) → list_any test xs ≡ false → i < length xs → test (get_or xs i d) ≡ b → b ≡ false
+not_there test xs i d true none lt is = sym (list_any_at test xs i d lt is) ∙ none
+not_there test xs i d false none lt is = refl
+
+all_outside : (inside : List Network) (pool : List ℕ) → list_any (have_address inside) pool ≡ false → All (λ address. have_address inside address ≡ false) pool
+all_outside inside pool none = λ i d lt. not_there (have_address inside) pool i d _ none lt refl
+
+pub inside_in-keeps : (pool : List ℕ) (table : Members) (inside : List Network) → inside_in pool table ≡ Ok inside → IsInside inside × All (λ address. have_address inside address ≡ false) pool
+unfolding inside_in
+inside_in-keeps pool table inside is =
+    reads (prefixes_in table) _ inside is λ read found ruled.
+    holds (not (list_any (have_address read) pool)) PoolInside _ inside ruled λ outside last.
+    let same : read ≡ inside = cc in
+    rw (← same) (prefixes_in-keeps table read found, all_outside read pool (not-true _ outside))
+
+-- ---- timers and ring
+
+timer_at-keeps : (least seconds : ℕ) (value : Data) → timer_at least value ≡ Ok seconds → IsTimer least seconds
+unfolding timer_at
+timer_at-keeps least seconds value is =
+    reads (number_in value) _ seconds is λ number _ read.
+    reads (ok_or (between 0 1_000_000_000 number) BadNumber) _ seconds read λ found ranged ruled.
+    holds (nat_le least found) TimerTooShort _ seconds ruled λ long last.
+    let same : found ≡ seconds = cc in
+    subst (IsTimer least) same (record { low = leb-true _ _ long; high = (between-range 0 1_000_000_000 found number (ok_or_ok _ _ _ ranged)).1 })
+
+timer-keeps : (key : List ℕ) (least default seconds : ℕ) (table : Members) → IsTimer least default → optional key default (timer_at least) table ≡ Ok seconds → IsTimer least seconds
+timer-keeps key least default seconds table fine is = optional_reads (IsTimer least) key default (timer_at least) table seconds is fine (λ value y read. timer_at-keeps least y value read)
+
+defaults_are_timers : AreTimers default_timers
+defaults_are_timers = record {
+  udp = record { low = omega arith; high = omega arith };
+  established = record { low = omega arith; high = omega arith };
+  transitory = record { low = omega arith; high = omega arith };
+  icmp = record { low = omega arith; high = omega arith };
+}
+
+timers_at-keeps : (timers : Timers) (value : Data) → timers_at value ≡ Ok timers → AreTimers timers
+unfolding timers_at
+timers_at-keeps timers value is =
+    reads (table_in value) _ timers is λ keys _ rest.
+    reads (optional (codes "udp") 300 (timer_at 120) keys) _ timers rest λ udp udp_is rest₁.
+    reads (optional (codes "tcp-established") 7440 (timer_at 7440) keys) _ timers rest₁ λ established established_is rest₂.
+    reads (optional (codes "tcp-transitory") 240 (timer_at 240) keys) _ timers rest₂ λ transitory transitory_is rest₃.
+    reads (optional (codes "icmp") 60 (timer_at 60) keys) _ timers rest₃ λ icmp icmp_is last.
+    let made : Timers = record { udp = udp; established = established; transitory = transitory; icmp = icmp } in
+    let same : made ≡ timers = cc in
+    subst AreTimers same (record {
+      udp = timer-keeps (codes "udp") 120 300 udp keys defaults_are_timers.udp udp_is;
+      established = timer-keeps (codes "tcp-established") 7440 7440 established keys defaults_are_timers.established established_is;
+      transitory = timer-keeps (codes "tcp-transitory") 240 240 transitory keys defaults_are_timers.transitory transitory_is;
+      icmp = timer-keeps (codes "icmp") 60 60 icmp keys defaults_are_timers.icmp icmp_is;
+    })
+
+pub timers_in-keeps : (timers : Timers) (table : Members) → timers_in table ≡ Ok timers → AreTimers timers
+unfolding timers_in
+timers_in-keeps timers table is = optional_reads AreTimers (codes "timers") default_timers timers_at table timers is defaults_are_timers (λ value y read. timers_at-keeps y value read)
+
+abbrev pub IsRing : ℕ → Type 0
+IsRing slots = (1 ≤ slots) × (slots ≤ 4096)
+
+ring_at-keeps : (slots : ℕ) (value : Data) → ring_at value ≡ Ok slots → IsRing slots
+unfolding ring_at
+ring_at-keeps slots value is =
+    reads (number_in value) _ slots is λ number _ ranged.
+    between-range 1 4096 slots number (ok_or_ok _ _ _ ranged)
+
+pub ring_in-keeps : (slots : ℕ) (table : Members) → ring_in table ≡ Ok slots → IsRing slots
+unfolding ring_in
+ring_in-keeps slots table is = optional_reads IsRing (codes "ring") 64 ring_at table slots is (omega arith, omega arith) (λ value y read. ring_at-keeps y value read)
+
+-- ---- pairs
+
+pub record PairStep (pool : List ℕ) (inside : List Network) (now next : Pairs) : Type 0 where
+  pub host : ℕ
+  pub external : ℕ
+  pub host_inside : have_address inside host ≡ true
+  pub external_in_pool : has pool external ≡ true
+  pub new : is_some (paired_with now host) ≡ false
+  pub is : next ≡ insert_entry nat_cmp now host external
+
+pair_step : (pool : List ℕ) (inside : List Network) (now next : Pairs) (entry : Data) → with_pair pool inside now entry ≡ Ok next → PairStep pool inside now next
+unfolding with_pair
+pair_step pool inside now next entry is =
+    reads (table_in entry) _ next is λ keys _ rest.
+    reads (address_in (codes "host") keys) _ next rest λ host _ ruled.
+    holds (have_address inside host) NotInside _ next ruled λ host_inside rest₁.
+    reads (address_in (codes "external") keys) _ next rest₁ λ external _ ruled₁.
+    holds (has pool external) NotInPool _ next ruled₁ λ external_in_pool ruled₂.
+    holds (not (is_some (paired_with now host))) DoublePair _ next ruled₂ λ new last.
+    record { host = host; external = external; host_inside = host_inside; external_in_pool = external_in_pool; new = not-true _ new; is = cc }
+
+pub record PairsSoFar (pool : List ℕ) (inside : List Network) (pairs : Pairs) : Type 0 where
+  pub ordered : IsStrictlySortedBy nat_cmp (keys_of pairs)
+  pub hosts : All (λ host. have_address inside host ≡ true) (keys_of pairs)
+  pub externals : All (λ external. has pool external ≡ true) (values_of pairs)
+
+pairs_keep : (pool : List ℕ) (inside : List Network) (now next : Pairs) (entry : Data) → PairsSoFar pool inside now → with_pair pool inside now entry ≡ Ok next → PairsSoFar pool inside next
+pairs_keep pool inside now next entry start is =
+    let step = pair_step pool inside now next entry is in
+    subst (PairsSoFar pool inside) (sym step.is) (record {
+      ordered = sorted_inserted now step.host step.external start.ordered;
+      hosts = All-keys-insert_entry nat_cmp step.host step.external (λ host. have_address inside host ≡ true) now start.hosts step.host_inside;
+      externals = All-values-insert_entry nat_cmp step.host step.external (λ external. has pool external ≡ true) now start.externals step.external_in_pool;
+    })
+
+pairs_add : (pool : List ℕ) (inside : List Network) (now next : Pairs) (entry : Data) → with_pair pool inside now entry ≡ Ok next → length next ≡ length now + 1
+pairs_add pool inside now next entry is =
+    let step = pair_step pool inside now next entry is in
+    ap length step.is ∙ one_more now step.host step.external step.new
+
+no_pairs : (pool : List ℕ) (inside : List Network) → PairsSoFar pool inside []
+unfolding IsStrictlySortedBy
+no_pairs pool inside = record { ordered = tt; hosts = All-nil _; externals = All-nil _ }
+
+pairs_at-keeps : (pool : List ℕ) (inside : List Network) (value : Data) (pairs : Pairs) → pairs_at pool inside value ≡ Ok pairs → ArePairs pool inside pairs
+unfolding pairs_at
+pairs_at-keeps pool inside value pairs is =
+    reads (list_in value) _ pairs is λ entries _ ruled.
+    holds (nat_le (item_count entries) 256) TooMany _ pairs ruled λ few more.
+    let most = leb-true (item_count entries) 256 few in
+    let long = each_adds (with_pair pool inside) length (pairs_add pool inside) [] pairs entries more in
+    let kept = each_keeps (with_pair pool inside) (PairsSoFar pool inside) (pairs_keep pool inside) [] pairs entries (no_pairs pool inside) more in
+    record { few = omega (arith, most, long); ordered = kept.ordered; hosts = kept.hosts; externals = kept.externals }
+
+none_are_pairs : (pool : List ℕ) (inside : List Network) → ArePairs pool inside []
+none_are_pairs pool inside = let none = no_pairs pool inside in record { few = omega arith; ordered = none.ordered; hosts = none.hosts; externals = none.externals }
+
+pub pairs_in-keeps : (pool : List ℕ) (inside : List Network) (table : Members) (pairs : Pairs) → pairs_in pool inside table ≡ Ok pairs → ArePairs pool inside pairs
+unfolding pairs_in
+pairs_in-keeps pool inside table pairs is =
+    optional_reads (ArePairs pool inside) (codes "pair") [] (pairs_at pool inside) table pairs is (none_are_pairs pool inside) (λ value y read. pairs_at-keeps pool inside value y read)
+
+-- ---- the whole
+
+-- what a table configures keeps the rules
+pub configured-keeps : (table : Members) (rules : Rules) → configured table ≡ Ok rules → KeepsRules rules
+unfolding configured
+configured-keeps table rules is =
+    holds (knows_all_keys table) UnknownKey _ rules is λ _ rest.
+    reads (pool_in table) _ rules rest λ pool pool_is rest₁.
+    reads (inside_in pool table) _ rules rest₁ λ inside inside_is rest₂.
+    reads (filter_in table) _ rules rest₂ λ filter _ rest₃.
+    reads (timers_in table) _ rules rest₃ λ timers timers_is rest₄.
+    reads (ring_in table) _ rules rest₄ λ ring ring_is rest₅.
+    reads (pairs_in pool inside table) _ rules rest₅ λ pairs pairs_is last.
+    let made : Rules = record { pool = pool; inside = inside; filter = filter; timers = timers; ring = ring; pairs = pairs } in
+    let same : made ≡ rules = cc in
+    let of_pool = pool_in-keeps table pool pool_is in
+    let (of_inside, outside) = inside_in-keeps pool table inside inside_is in
+    let of_ring = ring_in-keeps ring table ring_is in
+    subst KeepsRules same (record {
+      pool = record { some = of_pool.some; few = of_pool.few; addresses = of_pool.kept.addresses; distinct = of_pool.kept.distinct; outside = outside };
+      inside = of_inside;
+      timers = timers_in-keeps timers table timers_is;
+      ring_low = of_ring.0;
+      ring_high = of_ring.1;
+      pairs = pairs_in-keeps pool inside table pairs pairs_is;
+    })

@@ -1,0 +1,11 @@
+pub mod Addresses
+pub mod Numbers
+pub mod Splits
+pub mod KnownKeys
+pub mod Entries
+pub mod Documents
+pub mod Pools
+pub mod PairEntries
+pub mod Chains
+pub mod Laws
+pub mod Spellings

@@ -1,0 +1,52 @@
+-- Addresses in a pool, and their places.
+use Rattle.std.proofs.Common.{◌≡◌, ℕ, suc, ◌+◌, ◌<◌, ◌||◌, Bool, true, false, cond, not, List, [], ◌∷◌, ◌++◌, length, get_or, IsSome, ◌==◌, refl, sym, ◌∙◌, eq-eqb, lt-ltb, arith, inl, inr, length-append}
+use Rattle.std.specs.Prelude.{position}
+use Rattle.std.specs.List.{list_any, position_or_len}
+use Rattle.std.proofs.lemmas.Bool.{cases_lt, false≢true}
+use Rattle.std.proofs.lemmas.List.Folds.{list_any_at}
+use Rattle.std.proofs.Math.Seq.{get_or-append_seam}
+use Rattle.std.proofs.lemmas.List.{get_or_append_left}
+use Rattle.napt_config.specs.Rules.{has}
+
+first_or_later : (b later : Bool) (n m : ℕ) → (b || later) ≡ true → (later ≡ true → n < m) → cond (not b) (1 + n) 0 < suc m
+first_or_later true later n m some more = omega arith
+first_or_later false later n m some more = omega (arith, more some)
+
+found : (p : ℕ → Bool) (xs : List ℕ) → list_any p xs ≡ true → position_or_len p xs < length xs
+found p [] none = cc
+found p (x ∷ xs) some = first_or_later (p x) (list_any p xs) (position_or_len p xs) (length xs) some (found p xs)
+
+-- an address of the pool has a place
+pub position_of_member : (pool : List ℕ) (address : ℕ) → has pool address ≡ true → IsSome (position (λ other. other == address) pool)
+position_of_member pool address member = rw (lt-ltb _ _ (found (λ other. other == address) pool member))
+
+pub has-at : (pool : List ℕ) (i d : ℕ) → i < length pool → has pool (get_or pool i d) ≡ true
+has-at pool i d lt = list_any_at (λ other. other == get_or pool i d) pool i d lt (eq-eqb _ _ refl)
+
+-- no address stands twice
+abbrev pub AreDistinct : List ℕ → Type 0
+AreDistinct pool = (i j : ℕ) → i < length pool → j < length pool → get_or pool i 0 ≡ get_or pool j 0 → i ≡ j
+
+not_again : (pool : List ℕ) (address i : ℕ) → has pool address ≡ false → i < length pool → get_or pool i 0 ≡ address → ⊥
+not_again pool address i new lt same = false≢true (sym new ∙ rw (← same) (has-at pool i 0 lt))
+
+pub AreDistinct-push : (pool : List ℕ) (address : ℕ) → AreDistinct pool → has pool address ≡ false → AreDistinct (pool ++ address ∷ [])
+AreDistinct-push pool address distinct new i j i_in j_in same =
+    let long : length (pool ++ address ∷ []) ≡ length pool + 1 = length-append pool (address ∷ []) in
+    let last : get_or (pool ++ address ∷ []) (length pool) 0 ≡ address = get_or-append_seam pool address [] 0 in
+    elim (cases_lt i (length pool)) [
+      | inl i_old ↦
+          let i_is = get_or_append_left pool (address ∷ []) 0 i i_old in
+          elim (cases_lt j (length pool)) [
+            | inl j_old ↦ distinct i j i_old j_old (sym i_is ∙ same ∙ get_or_append_left pool (address ∷ []) 0 j j_old)
+            | inr j_last ↦
+                let j_is : j ≡ length pool = omega arith in
+                absurd (not_again pool address i new i_old (sym i_is ∙ same ∙ rw j_is last))
+          ]
+      | inr i_last ↦
+          let i_is : i ≡ length pool = omega arith in
+          elim (cases_lt j (length pool)) [
+            | inl j_old ↦ absurd (not_again pool address j new j_old (sym (get_or_append_left pool (address ∷ []) 0 j j_old) ∙ sym same ∙ rw i_is last))
+            | inr j_last ↦ omega arith
+          ]
+    ]

@@ -1,0 +1,26 @@
+-- Texts without a separator.
+use Rattle.std.proofs.Common.{◌≡◌, ℕ, ◌+◌, Bool, List, [], length, Option, Some, None, refl, arith}
+use Rattle.std.specs.Prelude.{option_and_then}
+use Rattle.std.specs.List.{position_or_len, after_first}
+use Rattle.std.proofs.lemmas.List.{drop_all}
+use Rattle.napt_config.specs.Text.{is_slash, is_colon, network_of, socket_of, address_of}
+use Rattle.napt_config.proofs.Numbers.{number_of-nothing}
+
+nothing_after : (p : ℕ → Bool) (text : List ℕ) → position_or_len p text ≡ length text → after_first p text ≡ []
+nothing_after p text none = drop_all (position_or_len p text + 1) text (omega arith)
+
+never : {A B : Type 0} (o : Option A) (f : A → Option B) → ((x : A) → f x ≡ None) → option_and_then f o ≡ None
+never None f none = refl
+never (Some x) f none = none x
+
+pub network_of-whole : (text : List ℕ) → position_or_len is_slash text ≡ length text → network_of text ≡ None
+unfolding network_of
+network_of-whole text none =
+    let rest = nothing_after is_slash text none in
+    never (address_of _) _ (λ address. rw (rest, number_of-nothing 0 32))
+
+pub socket_of-whole : (text : List ℕ) → position_or_len is_colon text ≡ length text → socket_of text ≡ None
+unfolding socket_of
+socket_of-whole text none =
+    let rest = nothing_after is_colon text none in
+    never (address_of _) _ (λ address. rw (rest, number_of-nothing 1 65535))

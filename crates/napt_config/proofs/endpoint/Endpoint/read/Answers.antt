@@ -1,0 +1,10 @@
+use Rattle.std.proofs.Common.{◌≡◌, length, sym, rules}
+use Rattle.std.specs.List.{position_or_len}
+use Rattle.napt_config.specs.Text.{is_colon}
+use Rattle.napt_config.proofs.Splits.{socket_of-whole}
+use Rattle.napt_config.proofs.endpoint.Endpoint.read.Goals as goal
+
+pub returns-in_err-address : goal.returns-in_err-address
+returns-in_err-address c =
+    let none : position_or_len is_colon c.args.text.now ≡ length c.args.text.now = search rules in
+    rw c.from_residual.ensures (sym (socket_of-whole c.args.text.now none))

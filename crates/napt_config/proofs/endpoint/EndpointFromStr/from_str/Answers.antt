@@ -1,0 +1,12 @@
+use Rattle.std.proofs.Common.{sym, ap, ◌∙◌, subst}
+use Rattle.std.specs.Prelude.{ok_or}
+use Rattle.napt_config.specs.declared.fault.ConfigFault.TheVariants.{BadAddress}
+use Rattle.napt_config.specs.Network.{IsSocket}
+use Rattle.napt_config.specs.Text.{socket_text, IsReadBack}
+use Rattle.napt_config.proofs.Spellings.{sockets_read_back}
+use Rattle.napt_config.proofs.endpoint.EndpointFromStr.from_str.Goals as goal
+
+pub returns : goal.returns
+returns c =
+    let gives = c.ok_or.ensures.value ∙ ap (λ o. ok_or o BadAddress) c.read.ensures in
+    subst (IsReadBack socket_text IsSocket BadAddress c.args.text.now) (sym gives) (sockets_read_back BadAddress c.args.text.now)

@@ -1,0 +1,12 @@
+use Rattle.std.proofs.Common.{sym, ap, ◌∙◌, subst}
+use Rattle.std.specs.Prelude.{ok_or}
+use Rattle.napt_config.specs.declared.fault.ConfigFault.TheVariants.{BadPrefix}
+use Rattle.napt_config.specs.Network.{IsNetwork}
+use Rattle.napt_config.specs.Text.{network_text, IsReadBack}
+use Rattle.napt_config.proofs.Spellings.{networks_read_back}
+use Rattle.napt_config.proofs.prefix.PrefixFromStr.from_str.Goals as goal
+
+pub returns : goal.returns
+returns c =
+    let gives = c.ok_or.ensures.value ∙ ap (λ o. ok_or o BadPrefix) c.read.ensures in
+    subst (IsReadBack network_text IsNetwork BadPrefix c.args.text.now) (sym gives) (networks_read_back BadPrefix c.args.text.now)

@@ -1,0 +1,253 @@
+-- What the table of a configuration's text configures: its rules, or the fault of the first rule of a
+-- configuration that it breaks. Each function below reads from top to bottom, a rule a line.
+use Rattle.std.specs.Prelude.{ℕ, ◌+◌, ◌++◌, ◌&&◌, Bool, true, not, ℤ, pos, negsuc, List, [], ◌∷◌, codes, bytes_eq, if◌then◌else◌, nat_lt, nat_le, Option, Some, None, ok_or, is_some, Result, Ok}
+use Rattle.std.specs.List.{list_any}
+use Rattle.std.specs.Option.{option_map_or}
+use Rattle.std.specs.Ordering.{nat_cmp}
+use Rattle.std.specs.BTreeMap.{insert_entry}
+use Rattle.std.specs.Str.{is_utf8}
+use Rattle.toml.specs.Data.{Data, Items, no_items, item, Members, no_members, member, get_member, as_str, as_integer, as_array, as_table}
+use Rattle.toml.specs.Parse.{parse_document}
+use Rattle.napt_config.specs.Network.{Network, have_address, private_networks}
+use Rattle.napt_config.specs.Text.{address_of, network_of}
+use Rattle.napt_config.specs.Fault.{◌>>=◌, ◌>>◌, must}
+use Rattle.napt_config.specs.Rules.{Rules, has, paired_with}
+use Rattle.napt_config.specs.declared.settings.Filter.{Filter}
+use Rattle.napt_config.specs.declared.settings.Filter.TheVariants.{Independent, Address, AddressPort}
+use Rattle.napt_config.specs.declared.settings.Timers.{Timers}
+use Rattle.napt_config.specs.declared.fault.ConfigFault.{ConfigFault}
+use Rattle.napt_config.specs.declared.fault.ConfigFault.TheVariants.{NotToml, UnknownKey, Missing, BadShape, TooMany, BadAddress, BadPrefix, BadNumber, BadWord, DoubleAddress, PoolInside, DoublePair, NotInPool, NotInside, TimerTooShort}
+
+-- ---- keys
+
+-- whether each key of the table is one of the names
+abbrev pub only_keys : List (List ℕ) → Members → Bool
+only_keys names no_members = true
+only_keys names (member key value rest) = list_any (λ name. bytes_eq name key) names && only_keys names rest
+
+-- the same of a table in a value; another value has no keys
+abbrev pub only_keys_in : List (List ℕ) → Data → Bool
+only_keys_in names value = option_map_or (only_keys names) (as_table value) true
+
+-- the same of each table in a list
+abbrev pub only_keys_in_each : List (List ℕ) → Items → Bool
+only_keys_in_each names no_items = true
+only_keys_in_each names (item entry rest) = only_keys_in names entry && only_keys_in_each names rest
+
+abbrev pub top_keys : List (List ℕ)
+top_keys = codes "pool" ∷ codes "inside" ∷ codes "filter" ∷ codes "timers" ∷ codes "ring" ∷ codes "pair" ∷ []
+
+abbrev pub timer_keys : List (List ℕ)
+timer_keys = codes "udp" ∷ codes "tcp-established" ∷ codes "tcp-transitory" ∷ codes "icmp" ∷ []
+
+abbrev pub pair_keys : List (List ℕ)
+pair_keys = codes "host" ∷ codes "external" ∷ []
+
+-- the same of each table in a list in a value; another value has no keys
+abbrev pub only_keys_in_list : List (List ℕ) → Data → Bool
+only_keys_in_list names value = option_map_or (only_keys_in_each names) (as_array value) true
+
+abbrev pub knows_timer_keys : Members → Bool
+knows_timer_keys table = option_map_or (only_keys_in timer_keys) (get_member (codes "timers") table) true
+
+abbrev pub knows_pair_keys : Members → Bool
+knows_pair_keys table = option_map_or (only_keys_in_list pair_keys) (get_member (codes "pair") table) true
+
+-- whether each key, in `timers` and in each entry of `pair` too, is one that a configuration knows
+unfoldable pub knows_all_keys : Members → Bool
+knows_all_keys table = (only_keys top_keys table && knows_timer_keys table) && knows_pair_keys table
+
+-- ---- values
+
+-- how many entries a list has
+abbrev pub item_count : Items → ℕ
+item_count no_items = 0
+item_count (item entry rest) = 1 + item_count rest
+
+-- the value at a key that has to be there
+abbrev pub required : List ℕ → Members → Result Data ConfigFault
+required key table = ok_or (get_member key table) Missing
+
+-- what the value at a key reads as, or what stands for it where the key is absent
+abbrev pub optional : {A : Type 0} → List ℕ → A → (Data → Result A ConfigFault) → Members → Result A ConfigFault
+optional key default reading table = option_map_or reading (get_member key table) (Ok default)
+
+abbrev pub text_in : Data → Result (List ℕ) ConfigFault
+text_in value = ok_or (as_str value) BadShape
+
+abbrev pub number_in : Data → Result ℤ ConfigFault
+number_in value = ok_or (as_integer value) BadShape
+
+abbrev pub list_in : Data → Result Items ConfigFault
+list_in value = ok_or (as_array value) BadShape
+
+abbrev pub table_in : Data → Result Members ConfigFault
+table_in value = ok_or (as_table value) BadShape
+
+-- the number, where it is from least to most
+abbrev pub between : ℕ → ℕ → ℤ → Option ℕ
+between least most (pos n) = if nat_le least n && nat_le n most then Some n else None
+between least most (negsuc n) = None
+
+-- the entries of a list in order, each added to what those before it gave
+abbrev pub each_in_order : {A : Type 0} → (A → Data → Result A ConfigFault) → A → Items → Result A ConfigFault
+each_in_order with_entry so_far no_items = Ok so_far
+each_in_order with_entry so_far (item entry rest) = with_entry so_far entry >>= λ now. each_in_order with_entry now rest
+
+-- the list at a required key, of 1 to 16 entries
+unfoldable pub short_list : List ℕ → Members → Result Items ConfigFault
+short_list key table = do
+  value ← required key table
+  entries ← list_in value
+  must (nat_lt 0 (item_count entries)) Missing
+  must (nat_le (item_count entries) 16) TooMany
+  Ok entries
+
+-- ---- pool
+
+unfoldable pub with_address : List ℕ → Data → Result (List ℕ) ConfigFault
+with_address pool entry = do
+  text ← text_in entry
+  address ← ok_or (address_of text) BadAddress
+  must (not (has pool address)) DoubleAddress
+  Ok (pool ++ address ∷ [])
+
+unfoldable pub pool_in : Members → Result (List ℕ) ConfigFault
+pool_in table = do
+  entries ← short_list (codes "pool") table
+  each_in_order with_address [] entries
+
+-- ---- inside
+
+unfoldable pub with_prefix : List Network → Data → Result (List Network) ConfigFault
+with_prefix inside entry = do
+  text ← text_in entry
+  network ← ok_or (network_of text) BadPrefix
+  Ok (inside ++ network ∷ [])
+
+unfoldable pub prefixes_in : Members → Result (List Network) ConfigFault
+prefixes_in table = do
+  entries ← short_list (codes "inside") table
+  each_in_order with_prefix [] entries
+
+unfoldable pub inside_in : List ℕ → Members → Result (List Network) ConfigFault
+inside_in pool table = do
+  inside ← prefixes_in table
+  must (not (list_any (have_address inside) pool)) PoolInside
+  Ok inside
+
+-- ---- filter
+
+abbrev pub filter_of : List ℕ → Option Filter
+filter_of word =
+    if bytes_eq word (codes "independent") then Some Independent
+    else (if bytes_eq word (codes "address") then Some Address
+    else (if bytes_eq word (codes "address-port") then Some AddressPort else None))
+
+unfoldable pub filter_at : Data → Result Filter ConfigFault
+filter_at value = do
+  word ← text_in value
+  ok_or (filter_of word) BadWord
+
+unfoldable pub filter_in : Members → Result Filter ConfigFault
+filter_in table = optional (codes "filter") Independent filter_at table
+
+-- ---- timers
+
+unfoldable pub timer_at : ℕ → Data → Result ℕ ConfigFault
+timer_at least value = do
+  number ← number_in value
+  seconds ← ok_or (between 0 1_000_000_000 number) BadNumber
+  must (nat_le least seconds) TimerTooShort
+  Ok seconds
+
+unfoldable pub timers_at : Data → Result Timers ConfigFault
+timers_at value = do
+  keys ← table_in value
+  udp ← optional (codes "udp") 300 (timer_at 120) keys
+  established ← optional (codes "tcp-established") 7440 (timer_at 7440) keys
+  transitory ← optional (codes "tcp-transitory") 240 (timer_at 240) keys
+  icmp ← optional (codes "icmp") 60 (timer_at 60) keys
+  Ok (record { udp = udp; established = established; transitory = transitory; icmp = icmp })
+
+-- the timers of a configuration that has none
+abbrev pub default_timers : Timers
+default_timers = record { udp = 300; established = 7440; transitory = 240; icmp = 60 }
+
+unfoldable pub timers_in : Members → Result Timers ConfigFault
+timers_in table = optional (codes "timers") default_timers timers_at table
+
+-- ---- ring
+
+unfoldable pub ring_at : Data → Result ℕ ConfigFault
+ring_at value = do
+  number ← number_in value
+  ok_or (between 1 4096 number) BadNumber
+
+unfoldable pub ring_in : Members → Result ℕ ConfigFault
+ring_in table = optional (codes "ring") 64 ring_at table
+
+-- ---- pair
+
+-- the address at a required key
+unfoldable pub address_in : List ℕ → Members → Result ℕ ConfigFault
+address_in key table = do
+  value ← required key table
+  text ← text_in value
+  ok_or (address_of text) BadAddress
+
+unfoldable pub with_pair : List ℕ → List Network → List (ℕ × ℕ) → Data → Result (List (ℕ × ℕ)) ConfigFault
+with_pair pool inside pairs entry = do
+  keys ← table_in entry
+  host ← address_in (codes "host") keys
+  must (have_address inside host) NotInside
+  external ← address_in (codes "external") keys
+  must (has pool external) NotInPool
+  must (not (is_some (paired_with pairs host))) DoublePair
+  Ok (insert_entry nat_cmp pairs host external)
+
+unfoldable pub pairs_at : List ℕ → List Network → Data → Result (List (ℕ × ℕ)) ConfigFault
+pairs_at pool inside value = do
+  entries ← list_in value
+  must (nat_le (item_count entries) 256) TooMany
+  each_in_order (with_pair pool inside) [] entries
+
+unfoldable pub pairs_in : List ℕ → List Network → Members → Result (List (ℕ × ℕ)) ConfigFault
+pairs_in pool inside table = optional (codes "pair") [] (pairs_at pool inside) table
+
+-- ---- the whole
+
+-- what the table configures
+unfoldable pub configured : Members → Result Rules ConfigFault
+configured table = do
+  must (knows_all_keys table) UnknownKey
+  pool ← pool_in table
+  inside ← inside_in pool table
+  filter ← filter_in table
+  timers ← timers_in table
+  ring ← ring_in table
+  pairs ← pairs_in pool inside table
+  Ok (record { pool = pool; inside = inside; filter = filter; timers = timers; ring = ring; pairs = pairs })
+
+-- the table that a text reads as: it is UTF-8, and TOML
+unfoldable pub document_of : List ℕ → Option Members
+document_of text = if is_utf8 text then parse_document text else None
+
+-- what the text configures
+unfoldable pub configuration_of : List ℕ → Result Rules ConfigFault
+configuration_of text = do
+  table ← ok_or (document_of text) NotToml
+  configured table
+
+-- ---- the configuration without a text
+
+-- 203.0.113.1 for the private networks; all else by default
+abbrev pub built_in : Rules
+built_in = record {
+  pool = 0xCB007101 ∷ [];
+  inside = private_networks;
+  filter = Independent;
+  timers = default_timers;
+  ring = 64;
+  pairs = [];
+}

@@ -1,0 +1,24 @@
+-- Readings that end at the first broken rule.
+use Rattle.std.specs.Prelude.{◌≡◌, ◌≢◌, Bool, if◌then◌else◌, Result, Ok, Err}
+use Rattle.napt_config.specs.declared.fault.ConfigFault.{ConfigFault}
+use Rattle.napt_config.specs.declared.fault.ConfigFault.TheVariants.{Memory}
+
+-- what follows is read where nothing was broken so far
+infixl 10 ◌>>=◌
+abbrev pub ◌>>=◌ : {A B : Type 0} → Result A ConfigFault → (A → Result B ConfigFault) → Result B ConfigFault
+(Ok x) >>= follows = follows x
+(Err fault) >>= follows = Err fault
+
+infixl 10 ◌>>◌
+abbrev pub ◌>>◌ : {A B : Type 0} → Result A ConfigFault → Result B ConfigFault → Result B ConfigFault
+(Ok x) >> follows = follows
+(Err fault) >> follows = Err fault
+
+-- a rule, and the fault where it is broken
+abbrev pub must : Bool → ConfigFault → Result (Unit {0}) ConfigFault
+must rule fault = if rule then Ok tt else Err fault
+
+-- What a function returned, seen by `view`, is what reading gives, unless memory ran out.
+abbrev pub Gives : {X Y : Type 0} → (X → Y) → Result X ConfigFault → Result Y ConfigFault → Type 0
+Gives view (Ok x) reading = reading ≡ Ok (view x)
+Gives view (Err fault) reading = fault ≢ Memory → reading ≡ Err fault

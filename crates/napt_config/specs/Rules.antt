@@ -1,0 +1,80 @@
+-- What a configuration says, and the rules that each one keeps.
+use Rattle.std.specs.Prelude.{◌≡◌, ℕ, ◌%◌, ◌^◌, ◌<◌, ◌≤◌, ◌==◌, Bool, true, false, List, All, length, slice_index, position, Option, unwrap_or}
+use Rattle.std.specs.List.{list_any}
+use Rattle.std.specs.List.Sorted.{IsStrictlySortedBy}
+use Rattle.std.specs.Map.{keys_of, values_of, lookup}
+use Rattle.std.specs.Ordering.{nat_cmp}
+use Rattle.std.specs.BTreeMap.{is_at}
+use Rattle.napt_config.specs.Network.{Network, IsNetwork, have_address}
+use Rattle.napt_config.specs.declared.settings.Filter.{Filter}
+use Rattle.napt_config.specs.declared.settings.Timers.{Timers}
+
+-- what a configuration says; the pairs are hosts with their external addresses, by ascending host
+pub record Rules : Type 0 where
+  pub pool : List ℕ
+  pub inside : List Network
+  pub filter : Filter
+  pub timers : Timers
+  pub ring : ℕ
+  pub pairs : List (ℕ × ℕ)
+
+-- the address that a host is paired with by an entry of its own, where it has one
+abbrev pub paired_with : List (ℕ × ℕ) → ℕ → Option ℕ
+paired_with pairs host = lookup (is_at (nat_cmp host)) pairs
+
+-- the external address of a host: its entry's, else the pool's at the host's number modulo the pool's size
+abbrev pub pair_of : Rules → ℕ → ℕ
+pair_of rules host = unwrap_or (paired_with rules.pairs host) (slice_index rules.pool (host % length rules.pool))
+
+-- whether the address is of an inside host
+abbrev pub is_inside : Rules → ℕ → Bool
+is_inside rules address = have_address rules.inside address
+
+-- whether the addresses have this one
+abbrev pub has : List ℕ → ℕ → Bool
+has addresses address = list_any (λ other. other == address) addresses
+
+-- the place of the address in the pool, from 0
+abbrev pub place_of : Rules → ℕ → Option ℕ
+place_of rules address = position (λ other. other == address) rules.pool
+
+-- seconds that a timer may have
+pub record IsTimer (least seconds : ℕ) : Type 0 where
+  pub low : least ≤ seconds
+  pub high : seconds ≤ 1_000_000_000
+
+pub record AreTimers (timers : Timers) : Type 0 where
+  pub udp : IsTimer 120 timers.udp
+  pub established : IsTimer 7440 timers.established
+  pub transitory : IsTimer 240 timers.transitory
+  pub icmp : IsTimer 60 timers.icmp
+
+-- 1 to 16 addresses, none twice and none inside
+pub record IsPool (inside : List Network) (pool : List ℕ) : Type 0 where
+  pub some : 1 ≤ length pool
+  pub few : length pool ≤ 16
+  pub addresses : All (λ address. address < 2 ^ 32) pool
+  pub distinct : (i j : ℕ) → i < length pool → j < length pool → slice_index pool i ≡ slice_index pool j → i ≡ j
+  pub outside : All (λ address. have_address inside address ≡ false) pool
+
+-- 1 to 16 prefixes
+pub record IsInside (inside : List Network) : Type 0 where
+  pub some : 1 ≤ length inside
+  pub few : length inside ≤ 16
+  pub networks : All IsNetwork inside
+
+-- at most 256 inside hosts, none twice, each with a pool address
+pub record ArePairs (pool : List ℕ) (inside : List Network) (pairs : List (ℕ × ℕ)) : Type 0 where
+  pub few : length pairs ≤ 256
+  pub ordered : IsStrictlySortedBy nat_cmp (keys_of pairs)
+  pub hosts : All (λ host. have_address inside host ≡ true) (keys_of pairs)
+  pub externals : All (λ external. has pool external ≡ true) (values_of pairs)
+
+-- the rules that each configuration keeps
+pub record KeepsRules (rules : Rules) : Type 0 where
+  pub pool : IsPool rules.inside rules.pool
+  pub inside : IsInside rules.inside
+  pub timers : AreTimers rules.timers
+  pub ring_low : 1 ≤ rules.ring
+  pub ring_high : rules.ring ≤ 4096
+  pub pairs : ArePairs rules.pool rules.inside rules.pairs

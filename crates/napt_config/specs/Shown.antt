@@ -1,0 +1,14 @@
+-- What a `Config` shows.
+use Rattle.napt_config.specs.Rules.{Rules}
+use Rattle.napt_config.specs.declared.config.Config.TheInside.{Inside}
+
+-- the fields, as lists and numbers
+abbrev pub shown : Inside → Rules
+shown config = record {
+  pool = config.pool.items;
+  inside = config.inside.items;
+  filter = config.filter;
+  timers = config.timers;
+  ring = config.ring;
+  pairs = config.pairs.entries;
+}

@@ -1,0 +1,74 @@
+-- How addresses, prefixes and endpoints are written, and what a text reads as.
+use Rattle.std.specs.Prelude.{◌≡◌, ℕ, ◌-◌, ◌%◌, ◌^◌, ◌==◌, Bool, ◌&&◌, not, if◌then◌else◌, List, [], ◌∷◌, ◌++◌, length, slice_index, codes, decimal, nat_lt, nat_le, Option, Some, None, option_and_then, Result, Ok, IfOk, IfErr}
+use Rattle.std.specs.Int.{w32, to_be_bytes, from_be_bytes}
+use Rattle.std.specs.Char.{is_ascii_digit}
+use Rattle.std.specs.List.{before_first, after_first, list_all}
+use Rattle.std.specs.Str.Parse.{digits_value}
+use Rattle.std.specs.Net.Reader.{read_ipv4}
+use Rattle.std.specs.Net.Text.{ipv4_text}
+use Rattle.napt_config.specs.Network.{Network, Socket}
+use Rattle.napt_config.specs.declared.fault.ConfigFault.{ConfigFault}
+
+-- the address's four bytes in decimal, the highest first, with dots between them
+unfoldable pub address_text : ℕ → List ℕ
+address_text address = ipv4_text (to_be_bytes w32 address)
+
+-- an address, a slash and the number of leading bits
+unfoldable pub network_text : Network → List ℕ
+network_text network = address_text network.address ++ codes "/" ++ decimal network.bits
+
+-- an address, a colon and the port
+unfoldable pub socket_text : Socket → List ℕ
+socket_text socket = address_text socket.address ++ codes ":" ++ decimal socket.port
+
+-- at least one ASCII digit and nothing else, with no 0 in front of another digit
+abbrev pub is_number : List ℕ → Bool
+is_number text = (nat_lt 0 (length text) && list_all is_ascii_digit text) && not (nat_lt 1 (length text) && (slice_index text 0 == 48))
+
+-- the number in decimal that the text is, from least to most
+unfoldable pub number_of : ℕ → ℕ → List ℕ → Option ℕ
+number_of least most text =
+    if is_number text && (nat_le least (digits_value 10 text) && nat_le (digits_value 10 text) most) then Some (digits_value 10 text) else None
+
+-- the four bytes, with nothing after them, as a number
+abbrev pub whole_address : List ℕ → List ℕ → Option ℕ
+whole_address octets [] = Some (from_be_bytes w32 octets)
+whole_address octets (byte ∷ rest) = None
+
+-- the address that the text is: the one whose `address_text` it is, where there is one
+unfoldable pub address_of : List ℕ → Option ℕ
+address_of text = option_and_then (λ read. whole_address read.0 read.1) (read_ipv4 text)
+
+-- the bytes '/' and ':'
+abbrev pub is_slash : ℕ → Bool
+is_slash byte = byte == 47
+
+abbrev pub is_colon : ℕ → Bool
+is_colon byte = byte == 58
+
+-- the network, where the bits past its leading ones are 0
+abbrev pub network_at : ℕ → ℕ → Option Network
+network_at address bits = if address % 2 ^ (32 - bits) == 0 then Some (record { address = address; bits = bits }) else None
+
+-- the prefix that the text is: the one whose `network_text` it is, where there is one
+unfoldable pub network_of : List ℕ → Option Network
+network_of text =
+    option_and_then
+    (λ address. option_and_then (network_at address) (number_of 0 32 (after_first is_slash text)))
+    (address_of (before_first is_slash text))
+
+abbrev pub socket_at : ℕ → ℕ → Option Socket
+socket_at address port = Some (record { address = address; port = port })
+
+-- the endpoint that the text is: the one whose `socket_text` it is, where there is one
+unfoldable pub socket_of : List ℕ → Option Socket
+socket_of text =
+    option_and_then
+    (λ address. option_and_then (socket_at address) (number_of 1 65535 (after_first is_colon text)))
+    (address_of (before_first is_colon text))
+
+-- What a text reads as: the value whose spelling it is, and no other; the fault, where it spells no value.
+pub record IsReadBack {A : Type 0} (spelling : A → List ℕ) (IsValue : A → Type 0) (fault : ConfigFault) (text : List ℕ) (r : Result A ConfigFault) : Type 0 where
+  pub spelled : IfOk r (λ x. text ≡ spelling x)
+  pub only : (x : A) → IsValue x → text ≡ spelling x → r ≡ Ok x
+  pub refused : IfErr r (λ e. e ≡ fault)

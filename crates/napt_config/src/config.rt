@@ -1,0 +1,206 @@
+//! The configuration.
+ghost use Rattle.std.specs.Prelude.{◌≡◌, ◌==◌, IfOk, IsSome, ok_or, position};
+ghost use Rattle.toml.specs.Parse.{parse_document};
+ghost use Rattle.toml.specs.View.{table_view};
+ghost use Rattle.napt_config.specs.Fault.{Gives};
+ghost use Rattle.napt_config.specs.Configured.{document_of};
+ghost use Rattle.napt_config.specs.declared.fault.ConfigFault.TheVariants.{NotToml};
+
+use crate::{ConfigFault, Filter, Prefix, Timers, keys, reading};
+use std::alloc::{AllocError, Global};
+use std::collections::BTreeMap;
+use std::marker::Model;
+use toml::Table;
+
+/// A configuration. Each value keeps these rules:
+///
+/// - the pool has 1 to 16 addresses, none twice and none inside;
+/// - 1 to 16 prefixes are inside, whose bits past their length are 0;
+/// - the timers are at least 120 (UDP), 7440 (established), 240 (transitory) and 60 seconds (ICMP), and at
+///   most 1,000,000,000;
+/// - a ring has 1 to 4096 slots;
+/// - at most 256 inside hosts are paired by an entry of their own, each once, with a pool address.
+#[derive(Debug, Drop)]
+pub struct Config {
+    pool: Vec<u32>,
+    inside: Vec<Prefix>,
+    filter: Filter,
+    timers: Timers,
+    ring: usize,
+    pairs: BTreeMap<u32, u32>,
+}
+
+impl Model for Config {
+    ghost use Rattle.napt_config.specs.Rules.{Rules, KeepsRules};
+
+    ghost Value = { Rules };
+
+    ghost use Rattle.napt_config.specs.Shown.{shown};
+
+    ghost view = { shown };
+
+    ghost invariant = { λ config. KeepsRules (shown config) };
+}
+
+impl Config {
+    ghost use Rattle.napt_config.specs.Rules.{KeepsRules, pair_of, is_inside, place_of};
+    ghost use Rattle.napt_config.specs.Configured.{configured, configuration_of, built_in};
+
+    /// Reads a configuration's text. What is answered is the configuration, or the fault of the first rule
+    /// that the text breaks; `ConfigFault::Memory` comes where memory ran out before that.
+    #[tactic(auto, unfolding(crate::specs::Configured::configuration_of))]
+    pub fn read(alloc: Global, text: &[u8]) -> Result<Config, ConfigFault>
+        ensures exact { Gives (λ config. config) result (configuration_of text.now) }
+        ensures kept { IfOk result KeepsRules }
+    {
+        let table = document(alloc, text)?;
+        Config::of_table(alloc, &table)
+    }
+
+    /// The configuration of a table.
+    #[tactic(auto, unfolding(crate::specs::Configured::configured))]
+    fn of_table(alloc: Global, table: &Table) -> Result<Config, ConfigFault>
+        ensures exact { Gives (λ config. config) result (configured (table_view table.now)) }
+        ensures kept { IfOk result KeepsRules }
+    {
+        if !keys::knows_all_keys(table) {
+            return Err(ConfigFault::UnknownKey);
+        }
+        let pool = reading::pool(alloc, table)?;
+        let inside = reading::inside(alloc, table, &pool)?;
+        let filter = reading::filter(table)?;
+        let timers = reading::timers(table)?;
+        let ring = reading::ring(table)?;
+        let pairs = reading::pairs(alloc, table, &pool, &inside)?;
+        Ok(Config {
+            pool,
+            inside,
+            filter,
+            timers,
+            ring,
+            pairs,
+        })
+    }
+
+    /// The configuration where no text is given: the pool is 203.0.113.1, the private networks of RFC 1918
+    /// are inside, and all else is as by default.
+    pub fn built_in(alloc: Global) -> Result<Config, AllocError>
+        ensures exact { IfOk result (λ config. config ≡ built_in) }
+        ensures kept { IfOk result KeepsRules }
+    {
+        let pool = Vec::from_slice(alloc, &[0xCB00_7101])?;
+        let inside = Prefix::private_networks(alloc)?;
+        Ok(Config {
+            pool,
+            inside,
+            filter: Filter::Independent,
+            timers: Timers::DEFAULT,
+            ring: reading::DEFAULT_SLOTS,
+            pairs: BTreeMap::new(alloc),
+        })
+    }
+
+    /// An equal configuration.
+    pub fn copy(&self, alloc: Global) -> Result<Config, AllocError>
+        ensures { IfOk result (λ config. config ≡ self.now) }
+    {
+        Ok(Config {
+            pool: Vec::from_slice(alloc, &self.pool)?,
+            inside: Vec::from_slice(alloc, &self.inside)?,
+            filter: self.filter,
+            timers: self.timers,
+            ring: self.ring,
+            pairs: self.pairs.clone()?,
+        })
+    }
+
+    /// The external address of a host (RFC 4787, section 4.1, "paired" pooling): that of its own entry, else
+    /// the pool's address at the host's number modulo the pool's size. It is found by search, in a number of
+    /// steps that grows with the logarithm of the number of entries, and takes no memory.
+    pub fn pair(&self, host: u32) -> u32
+        ensures address { result ≡ pair_of self.now host }
+        ensures in_pool { IsSome (place_of self.now result) }
+        ensures kept { KeepsRules self.now }
+    {
+        match self.pairs.get(&host) {
+            Some(external) => *external,
+            None => self.pool[host as usize % self.pool.len()],
+        }
+    }
+
+    /// Whether the address is in one of the inside prefixes.
+    pub fn is_inside(&self, address: u32) -> bool
+        ensures { result ≡ is_inside self.now address }
+    {
+        reading::have_address(&self.inside, address)
+    }
+
+    /// The place of the address in the pool, from 0.
+    pub fn pool_index(&self, address: u32) -> Option<u32>
+        ensures place { result ≡ place_of self.now address }
+        ensures kept { KeepsRules self.now }
+    {
+        let place = place_in(&self.pool, address)?;
+        Some(place as u32)
+    }
+
+    /// The pool: 1 to 16 external addresses, as numbers.
+    pub fn pool(&self) -> &[u32]
+        ensures addresses { result.now ≡ self.now.pool }
+        ensures kept { KeepsRules self.now }
+    {
+        self.pool.as_slice()
+    }
+
+    /// How many slots each ring has, from 1 to 4096.
+    pub fn ring(&self) -> usize
+        ensures slots { result ≡ self.now.ring }
+        ensures kept { KeepsRules self.now }
+    {
+        self.ring
+    }
+
+    /// Which remotes may reach a binding from outside.
+    pub fn filter(&self) -> Filter
+        ensures { result ≡ self.now.filter }
+    {
+        self.filter
+    }
+
+    /// How long what is idle lives.
+    pub fn timers(&self) -> Timers
+        ensures timers { result ≡ self.now.timers }
+        ensures kept { KeepsRules self.now }
+    {
+        self.timers
+    }
+}
+
+/// The place of the address in the pool, from 0.
+fn place_in(pool: &[u32], address: u32) -> Option<usize>
+    ensures { result ≡ position (λ other. other == address) pool.now }
+{
+    pool.iter().position(|other| *other == address)
+}
+
+/// The table of a TOML text.
+fn table_of(alloc: Global, text: &str) -> Result<Table, ConfigFault>
+    ensures { Gives table_view result (ok_or (parse_document text.now) NotToml) }
+{
+    match toml::table_from_str(alloc, text) {
+        Ok(table) => Ok(table),
+        Err(error) if error.is_memory() => Err(ConfigFault::Memory),
+        Err(_) => Err(ConfigFault::NotToml),
+    }
+}
+
+/// The table of a text, which has to be UTF-8 and TOML.
+#[tactic(auto, unfolding(crate::specs::Configured::document_of))]
+fn document(alloc: Global, text: &[u8]) -> Result<Table, ConfigFault>
+    ensures { Gives table_view result (ok_or (document_of text.now) NotToml) }
+{
+    match str::from_utf8(text) {
+        Ok(text) => table_of(alloc, text),
+        Err(_) => Err(ConfigFault::NotToml),
+    }
+}

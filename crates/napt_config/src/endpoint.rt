@@ -1,0 +1,82 @@
+//! Endpoints.
+ghost use Rattle.std.specs.Prelude.{◌≡◌, Some};
+ghost use Rattle.napt_config.specs.Network.{IsSocket};
+ghost use Rattle.napt_config.specs.Text.{socket_of, socket_text, IsReadBack};
+ghost use Rattle.napt_config.specs.declared.fault.ConfigFault.TheVariants.{BadAddress};
+
+use crate::{Address, ConfigFault, text};
+use std::fmt;
+use std::marker::Model;
+use std::str::FromStr;
+
+/// An address and a port that is not 0, written `10.0.0.3:7000`.
+#[derive(Clone, Copy, Debug, PartialEq, Eq)]
+pub struct Endpoint {
+    address: u32,
+    port: u16,
+}
+
+impl Model for Endpoint {
+    ghost use Rattle.napt_config.specs.Network.{Socket, IsSocket};
+
+    ghost Value = { Socket };
+
+    ghost view = { λ endpoint. record { address = endpoint.address; port = endpoint.port } };
+
+    ghost invariant = { λ endpoint. IsSocket (record { address = endpoint.address; port = endpoint.port }) };
+
+    ghost inverse = { λ socket. record { address = socket.address; port = socket.port } };
+}
+
+impl Endpoint {
+    /// The endpoint that the text is.
+    #[tactic(auto, unfolding(crate::specs::Text::socket_of))]
+    fn read(text: &str) -> Option<Endpoint>
+        ensures { result ≡ socket_of text.now }
+    {
+        let (address, port) = text.split_once(':')?;
+        let address = text::address(address)?;
+        let port = text::number(port, 1, 65535)?;
+        Some(Endpoint {
+            address,
+            port: port as u16,
+        })
+    }
+
+    /// The address, as a number.
+    pub fn address(&self) -> u32
+        ensures { result ≡ self.now.address }
+    {
+        self.address
+    }
+
+    /// The port, which is not 0.
+    pub fn port(&self) -> u16
+        ensures { result ≡ self.now.port }
+    {
+        self.port
+    }
+}
+
+impl fmt::Display for Endpoint {
+    ghost output = { λ endpoint. Some (socket_text endpoint) };
+
+    #[tactic(auto, unfolding(crate::specs::Text::socket_text))]
+    fn fmt<W: fmt::Write>(&self, f: &mut fmt::Formatter<W>) -> fmt::Result {
+        let address = Address(self.address);
+        let port = self.port;
+        write!(f, "{address}:{port}")
+    }
+}
+
+impl FromStr for Endpoint {
+    type Err = ConfigFault;
+
+    ghost from_str_gives = { IsReadBack socket_text IsSocket BadAddress };
+
+    /// The endpoint that the text is; `ConfigFault::BadAddress` where it is none. What `Display` writes is
+    /// read back.
+    fn from_str(text: &str) -> Result<Endpoint, ConfigFault> {
+        Endpoint::read(text).ok_or(ConfigFault::BadAddress)
+    }
+}

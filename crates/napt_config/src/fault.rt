@@ -1,0 +1,76 @@
+//! Why a text configures nothing.
+ghost use Rattle.std.specs.Prelude.{◌≡◌};
+ghost use Rattle.napt_config.specs.declared.fault.ConfigFault.TheVariants.{Memory};
+
+use std::alloc::{AllocError, AllocFailed};
+use thiserror::Error;
+
+/// The first rule that a configuration's text breaks. The rules are judged in the order in which the
+/// configuration's format gives them: TOML, unknown keys, then key by key.
+#[derive(Clone, Copy, Debug, PartialEq, Eq, Error)]
+pub enum ConfigFault {
+    /// The text is not UTF-8, or not TOML; a whole number outside 64 bits is not TOML either.
+    #[error("expected TOML in UTF-8")]
+    NotToml,
+    /// A key that no configuration has, at the top, in `timers` or in an entry of `pair`.
+    #[error("unknown key: expected `pool`, `inside`, `filter`, `timers`, `ring` or `pair`; in `timers` `udp`, `tcp-established`, `tcp-transitory` or `icmp`; in a `pair` `host` or `external`")]
+    UnknownKey,
+    /// A required key is absent, or its list is empty.
+    #[error("expected `pool` and `inside` with at least one entry each, and `host` and `external` in each `pair`")]
+    Missing,
+    /// A value is of another kind than its key asks for.
+    #[error("expected a value of another kind: a text, a whole number, a list or a table, as its key asks for")]
+    BadShape,
+    /// A list has more entries than it may have.
+    #[error("expected at most 16 entries in `pool` and in `inside`, and at most 256 of `pair`")]
+    TooMany,
+    /// A text is no address.
+    #[error("expected an IPv4 address, as `203.0.113.1`, without leading zeros")]
+    BadAddress,
+    /// A text is no prefix, or has bits past its length that are not 0.
+    #[error("expected an IPv4 prefix, as `10.0.0.0/8`, whose bits past its length are 0")]
+    BadPrefix,
+    /// A number is out of its range.
+    #[error("expected a timer of 0 to 1000000000 seconds, or a `ring` of 1 to 4096")]
+    BadNumber,
+    /// A text is no word that its key knows.
+    #[error("expected `independent`, `address` or `address-port` as `filter`")]
+    BadWord,
+    /// An address stands twice in the pool.
+    #[error("expected each address of `pool` once")]
+    DoubleAddress,
+    /// A pool address is in one of the inside prefixes.
+    #[error("expected no address of `pool` in a prefix of `inside`")]
+    PoolInside,
+    /// A host has two entries of `pair`.
+    #[error("expected at most one `pair` for each host")]
+    DoublePair,
+    /// The external address of a `pair` is not in the pool.
+    #[error("expected an `external` address that is in `pool`")]
+    NotInPool,
+    /// A host is in none of the inside prefixes.
+    #[error("expected a `host` that is in a prefix of `inside`")]
+    NotInside,
+    /// A timer is below its least value.
+    #[error("expected at least 120 seconds for `udp`, 7440 for `tcp-established`, 240 for `tcp-transitory` and 60 for `icmp`")]
+    TimerTooShort,
+    /// Memory ran out before another fault was found. It says nothing of the text.
+    #[error("out of memory")]
+    Memory,
+}
+
+impl From<AllocError> for ConfigFault {
+    ghost from_gives = { λ _ fault. fault ≡ Memory };
+
+    fn from(_refused: AllocError) -> ConfigFault {
+        ConfigFault::Memory
+    }
+}
+
+impl<T: Drop> From<AllocFailed<T>> for ConfigFault {
+    ghost from_gives = { λ _ fault. fault ≡ Memory };
+
+    fn from(_refused: AllocFailed<T>) -> ConfigFault {
+        ConfigFault::Memory
+    }
+}

@@ -1,0 +1,91 @@
+//! Which keys a configuration knows.
+ghost use Rattle.std.specs.Prelude.{◌≡◌, bytes_eq, map};
+ghost use Rattle.std.specs.List.{list_any};
+ghost use Rattle.toml.specs.View.{view, table_view, items_view};
+ghost use Rattle.napt_config.specs.Configured.{only_keys, only_keys_in, only_keys_in_each, only_keys_in_list, top_keys, knows_timer_keys, knows_pair_keys, knows_all_keys};
+
+use crate::values::value_at;
+use toml::{Table, Value};
+
+fn is_one_of(key: &str, names: &[&str]) -> bool
+    ensures { result ≡ list_any (λ name. bytes_eq name.now key.now) names.now }
+{
+    names.iter().any(|name| *name == key)
+}
+
+/// Whether each key of the table is one of the names.
+fn only_keys(table: &Table, names: &[&str]) -> bool
+    ensures { result ≡ only_keys (map (λ name. name.now) names.now) (table_view table.now) }
+{
+    for key in table.keys() {
+        if !is_one_of(key.as_str(), names) {
+            return false;
+        }
+    }
+    true
+}
+
+fn only_keys_in(value: &Value, names: &[&str]) -> bool
+    ensures { result ≡ only_keys_in (map (λ name. name.now) names.now) (view value.now) }
+{
+    match value.as_table() {
+        Some(table) => only_keys(table, names),
+        None => true,
+    }
+}
+
+fn only_keys_in_each(entries: &[Value], names: &[&str]) -> bool
+    ensures { result ≡ only_keys_in_each (map (λ name. name.now) names.now) (items_view entries.now) }
+{
+    for entry in entries {
+        if !only_keys_in(entry, names) {
+            return false;
+        }
+    }
+    true
+}
+
+/// The same of each table in a list in the value.
+fn only_keys_in_list(value: &Value, names: &[&str]) -> bool
+    ensures { result ≡ only_keys_in_list (map (λ name. name.now) names.now) (view value.now) }
+{
+    match value.as_array() {
+        Some(entries) => only_keys_in_each(entries.as_slice(), names),
+        None => true,
+    }
+}
+
+fn knows_timer_keys(table: &Table) -> bool
+    ensures { result ≡ knows_timer_keys (table_view table.now) }
+{
+    match value_at(table, "timers") {
+        Some(value) => only_keys_in(value, &["udp", "tcp-established", "tcp-transitory", "icmp"]),
+        None => true,
+    }
+}
+
+fn knows_pair_keys(table: &Table) -> bool
+    ensures { result ≡ knows_pair_keys (table_view table.now) }
+{
+    match value_at(table, "pair") {
+        Some(value) => only_keys_in_list(value, &["host", "external"]),
+        None => true,
+    }
+}
+
+fn knows_top_keys(table: &Table) -> bool
+    ensures { result ≡ only_keys top_keys (table_view table.now) }
+{
+    only_keys(
+        table,
+        &["pool", "inside", "filter", "timers", "ring", "pair"],
+    )
+}
+
+/// Whether each key, in `timers` and in each entry of `pair` too, is one that a configuration knows.
+#[tactic(auto, unfolding(crate::specs::Configured::knows_all_keys))]
+pub(crate) fn knows_all_keys(table: &Table) -> bool
+    ensures { result ≡ knows_all_keys (table_view table.now) }
+{
+    knows_top_keys(table) && knows_timer_keys(table) && knows_pair_keys(table)
+}

@@ -1,0 +1,26 @@
+//! The configuration of the translator: read from TOML, checked rule by rule, and kept.
+//!
+//! `Config::read` reads a text and answers a configuration, or the fault of the first rule that the text
+//! breaks. Every `Config` keeps the rules for as long as it lives.
+#![tactic(auto)]
+
+mod address;
+mod config;
+mod endpoint;
+mod fault;
+mod keys;
+mod prefix;
+mod reading;
+mod settings;
+mod text;
+mod values;
+
+pub use address::Address;
+pub use config::Config;
+pub use endpoint::Endpoint;
+pub use fault::ConfigFault;
+pub use prefix::Prefix;
+pub use settings::{Filter, Timers};
+
+#[cfg(test)]
+mod tests;

@@ -1,0 +1,106 @@
+//! Prefixes of addresses.
+ghost use Rattle.std.specs.Prelude.{◌≡◌, ◌≤◌, Some, IfOk};
+ghost use Rattle.napt_config.specs.Network.{IsNetwork, has_address, private_networks};
+ghost use Rattle.napt_config.specs.Text.{network_of, network_at, network_text, IsReadBack};
+ghost use Rattle.napt_config.specs.declared.fault.ConfigFault.TheVariants.{BadPrefix};
+
+use crate::{Address, ConfigFault, text};
+use std::alloc::{AllocError, Global};
+use std::fmt;
+use std::marker::Model;
+use std::str::FromStr;
+
+/// The addresses whose first bits are those of one address, written `10.0.0.0/8` (RFC 4632, section 3.1).
+/// The bits of that address past its length are 0.
+#[derive(Clone, Copy, Debug, PartialEq, Eq)]
+pub struct Prefix {
+    address: u32,
+    bits: u8,
+}
+
+impl Model for Prefix {
+    ghost use Rattle.napt_config.specs.Network.{Network, IsNetwork};
+
+    ghost Value = { Network };
+
+    ghost view = { λ prefix. record { address = prefix.address; bits = prefix.bits } };
+
+    ghost invariant = { λ prefix. IsNetwork (record { address = prefix.address; bits = prefix.bits }) };
+
+    ghost inverse = { λ network. record { address = network.address; bits = network.bits } };
+}
+
+impl Prefix {
+    /// The prefix of this address and this number of leading bits, where the bits past these are 0.
+    pub(crate) fn new(address: u32, bits: u8) -> Option<Prefix>
+        requires { bits ≤ 32 }
+        ensures { result ≡ network_at address bits }
+    {
+        if u64::from(address) % (1 << (32 - bits)) == 0 {
+            Some(Prefix { address, bits })
+        } else {
+            None
+        }
+    }
+
+    /// The prefix that the text is.
+    #[tactic(auto, unfolding(crate::specs::Text::network_of))]
+    pub(crate) fn read(text: &str) -> Option<Prefix>
+        ensures { result ≡ network_of text.now }
+    {
+        let (address, bits) = text.split_once('/')?;
+        let address = text::address(address)?;
+        let bits = text::number(bits, 0, 32)?;
+        Prefix::new(address, bits as u8)
+    }
+
+    /// The private networks (RFC 1918, section 3): 10.0.0.0/8, 172.16.0.0/12 and 192.168.0.0/16.
+    pub(crate) fn private_networks(alloc: Global) -> Result<Vec<Prefix>, AllocError>
+        ensures { IfOk result (λ prefixes. prefixes.items ≡ private_networks) }
+    {
+        let ten = Prefix {
+            address: 0x0A00_0000,
+            bits: 8,
+        };
+        let sixteen = Prefix {
+            address: 0xAC10_0000,
+            bits: 12,
+        };
+        let last = Prefix {
+            address: 0xC0A8_0000,
+            bits: 16,
+        };
+        Vec::from_slice(alloc, &[ten, sixteen, last])
+    }
+
+    /// Whether the address is one of the prefix's.
+    pub fn contains(&self, address: u32) -> bool
+        ensures { result ≡ has_address self.now address }
+    {
+        let free = 32 - self.bits;
+        u64::from(address) >> free == u64::from(self.address) >> free
+    }
+}
+
+impl fmt::Display for Prefix {
+    ghost output = { λ prefix. Some (network_text prefix) };
+
+    #[tactic(auto, unfolding(crate::specs::Text::network_text))]
+    fn fmt<W: fmt::Write>(&self, f: &mut fmt::Formatter<W>) -> fmt::Result {
+        let address = Address(self.address);
+        let bits = self.bits;
+        write!(f, "{address}/{bits}")
+    }
+}
+
+impl FromStr for Prefix {
+    type Err = ConfigFault;
+
+    ghost from_str_gives = { IsReadBack network_text IsNetwork BadPrefix };
+
+    /// The prefix that the text is; `ConfigFault::BadPrefix` where it is none. What `Display` writes is read
+    /// back.
+    fn from_str(text: &str) -> Result<Prefix, ConfigFault> {
+        Prefix::read(text).ok_or(ConfigFault::BadPrefix)
+    }
+}

@@ -1,0 +1,311 @@
+//! Reading the keys of a configuration's table, each by the rules of its own.
+ghost use Rattle.std.specs.Prelude.{◌≡◌, []};
+ghost use Rattle.std.specs.List.{list_any};
+ghost use Rattle.toml.specs.View.{view, table_view, items_view};
+ghost use Rattle.napt_config.specs.Fault.{Gives};
+ghost use Rattle.napt_config.specs.Network.{have_address};
+ghost use Rattle.napt_config.specs.Configured.{each_in_order, between, short_list, with_address, pool_in, with_prefix, prefixes_in, inside_in, filter_at, filter_in, timer_at, timers_at, timers_in, ring_at, ring_in, address_in, with_pair, pairs_at, pairs_in, optional};
+
+use crate::values::{list_in, number_in, required, table_in, text_in, value_at};
+use crate::{ConfigFault, Filter, Prefix, Timers, text};
+use std::alloc::Global;
+use std::collections::BTreeMap;
+use toml::{Table, Value};
+
+/// How many entries `pool` and `inside` may have.
+const MOST_ENTRIES: usize = 16;
+
+/// How many entries `pair` may have.
+const MOST_PAIRS: usize = 256;
+
+/// How many seconds a timer may have.
+const MOST_SECONDS: u64 = 1_000_000_000;
+
+/// How many slots a ring may have.
+const MOST_SLOTS: u64 = 4096;
+
+/// How many slots a ring has where the configuration names no number.
+pub(crate) const DEFAULT_SLOTS: usize = 64;
+
+/// The list at a required key, of 1 to 16 entries.
+#[tactic(auto, unfolding(crate::specs::Configured::short_list), using(crate::proofs::Entries::items_are_counted))]
+fn short_list<'a>(table: &'a Table, key: &str) -> Result<&'a [Value], ConfigFault>
+    ensures { Gives (λ entries. items_view entries.now) result (short_list key.now (table_view table.now)) }
+{
+    let entries = list_in(required(table, key)?)?;
+    if entries.is_empty() {
+        return Err(ConfigFault::Missing);
+    }
+    if entries.len() > MOST_ENTRIES {
+        return Err(ConfigFault::TooMany);
+    }
+    Ok(entries)
+}
+
+/// The whole number, where it is from `least` to `most`.
+fn between(least: u64, most: u64, number: i64) -> Option<u64>
+    ensures { result ≡ between least most number }
+{
+    match u64::try_from(number) {
+        Ok(number) if least <= number && number <= most => Some(number),
+        _ => None,
+    }
+}
+
+// ---- pool
+
+#[tactic(auto, unfolding(crate::specs::Configured::with_address))]
+fn add_address(pool: &mut Vec<u32>, entry: &Value) -> Result<(), ConfigFault>
+    ensures { Gives (λ _. pool.new.items) result (with_address pool.old.items (view entry.now)) }
+{
+    let address = text::address(text_in(entry)?).ok_or(ConfigFault::BadAddress)?;
+    if pool.contains(&address) {
+        return Err(ConfigFault::DoubleAddress);
+    }
+    pool.push(address)?;
+    Ok(())
+}
+
+/// The pool of the table: 1 to 16 addresses, none of which stands twice.
+#[tactic(auto, unfolding(crate::specs::Configured::pool_in))]
+pub(crate) fn pool(alloc: Global, table: &Table) -> Result<Vec<u32>, ConfigFault>
+    ensures { Gives (λ pool. pool.items) result (pool_in (table_view table.now)) }
+{
+    let mut pool = Vec::new(alloc);
+    for entry in short_list(table, "pool")? {
+        add_address(&mut pool, entry)?;
+    }
+    Ok(pool)
+}
+
+// ---- inside
+
+#[tactic(auto, unfolding(crate::specs::Configured::with_prefix))]
+fn add_prefix(inside: &mut Vec<Prefix>, entry: &Value) -> Result<(), ConfigFault>
+    ensures { Gives (λ _. inside.new.items) result (with_prefix inside.old.items (view entry.now)) }
+{
+    let prefix = Prefix::read(text_in(entry)?).ok_or(ConfigFault::BadPrefix)?;
+    inside.push(prefix)?;
+    Ok(())
+}
+
+/// The prefixes at a key.
+#[tactic(auto, unfolding(crate::specs::Configured::prefixes_in))]
+fn prefixes(alloc: Global, table: &Table) -> Result<Vec<Prefix>, ConfigFault>
+    ensures { Gives (λ inside. inside.items) result (prefixes_in (table_view table.now)) }
+{
+    let mut inside = Vec::new(alloc);
+    for entry in short_list(table, "inside")? {
+        add_prefix(&mut inside, entry)?;
+    }
+    Ok(inside)
+}
+
+/// Whether the address is in one of the prefixes.
+pub(crate) fn have_address(prefixes: &[Prefix], address: u32) -> bool
+    ensures { result ≡ have_address prefixes.now address }
+{
+    prefixes.iter().any(|prefix| prefix.contains(address))
+}
+
+/// Whether one of the addresses is in one of the prefixes.
+fn have_any(prefixes: &[Prefix], addresses: &[u32]) -> bool
+    ensures { result ≡ list_any (have_address prefixes.now) addresses.now }
+{
+    addresses
+        .iter()
+        .any(|address| have_address(prefixes, *address))
+}
+
+/// The inside prefixes of the table: 1 to 16, none of which has a pool address.
+#[tactic(auto, unfolding(crate::specs::Configured::inside_in))]
+pub(crate) fn inside(alloc: Global, table: &Table, pool: &[u32]) -> Result<Vec<Prefix>, ConfigFault>
+    ensures { Gives (λ inside. inside.items) result (inside_in pool.now (table_view table.now)) }
+{
+    let inside = prefixes(alloc, table)?;
+    if have_any(&inside, pool) {
+        return Err(ConfigFault::PoolInside);
+    }
+    Ok(inside)
+}
+
+// ---- filter
+
+#[tactic(auto, unfolding(crate::specs::Configured::filter_at))]
+fn filter_at(value: &Value) -> Result<Filter, ConfigFault>
+    ensures { Gives (λ filter. filter) result (filter_at (view value.now)) }
+{
+    match text_in(value)? {
+        "independent" => Ok(Filter::Independent),
+        "address" => Ok(Filter::Address),
+        "address-port" => Ok(Filter::AddressPort),
+        _ => Err(ConfigFault::BadWord),
+    }
+}
+
+/// The filter of the table.
+#[tactic(auto, unfolding(crate::specs::Configured::filter_in))]
+pub(crate) fn filter(table: &Table) -> Result<Filter, ConfigFault>
+    ensures { Gives (λ filter. filter) result (filter_in (table_view table.now)) }
+{
+    match value_at(table, "filter") {
+        Some(value) => filter_at(value),
+        None => Ok(Filter::Independent),
+    }
+}
+
+// ---- timers
+
+#[tactic(auto, unfolding(crate::specs::Configured::timer_at))]
+fn timer_at(value: &Value, least: u64) -> Result<u64, ConfigFault>
+    ensures { Gives (λ seconds. seconds) result (timer_at least (view value.now)) }
+{
+    let seconds = between(0, MOST_SECONDS, number_in(value)?).ok_or(ConfigFault::BadNumber)?;
+    if seconds < least {
+        return Err(ConfigFault::TimerTooShort);
+    }
+    Ok(seconds)
+}
+
+/// The seconds at a key, or those that stand for it where it is absent.
+fn timer(table: &Table, key: &str, least: u64, default: u64) -> Result<u64, ConfigFault>
+    ensures { Gives (λ seconds. seconds) result (optional key.now default (timer_at least) (table_view table.now)) }
+{
+    match value_at(table, key) {
+        Some(value) => timer_at(value, least),
+        None => Ok(default),
+    }
+}
+
+#[tactic(auto, unfolding(crate::specs::Configured::timers_at))]
+fn timers_at(value: &Value) -> Result<Timers, ConfigFault>
+    ensures { Gives (λ timers. timers) result (timers_at (view value.now)) }
+{
+    let table = table_in(value)?;
+    let udp = timer(table, "udp", 120, 300)?;
+    let established = timer(table, "tcp-established", 7440, 7440)?;
+    let transitory = timer(table, "tcp-transitory", 240, 240)?;
+    let icmp = timer(table, "icmp", 60, 60)?;
+    Ok(Timers {
+        udp,
+        established,
+        transitory,
+        icmp,
+    })
+}
+
+/// The timers of the table.
+#[tactic(auto, unfolding(crate::specs::Configured::timers_in))]
+pub(crate) fn timers(table: &Table) -> Result<Timers, ConfigFault>
+    ensures { Gives (λ timers. timers) result (timers_in (table_view table.now)) }
+{
+    match value_at(table, "timers") {
+        Some(value) => timers_at(value),
+        None => Ok(Timers::DEFAULT),
+    }
+}
+
+// ---- ring
+
+#[tactic(auto, unfolding(crate::specs::Configured::ring_at))]
+fn ring_at(value: &Value) -> Result<usize, ConfigFault>
+    ensures { Gives (λ slots. slots) result (ring_at (view value.now)) }
+{
+    let slots = between(1, MOST_SLOTS, number_in(value)?).ok_or(ConfigFault::BadNumber)?;
+    Ok(slots as usize)
+}
+
+/// The number of slots of each ring.
+#[tactic(auto, unfolding(crate::specs::Configured::ring_in))]
+pub(crate) fn ring(table: &Table) -> Result<usize, ConfigFault>
+    ensures { Gives (λ slots. slots) result (ring_in (table_view table.now)) }
+{
+    match value_at(table, "ring") {
+        Some(value) => ring_at(value),
+        None => Ok(DEFAULT_SLOTS),
+    }
+}
+
+// ---- pair
+
+/// The address at a required key.
+#[tactic(auto, unfolding(crate::specs::Configured::address_in))]
+fn address_in(table: &Table, key: &str) -> Result<u32, ConfigFault>
+    ensures { Gives (λ address. address) result (address_in key.now (table_view table.now)) }
+{
+    let text = text_in(required(table, key)?)?;
+    text::address(text).ok_or(ConfigFault::BadAddress)
+}
+
+#[tactic(auto, unfolding(crate::specs::Configured::with_pair))]
+fn add_pair(
+    pairs: &mut BTreeMap<u32, u32>,
+    entry: &Value,
+    pool: &[u32],
+    inside: &[Prefix],
+) -> Result<(), ConfigFault>
+    ensures { Gives (λ _. pairs.new.entries) result (with_pair pool.now inside.now pairs.old.entries (view entry.now)) }
+{
+    let table = table_in(entry)?;
+    let host = address_in(table, "host")?;
+    if !have_address(inside, host) {
+        return Err(ConfigFault::NotInside);
+    }
+    let external = address_in(table, "external")?;
+    if !pool.contains(&external) {
+        return Err(ConfigFault::NotInPool);
+    }
+    if pairs.contains_key(&host) {
+        return Err(ConfigFault::DoublePair);
+    }
+    pairs.insert(host, external)?;
+    Ok(())
+}
+
+/// The pairs of some entries.
+fn pairs_of(
+    alloc: Global,
+    entries: &[Value],
+    pool: &[u32],
+    inside: &[Prefix],
+) -> Result<BTreeMap<u32, u32>, ConfigFault>
+    ensures { Gives (λ pairs. pairs.entries) result (each_in_order (with_pair pool.now inside.now) [] (items_view entries.now)) }
+{
+    let mut pairs = BTreeMap::new(alloc);
+    for entry in entries {
+        add_pair(&mut pairs, entry, pool, inside)?;
+    }
+    Ok(pairs)
+}
+
+#[tactic(auto, unfolding(crate::specs::Configured::pairs_at), using(crate::proofs::Entries::items_are_counted))]
+fn pairs_at(
+    alloc: Global,
+    value: &Value,
+    pool: &[u32],
+    inside: &[Prefix],
+) -> Result<BTreeMap<u32, u32>, ConfigFault>
+    ensures { Gives (λ pairs. pairs.entries) result (pairs_at pool.now inside.now (view value.now)) }
+{
+    let entries = list_in(value)?;
+    if entries.len() > MOST_PAIRS {
+        return Err(ConfigFault::TooMany);
+    }
+    pairs_of(alloc, entries, pool, inside)
+}
+
+/// The pairs of the table: at most 256 inside hosts, each with a pool address.
+#[tactic(auto, unfolding(crate::specs::Configured::pairs_in))]
+pub(crate) fn pairs(
+    alloc: Global,
+    table: &Table,
+    pool: &[u32],
+    inside: &[Prefix],
+) -> Result<BTreeMap<u32, u32>, ConfigFault>
+    ensures { Gives (λ pairs. pairs.entries) result (pairs_in pool.now inside.now (table_view table.now)) }
+{
+    match value_at(table, "pair") {
+        Some(value) => pairs_at(alloc, value, pool, inside),
+        None => Ok(BTreeMap::new(alloc)),
+    }
+}

@@ -1,0 +1,66 @@
+//! The values of a table, each as the kind that its key asks for.
+ghost use Rattle.std.specs.Prelude.{◌≡◌, option_map};
+ghost use Rattle.toml.specs.Data.{get_member};
+ghost use Rattle.toml.specs.View.{view, table_view, items_view};
+ghost use Rattle.napt_config.specs.Fault.{Gives};
+ghost use Rattle.napt_config.specs.Configured.{required, text_in, number_in, list_in, table_in};
+
+use crate::ConfigFault;
+use toml::{Table, Value};
+
+/// The value at a key.
+pub(crate) fn value_at<'a>(table: &'a Table, key: &str) -> Option<&'a Value>
+    ensures { option_map (λ value. view value.now) result ≡ get_member key.now (table_view table.now) }
+{
+    table.get(key)
+}
+
+/// The value at a key that has to be there.
+pub(crate) fn required<'a>(table: &'a Table, key: &str) -> Result<&'a Value, ConfigFault>
+    ensures { Gives (λ value. view value.now) result (required key.now (table_view table.now)) }
+{
+    match value_at(table, key) {
+        Some(value) => Ok(value),
+        None => Err(ConfigFault::Missing),
+    }
+}
+
+/// The text in a value.
+pub(crate) fn text_in(value: &Value) -> Result<&str, ConfigFault>
+    ensures { Gives (λ text. text.now) result (text_in (view value.now)) }
+{
+    match value.as_str() {
+        Some(text) => Ok(text),
+        None => Err(ConfigFault::BadShape),
+    }
+}
+
+/// The whole number in a value.
+pub(crate) fn number_in(value: &Value) -> Result<i64, ConfigFault>
+    ensures { Gives (λ number. number) result (number_in (view value.now)) }
+{
+    match value.as_integer() {
+        Some(number) => Ok(number),
+        None => Err(ConfigFault::BadShape),
+    }
+}
+
+/// The list in a value.
+pub(crate) fn list_in(value: &Value) -> Result<&[Value], ConfigFault>
+    ensures { Gives (λ entries. items_view entries.now) result (list_in (view value.now)) }
+{
+    match value.as_array() {
+        Some(entries) => Ok(entries.as_slice()),
+        None => Err(ConfigFault::BadShape),
+    }
+}
+
+/// The table in a value.
+pub(crate) fn table_in(value: &Value) -> Result<&Table, ConfigFault>
+    ensures { Gives (λ keys. table_view keys.now) result (table_in (view value.now)) }
+{
+    match value.as_table() {
+        Some(keys) => Ok(keys),
+        None => Err(ConfigFault::BadShape),
+    }
+}

@@ -1,0 +1,171 @@
+-- The workers that were joined so far.
+use Rattle.std.proofs.Common.{◌≡◌, ℕ, zero, suc, ◌+◌, ◌<◌, add-one, refl, sym, ap, ◌∙◌, arith, Bool, true, false, List, map, length, [], ◌∷◌, ◌++◌, append_assoc, length-append}
+use Rattle.std.specs.Prelude.{Result, Ok, Err, OnOk, IfOk, IfErr, replicate}
+use Rattle.std.proofs.lemmas.List.{length-map}
+use Rattle.std.proofs.lemmas.Result.{IfOk-weaker}
+use Rattle.napt_pool.specs.declared.fault.PoolFault.{PoolFault}
+use Rattle.napt_pool.specs.declared.fault.Stop.{Stop}
+use Rattle.napt_pool.specs.declared.fault.Stop.TheVariants.{Memory, GateShut, Ring}
+use Rattle.napt_pool.specs.declared.machine.Machine.{Ghosts}
+use Rattle.napt_pool.specs.declared.closing.Closing.{Closing}
+use Rattle.napt_pool.specs.declared.closing.Ended.{Ended}
+use Rattle.napt_pool.specs.declared.pool.Pool.{Pool}
+use Rattle.napt_pool.specs.Faults.{is_shut, is_gate_shut, fault_of, IsFaultOf, IsLeastFault}
+use Rattle.napt_pool.specs.Histories.{after, replies}
+use Rattle.napt_pool.specs.Workers.{IsEnd, AreEnds, closing_machine, closing_accepted, closing_taken}
+use Rattle.napt_pool.specs.Pools.{starts, accepts, takes, zip_with, IsLeastStop}
+use Rattle.napt_pool.proofs.Ending.{length-replies}
+use Rattle.napt_pool.proofs.Serving.{map-snoc}
+
+no_rest : {A : Type 0} (t rest : List A) → length (t ++ rest) ≡ length t → t ++ rest ≡ t
+no_rest [] [] e = refl
+no_rest [] (x ∷ rest) e = cc
+no_rest (x ∷ t) rest e = let shorter : length (t ++ rest) ≡ length t = cc in ap (λ r. x ∷ r) (no_rest t rest shorter)
+
+first_below : {X : Type 0} (es : List (Result X Stop)) (before : List X) (stop : Stop) (rest : List (Result X Stop))
+    → es ≡ map Ok before ++ Err stop ∷ rest → length before < length es
+first_below {X} es before stop rest e =
+    let count = ap length e in
+    let parts = length-append (map Ok before) (Err stop ∷ rest) in
+    let front : length (map {B = Result X Stop} Ok before) ≡ length before = length-map before Ok in
+    omega arith
+
+fault_of_is : (stop : Stop) (w n : ℕ) → w < n → IsFaultOf (λ v. v < n) (fault_of stop w)
+fault_of_is Memory w n below = tt
+fault_of_is GateShut w n below = below
+fault_of_is Ring w n below = tt
+
+shut_is : (stop : Stop) (w : ℕ) → is_shut (fault_of stop w) ≡ is_gate_shut stop
+shut_is Memory w = refl
+shut_is GateShut w = refl
+shut_is Ring w = refl
+
+module _ {M G I A : Type 0} (g : Ghosts M I A) (open_gate : Bool) where
+  pub AreEnds-push : (ws : List (Closing M G I A)) (es : List (Result (Ended M I A) Stop)) (w : Closing M G I A) (e : Result (Ended M I A) Stop)
+      → AreEnds g open_gate ws es → IsEnd g open_gate w e → AreEnds g open_gate (ws ++ w ∷ []) (es ++ e ∷ [])
+  AreEnds-push [] [] w e h k = (k, tt)
+  AreEnds-push [] (f ∷ es) w e h k = absurd h
+  AreEnds-push (v ∷ ws) [] w e h k = absurd h
+  AreEnds-push (v ∷ ws) (f ∷ es) w e h k = (h.0, AreEnds-push ws es w e h.1 k)
+
+  -- each machine is the fold over what was accepted
+  pub machines_are : (ws : List (Closing M G I A)) (es : List (Ended M I A)) → AreEnds g open_gate ws (map Ok es)
+      → map (λ e. e.machine) es ≡ zip_with (after g) (map closing_machine ws) (map closing_accepted ws)
+  machines_are [] [] h = refl
+  machines_are [] (e ∷ es) h = absurd h
+  machines_are (w ∷ ws) [] h = absurd h
+  machines_are (w ∷ ws) (e ∷ es) h =
+      ap (λ m. m ∷ map (λ d. d.machine) es) h.0.machine_is ∙ ap (λ ms. after g (closing_machine w) (closing_accepted w) ∷ ms) (machines_are ws es h.1)
+
+  -- what was taken and what is handed back are the replies to what was accepted
+  pub answers_are : (ws : List (Closing M G I A)) (es : List (Ended M I A)) → AreEnds g open_gate ws (map Ok es)
+      → zip_with (λ t rest. t ++ rest) (map closing_taken ws) (map (λ e. e.answers.items) es) ≡ zip_with (replies g) (map closing_machine ws) (map closing_accepted ws)
+  answers_are [] [] h = refl
+  answers_are [] (e ∷ es) h = absurd h
+  answers_are (w ∷ ws) [] h = absurd h
+  answers_are (w ∷ ws) (e ∷ es) h =
+      ap (λ r. r ∷ zip_with (λ t rest. t ++ rest) (map closing_taken ws) (map (λ d. d.answers.items) es)) h.0.answers_are
+      ∙ ap (λ rs. replies g (closing_machine w) (closing_accepted w) ∷ rs) (answers_are ws es h.1)
+
+  -- where no answer is owed, nothing is handed back
+  pub settled : (ts : List (List A)) (ws : List (Closing M G I A)) (es : List (Ended M I A)) → AreEnds g open_gate ws (map Ok es)
+      → map closing_taken ws ≡ ts → map length ts ≡ map length (map closing_accepted ws) → ts ≡ zip_with (replies g) (map closing_machine ws) (map closing_accepted ws)
+  settled ts [] [] h is same = sym is
+  settled ts [] (e ∷ es) h is same = absurd h
+  settled ts (w ∷ ws) [] h is same = absurd h
+  settled [] (w ∷ ws) (e ∷ es) h is same = cc
+  settled (t ∷ ts) (w ∷ ws) (e ∷ es) h is same =
+      let head : closing_taken w ≡ t = cc in
+      let tail : map closing_taken ws ≡ ts = cc in
+      let count : length t ≡ length (closing_accepted w) = cc in
+      let counts : map length ts ≡ map length (map closing_accepted ws) = cc in
+      let ih = settled ts ws es h.1 tail counts in
+      let whole = h.0.answers_are in
+      let here : t ≡ replies g (closing_machine w) (closing_accepted w) =
+      sym head ∙ sym (no_rest (closing_taken w) e.answers.items (ap length whole ∙ length-replies g (closing_machine w) (closing_accepted w) ∙ sym count ∙ sym (ap length head))) ∙ whole in
+      cc
+
+  -- a worker that stopped, behind a gate that promises yes, does not say that it was shut
+  gate_at : (ws : List (Closing M G I A)) (before : List (Ended M I A)) (stop : Stop) (rest : List (Result (Ended M I A) Stop))
+      → AreEnds g open_gate ws (map Ok before ++ Err stop ∷ rest) → open_gate ≡ true → is_gate_shut stop ≡ false
+  gate_at [] [] stop rest h is_open = absurd h
+  gate_at [] (b ∷ bs) stop rest h is_open = absurd h
+  gate_at (w ∷ ws) [] stop rest h is_open = h.0.gate is_open
+  gate_at (w ∷ ws) (b ∷ bs) stop rest h is_open = gate_at ws bs stop rest h.1 is_open
+
+  least_not_shut : (ws : List (Closing M G I A)) (es : List (Result (Ended M I A) Stop)) (fault : PoolFault)
+      → AreEnds g open_gate ws es → IsLeastFault es fault → open_gate ≡ true → is_shut fault ≡ false
+  least_not_shut ws es fault h least is_open =
+      let here = rw least.ends_are at h in
+      ap is_shut least.fault_is ∙ shut_is least.stop (length least.before) ∙ gate_at ws least.before least.stop least.rest here is_open
+
+  -- the same of what `close` gives
+  module _ {T : Type 0} (items : T → List (Ended M I A)) (r : Result T PoolFault) (ws : List (Closing M G I A)) (es : List (Result (Ended M I A) Stop))
+      (ms : List M) (xs : List (List I)) (ends : AreEnds g open_gate ws es) (began : map closing_machine ws ≡ ms) (accepted : map closing_accepted ws ≡ xs) where
+    pub machines_if_ok : IfOk r (λ v. map Ok (items v) ≡ es) → IfOk r (λ v. map (λ e. e.machine) (items v) ≡ zip_with (after g) ms xs)
+    machines_if_ok h = IfOk-weaker r (λ v. map Ok (items v) ≡ es) (λ v. map (λ e. e.machine) (items v) ≡ zip_with (after g) ms xs)
+        (λ v k. let here = rw (← k) at ends in rw (← began, ← accepted) (machines_are ws (items v) here)) h
+
+    pub answers_if_ok : (ts : List (List A)) → map closing_taken ws ≡ ts → IfOk r (λ v. map Ok (items v) ≡ es)
+        → IfOk r (λ v. zip_with (λ t rest. t ++ rest) ts (map (λ e. e.answers.items) (items v)) ≡ zip_with (replies g) ms xs)
+    answers_if_ok ts taken h = IfOk-weaker r (λ v. map Ok (items v) ≡ es) (λ v. zip_with (λ t rest. t ++ rest) ts (map (λ e. e.answers.items) (items v)) ≡ zip_with (replies g) ms xs)
+        (λ v k. let here = rw (← k) at ends in rw (← began, ← accepted, ← taken) (answers_are ws (items v) here)) h
+
+  pub settled_at : {T : Type 0} (items : T → List (Ended M I A)) (ws : List (Closing M G I A)) (es : List (Result (Ended M I A) Stop)) (ms : List M) (xs : List (List I))
+      → AreEnds g open_gate ws es → map closing_machine ws ≡ ms → map closing_accepted ws ≡ xs
+      → (ts : List (List A)) (r : Result T PoolFault) → map closing_taken ws ≡ ts → map length ts ≡ map length xs → IfOk r (λ v. map Ok (items v) ≡ es)
+      → OnOk r (ts ≡ zip_with (replies g) ms xs)
+  settled_at items ws es ms xs ends began accepted ts (Ok v) taken same k =
+      let here = rw (← k) at ends in
+      let counts : map length ts ≡ map length (map closing_accepted ws) = rw accepted same in
+      rw (← began, ← accepted) (settled ts ws (items v) here taken counts)
+  settled_at items ws es ms xs ends began accepted ts (Err e) taken same k = tt
+
+  AreEnds-length : (ws : List (Closing M G I A)) (es : List (Result (Ended M I A) Stop)) → AreEnds g open_gate ws es → length es ≡ length ws
+  AreEnds-length [] [] h = refl
+  AreEnds-length [] (e ∷ es) h = absurd h
+  AreEnds-length (w ∷ ws) [] h = absurd h
+  AreEnds-length (w ∷ ws) (e ∷ es) h = ap suc (AreEnds-length ws es h.1)
+
+  pub fault_if_err : {T : Type 0} (ws : List (Closing M G I A)) (es : List (Result (Ended M I A) Stop)) (ms : List M) (r : Result T PoolFault)
+      → AreEnds g open_gate ws es → map closing_machine ws ≡ ms
+      → IfErr r (λ fault. IsLeastFault es fault) → IfErr r (λ fault. IsFaultOf (λ v. v < length ms) fault)
+  fault_if_err ws es ms (Ok v) h began least = tt
+  fault_if_err ws es ms (Err fault) h began least =
+      let count : length es ≡ length ms = AreEnds-length ws es h ∙ sym (length-map ws closing_machine) ∙ ap length began in
+      let first = first_below es least.before least.stop least.rest least.ends_are in
+      let below : length least.before < length ms = omega arith in
+      rw least.fault_is (fault_of_is least.stop (length least.before) (length ms) below)
+
+  pub least_if_err : {T : Type 0} (p : Pool M G I A) (ws : List (Closing M G I A)) (es : List (Result (Ended M I A) Stop))
+      → map closing_machine ws ≡ starts p → map closing_accepted ws ≡ accepts p → map closing_taken ws ≡ takes p → AreEnds g open_gate ws es
+      → (r : Result T PoolFault) → IfErr r (λ fault. IsLeastFault es fault) → IfErr r (λ fault. IsLeastStop g open_gate p fault)
+  least_if_err p ws es began accepted taken h (Ok v) least = tt
+  least_if_err p ws es began accepted taken h (Err fault) least =
+      record { closing = ws; ends = es; machines_are = began; accepted_are = accepted; taken_are = taken; ends_are = h; least = least }
+
+  pub gate_if_err : {T : Type 0} (ws : List (Closing M G I A)) (es : List (Result (Ended M I A) Stop)) (r : Result T PoolFault)
+      → AreEnds g open_gate ws es → open_gate ≡ true → IfErr r (λ fault. IsLeastFault es fault) → IfErr r (λ fault. is_shut fault ≡ false)
+  gate_if_err ws es (Ok v) h is_open least = tt
+  gate_if_err ws es (Err fault) h is_open least = least_not_shut ws es fault h least is_open
+
+pub split-step : {X : Type 0} (done rest more all : List X) (x : X) → done ++ rest ≡ all → rest ≡ x ∷ more → (done ++ x ∷ []) ++ more ≡ all
+split-step done rest more all x was step = append_assoc done (x ∷ []) more ∙ ap (λ r. done ++ r) (sym step) ∙ was
+
+replicate-suc : {Y : Type 0} (n : ℕ) (d : Y) → replicate (suc n) d ≡ replicate n d ++ d ∷ []
+replicate-suc zero d = refl
+replicate-suc (suc n) d = ap (λ r. d ∷ r) (replicate-suc n d)
+
+replicate-next : {Y : Type 0} (n : ℕ) (d : Y) → replicate (n + 1) d ≡ replicate n d ++ d ∷ []
+replicate-next n d = rw add-one (replicate-suc n d)
+
+-- one element more, in a list of which every f is d
+pub all-push : {X Y : Type 0} (f : X → Y) (xs xs' : List X) (n n' : ℕ) (x : X) (d : Y)
+    → xs' ≡ xs ++ x ∷ [] → n' ≡ n + 1 → f x ≡ d → map f xs ≡ replicate n d → map f xs' ≡ replicate n' d
+all-push f xs xs' n n' x d e k fx was =
+    ap (map f) e ∙ map-snoc f xs x ∙ ap (λ r. r ++ f x ∷ []) was ∙ ap (λ z. replicate n d ++ z ∷ []) fx ∙ sym (replicate-next n d) ∙ ap (λ m. replicate m d) (sym k)
+
+pub map-split-step : {X Y : Type 0} (f : X → Y) (xs xs' : List X) (rest more all : List Y) (x : X) (y : Y)
+    → xs' ≡ xs ++ x ∷ [] → f x ≡ y → rest ≡ y ∷ more → map f xs ++ rest ≡ all → map f xs' ++ more ≡ all
+map-split-step f xs xs' rest more all x y e fx step was =
+    ap (λ r. map f r ++ more) e ∙ ap (λ r. r ++ more) (map-snoc f xs x) ∙ ap (λ z. (map f xs ++ z ∷ []) ++ more) fx ∙ split-step (map f xs) rest more all y was step

@@ -1,0 +1,5 @@
+use Rattle.std.proofs.Common.{◌≡◌, true}
+use Rattle.napt_pool.proofs.gate.is_let_in.Given as goal
+
+abbrev pub invariant-loop : goal.invariant-loop
+invariant-loop g l = g.G.Gate.is_open ≡ true → l.counter ≡ 0

@@ -1,0 +1,31 @@
+use Rattle.std.proofs.Common.{vec_items}
+use Rattle.napt_pool.proofs.Joins.{machines_if_ok, least_if_err, answers_if_ok, settled_at, fault_if_err, gate_if_err}
+use Rattle.napt_pool.proofs.pool.Pool.close.Goals as goal
+
+pub returns-clause-machines : goal.returns-clause-machines
+returns-clause-machines g c =
+    machines_if_ok g.M.Machine g.G.Gate.is_open vec_items c.all_ended.result _ _ _ _ c.join_all-ends.ensures.ends
+    c.close_all-closing.ensures.machines c.close_all-closing.ensures.accepted c.all_ended.ensures.ended
+
+pub returns-clause-answers : goal.returns-clause-answers
+returns-clause-answers g c =
+    answers_if_ok g.M.Machine g.G.Gate.is_open vec_items c.all_ended.result _ _ _ _ c.join_all-ends.ensures.ends
+    c.close_all-closing.ensures.machines c.close_all-closing.ensures.accepted _ c.close_all-closing.ensures.taken c.all_ended.ensures.ended
+
+pub returns-clause-settled : goal.returns-clause-settled
+returns-clause-settled g c = λ same.
+    settled_at g.M.Machine g.G.Gate.is_open vec_items _ _ _ _ c.join_all-ends.ensures.ends
+    c.close_all-closing.ensures.machines c.close_all-closing.ensures.accepted _ c.all_ended.result c.close_all-closing.ensures.taken same c.all_ended.ensures.ended
+
+pub returns-clause-least : goal.returns-clause-least
+returns-clause-least g c =
+    least_if_err g.M.Machine g.G.Gate.is_open _ _ _ c.close_all-closing.ensures.machines c.close_all-closing.ensures.accepted c.close_all-closing.ensures.taken
+    c.join_all-ends.ensures.ends c.all_ended.result c.all_ended.ensures.least
+
+pub returns-clause-fault : goal.returns-clause-fault
+returns-clause-fault g c =
+    fault_if_err g.M.Machine g.G.Gate.is_open _ _ _ c.all_ended.result c.join_all-ends.ensures.ends c.close_all-closing.ensures.machines c.all_ended.ensures.least
+
+pub returns-clause-gate : goal.returns-clause-gate
+returns-clause-gate g c = λ is_open.
+    gate_if_err g.M.Machine g.G.Gate.is_open _ _ c.all_ended.result c.join_all-ends.ensures.ends is_open c.all_ended.ensures.least

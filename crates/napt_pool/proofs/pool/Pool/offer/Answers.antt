@@ -1,0 +1,23 @@
+use Rattle.std.proofs.Common.{arith, ◌≡◌, ◌<◌, length}
+use Rattle.std.proofs.lemmas.Grind.{common_steps}
+use Rattle.napt_pool.specs.Faults.{item_back}
+use Rattle.napt_pool.specs.Workers.{machine_of, accepted_of, taken_of}
+use Rattle.napt_pool.proofs.Lists.{map-kept, grown_on_ok, kept_if_err}
+use Rattle.napt_pool.proofs.pool.Pool.offer.Goals as goal
+
+pub returns-clause-starts : goal.returns-clause-starts
+returns-clause-starts g c = map-kept machine_of _ _ _ _ c.index_mut-worker.ensures.value c.offer.ensures.machine
+
+pub returns-clause-takes : goal.returns-clause-takes
+returns-clause-takes g c = map-kept taken_of _ _ _ _ c.index_mut-worker.ensures.value c.offer.ensures.taken
+
+pub returns-clause-accepted : goal.returns-clause-accepted
+returns-clause-accepted g c =
+    let below : c.args.w < length c.args.self.now.workers.items = grind (arith, common_steps) in
+    grown_on_ok accepted_of c.args.self.now.workers.items c.args.w c.offer.new.self c.index_mut-worker.result.now c.index_mut-worker.ensures.value
+    c.offer.result c.args.item below c.offer.ensures.accepted
+
+pub returns-clause-refused : goal.returns-clause-refused
+returns-clause-refused g c =
+    kept_if_err accepted_of c.args.self.now.workers.items c.args.w c.offer.new.self c.index_mut-worker.result.now c.index_mut-worker.ensures.value
+    (λ e. item_back e ≡ c.args.item) c.offer.result c.offer.ensures.refused

@@ -1,0 +1,11 @@
+use Rattle.std.proofs.Common.{◌≡◌}
+use Rattle.rtrb.specs.Ring.{received, SameConsumer}
+use Rattle.napt_pool.proofs.serve.Bench.wait_for_message.Given as goal
+
+abbrev pub invariant-loop : goal.invariant-loop
+invariant-loop g l = record {
+  machine : l.self.machine ≡ l.initial.self.machine;
+  answers : l.self.answers ≡ l.initial.self.answers;
+  same_items : SameConsumer l.initial.self.items l.self.items;
+  received : received l.self.items ≡ received l.initial.self.items;
+}

@@ -1,0 +1,56 @@
+-- What the rings have carried, and the folds of a machine's step.
+use Rattle.std.specs.Prelude.{◌≡◌, List, map, [], ◌∷◌, ◌++◌}
+use Rattle.napt_pool.specs.declared.machine.Machine.{Ghosts}
+use Rattle.napt_pool.specs.declared.message.Message.{Message}
+use Rattle.napt_pool.specs.declared.message.Message.TheVariants.{Work, Close}
+use Rattle.napt_pool.specs.declared.message.Reply.{Reply}
+use Rattle.napt_pool.specs.declared.message.Reply.TheVariants.{Done, Stopped}
+use Rattle.rtrb.specs.Ring.{sent, received}
+use Rattle.rtrb.specs.declared.producer.Producer.{Producer}
+use Rattle.rtrb.specs.declared.consumer.Consumer.{Consumer}
+
+-- the items among messages
+abbrev pub items_of : {I : Type 0} → List (Message I) → List I
+items_of [] = []
+items_of (Work x ∷ ms) = x ∷ items_of ms
+items_of (Close ∷ ms) = items_of ms
+
+-- the answers among replies
+abbrev pub answers_of : {A : Type 0} → List (Reply A) → List A
+answers_of [] = []
+answers_of (Done x ∷ rs) = x ∷ answers_of rs
+answers_of (Stopped s ∷ rs) = answers_of rs
+
+-- the items that were accepted for a worker: what its item ring was sent, without Close
+abbrev pub accepted : {I H P : Type 0} → Producer (Message I) H P → List I
+accepted p = items_of (sent p)
+
+-- the answers that were taken from a worker: what came out of its answer ring, without the word that it stopped
+abbrev pub taken : {A H P : Type 0} → Consumer (Reply A) H P → List A
+taken c = answers_of (received c)
+
+module _ {M I A : Type 0} (g : Ghosts M I A) where
+  -- the state after a step on each item
+  abbrev pub after : M → List I → M
+  after m [] = m
+  after m (x ∷ xs) = after (g.stepped m x) xs
+
+  -- the answer to each item
+  abbrev pub replies : M → List I → List A
+  replies m [] = []
+  replies m (x ∷ xs) = g.reply m x ∷ replies (g.stepped m x) xs
+
+  -- A worker began with machine m, received messages, sent replies and has come to machine n:
+  -- it stepped on each item that it received, in order, and sent the answer to each
+  pub record Serving (m : M) (messages : List (Message I)) (sends : List (Reply A)) (n : M) : Type 0 where
+    pub seen : List I
+    pub received_is : messages ≡ map Work seen
+    pub sent_is : sends ≡ map Done (replies m seen)
+    pub machine_is : n ≡ after m seen
+
+  -- the same of a worker that met Close
+  pub record Served (m : M) (messages : List (Message I)) (sends : List (Reply A)) (n : M) : Type 0 where
+    pub seen : List I
+    pub received_is : messages ≡ map Work seen ++ Close ∷ []
+    pub sent_is : sends ≡ map Done (replies m seen)
+    pub machine_is : n ≡ after m seen

@@ -1,0 +1,50 @@
+-- What a worker shows: the machine that it began with, the items that were accepted for it, and the answers that were taken.
+use Rattle.std.specs.Prelude.{◌≡◌, ⊤, Bool, true, false, Result, IfOk, IfErr, List, [], ◌∷◌, ◌++◌}
+use Rattle.napt_pool.specs.declared.fault.Stop.{Stop}
+use Rattle.napt_pool.specs.declared.worker.Worker.{Worker}
+use Rattle.napt_pool.specs.declared.closing.Closing.{Closing}
+use Rattle.napt_pool.specs.declared.closing.Ended.{Ended}
+use Rattle.napt_pool.specs.declared.machine.Machine.{Ghosts}
+use Rattle.napt_pool.specs.declared.message.Reply.{Reply}
+use Rattle.rtrb.specs.Ring.{received}
+use Rattle.napt_pool.specs.Faults.{is_gate_shut}
+use Rattle.napt_pool.specs.Histories.{after, replies, accepted, taken}
+
+module _ {M G I A : Type 0} where
+  abbrev pub machine_of : Worker M G I A → M
+  machine_of w = w.thread.promise.bench.value.machine
+
+  abbrev pub accepted_of : Worker M G I A → List I
+  accepted_of w = accepted w.items
+
+  abbrev pub taken_of : Worker M G I A → List A
+  taken_of w = taken w.answers
+
+  -- all replies that came out of its answer ring, with the word that it stopped
+  abbrev pub heard_of : Worker M G I A → List (Reply A)
+  heard_of w = received w.answers
+
+  -- the same of a worker that takes no more items
+  abbrev pub closing_machine : Closing M G I A → M
+  closing_machine w = w.thread.promise.bench.value.machine
+
+  abbrev pub closing_accepted : Closing M G I A → List I
+  closing_accepted w = accepted w.items
+
+  abbrev pub closing_taken : Closing M G I A → List A
+  closing_taken w = taken w.answers
+
+-- How a worker ended: with the machine after what was accepted, and with answers that, put after those that were taken,
+-- are the replies to it; or it stopped, and not at a gate that promises yes
+module _ {M G I A : Type 0} (g : Ghosts M I A) (open_gate : Bool) where
+  pub record IsEnd (w : Closing M G I A) (end : Result (Ended M I A) Stop) : Type 0 where
+    pub machine_is : IfOk end (λ e. e.machine ≡ after g (closing_machine w) (closing_accepted w))
+    pub answers_are : IfOk end (λ e. closing_taken w ++ e.answers.items ≡ replies g (closing_machine w) (closing_accepted w))
+    pub gate : open_gate ≡ true → IfErr end (λ stop. is_gate_shut stop ≡ false)
+
+  -- the same of each worker
+  abbrev pub AreEnds : List (Closing M G I A) → List (Result (Ended M I A) Stop) → Type 0
+  AreEnds [] [] = ⊤
+  AreEnds [] (e ∷ es) = ⊥
+  AreEnds (w ∷ ws) [] = ⊥
+  AreEnds (w ∷ ws) (e ∷ es) = IsEnd w e × AreEnds ws es

@@ -1,0 +1,86 @@
+// Why an item, a worker or a pool was refused.
+ghost use Rattle.std.specs.Prelude.{◌≡◌, ℕ};
+ghost use Rattle.napt_pool.specs.Faults.{fault_of};
+
+use std::error::Error;
+use std::fmt;
+
+/// Why a worker stopped, or a pool could not be started.
+#[derive(Debug, Clone, Copy, PartialEq, Eq)]
+pub enum PoolFault {
+    /// Memory was refused: to `start`, or to a machine's step.
+    Memory,
+    /// The runtime refused a thread. It comes from `start` alone.
+    NoThread,
+    /// The gate said no to this worker as often as it may be asked for one item.
+    GateShut(u32),
+    /// The two ends of a ring do not agree. Nothing is known to cause it.
+    Ring,
+}
+
+impl fmt::Display for PoolFault {
+    fn fmt<W: fmt::Write>(&self, f: &mut fmt::Formatter<W>) -> fmt::Result {
+        match self {
+            PoolFault::Memory => f.write_str("out of memory"),
+            PoolFault::NoThread => f.write_str("no thread can be started"),
+            PoolFault::GateShut(worker) => write!(f, "the gate is shut to worker {worker}"),
+            PoolFault::Ring => f.write_str("the ends of a ring do not agree"),
+        }
+    }
+}
+
+impl Error for PoolFault {}
+
+/// Why an item was not accepted. It comes back.
+#[derive(Drop)]
+pub enum OfferRefused<I> {
+    /// As many answers are untaken as the pool's capacity.
+    Full(I),
+    /// Memory was refused. `offer` takes none, and so never says it.
+    Memory(I),
+    /// The ring has no slot, though the count of untaken answers allows one. Nothing is known to cause it.
+    Ring(I),
+}
+
+impl<I> fmt::Debug for OfferRefused<I> {
+    fn fmt<W: fmt::Write>(&self, f: &mut fmt::Formatter<W>) -> fmt::Result {
+        f.write_str(match self {
+            OfferRefused::Full(_) => "Full(_)",
+            OfferRefused::Memory(_) => "Memory(_)",
+            OfferRefused::Ring(_) => "Ring(_)",
+        })
+    }
+}
+
+impl<I> fmt::Display for OfferRefused<I> {
+    fn fmt<W: fmt::Write>(&self, f: &mut fmt::Formatter<W>) -> fmt::Result {
+        f.write_str(match self {
+            OfferRefused::Full(_) => "the worker owes as many answers as it may",
+            OfferRefused::Memory(_) => "out of memory",
+            OfferRefused::Ring(_) => "the ends of a ring do not agree",
+        })
+    }
+}
+
+impl<I: Drop> Error for OfferRefused<I> {}
+
+/// Why a worker ended without meeting Close.
+#[derive(Debug, Clone, Copy, PartialEq, Eq)]
+pub(crate) enum Stop {
+    Memory,
+    GateShut,
+    Ring,
+}
+
+impl Stop {
+    /// The fault of the worker with this number.
+    pub(crate) fn of_worker(self, worker: u32) -> PoolFault
+        ensures { result ≡ fault_of self worker }
+    {
+        match self {
+            Stop::Memory => PoolFault::Memory,
+            Stop::GateShut => PoolFault::GateShut(worker),
+            Stop::Ring => PoolFault::Ring,
+        }
+    }
+}

@@ -1,0 +1,86 @@
+// Closing and joining a list of workers.
+ghost use Rattle.std.specs.Prelude.{◌≡◌, ◌≤◌, ◌<◌, ◌^◌, vec_len, vec_capacity, [], map, IfOk, IfErr};
+ghost use Rattle.napt_pool.specs.Faults.{IsLeastFault};
+ghost use Rattle.napt_pool.specs.Workers.{machine_of, accepted_of, taken_of, closing_machine, closing_accepted, closing_taken, AreEnds};
+
+use crate::closing::{Closing, Ended};
+use crate::fault::{PoolFault, Stop};
+use crate::gate::Gate;
+use crate::machine::Machine;
+use crate::worker::Worker;
+use std::thread::Threads;
+
+/// Closes and joins each worker, and drops what it leaves.
+pub(crate) fn give_up<M: Machine, G: Gate, R: Threads>(rt: &R, workers: Vec<Worker<M, G>>) {
+    for worker in workers {
+        let _ = worker.close().join(rt);
+    }
+}
+
+/// Sends Close to each worker.
+pub(crate) fn close_all<M: Machine, G: Gate>(
+    workers: Vec<Worker<M, G>>,
+    into: Vec<Closing<M, G>>,
+) -> Vec<Closing<M, G>>
+    requires empty { into.items ≡ [] }
+    requires room { vec_len workers ≤ vec_capacity into }
+    ensures machines { map closing_machine result.items ≡ map machine_of workers.items }
+    ensures accepted { map closing_accepted result.items ≡ map accepted_of workers.items }
+    ensures taken { map closing_taken result.items ≡ map taken_of workers.items }
+    ensures len { vec_len result ≡ vec_len workers }
+{
+    let mut into = into;
+    for worker in workers {
+        match into.push(worker.close()) {
+            Ok(()) => {}
+            Err(_refused) => unreachable!(),
+        }
+    }
+    into
+}
+
+/// Joins each worker.
+pub(crate) fn join_all<M: Machine, G: Gate, R: Threads>(
+    rt: &R,
+    workers: Vec<Closing<M, G>>,
+    into: Vec<Result<Ended<M>, Stop>>,
+) -> Vec<Result<Ended<M>, Stop>>
+    requires empty { into.items ≡ [] }
+    requires room { vec_len workers ≤ vec_capacity into }
+    ensures ends { AreEnds M.Machine G.is_open workers.items result.items }
+    ensures len { vec_len result ≡ vec_len workers }
+{
+    let mut into = into;
+    for worker in workers {
+        match into.push(worker.join(rt)) {
+            Ok(()) => {}
+            Err(_refused) => unreachable!(),
+        }
+    }
+    into
+}
+
+/// What all workers left, or the fault of the least that stopped.
+pub(crate) fn all_ended<M: Machine>(
+    ends: Vec<Result<Ended<M>, Stop>>,
+    into: Vec<Ended<M>>,
+) -> Result<Vec<Ended<M>>, PoolFault>
+    requires empty { into.items ≡ [] }
+    requires room { vec_len ends ≤ vec_capacity into }
+    requires count { vec_len ends < 2 ^ 32 }
+    ensures ended { IfOk result (λ v. map Ok v.items ≡ ends.items) }
+    ensures least { IfErr result (λ fault. IsLeastFault ends.items fault) }
+{
+    let mut into = into;
+    let mut number = 0u32;
+    for end in ends {
+        match end {
+            Ok(ended) => match into.push(ended) {
+                Ok(()) => number += 1,
+                Err(_refused) => unreachable!(),
+            },
+            Err(stop) => return Err(stop.of_worker(number)),
+        }
+    }
+    Ok(into)
+}

@@ -1,0 +1,159 @@
+// A list of workers.
+ghost use Rattle.std.specs.Prelude.{◌≡◌, ◌≤◌, ◌<◌, ℕ, slice_index_or, vec_len};
+
+use crate::closing::Ended;
+use crate::fault::{OfferRefused, PoolFault};
+use crate::gate::Gate;
+use crate::joining::{all_ended, close_all, join_all};
+use crate::machine::Machine;
+use crate::room::Room;
+use crate::starting::start_all;
+use crate::worker::Worker;
+use std::alloc::Global;
+use std::sync::{Arc, Wait};
+use std::thread::Threads;
+
+/// Workers on threads of their own, one for each machine. A pool can't be dropped: `close` spends it.
+///
+/// Contracts see its capacity and, for each worker, the machine that it was given, the items that were accepted for it
+/// and the answers that were taken from it, oldest first.
+pub struct Pool<M: Machine, G: Gate> {
+    workers: Vec<Worker<M, G>>,
+    capacity: usize,
+    room: Room<M, G>,
+    ghost even: { (k : ℕ) (d : _) → k < vec_len workers → (slice_index_or workers.items k d).capacity ≡ capacity },
+    ghost few: { (vec_len workers ≤ room.count) × (vec_len workers ≤ 16) },
+}
+
+impl<M: Machine, G: Gate> Pool<M, G> {
+    ghost use Rattle.std.specs.Prelude.{◌+◌, ◌↔◌, [], ◌∷◌, ◌++◌, length, slice_set, IsTrue, OnOk, IfOk, IfErr, OnErr, MatchOption, true, false};
+    ghost use Rattle.napt_pool.specs.Faults.{IsFaultOf, is_shut, item_back, is_full, is_memory};
+    ghost use Rattle.napt_pool.specs.Pools.{starts, accepts, takes, capacity_of, Tells};
+
+    /// Hands an item to worker `w`, or hands it back with nothing changed. It waits for nobody and takes no memory.
+    ///
+    /// `Full` comes exactly where as many accepted items of `w` have an answer that was not taken as the pool's
+    /// capacity. `Memory` never comes.
+    pub fn offer(
+        &mut self,
+        _alloc: Global,
+        w: u32,
+        item: M::Item,
+    ) -> Result<(), OfferRefused<M::Item>>
+        requires { w < length (starts self.old) }
+        ensures starts { starts self.new ≡ starts self.old }
+        ensures capacity { capacity_of self.new ≡ capacity_of self.old }
+        ensures takes { takes self.new ≡ takes self.old }
+        ensures accepted { OnOk result (accepts self.new ≡ slice_set (accepts self.old) w (slice_index_or (accepts self.old) w [] ++ item ∷ [])) }
+        ensures refused { IfErr result (λ e. (item_back e ≡ item) × (accepts self.new ≡ accepts self.old)) }
+        ensures full { IsTrue (is_full result) ↔ (length (slice_index_or (accepts self.old) w []) ≡ length (slice_index_or (takes self.old) w []) + capacity_of self.old) }
+        ensures no_memory { is_memory result ≡ false }
+    {
+        let worker = &mut self.workers[w as usize];
+        worker.offer(item)
+    }
+
+    /// The next answer of worker `w`. It waits for nobody and takes no memory.
+    ///
+    /// `None` comes always where every answer of `w` was taken, and may come where the next is not there yet. An `Err`
+    /// says why `w` stopped: `Memory`, `GateShut(w)` or `Ring`. After one only `close` is of use.
+    pub fn take<R>(
+        &mut self,
+        _rt: &R,
+        _alloc: Global,
+        w: u32,
+    ) -> Result<Option<M::Answer>, PoolFault>
+        requires { w < length (starts self.old) }
+        ensures starts { starts self.new ≡ starts self.old }
+        ensures capacity { capacity_of self.new ≡ capacity_of self.old }
+        ensures accepts { accepts self.new ≡ accepts self.old }
+        ensures some { IfOk result (λ got. MatchOption got (takes self.new ≡ takes self.old) (λ a. takes self.new ≡ slice_set (takes self.old) w (slice_index_or (takes self.old) w [] ++ a ∷ []))) }
+        ensures none { length (slice_index_or (accepts self.old) w []) ≡ length (slice_index_or (takes self.old) w []) → result ≡ Ok None }
+        ensures err { OnErr result (takes self.new ≡ takes self.old) }
+        ensures told { IfErr result (λ fault. Tells self.old self.new w fault) }
+        ensures fault { IfErr result (λ fault. IsFaultOf (λ v. v ≡ w) fault) }
+        ensures gate { G.is_open ≡ true → IfErr result (λ fault. is_shut fault ≡ false) }
+    {
+        let worker = &mut self.workers[w as usize];
+        match worker.take() {
+            Ok(answer) => Ok(answer),
+            Err(stop) => Err(stop.of_worker(w)),
+        }
+    }
+}
+
+impl<M: Machine, G: Gate> Pool<M, G> {
+    ghost use Rattle.std.specs.Prelude.{true, false, map, length, ◌++◌, IfOk, IfErr, OnOk};
+    ghost use Rattle.napt_pool.specs.Faults.{IsFaultOf, is_shut};
+    ghost use Rattle.napt_pool.specs.Histories.{after, replies};
+    ghost use Rattle.napt_pool.specs.Pools.{starts, accepts, takes, zip_with, IsLeastStop};
+
+    /// Sends Close to each worker, joins all, and hands back the machines in worker order, each with the answers that
+    /// were not taken.
+    ///
+    /// Where workers stopped early, the fault is that of the least such worker, and the machines and the answers are
+    /// dropped. `close` takes no memory of its own: `start` made the room.
+    pub fn close<R: Threads>(self, rt: &R, _alloc: Global) -> Result<Vec<Ended<M>>, PoolFault>
+        ensures machines { IfOk result (λ v. map (λ e. e.machine) v.items ≡ zip_with (after M.Machine) (starts self) (accepts self)) }
+        ensures answers { IfOk result (λ v. zip_with (λ t rest. t ++ rest) (takes self) (map (λ e. e.answers.items) v.items) ≡ zip_with (replies M.Machine) (starts self) (accepts self)) }
+        ensures settled { map length (takes self) ≡ map length (accepts self) → OnOk result (takes self ≡ zip_with (replies M.Machine) (starts self) (accepts self)) }
+        ensures least { IfErr result (λ fault. IsLeastStop M.Machine G.is_open self fault) }
+        ensures fault { IfErr result (λ fault. IsFaultOf (λ v. v < length (starts self)) fault) }
+        ensures gate { G.is_open ≡ true → IfErr result (λ fault. is_shut fault ≡ false) }
+    {
+        let Pool {
+            workers,
+            capacity: _,
+            room,
+        } = self;
+        let Room {
+            count: _,
+            closing,
+            ends,
+            ended,
+        } = room;
+        let closing = close_all(workers, closing);
+        let ends = join_all(rt, closing, ends);
+        all_ended(ends, ended)
+    }
+}
+
+impl<M: Machine, G: Gate + Send + Sync + Drop + 'static> Pool<M, G> {
+    ghost use Rattle.std.specs.Prelude.{[], replicate, IfOk, IfErr};
+    ghost use Rattle.napt_pool.specs.Faults.{IsStartFault};
+    ghost use Rattle.napt_pool.specs.Pools.{starts, accepts, takes, capacity_of};
+
+    /// Starts a thread for each machine, with rings for `capacity` items and as many answers.
+    ///
+    /// Where memory or a thread is refused, the threads that were started are closed and joined, and all machines are
+    /// dropped.
+    pub fn start<R: Threads + Wait + Copy + Send + 'static>(
+        rt: &R,
+        alloc: Global,
+        machines: Vec<M>,
+        capacity: usize,
+        gate: Arc<G>,
+    ) -> Result<Pool<M, G>, PoolFault>
+    where
+        M: 'static,
+        M::Item: 'static,
+        M::Answer: 'static,
+        requires capacity { (1 ≤ capacity) × (capacity ≤ 4096) }
+        requires count { (1 ≤ vec_len machines) × (vec_len machines ≤ 16) }
+        ensures capacity { IfOk result (λ p. capacity_of p ≡ capacity) }
+        ensures starts { IfOk result (λ p. starts p ≡ machines.items) }
+        ensures accepts { IfOk result (λ p. accepts p ≡ replicate (vec_len machines) []) }
+        ensures takes { IfOk result (λ p. takes p ≡ replicate (vec_len machines) []) }
+        ensures refused { IfErr result IsStartFault }
+    {
+        let Ok(room) = Room::new(alloc, machines.len()) else {
+            return Err(PoolFault::Memory);
+        };
+        let workers = start_all(rt, alloc, machines, capacity, gate)?;
+        Ok(Pool {
+            workers,
+            capacity,
+            room,
+        })
+    }
+}

@@ -1,0 +1,32 @@
+// Room for the end of a pool.
+ghost use Rattle.std.specs.Prelude.{◌≡◌, ◌≤◌, [], vec_capacity, IfOk};
+
+use crate::closing::{Closing, Ended};
+use crate::fault::Stop;
+use crate::gate::Gate;
+use crate::machine::Machine;
+use std::alloc::{AllocError, Global};
+
+/// Room for what becomes of `count` workers when they are closed, so that closing them takes no memory.
+#[derive(Drop)]
+pub(crate) struct Room<M: Machine, G: Gate> {
+    pub(crate) count: usize,
+    pub(crate) closing: Vec<Closing<M, G>>,
+    pub(crate) ends: Vec<Result<Ended<M>, Stop>>,
+    pub(crate) ended: Vec<Ended<M>>,
+    ghost empty: { (closing.items ≡ []) × (ends.items ≡ []) × (ended.items ≡ []) },
+    ghost fits: { (count ≤ vec_capacity closing) × (count ≤ vec_capacity ends) × (count ≤ vec_capacity ended) },
+}
+
+impl<M: Machine, G: Gate> Room<M, G> {
+    pub(crate) fn new(alloc: Global, count: usize) -> Result<Room<M, G>, AllocError>
+        ensures { IfOk result (λ room. room.count ≡ count) }
+    {
+        Ok(Room {
+            count,
+            closing: Vec::with_capacity(alloc, count)?,
+            ends: Vec::with_capacity(alloc, count)?,
+            ended: Vec::with_capacity(alloc, count)?,
+        })
+    }
+}

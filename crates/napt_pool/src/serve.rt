@@ -1,0 +1,138 @@
+// What a worker's thread does.
+ghost use Rattle.std.specs.Prelude.{◌≡◌, true, false};
+ghost use Rattle.rtrb.specs.Ring.{SameProducer};
+ghost use Rattle.napt_pool.specs.Faults.{is_gate_shut};
+
+use crate::fault::Stop;
+use crate::gate::{Gate, is_let_in};
+use crate::machine::Machine;
+use crate::message::{Honest, Message, Reply};
+use rtrb::{Consumer, Producer};
+use std::alloc::Global;
+use std::sync::Wait;
+use std::{hint, thread};
+
+/// How often a worker looks again at an empty ring before it lets another thread run.
+const LOOKS: u32 = 32;
+
+/// What a worker's thread works with.
+#[derive(Drop)]
+pub(crate) struct Bench<M: Machine, G: Gate> {
+    pub(crate) machine: M,
+    pub(crate) items: Consumer<Message<M::Item>>,
+    pub(crate) answers: Producer<Reply<M::Answer>, Global, Honest<G>>,
+}
+
+/// What a worker's thread hands back. The end is `Ok` where the worker met Close.
+#[derive(Drop)]
+pub(crate) struct Left<M: Machine, G: Gate> {
+    pub(crate) bench: Bench<M, G>,
+    pub(crate) end: Result<(), Stop>,
+}
+
+impl<M: Machine, G: Gate> Bench<M, G> {
+    ghost use Rattle.std.specs.Prelude.{◌≡◌, true, false, [], ◌∷◌, ◌++◌, OnOk, IfErr};
+    ghost use Rattle.rtrb.specs.Ring.{sent, received, SameProducer, SameConsumer};
+    ghost use Rattle.napt_pool.specs.Faults.{is_gate_shut};
+    ghost use Rattle.napt_pool.specs.Histories.{Served};
+    ghost use Rattle.napt_pool.specs.Benches.{Worked};
+    ghost use Rattle.napt_pool.specs.declared.message.Reply.TheVariants.{Done};
+
+    /// Steps on each item until Close comes, and hands back what it worked with.
+    pub(crate) fn serve<R: Wait>(self, rt: &R, alloc: Global, gate: &G, worker: u32) -> Left<M, G>
+        requires { (received self.items ≡ []) × (sent self.answers ≡ []) }
+        ensures { Worked M.Machine G.is_open self result }
+    {
+        let mut bench = self;
+        let end = bench.step_until_close(rt, alloc, gate, worker);
+        Left { bench, end }
+    }
+
+    /// Steps on each item until Close comes. A pop looks at what the other side wrote only where nothing is left of what
+    /// it saw there before.
+    fn step_until_close<R: Wait>(
+        &mut self,
+        rt: &R,
+        alloc: Global,
+        gate: &G,
+        worker: u32,
+    ) -> Result<(), Stop>
+        requires { (received self.old.items ≡ []) × (sent self.old.answers ≡ []) }
+        ensures items { SameConsumer self.old.items self.new.items }
+        ensures answers { SameProducer self.old.answers self.new.answers }
+        ensures served { OnOk result (Served M.Machine self.old.machine (received self.new.items) (sent self.new.answers) self.new.machine) }
+        ensures gate { G.is_open ≡ true → IfErr result (λ stop. is_gate_shut stop ≡ false) }
+    {
+        let mut turn = 0u64;
+        for _ in rt.forever() {
+            match self.items.pop() {
+                Ok(Message::Work(item)) => {
+                    self.answer(alloc, gate, worker, turn, item)?;
+                    turn = turn.saturating_add(1);
+                }
+                Ok(Message::Close) => return Ok(()),
+                Err(_) => self.wait_for_message()?,
+            }
+        }
+        unreachable!()
+    }
+
+    /// Steps on an item and pushes its answer, or why there is none.
+    fn answer(
+        &mut self,
+        alloc: Global,
+        gate: &G,
+        worker: u32,
+        turn: u64,
+        item: M::Item,
+    ) -> Result<(), Stop>
+        ensures items { self.new.items ≡ self.old.items }
+        ensures answers { SameProducer self.old.answers self.new.answers }
+        ensures stepped { OnOk result (self.new.machine ≡ M.stepped self.old.machine item) }
+        ensures answered { OnOk result (sent self.new.answers ≡ sent self.old.answers ++ Done (M.reply self.old.machine item) ∷ []) }
+        ensures gate { G.is_open ≡ true → IfErr result (λ stop. is_gate_shut stop ≡ false) }
+    {
+        if !is_let_in(gate, worker, turn) {
+            return Err(tell(&mut self.answers, Stop::GateShut));
+        }
+        let Ok(answer) = self.machine.step(alloc, item) else {
+            return Err(tell(&mut self.answers, Stop::Memory));
+        };
+        match self.answers.push(Reply::Done(answer)) {
+            Ok(()) => Ok(()),
+            Err(_) => Err(Stop::Ring),
+        }
+    }
+
+    /// Looks at the empty item ring a few times more, and then lets another thread run.
+    fn wait_for_message(&mut self) -> Result<(), Stop>
+        ensures machine { self.new.machine ≡ self.old.machine }
+        ensures items { SameConsumer self.old.items self.new.items × (received self.new.items ≡ received self.old.items) }
+        ensures answers { self.new.answers ≡ self.old.answers }
+        ensures gate { IfErr result (λ stop. is_gate_shut stop ≡ false) }
+    {
+        if self.items.is_abandoned() {
+            return Err(Stop::Ring);
+        }
+        for _ in 0..LOOKS {
+            if !self.items.is_empty() {
+                return Ok(());
+            }
+            hint::spin_loop();
+        }
+        thread::yield_now();
+        Ok(())
+    }
+}
+
+/// Pushes why the worker stops, and gives what its end is.
+fn tell<A: Drop, G: Gate>(answers: &mut Producer<Reply<A>, Global, Honest<G>>, stop: Stop) -> Stop
+    requires { G.is_open ≡ true → is_gate_shut stop ≡ false }
+    ensures ring { SameProducer answers.old answers.new }
+    ensures gate { G.is_open ≡ true → is_gate_shut result ≡ false }
+{
+    match answers.push(Reply::Stopped(stop)) {
+        Ok(()) => stop,
+        Err(_) => Stop::Ring,
+    }
+}

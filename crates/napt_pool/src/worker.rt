@@ -1,0 +1,195 @@
+// One worker, as the pool sees it.
+ghost use Rattle.std.specs.Prelude.{◌≡◌, ◌+◌, ◌≤◌, true, false, [], ◌∷◌, ◌++◌, map, length, vec_capacity};
+ghost use Rattle.rtrb.specs.Ring.{sent, IsPair};
+ghost use Rattle.napt_pool.specs.Histories.{accepted, taken};
+ghost use Rattle.napt_pool.specs.declared.message.Message.TheVariants.{Work};
+ghost use Rattle.napt_pool.specs.Benches.{Worked};
+
+use crate::answers::{pop_answer, send_close};
+use crate::closing::Closing;
+use crate::fault::{OfferRefused, PoolFault, Stop};
+use crate::gate::Gate;
+use crate::machine::Machine;
+use crate::message::{Honest, Message, Reply};
+use crate::serve::{Bench, Left};
+use rtrb::{Consumer, Producer, PushError, RingBuffer};
+use std::alloc::Global;
+use std::marker::PhantomData;
+use std::snapshot::Snapshot;
+use std::sync::{Arc, Wait};
+use std::thread;
+use std::thread::{Promise, PromisedHandle, Threads};
+
+/// What a worker's thread was given to work with.
+#[derive(Drop)]
+pub(crate) struct Begun<M: Machine, G: Gate> {
+    pub(crate) bench: Snapshot<Bench<M, G>>,
+    gate: PhantomData<G>,
+}
+
+impl<M: Machine, G: Gate> Promise<Left<M, G>> for Begun<M, G> {
+    ghost kept_by = { λ begun left. Worked M.Machine G.is_open begun.bench.value left };
+}
+
+/// A worker that takes items.
+#[derive(Drop)]
+pub(crate) struct Worker<M: Machine, G: Gate> {
+    items: Producer<Message<M::Item>>,
+    answers: Consumer<Reply<M::Answer>, Global, Honest<G>>,
+    thread: PromisedHandle<Left<M, G>, Begun<M, G>>,
+    pub(crate) capacity: usize,
+    // How many accepted items have an answer that was not taken.
+    untaken: usize,
+    // Room for the answers that are not taken when the worker is closed.
+    rest: Vec<M::Answer>,
+    ghost item_ring: { IsPair items thread.promise.bench.value.items },
+    ghost answer_ring: { IsPair thread.promise.bench.value.answers answers },
+    ghost open: { sent items ≡ map Work (accepted items) },
+    ghost counted: { length (accepted items) ≡ untaken + length (taken answers) },
+    ghost in_room: { (untaken ≤ capacity) × (capacity ≤ vec_capacity rest) },
+    ghost no_rest: { rest.items ≡ [] },
+}
+
+impl<M: Machine, G: Gate> Worker<M, G> {
+    ghost use Rattle.std.specs.Prelude.{◌↔◌, IsTrue, OnOk, IfOk, IfErr, OnErr, MatchOption};
+    ghost use Rattle.napt_pool.specs.Faults.{is_gate_shut, item_back, is_full, is_memory};
+    ghost use Rattle.napt_pool.specs.declared.message.Reply.TheVariants.{Stopped};
+    ghost use Rattle.napt_pool.specs.Workers.{machine_of, accepted_of, taken_of, heard_of, closing_machine, closing_accepted, closing_taken};
+
+    /// Hands an item to the worker, or hands it back.
+    pub(crate) fn offer(&mut self, item: M::Item) -> Result<(), OfferRefused<M::Item>>
+        ensures machine { machine_of self.new ≡ machine_of self.old }
+        ensures capacity { self.new.capacity ≡ self.old.capacity }
+        ensures taken { taken_of self.new ≡ taken_of self.old }
+        ensures accepted { OnOk result (accepted_of self.new ≡ accepted_of self.old ++ item ∷ []) }
+        ensures refused { IfErr result (λ e. (item_back e ≡ item) × (accepted_of self.new ≡ accepted_of self.old)) }
+        ensures full { IsTrue (is_full result) ↔ (length (accepted_of self.old) ≡ length (taken_of self.old) + self.old.capacity) }
+        ensures no_memory { is_memory result ≡ false }
+    {
+        if self.untaken == self.capacity {
+            return Err(OfferRefused::Full(item));
+        }
+        match self.items.push(Message::Work(item)) {
+            Ok(()) => {
+                self.untaken += 1;
+                Ok(())
+            }
+            Err(PushError::Full(Message::Work(item))) => Err(OfferRefused::Ring(item)),
+            Err(PushError::Full(Message::Close)) => unreachable!(),
+        }
+    }
+
+    /// The worker's next answer, where there is one, or why it stopped.
+    pub(crate) fn take(&mut self) -> Result<Option<M::Answer>, Stop>
+        ensures machine { machine_of self.new ≡ machine_of self.old }
+        ensures capacity { self.new.capacity ≡ self.old.capacity }
+        ensures accepted { accepted_of self.new ≡ accepted_of self.old }
+        ensures some { IfOk result (λ got. MatchOption got (taken_of self.new ≡ taken_of self.old) (λ a. taken_of self.new ≡ taken_of self.old ++ a ∷ [])) }
+        ensures none { length (accepted_of self.old) ≡ length (taken_of self.old) → result ≡ Ok None }
+        ensures err { OnErr result (taken_of self.new ≡ taken_of self.old) }
+        ensures told { IfErr result (λ stop. heard_of self.new ≡ heard_of self.old ++ Stopped stop ∷ []) }
+        ensures gate { G.is_open ≡ true → IfErr result (λ stop. is_gate_shut stop ≡ false) }
+    {
+        if self.untaken == 0 {
+            return Ok(None);
+        }
+        match pop_answer(&mut self.answers)? {
+            Some(answer) => {
+                self.untaken -= 1;
+                Ok(Some(answer))
+            }
+            None => Ok(None),
+        }
+    }
+
+    /// Sends Close.
+    pub(crate) fn close(self) -> Closing<M, G>
+        ensures machine { closing_machine result ≡ machine_of self }
+        ensures accepted { closing_accepted result ≡ accepted_of self }
+        ensures taken { closing_taken result ≡ taken_of self }
+    {
+        let Worker {
+            mut items,
+            answers,
+            thread,
+            capacity: _,
+            untaken: _,
+            rest,
+        } = self;
+        let is_told = send_close(&mut items);
+        Closing {
+            items,
+            answers,
+            thread,
+            is_told,
+            rest,
+        }
+    }
+}
+
+impl<M: Machine, G: Gate + Send + Sync + Drop + 'static> Worker<M, G> {
+    ghost use Rattle.std.specs.Prelude.{IfOk, IfErr};
+    ghost use Rattle.rtrb.specs.Ring.{received};
+    ghost use Rattle.napt_pool.specs.Faults.{IsStartFault};
+    ghost use Rattle.napt_pool.specs.Workers.{machine_of, accepted_of, taken_of};
+
+    /// Starts a worker's thread behind two rings.
+    pub(crate) fn start<R: Threads + Wait + Copy + Send + 'static>(
+        rt: &R,
+        alloc: Global,
+        machine: M,
+        capacity: usize,
+        gate: Arc<G>,
+        number: u32,
+    ) -> Result<Worker<M, G>, PoolFault>
+    where
+        M: 'static,
+        M::Item: 'static,
+        M::Answer: 'static,
+        requires { (1 ≤ capacity) × (capacity ≤ 4096) }
+        ensures machine { IfOk result (λ w. machine_of w ≡ machine) }
+        ensures capacity { IfOk result (λ w. w.capacity ≡ capacity) }
+        ensures empty { IfOk result (λ w. (accepted_of w ≡ []) × (taken_of w ≡ [])) }
+        ensures refused { IfErr result IsStartFault }
+    {
+        let Ok((items, theirs)) = RingBuffer::new(alloc, capacity + 1) else {
+            return Err(PoolFault::Memory);
+        };
+        let Ok((replies, answers)) = RingBuffer::with_protocol::<Global, Honest<G>>(alloc, capacity)
+        else {
+            return Err(PoolFault::Memory);
+        };
+        let Ok(rest) = Vec::with_capacity(alloc, capacity) else {
+            return Err(PoolFault::Memory);
+        };
+        let bench = Bench {
+            machine,
+            items: theirs,
+            answers: replies,
+        };
+        let begun = Begun {
+            bench: Snapshot::of(&bench),
+            gate: PhantomData,
+        };
+        let rt_there = *rt;
+        let spawned = thread::spawn_with(
+            rt,
+            begun,
+            move || -> Left<M, G>
+                requires { (received bench.items ≡ []) × (sent bench.answers ≡ []) }
+                ensures { Worked M.Machine G.is_open bench result }
+            { bench.serve(&rt_there, alloc, &*gate, number) },
+        );
+        match spawned {
+            Ok(thread) => Ok(Worker {
+                items,
+                answers,
+                thread,
+                capacity,
+                untaken: 0,
+                rest,
+            }),
+            Err(_) => Err(PoolFault::NoThread),
+        }
+    }
+}

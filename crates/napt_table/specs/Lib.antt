@@ -1,0 +1,10 @@
+pub mod Lists
+pub mod Marks
+pub mod Bindings
+pub mod Life
+pub mod Choice
+pub mod Filtering
+pub mod Steps
+pub mod Endpoints
+pub mod Live
+pub mod Local

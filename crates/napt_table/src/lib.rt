@@ -1,0 +1,103 @@
+//! The bindings of a translator: which inside endpoint has which external number, for how long, and whom it lets in.
+//!
+//! The rules are those of RFC 3022, RFC 4787, RFC 5382 and RFC 5508; `specs/` states them, each with its sections.
+#![tactic(auto)]
+
+ghost use Rattle.std.specs.Prelude.{◌≡◌, ℕ, List};
+ghost use Rattle.napt_table.specs.Local.{PurgeIsLocal, LaterPurgeCounts, OutIsLocal, OutLeavesOthers, InIsLocal, InLeavesOthers};
+ghost use Rattle.napt_table.specs.Endpoints.{PurgeStaysSound, OutStaysSound, InStaysSound, SoundIsApart};
+ghost use Rattle.napt_table.specs.Live.{OutLeavesLive, InLeavesLive};
+
+mod choice;
+mod life;
+mod list;
+mod search;
+mod session;
+#[cfg(test)]
+mod tests;
+mod traffic;
+
+pub use list::Bindings;
+use napt_wire::{Endpoint, Protocol};
+use std::marker::Model;
+
+/// What a TCP flow was seen to do: a SYN and a FIN of each side, and a reset (RFC 5382, REQ-2 and REQ-5).
+#[derive(Clone, Copy, Debug, PartialEq, Eq)]
+pub struct Marks {
+    pub syn_out: bool,
+    pub syn_in: bool,
+    pub fin_out: bool,
+    pub fin_in: bool,
+    pub reset: bool,
+}
+
+/// The packets between a binding's inside endpoint and one remote endpoint.
+#[derive(Clone, Copy, Debug, PartialEq, Eq)]
+pub struct Flow {
+    pub remote: Endpoint,
+    /// Outside TCP there are none.
+    pub marks: Marks,
+    /// The time at which it was last used, in ns.
+    pub last: u64,
+}
+
+/// The flows of one binding, in the order in which they began; contracts see them as a list.
+#[derive(Drop)]
+pub struct Flows {
+    items: Vec<Flow>,
+}
+
+impl Model for Flows {
+    ghost use Rattle.std.specs.Prelude.{List};
+    ghost use Rattle.napt_table.specs.declared.Flow.{Flow};
+
+    ghost Value = { List Flow };
+
+    ghost view = { λ flows. flows.items.items };
+}
+
+/// An inside endpoint and the external endpoint that stands for it under one protocol (RFC 3022, section 2.2).
+#[derive(Drop)]
+pub struct Binding {
+    pub protocol: Protocol,
+    pub inside: Endpoint,
+    pub external: Endpoint,
+    /// A static redirect: it never expires, passes every remote and keeps no flows.
+    pub fixed: bool,
+    /// The time of the last outgoing packet, in ns; 0 for a redirect.
+    pub last: u64,
+    /// One for each remote endpoint to which a packet went out.
+    pub flows: Flows,
+}
+
+/// A class of external numbers: the least one, how many, and how far apart.
+#[derive(Clone, Copy)]
+pub struct Class {
+    pub least: u32,
+    pub many: u32,
+    pub apart: u32,
+}
+
+/// A step at one address is a step on that address's bindings alone, and a purge changes no later one.
+pub fn steps_are_local()
+    ensures purge { PurgeIsLocal }
+    ensures later { LaterPurgeCounts }
+    ensures outbound { OutIsLocal }
+    ensures outbound_others { OutLeavesOthers }
+    ensures inbound { InIsLocal }
+    ensures inbound_others { InLeavesOthers }
+{}
+
+/// What a step leaves is live at its time.
+pub fn steps_leave_live()
+    ensures outbound { OutLeavesLive }
+    ensures inbound { InLeavesLive }
+{}
+
+/// The steps keep apart what is apart: no two bindings come to share an endpoint (RFC 4787, REQ-1 and REQ-3).
+pub fn steps_stay_sound()
+    ensures purge { PurgeStaysSound }
+    ensures outbound { OutStaysSound }
+    ensures inbound { InStaysSound }
+    ensures apart { SoundIsApart }
+{}

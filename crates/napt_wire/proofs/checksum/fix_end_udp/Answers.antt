@@ -1,0 +1,18 @@
+use Rattle.std.proofs.Common.{arith, ◌≡◌, ◌==◌, false, refl}
+use Rattle.std.proofs.lemmas.Grind.{common_steps}
+use Rattle.std.proofs.lemmas.Bool.Decides.{nat_tests}
+use Rattle.napt_wire.specs.Checksum.{canon, canon_udp}
+use Rattle.napt_wire.specs.Rewriting.{end_words}
+use Rattle.napt_wire.proofs.checksum.fix_end_udp.Goals as goal
+
+pub returns-then-check-eq0 : goal.returns-then-check-eq0
+unfolding canon_udp
+returns-then-check-eq0 c = grind (arith, common_steps)
+
+pub returns : goal.returns
+unfolding canon_udp
+returns c =
+    let all : c.fix_check.result ≡ canon c.args.check (end_words c.args.old) (end_words c.args.new) =
+    unfold canon in omega (arith, c.fix_check.ensures, c.fix_address-fixed.ensures) in
+    let present : (c.args.check == 0) ≡ false = grind (arith, common_steps, nat_tests) in
+    rw (c.sent.ensures, all, present) refl

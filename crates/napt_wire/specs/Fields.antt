@@ -1,0 +1,190 @@
+-- The fields of a datagram that begins at a place `at`: a packet's own at 0, and the one that an ICMP
+-- error quotes at `inner_at`. Layouts of RFC 791 section 3.1, RFC 768, RFC 9293 section 3.1 and RFC 792.
+use Rattle.std.specs.Prelude.{ℕ, ◌+◌, ◌*◌, ◌/◌, ◌<◌, Bool, true, false, not, List, bit_and, Option, Some, None, ◌==◌, if◌then◌else◌}
+use Rattle.napt_wire.specs.Bytes.{byte_at, word_at, long_at}
+use Rattle.napt_wire.specs.declared.Endpoint.{Endpoint}
+use Rattle.napt_wire.specs.declared.Flags.{Flags}
+use Rattle.napt_wire.specs.declared.Inner.{Inner}
+use Rattle.napt_wire.specs.declared.Kind.{Kind}
+use Rattle.napt_wire.specs.declared.Kind.TheVariants as kinds
+use Rattle.napt_wire.specs.declared.Protocol.{Protocol}
+use Rattle.napt_wire.specs.declared.Protocol.TheVariants as protocols
+use Rattle.napt_wire.specs.declared.Way.{Way}
+use Rattle.napt_wire.specs.declared.Way.TheVariants.{Outgoing, Incoming}
+use Rattle.napt_wire.specs.declared.form.Form.{Form}
+use Rattle.napt_wire.specs.declared.form.Form.TheVariants.{Udp, Tcp, Request, Reply, Error}
+use Rattle.napt_wire.specs.declared.form.End.{End}
+use Rattle.napt_wire.specs.declared.form.End.TheVariants.{Source, Destination}
+
+abbrev pub version : ℕ → List ℕ → ℕ
+version at bytes = byte_at at bytes / 16
+
+-- in bytes, where the header counts units of four
+abbrev pub header_length : ℕ → List ℕ → ℕ
+header_length at bytes = 4 * bit_and (byte_at at bytes) 15
+
+abbrev pub total_length : ℕ → List ℕ → ℕ
+total_length at bytes = word_at (at + 2) bytes
+
+-- how far into its datagram a fragment stands, in units of eight bytes
+abbrev pub fragment_offset : ℕ → List ℕ → ℕ
+fragment_offset at bytes = bit_and (word_at (at + 6) bytes) 8191
+
+-- more fragments follow
+abbrev pub has_more : ℕ → List ℕ → Bool
+has_more at bytes = not (bit_and (word_at (at + 6) bytes) 8192 == 0)
+
+abbrev pub protocol_number : ℕ → List ℕ → ℕ
+protocol_number at bytes = byte_at (at + 9) bytes
+
+abbrev pub address_place : End → ℕ
+address_place Source = 12
+address_place Destination = 16
+
+abbrev pub address : ℕ → End → List ℕ → ℕ
+address at end bytes = long_at (at + address_place end) bytes
+
+-- where the transport header begins
+abbrev pub transport : ℕ → List ℕ → ℕ
+transport at bytes = at + header_length at bytes
+
+-- the form of an ICMP message, by its type
+abbrev pub icmp_form : ℕ → Form
+icmp_form type = if type == 8 then Request else (if type == 0 then Reply else Error)
+
+unfoldable pub form_at : ℕ → List ℕ → Form
+form_at at bytes =
+    if protocol_number at bytes == 17 then Udp
+    else (if protocol_number at bytes == 6 then Tcp else icmp_form (byte_at (transport at bytes) bytes))
+
+-- where in a transport header an end has its number, a port or an identifier, if it has one: the
+-- identifier of an echo belongs to the host that sent the request
+abbrev pub number_place : Form → End → Option ℕ
+number_place Udp Source = Some 0
+number_place Udp Destination = Some 2
+number_place Tcp Source = Some 0
+number_place Tcp Destination = Some 2
+number_place Request Source = Some 4
+number_place Request Destination = None
+number_place Reply Source = None
+number_place Reply Destination = Some 4
+number_place Error Source = None
+number_place Error Destination = None
+
+-- the number at a place past `start`, 0 where there is no place
+abbrev pub number_at : ℕ → Option ℕ → List ℕ → ℕ
+number_at start None bytes = 0
+number_at start (Some place) bytes = word_at (start + place) bytes
+
+-- an end of the datagram at a place
+abbrev pub end_at : ℕ → End → List ℕ → Endpoint
+end_at at end bytes = record {
+  address = address at end bytes;
+  number = number_at (transport at bytes) (number_place (form_at at bytes) end) bytes;
+}
+
+unfoldable pub source : List ℕ → Endpoint
+source bytes = end_at 0 Source bytes
+
+unfoldable pub destination : List ℕ → Endpoint
+destination bytes = end_at 0 Destination bytes
+
+-- FIN, SYN, RST and ACK among the control bits of a TCP header
+abbrev pub flags_of : ℕ → Flags
+flags_of bits = record {
+  fin = not (bit_and bits 1 == 0);
+  syn = not (bit_and bits 2 == 0);
+  rst = not (bit_and bits 4 == 0);
+  ack = not (bit_and bits 16 == 0);
+}
+
+unfoldable pub flags : List ℕ → Flags
+flags bytes = flags_of (byte_at (transport 0 bytes + 13) bytes)
+
+-- where the datagram begins that an ICMP error is about
+abbrev pub inner_at : List ℕ → ℕ
+inner_at bytes = transport 0 bytes + 8
+
+abbrev pub protocol_of : Form → Protocol
+protocol_of Udp = protocols.Udp
+protocol_of Tcp = protocols.Tcp
+protocol_of Request = protocols.Icmp
+protocol_of Reply = protocols.Icmp
+protocol_of Error = protocols.Icmp
+
+-- the datagram at a place, as an error that is about it names it
+abbrev pub inner_of : ℕ → List ℕ → Inner
+inner_of at bytes = record {
+  protocol = protocol_of (form_at at bytes);
+  source = end_at at Source bytes;
+  destination = end_at at Destination bytes;
+}
+
+unfoldable pub inner : List ℕ → Inner
+inner bytes = inner_of (inner_at bytes) bytes
+
+-- the kind of a packet whose transport header is of a form
+abbrev pub kind_of : Form → List ℕ → Kind
+kind_of Udp bytes = kinds.Udp
+kind_of Tcp bytes = kinds.Tcp (flags bytes)
+kind_of Request bytes = kinds.Echo
+kind_of Reply bytes = kinds.Echo
+kind_of Error bytes = kinds.ErrorOf (inner bytes)
+
+unfoldable pub kind : List ℕ → Kind
+kind bytes = kind_of (form_at 0 bytes) bytes
+
+-- The end on the translator's inside for a packet that goes a way: of an error it is the inner
+-- destination of one that goes out, and the inner source of one that comes in.
+abbrev pub local_of : Kind → Way → List ℕ → Endpoint
+local_of kinds.Udp Outgoing bytes = source bytes
+local_of kinds.Udp Incoming bytes = destination bytes
+local_of (kinds.Tcp flags) Outgoing bytes = source bytes
+local_of (kinds.Tcp flags) Incoming bytes = destination bytes
+local_of kinds.Echo Outgoing bytes = source bytes
+local_of kinds.Echo Incoming bytes = destination bytes
+local_of (kinds.ErrorOf inner) Outgoing bytes = inner.destination
+local_of (kinds.ErrorOf inner) Incoming bytes = inner.source
+
+abbrev pub opposite : Way → Way
+opposite Outgoing = Incoming
+opposite Incoming = Outgoing
+
+unfoldable pub local_end : Way → List ℕ → Endpoint
+local_end way bytes = local_of (kind bytes) way bytes
+
+-- the other end
+unfoldable pub remote_end : Way → List ℕ → Endpoint
+remote_end way bytes = local_of (kind bytes) (opposite way) bytes
+
+-- a number that a quoted datagram of a protocol can carry
+abbrev pub CanQuote : Protocol → ℕ → Type 0
+CanQuote protocols.Icmp number = Unit {0}
+CanQuote protocols.Tcp number = 0 < number
+CanQuote protocols.Udp number = 0 < number
+
+-- whether a packet is an ICMP error
+abbrev pub is_error : Kind → Bool
+is_error kinds.Udp = false
+is_error (kinds.Tcp flags) = false
+is_error kinds.Echo = false
+is_error (kinds.ErrorOf inner) = true
+
+-- a number that a packet of a kind can carry: UDP and TCP have no port 0, also in what an error quotes
+abbrev pub CanCarry : Kind → ℕ → Type 0
+CanCarry kinds.Udp number = 0 < number
+CanCarry (kinds.Tcp flags) number = 0 < number
+CanCarry kinds.Echo number = Unit {0}
+CanCarry (kinds.ErrorOf inner) number = CanQuote inner.protocol number
+
+positive_is_quoted : (protocol : Protocol) (number : ℕ) → 0 < number → CanQuote protocol number
+positive_is_quoted protocols.Icmp number h = tt
+positive_is_quoted protocols.Tcp number h = h
+positive_is_quoted protocols.Udp number h = h
+
+-- a number that isn't 0 can be carried by every packet
+pub positive_is_carried : (kind : Kind) (number : ℕ) → 0 < number → CanCarry kind number
+positive_is_carried kinds.Udp number h = h
+positive_is_carried (kinds.Tcp flags) number h = h
+positive_is_carried kinds.Echo number h = tt
+positive_is_carried (kinds.ErrorOf inner) number h = positive_is_quoted inner.protocol number h

@@ -1,0 +1,9 @@
+pub mod Bytes
+pub mod Checksum
+pub mod Fields
+pub mod Reading
+pub mod Rewriting
+pub mod Packet
+pub mod Right
+pub mod Rewrite
+pub mod Room

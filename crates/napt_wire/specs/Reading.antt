@@ -1,0 +1,145 @@
+-- Reading a packet: the checks in order, of which the first that fails names the cause.
+use Rattle.std.specs.Prelude.{ℕ, ◌+◌, ◌*◌, ◌/◌, Bool, true, false, not, ◌&&◌, ◌||◌, List, [], ◌∷◌, ◌++◌, length, take, drop, Option, Some, None, Result, Ok, Err, nat_lt, ◌==◌, if◌then◌else◌}
+use Rattle.napt_wire.specs.Bytes.{byte_at, word_at, words}
+use Rattle.napt_wire.specs.Checksum.{is_right}
+use Rattle.napt_wire.specs.Fields.{version, header_length, total_length, fragment_offset, has_more, protocol_number, transport, form_at, address, inner_at}
+use Rattle.napt_wire.specs.declared.Cause.{Cause}
+use Rattle.napt_wire.specs.declared.Cause.TheVariants.{Truncated, NotIpv4, BadHeader, BadChecksum, Fragment, Unsupported, BadInner, BadPort}
+use Rattle.napt_wire.specs.declared.Side.{Side}
+use Rattle.napt_wire.specs.declared.Side.TheVariants.{Inside, Outside}
+use Rattle.napt_wire.specs.declared.form.Form.{Form}
+use Rattle.napt_wire.specs.declared.form.Form.TheVariants.{Udp, Tcp, Request, Reply, Error}
+use Rattle.napt_wire.specs.declared.form.End.TheVariants.{Source, Destination}
+
+-- the header of the datagram at a place
+abbrev pub header : ℕ → List ℕ → List ℕ
+header at bytes = take (header_length at bytes) (drop at bytes)
+
+-- ICMP, TCP or UDP
+abbrev pub is_known : ℕ → Bool
+is_known protocol = protocol == 1 || protocol == 6 || protocol == 17
+
+abbrev pub has_ports : Form → Bool
+has_ports Udp = true
+has_ports Tcp = true
+has_ports Request = false
+has_ports Reply = false
+has_ports Error = false
+
+-- the transport header of a form cannot be: UDP's length field is below 8 or above the bytes that are
+-- there (RFC 768), TCP's data offset is below 5 or points past them (RFC 9293 section 3.1), or they are
+-- fewer than the header of the form has (8 for ICMP, RFC 792)
+abbrev pub has_bad_transport : Form → List ℕ → Bool
+has_bad_transport Udp payload =
+    nat_lt (length payload) 8 || nat_lt (word_at 4 payload) 8 || nat_lt (length payload) (word_at 4 payload)
+has_bad_transport Tcp payload =
+    nat_lt (length payload) 20 || nat_lt (byte_at 12 payload / 16) 5 || nat_lt (length payload) (4 * (byte_at 12 payload / 16))
+has_bad_transport Request payload = nat_lt (length payload) 8
+has_bad_transport Reply payload = nat_lt (length payload) 8
+has_bad_transport Error payload = nat_lt (length payload) 8
+
+-- ICMP messages that are translated (RFC 792): destination unreachable, time exceeded and parameter
+-- problem; an echo request from inside, and an echo reply from outside
+abbrev pub is_translated : Side → Form → ℕ → Bool
+is_translated side Udp type = true
+is_translated side Tcp type = true
+is_translated Inside Request type = true
+is_translated Outside Request type = false
+is_translated Inside Reply type = false
+is_translated Outside Reply type = true
+is_translated side Error type = type == 3 || type == 11 || type == 12
+
+-- the datagram that an error quotes went the other way: its echo is a request where the error comes
+-- from outside, and a reply where it comes from inside
+abbrev pub is_quoted : Side → Form → Bool
+is_quoted side Udp = true
+is_quoted side Tcp = true
+is_quoted Outside Request = true
+is_quoted Inside Request = false
+is_quoted Outside Reply = false
+is_quoted Inside Reply = true
+is_quoted side Error = false
+
+-- the datagram at a place, which an error quotes, is bad (RFC 5508 section 4): too little of it is there,
+-- it is damaged, it is no first fragment, or it isn't one that the receiver of the error sent
+unfoldable pub has_bad_inner : Side → ℕ → List ℕ → Bool
+has_bad_inner side at bytes =
+    nat_lt (length bytes) (at + 20)
+    || not (version at bytes == 4)
+    || nat_lt (header_length at bytes) 20
+    || nat_lt (length bytes) (transport at bytes + 8)
+    || not (is_right (words (header at bytes)))
+    || not (fragment_offset at bytes == 0)
+    || not (is_known (protocol_number at bytes))
+    || not (is_quoted side (form_at at bytes))
+    || not (address at Source bytes == address 0 Destination bytes)
+
+-- a transport header of a form has ports, and one of them is 0
+abbrev pub has_zero_port : Form → ℕ → List ℕ → Bool
+has_zero_port form start bytes = has_ports form && (word_at start bytes == 0 || word_at (start + 2) bytes == 0)
+
+-- the datagram at a place has ports, and one of them is 0
+abbrev pub has_port_zero : ℕ → List ℕ → Bool
+has_port_zero at bytes = has_zero_port (form_at at bytes) (transport at bytes) bytes
+
+-- the checks on the bytes that came, each with the cause where it fails: what the IPv4 header says of
+-- itself (RFC 791 section 3.1)
+abbrev pub length_checks : List ℕ → List (Bool × Cause)
+length_checks bytes =
+    (nat_lt (length bytes) 20, Truncated)
+    ∷ (not (version 0 bytes == 4), NotIpv4)
+    ∷ (nat_lt (header_length 0 bytes) 20 || nat_lt (total_length 0 bytes) (header_length 0 bytes), BadHeader)
+    ∷ (nat_lt (length bytes) (total_length 0 bytes), Truncated)
+    ∷ []
+
+-- the checks on the datagram itself, without what follows its total length: the header checksum, whole
+-- datagrams, the protocol (RFC 791 section 3.1)
+abbrev pub header_checks : List ℕ → List (Bool × Cause)
+header_checks bytes =
+    (not (is_right (words (header 0 bytes))), BadChecksum)
+    ∷ (has_more 0 bytes || not (fragment_offset 0 bytes == 0), Fragment)
+    ∷ (not (is_known (protocol_number 0 bytes)), Unsupported)
+    ∷ []
+
+-- an error's checksum, which is over the whole ICMP message (RFC 792), what it quotes, and the ports there
+abbrev pub error_checks : Side → List ℕ → List (Bool × Cause)
+error_checks side bytes =
+    (not (is_right (words (drop (transport 0 bytes) bytes))), BadChecksum)
+    ∷ (has_bad_inner side (inner_at bytes) bytes, BadInner)
+    ∷ (has_port_zero (inner_at bytes) bytes, BadPort)
+    ∷ []
+
+-- the checks on a message of a form behind the two on its header: those of an error, or the ports
+abbrev pub message_checks : Form → Side → List ℕ → List (Bool × Cause)
+message_checks Udp side bytes = (has_port_zero 0 bytes, BadPort) ∷ []
+message_checks Tcp side bytes = (has_port_zero 0 bytes, BadPort) ∷ []
+message_checks Request side bytes = []
+message_checks Reply side bytes = []
+message_checks Error side bytes = error_checks side bytes
+
+-- the transport header, the type of an ICMP message, and the message
+abbrev pub body_checks : Side → List ℕ → List (Bool × Cause)
+body_checks side bytes =
+    (has_bad_transport (form_at 0 bytes) (drop (transport 0 bytes) bytes), BadHeader)
+    ∷ (not (is_translated side (form_at 0 bytes) (byte_at (transport 0 bytes) bytes)), Unsupported)
+    ∷ message_checks (form_at 0 bytes) side bytes
+
+-- the cause of the first check that fails
+abbrev pub refusal : List (Bool × Cause) → Option Cause
+refusal [] = None
+refusal (check ∷ checks) = if check.0 then Some check.1 else refusal checks
+
+-- the datagram, without what follows its total length
+abbrev pub datagram : List ℕ → List ℕ
+datagram bytes = take (total_length 0 bytes) bytes
+
+abbrev pub read_unless : Option Cause → List ℕ → Result (List ℕ) Cause
+read_unless None packet = Ok packet
+read_unless (Some cause) packet = Err cause
+
+-- the packet that the bytes are on their arrival from a side, or why they are refused
+unfoldable pub reading : Side → List ℕ → Result (List ℕ) Cause
+reading side bytes =
+    read_unless
+    (refusal (length_checks bytes ++ header_checks (datagram bytes) ++ body_checks side (datagram bytes)))
+    (datagram bytes)

@@ -1,0 +1,15 @@
+-- The words that a `Rewrite` replaces.
+use Rattle.std.specs.Prelude.{List, [], ◌∷◌, ◌++◌, option_to_list}
+use Rattle.napt_wire.specs.declared.rewrite.AddressRewrite.{AddressRewrite}
+use Rattle.napt_wire.specs.declared.rewrite.Change.{Change}
+use Rattle.napt_wire.specs.declared.rewrite.ErrorRewrite.{ErrorRewrite}
+use Rattle.napt_wire.specs.declared.rewrite.Rewrite.{Rewrite}
+
+abbrev pub address_changes_of : AddressRewrite → List Change
+address_changes_of r = r.header_check ∷ r.high ∷ r.low ∷ []
+
+abbrev pub changes_of : Rewrite → List Change
+changes_of r = option_to_list r.number ++ option_to_list r.transport_check ++ address_changes_of r.address
+
+abbrev pub error_changes_of : ErrorRewrite → List Change
+error_changes_of r = changes_of r.quoted ++ r.check ∷ address_changes_of r.address

@@ -1,0 +1,102 @@
+-- The rewritten packet (RFC 3022 sections 4.1 to 4.3, RFC 5508 section 4): an address and a number are
+-- replaced, and each checksum that covers them, all at once. All other bytes stay.
+use Rattle.std.specs.Prelude.{ℕ, ◌+◌, ◌/◌, ◌%◌, List, [], ◌∷◌, ◌++◌, length, map, Option, Some, None, nat_le, if◌then◌else◌}
+use Rattle.napt_wire.specs.Bytes.{word_at, put_word}
+use Rattle.napt_wire.specs.Checksum.{canon, canon_udp}
+use Rattle.napt_wire.specs.Fields.{address, address_place, transport, form_at, number_place, end_at, inner_at}
+use Rattle.napt_wire.specs.declared.Endpoint.{Endpoint}
+use Rattle.napt_wire.specs.declared.Way.{Way}
+use Rattle.napt_wire.specs.declared.Way.TheVariants.{Outgoing, Incoming}
+use Rattle.napt_wire.specs.declared.form.Form.{Form}
+use Rattle.napt_wire.specs.declared.form.Form.TheVariants.{Udp, Tcp, Request, Reply, Error}
+use Rattle.napt_wire.specs.declared.form.End.{End}
+use Rattle.napt_wire.specs.declared.form.End.TheVariants.{Source, Destination}
+use Rattle.napt_wire.specs.declared.rewrite.Change.{Change}
+
+-- the word at a place becomes another
+abbrev pub change : List ℕ → ℕ → ℕ → Change
+change bytes place new = record { place = place; old = word_at place bytes; new = new }
+
+abbrev pub olds : List Change → List ℕ
+olds changes = map (λ (c : Change). c.old) changes
+
+abbrev pub news : List Change → List ℕ
+news changes = map (λ (c : Change). c.new) changes
+
+-- the bytes with the words replaced
+abbrev pub changed : List Change → List ℕ → List ℕ
+changed [] bytes = bytes
+changed (c ∷ changes) bytes = changed changes (put_word c.place c.new bytes)
+
+-- the two words of an address, and the three that a TCP or UDP checksum covers of an end: its address
+-- by the pseudo-header, and its port
+abbrev pub address_words : ℕ → List ℕ
+address_words address = address / 65536 ∷ address % 65536 ∷ []
+
+abbrev pub end_words : Endpoint → List ℕ
+end_words end = end.address / 65536 ∷ end.address % 65536 ∷ end.number ∷ []
+
+-- an address of the datagram at a place is replaced, and the IP checksum, which covers it
+abbrev pub address_changes : ℕ → End → ℕ → List ℕ → List Change
+address_changes at end new bytes =
+    change bytes (at + 10) (canon (word_at (at + 10) bytes) (address_words (address at end bytes)) (address_words new))
+    ∷ change bytes (at + address_place end) (new / 65536)
+    ∷ change bytes (at + address_place end + 2) (new % 65536)
+    ∷ []
+
+-- The transport checksum of a form, in a transport header that begins at `start`, where an end becomes
+-- another. An ICMP checksum covers the identifier alone. A TCP checksum is written only where it is there,
+-- as in a whole segment: an error may quote less.
+abbrev pub checksum_changes : Form → ℕ → Endpoint → Endpoint → List ℕ → List Change
+checksum_changes Udp start old new bytes =
+    change bytes (start + 6) (canon_udp (word_at (start + 6) bytes) (end_words old) (end_words new)) ∷ []
+checksum_changes Tcp start old new bytes =
+    if nat_le (start + 18) (length bytes)
+    then change bytes (start + 16) (canon (word_at (start + 16) bytes) (end_words old) (end_words new)) ∷ []
+    else []
+checksum_changes Request start old new bytes =
+    change bytes (start + 2) (canon (word_at (start + 2) bytes) (old.number ∷ []) (new.number ∷ [])) ∷ []
+checksum_changes Reply start old new bytes =
+    change bytes (start + 2) (canon (word_at (start + 2) bytes) (old.number ∷ []) (new.number ∷ [])) ∷ []
+checksum_changes Error start old new bytes = []
+
+-- the number of an end is replaced, if it has one, and the transport checksum that covers it
+abbrev pub number_changes : Option ℕ → Form → ℕ → Endpoint → Endpoint → List ℕ → List Change
+number_changes None form start old new bytes = []
+number_changes (Some place) form start old new bytes =
+    change bytes (start + place) new.number ∷ checksum_changes form start old new bytes
+
+-- an end of the datagram at a place becomes another
+unfoldable pub end_changes : ℕ → End → Endpoint → List ℕ → List Change
+end_changes at end new bytes =
+    number_changes (number_place (form_at at bytes) end) (form_at at bytes) (transport at bytes) (end_at at end bytes) new bytes
+    ++ address_changes at end new.address bytes
+
+unfoldable pub with_source : Endpoint → List ℕ → List ℕ
+with_source source bytes = changed (end_changes 0 Source source bytes) bytes
+
+unfoldable pub with_destination : Endpoint → List ℕ → List ℕ
+with_destination destination bytes = changed (end_changes 0 Destination destination bytes) bytes
+
+-- the end of the quoted datagram that stands for the inside of the translator, and the end of the error
+-- itself that is translated with it
+abbrev pub inner_end : Way → End
+inner_end Incoming = Source
+inner_end Outgoing = Destination
+
+abbrev pub outer_end : Way → End
+outer_end Incoming = Destination
+outer_end Outgoing = Source
+
+-- An end of the datagram that an ICMP error quotes becomes another. So does the error's own address, and
+-- its ICMP checksum, which covers each word of the quoted datagram that is replaced.
+unfoldable pub reverted_changes : Way → Endpoint → List ℕ → List Change
+reverted_changes way end bytes =
+    let quoted : List Change = end_changes (inner_at bytes) (inner_end way) end bytes in
+    let checksum : ℕ = transport 0 bytes + 2 in
+    quoted
+    ++ change bytes checksum (canon (word_at checksum bytes) (olds quoted) (news quoted))
+    ∷ address_changes 0 (outer_end way) end.address bytes
+
+unfoldable pub reverted : Way → Endpoint → List ℕ → List ℕ
+reverted way end bytes = changed (reverted_changes way end bytes) bytes

@@ -1,0 +1,49 @@
+-- Whether the transport checksum of a datagram is right. Those of the IPv4 headers and of ICMP errors are
+-- judged by reading, so they are right in each packet.
+use Rattle.std.specs.Prelude.{ℕ, ◌+◌, ◌-◌, Bool, ◌||◌, ◌==◌, List, [], ◌∷◌, ◌++◌, length, take, drop, Option, Some, None, option_map, nat_lt, if◌then◌else◌}
+use Rattle.napt_wire.specs.Bytes.{word_at, words}
+use Rattle.napt_wire.specs.Checksum.{is_right}
+use Rattle.napt_wire.specs.Fields.{address, header_length, total_length, protocol_number, transport, form_at}
+use Rattle.napt_wire.specs.Rewriting.{address_words}
+use Rattle.napt_wire.specs.declared.form.Form.{Form}
+use Rattle.napt_wire.specs.declared.form.Form.TheVariants.{Udp, Tcp, Request, Reply, Error}
+use Rattle.napt_wire.specs.declared.form.End.TheVariants.{Source, Destination}
+
+-- the pseudo-header that UDP and TCP checksums cover, for a transport header and data of a length: both
+-- addresses, the protocol and the length (RFC 768, RFC 9293 section 3.1)
+abbrev pub pseudo_words : ℕ → ℕ → List ℕ → List ℕ
+pseudo_words at size bytes =
+    address_words (address at Source bytes) ++ address_words (address at Destination bytes)
+    ++ protocol_number at bytes ∷ size ∷ []
+
+-- the words of the transport header and data of a length
+abbrev pub message_words : ℕ → ℕ → List ℕ → List ℕ
+message_words at size bytes = words (take size (drop (transport at bytes) bytes))
+
+-- how long a transport header and its data are, by the IPv4 header
+abbrev pub message_length : ℕ → List ℕ → ℕ
+message_length at bytes = total_length at bytes - header_length at bytes
+
+-- What the transport checksum of a form covers, if it is there: where a UDP checksum is present, and where
+-- by its own length fields the datagram has the checksum and the port or identifier, and all of it is there.
+abbrev pub covered_by : Form → ℕ → List ℕ → Option (List ℕ)
+covered_by Udp at bytes =
+    let size : ℕ = word_at (transport at bytes + 4) bytes in
+    if word_at (transport at bytes + 6) bytes == 0 || nat_lt size 8 || nat_lt (length bytes) (transport at bytes + size)
+    then None else Some (pseudo_words at size bytes ++ message_words at size bytes)
+covered_by Tcp at bytes =
+    let size : ℕ = message_length at bytes in
+    if nat_lt size 18 || nat_lt (length bytes) (transport at bytes + size)
+    then None else Some (pseudo_words at size bytes ++ message_words at size bytes)
+covered_by Request at bytes =
+    let size : ℕ = message_length at bytes in
+    if nat_lt size 6 || nat_lt (length bytes) (transport at bytes + size) then None else Some (message_words at size bytes)
+covered_by Reply at bytes =
+    let size : ℕ = message_length at bytes in
+    if nat_lt size 6 || nat_lt (length bytes) (transport at bytes + size) then None else Some (message_words at size bytes)
+covered_by Error at bytes = None
+
+-- whether the transport checksum of the datagram at a place is right, where it is there with all that it
+-- covers
+unfoldable pub transport_right : ℕ → List ℕ → Option Bool
+transport_right at bytes = option_map is_right (covered_by (form_at at bytes) at bytes)

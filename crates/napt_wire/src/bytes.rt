@@ -1,0 +1,31 @@
+//! Numbers in bytes, the highest byte first.
+
+ghost use Rattle.std.specs.Prelude.{◌≡◌, ◌+◌, ◌≤◌, length};
+ghost use Rattle.napt_wire.specs.Bytes.{word_at, long_at, put_word};
+
+use byteorder::{BigEndian, ByteOrder};
+
+/// The 16-bit number at a place.
+pub(crate) fn read_word(bytes: &[u8], place: usize) -> u16
+    requires { place + 2 ≤ length bytes.now }
+    ensures { result ≡ word_at place bytes.now }
+{
+    BigEndian::read_u16(&bytes[place..])
+}
+
+/// The 32-bit number at a place.
+pub(crate) fn read_long(bytes: &[u8], place: usize) -> u32
+    requires { place + 4 ≤ length bytes.now }
+    ensures { result ≡ long_at place bytes.now }
+{
+    BigEndian::read_u32(&bytes[place..])
+}
+
+/// Writes a 16-bit number at a place.
+pub(crate) fn write_word(bytes: &mut [u8], place: usize, word: u16)
+    requires { place + 2 ≤ length bytes.old }
+    ensures { bytes.new ≡ put_word place word bytes.old }
+{
+    bytes[place] = (word >> 8) as u8;
+    bytes[place + 1] = (word & 0xff) as u8;
+}

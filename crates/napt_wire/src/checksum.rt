@@ -1,0 +1,97 @@
+//! Internet checksums: the sum over bytes, and what it becomes when a word is replaced.
+
+ghost use Rattle.std.specs.Prelude.{◌≡◌, ◌≤◌, ◌==◌, [], ◌∷◌, length, sum, if◌then◌else◌};
+ghost use Rattle.napt_wire.specs.Checksum.{canon, canon_udp, is_right};
+ghost use Rattle.napt_wire.specs.Bytes.{words};
+ghost use Rattle.napt_wire.specs.Rewriting.{address_words, end_words};
+
+use crate::Endpoint;
+
+/// The checksum of a header in which one 16-bit word that it covers goes from `old` to `new`. All
+/// three are numbers, highest byte first. The result is never 0xFFFF: where RFC 1624 equation 3
+/// gives 0xFFFF, this gives 0, which stands for the same sum.
+pub fn fix_check(check: u16, old: u16, new: u16) -> u16
+    ensures { result ≡ canon check (old ∷ []) (new ∷ []) }
+{
+    // HC' = ~(~HC + ~m + m'), RFC 1624 equation 3
+    let sum = u32::from(!check) + u32::from(!old) + u32::from(new);
+    let once = (sum >> 16) + (sum & 0xffff);
+    let folded = (once >> 16) + (once & 0xffff);
+    if folded == 0 {
+        return 0x0000;
+    }
+    (0xffff - folded) as u16
+}
+
+/// The same for a UDP checksum (RFC 768): 0 says that there is none and stays, and a checksum that
+/// comes out as 0 is written as 0xFFFF.
+#[tactic(auto, unfolding(crate::specs::Checksum::canon_udp))]
+pub fn fix_check_udp(check: u16, old: u16, new: u16) -> u16
+    ensures { result ≡ canon_udp check (old ∷ []) (new ∷ []) }
+{
+    if check == 0 {
+        return 0;
+    }
+    sent(fix_check(check, old, new))
+}
+
+/// A UDP checksum as it is sent: 0 would say that there is none.
+fn sent(check: u16) -> u16
+    ensures { result ≡ (if check == 0 then 65535 else check) }
+{
+    if check == 0 { 0xffff } else { check }
+}
+
+/// The checksum of a header in which an address goes from `old` to `new`.
+pub(crate) fn fix_address(check: u16, old: u32, new: u32) -> u16
+    ensures { result ≡ canon check (address_words old) (address_words new) }
+{
+    let high = fix_check(check, (old >> 16) as u16, (new >> 16) as u16);
+    fix_check(high, (old & 0xffff) as u16, (new & 0xffff) as u16)
+}
+
+/// A TCP checksum where an end goes from `old` to `new`: it covers the address by the pseudo-header
+/// (RFC 9293 section 3.1), and the port.
+pub(crate) fn fix_end(check: u16, old: Endpoint, new: Endpoint) -> u16
+    ensures { result ≡ canon check (end_words old) (end_words new) }
+{
+    let fixed = fix_address(check, old.address, new.address);
+    fix_check(fixed, old.number, new.number)
+}
+
+/// The same for a UDP checksum (RFC 768): 0 stays, and no other comes out as 0.
+pub(crate) fn fix_end_udp(check: u16, old: Endpoint, new: Endpoint) -> u16
+    ensures { result ≡ canon_udp check (end_words old) (end_words new) }
+{
+    if check == 0 {
+        return 0;
+    }
+    let fixed = fix_address(check, old.address, new.address);
+    sent(fix_check(fixed, old.number, new.number))
+}
+
+/// Whether words of which one is a checksum have a right one (RFC 1071): their sum is a multiple of
+/// 65535.
+pub(crate) fn is_right(bytes: &[u8]) -> bool
+    requires { length bytes.now ≤ 65535 }
+    ensures { result ≡ is_right (words bytes.now) }
+{
+    sum_words(bytes) % 0xffff == 0
+}
+
+/// The sum of the 16-bit words of the bytes, an odd last byte padded with a zero byte.
+fn sum_words(bytes: &[u8]) -> u32
+    requires { length bytes.now ≤ 65535 }
+    ensures { result ≡ sum (words bytes.now) }
+{
+    let mut sum = 0;
+    let mut rest = bytes;
+    while let [high, low, tail @ ..] = rest {
+        sum += u32::from(*high) * 256 + u32::from(*low);
+        rest = tail;
+    }
+    if let [last] = rest {
+        sum += u32::from(*last) * 256;
+    }
+    sum
+}

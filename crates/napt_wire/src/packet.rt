@@ -1,0 +1,247 @@
+//! A packet that was read.
+
+ghost use Rattle.std.specs.Prelude.{◌≡◌, List, ℕ, false, true, Ok, Err, IfOk, IfErr, ◌<◌, ◌^◌, length};
+ghost use Rattle.napt_wire.specs.Fields.{source, destination, inner_at, kind, local_end, remote_end, is_error, CanCarry};
+ghost use Rattle.napt_wire.specs.Reading.{reading};
+ghost use Rattle.napt_wire.specs.Rewriting.{changed, end_changes, with_source, with_destination, reverted};
+ghost use Rattle.napt_wire.specs.Packet.{IsPacket, form_of};
+ghost use Rattle.napt_wire.specs.Right.{transport_right};
+ghost use Rattle.napt_wire.specs.declared.Side.{Side};
+
+use crate::form::{End, Form, read_end, read_ends};
+use crate::reading::read_datagram;
+use crate::rewrite::{ErrorRewrite, Rewrite};
+use crate::{Cause, Endpoint, Flags, Inner, Kind, Side, Way};
+use std::marker::Model;
+
+/// What a packet carries, as reading found it.
+#[derive(Clone, Copy)]
+pub(crate) enum Body {
+    Udp,
+    Tcp(Flags),
+    Request,
+    Reply,
+    Error(Quoted),
+}
+
+/// The datagram that an ICMP error quotes, and where its transport header begins.
+#[derive(Clone, Copy)]
+pub(crate) struct Quoted {
+    pub(crate) form: Form,
+    pub(crate) start: usize,
+    pub(crate) inner: Inner,
+}
+
+/// An IPv4 datagram that was read, with the bytes that it owns. Contracts see it as its bytes, and these
+/// read as a packet at every moment.
+#[derive(Drop)]
+pub struct Packet {
+    bytes: Vec<u8>,
+    /// Where the transport header begins.
+    start: usize,
+    body: Body,
+}
+
+impl Model for Packet {
+    ghost use Rattle.std.specs.Prelude.{ℕ, List};
+    ghost use Rattle.napt_wire.specs.Packet.{IsKept};
+
+    ghost Value = { List ℕ };
+
+    ghost view = { λ p. p.bytes.items };
+
+    ghost invariant = { λ p. IsKept p.bytes.items p.start p.body };
+}
+
+impl Packet {
+    /// The packet that the bytes are on their arrival from a side: the checks of RFC 791, 768, 9293, 792
+    /// and 5508 in order, without those on UDP, TCP and echo checksums. Bytes past the total length
+    /// are cut off. Where a check fails, its cause comes with the bytes as they were.
+    pub fn read(side: Side, mut bytes: Vec<u8>) -> Result<Packet, (Cause, Vec<u8>)>
+        ensures ok { IfOk result (λ packet. reading side bytes.items ≡ Ok packet) }
+        ensures cause { IfErr result (λ refused. reading side bytes.items ≡ Err refused.0) }
+        ensures unchanged { IfErr result (λ refused. refused.1 ≡ bytes) }
+    {
+        match read_datagram(side, &bytes) {
+            Ok(found) => {
+                bytes.truncate(found.length);
+                Ok(Packet {
+                    bytes,
+                    start: found.start,
+                    body: found.body,
+                })
+            }
+            Err(cause) => Err((cause, bytes)),
+        }
+    }
+
+    /// The bytes of the packet.
+    pub fn bytes(&self) -> &[u8]
+        ensures value { result.now ≡ self.now }
+        ensures reads { IsPacket self.now }
+    {
+        &self.bytes
+    }
+
+    /// The bytes of the packet, without a copy.
+    pub fn into_bytes(self) -> Vec<u8>
+        ensures value { result.items ≡ self }
+        ensures reads { IsPacket self }
+        ensures short { length result.items < 2 ^ 16 }
+    {
+        let Packet { bytes, .. } = self;
+        bytes
+    }
+
+    /// Where the packet comes from. An echo reply and an ICMP error have the number 0.
+    #[tactic(auto, unfolding(crate::specs::Fields::source))]
+    pub fn source(&self) -> Endpoint
+        ensures value { result ≡ source self.now }
+        ensures carried { is_error (kind self.now) ≡ false → CanCarry (kind self.now) result.number }
+    {
+        read_end(&self.bytes, 0, self.start, self.body.form(), End::Source)
+    }
+
+    /// Where the packet goes. An echo request and an ICMP error have the number 0.
+    #[tactic(auto, unfolding(crate::specs::Fields::destination))]
+    pub fn destination(&self) -> Endpoint
+        ensures { result ≡ destination self.now }
+    {
+        read_end(
+            &self.bytes,
+            0,
+            self.start,
+            self.body.form(),
+            End::Destination,
+        )
+    }
+
+    /// What the packet is.
+
+    #[tactic(auto, unfolding(crate::specs::Fields::kind))]
+    pub fn kind(&self) -> Kind
+        ensures { result ≡ kind self.now }
+    {
+        match self.body {
+            Body::Udp => Kind::Udp,
+            Body::Tcp(flags) => Kind::Tcp(flags),
+            Body::Request | Body::Reply => Kind::Echo,
+            Body::Error(quoted) => Kind::ErrorOf(quoted.inner),
+        }
+    }
+
+    /// The end on the inside of the translator, for a packet that goes this way: the source of one that
+    /// goes out, the destination of one that comes in. Of an ICMP error it is the inner destination of
+    /// one that goes out, and the inner source of one that comes in.
+    #[tactic(auto, unfolding(crate::specs::Fields::local_end))]
+    pub fn local_end(&self, way: Way) -> Endpoint
+        ensures { result ≡ local_end way self.now }
+    {
+        match (self.kind(), way) {
+            (Kind::ErrorOf(inner), Way::Outgoing) => inner.destination,
+            (Kind::ErrorOf(inner), Way::Incoming) => inner.source,
+            (_, Way::Outgoing) => self.source(),
+            (_, Way::Incoming) => self.destination(),
+        }
+    }
+
+    /// The other end.
+    #[tactic(auto, unfolding(crate::specs::Fields::remote_end, crate::specs::Fields::local_end))]
+    pub fn remote_end(&self, way: Way) -> Endpoint
+        ensures { result ≡ remote_end way self.now }
+    {
+        match way {
+            Way::Outgoing => self.local_end(Way::Incoming),
+            Way::Incoming => self.local_end(Way::Outgoing),
+        }
+    }
+
+    /// Replaces the source, and each checksum that covers it (RFC 3022 sections 4.1 and 4.2). An echo
+    /// reply gets the address alone. The work does not grow with the packet.
+    #[tactic(auto, unfolding(crate::specs::Rewriting::with_source))]
+    pub fn set_source(&mut self, source: Endpoint)
+        requires plain { is_error (kind self.old) ≡ false }
+        requires number { CanCarry (kind self.old) source.number }
+        ensures value { self.new ≡ with_source source self.old }
+        ensures reads { (side : Side) → reading side self.old ≡ Ok self.old → reading side self.new ≡ Ok self.new }
+        // A transport checksum that is there with all that it covers is right exactly where it was.
+        ensures right { transport_right 0 self.new ≡ transport_right 0 self.old }
+    {
+        self.set_end(End::Source, source);
+    }
+
+    /// Replaces the destination, and each checksum that covers it (RFC 3022 sections 4.1 and 4.2). An
+    /// echo request gets the address alone. The work does not grow with the packet.
+    #[tactic(auto, unfolding(crate::specs::Rewriting::with_destination))]
+    pub fn set_destination(&mut self, destination: Endpoint)
+        requires plain { is_error (kind self.old) ≡ false }
+        requires number { CanCarry (kind self.old) destination.number }
+        ensures value { self.new ≡ with_destination destination self.old }
+        ensures reads { (side : Side) → reading side self.old ≡ Ok self.old → reading side self.new ≡ Ok self.new }
+        // A transport checksum that is there with all that it covers is right exactly where it was.
+        ensures right { transport_right 0 self.new ≡ transport_right 0 self.old }
+    {
+        self.set_end(End::Destination, destination);
+    }
+
+    /// Gives the datagram that an ICMP error quotes an end back: for one that comes in, its source
+    /// becomes `end`, and the error itself goes to the address of `end`; for one that goes out, its
+    /// destination becomes `end`, and the error comes from the address of `end`. Each checksum that
+    /// covers a word replaced is replaced, where it is there (RFC 3022 section 4.3, RFC 5508 section 4).
+    /// The work does not grow with the packet.
+    pub fn revert_inner(&mut self, way: Way, end: Endpoint)
+        requires error { is_error (kind self.old) ≡ true }
+        requires number { CanCarry (kind self.old) end.number }
+        ensures value { self.new ≡ reverted way end self.old }
+        ensures reads { (side : Side) → reading side self.old ≡ Ok self.old → reading side self.new ≡ Ok self.new }
+        // So is the quoted datagram's; its IP checksum, the error's own and the ICMP checksum stay right,
+        // since the packet reads.
+        ensures right { transport_right (inner_at self.old) self.new ≡ transport_right (inner_at self.old) self.old }
+    {
+        let Body::Error(quoted) = self.body else {
+            unreachable!();
+        };
+        let rewrite = ErrorRewrite::of(
+            &self.bytes,
+            self.start,
+            quoted.start,
+            quoted.form,
+            way,
+            end,
+        );
+        rewrite.write(&mut self.bytes);
+        self.body = Body::Error(Quoted {
+            form: quoted.form,
+            start: quoted.start,
+            inner: read_ends(&self.bytes, self.start + 8, quoted.start, quoted.form),
+        });
+    }
+
+    /// Replaces an end, and each checksum that covers it.
+    fn set_end(&mut self, end: End, new: Endpoint)
+        requires plain { is_error (kind self.old) ≡ false }
+        requires number { CanCarry (kind self.old) new.number }
+        ensures value { self.new ≡ changed (end_changes 0 end new self.old) self.old }
+        ensures reads { (side : Side) → reading side self.old ≡ Ok self.old → reading side self.new ≡ Ok self.new }
+        ensures right { transport_right 0 self.new ≡ transport_right 0 self.old }
+    {
+        let form = self.body.form();
+        let rewrite = Rewrite::of_end(&self.bytes, 0, self.start, form, end, new);
+        rewrite.write(&mut self.bytes);
+    }
+}
+
+impl Body {
+    /// What the transport header is.
+    fn form(self) -> Form
+        ensures { result ≡ form_of self }
+    {
+        match self {
+            Body::Udp => Form::Udp,
+            Body::Tcp(_) => Form::Tcp,
+            Body::Request => Form::Request,
+            Body::Reply => Form::Reply,
+            Body::Error(_) => Form::Error,
+        }
+    }
+}

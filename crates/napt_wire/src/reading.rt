@@ -1,0 +1,274 @@
+//! The checks on a packet that arrives, in order, and what they find.
+
+ghost use Rattle.std.specs.Prelude.{◌≡◌, ◌+◌, ◌≤◌, ◌||◌, ◌==◌, not, length, drop, take, is_none, Ok, Err, IfOk, IfErr, IfSome, Some, None};
+ghost use Rattle.std.specs.Result.{result_err};
+ghost use Rattle.napt_wire.specs.Bytes.{words};
+ghost use Rattle.napt_wire.specs.Checksum.{is_right};
+ghost use Rattle.napt_wire.specs.Fields.{flags_of, form_at, fragment_offset, has_more, header_length, inner_at, total_length, transport};
+ghost use Rattle.napt_wire.specs.Packet.{IsFound, body_of, quoted_of};
+ghost use Rattle.napt_wire.specs.Reading.{body_checks, error_checks, has_bad_inner, has_bad_transport, has_zero_port, header_checks, is_known, is_quoted, is_translated, length_checks, reading, refusal};
+ghost use Rattle.napt_wire.specs.Room.{HasRoom};
+
+use crate::bytes::{read_long, read_word};
+use crate::checksum::is_right;
+use crate::form::{Form, read_ends};
+use crate::packet::{Body, Quoted};
+use crate::{Cause, Flags, Side};
+
+/// What reading found in the bytes.
+#[derive(Clone, Copy)]
+pub(crate) struct Found {
+    /// How long the datagram is.
+    pub(crate) length: usize,
+    /// Where its transport header begins.
+    pub(crate) start: usize,
+    pub(crate) body: Body,
+}
+
+/// The packet at the front of the bytes, or the cause of the first check that fails.
+pub(crate) fn read_datagram(side: Side, bytes: &[u8]) -> Result<Found, Cause>
+    ensures ok { IfOk result (λ found. reading side bytes.now ≡ Ok (take found.length bytes.now)) }
+    ensures length { IfOk result (λ found. found.length ≡ total_length 0 bytes.now) }
+    ensures found { IfOk result (λ found. IsFound (take found.length bytes.now) found.start found.body) }
+    ensures cause { IfErr result (λ cause. reading side bytes.now ≡ Err cause) }
+{
+    let length = read_length(bytes)?;
+    let datagram = &bytes[..length];
+    let start = read_header(datagram)?;
+    let body = read_body(side, datagram, start)?;
+    Ok(Found {
+        length,
+        start,
+        body,
+    })
+}
+
+/// The total length, where what the header says of lengths can be (RFC 791 section 3.1).
+fn read_length(bytes: &[u8]) -> Result<usize, Cause>
+    ensures checks { result_err result ≡ refusal (length_checks bytes.now) }
+    ensures length { IfOk result (λ length. length ≡ total_length 0 bytes.now) }
+    ensures header { IfOk result (λ length. (20 ≤ header_length 0 bytes.now) × (header_length 0 bytes.now ≤ length)) }
+    ensures whole { IfOk result (λ total. total ≤ length bytes.now) }
+{
+    if bytes.len() < 20 {
+        return Err(Cause::Truncated);
+    }
+    if bytes[0] >> 4 != 4 {
+        return Err(Cause::NotIpv4);
+    }
+    let header = read_header_length(bytes, 0);
+    let total = usize::from(read_word(bytes, 2));
+    if header < 20 || total < header {
+        return Err(Cause::BadHeader);
+    }
+    if bytes.len() < total {
+        return Err(Cause::Truncated);
+    }
+    Ok(total)
+}
+
+/// The length of the header at a place, in bytes.
+fn read_header_length(bytes: &[u8], at: usize) -> usize
+    requires { at + 1 ≤ length bytes.now }
+    ensures value { result ≡ header_length at bytes.now }
+    ensures small { result ≤ 60 }
+{
+    4 * usize::from(bytes[at] & 0x0f)
+}
+
+/// Where the transport header of a datagram begins, where its own header is right, and it is whole and
+/// of a protocol that is translated.
+fn read_header(bytes: &[u8]) -> Result<usize, Cause>
+    requires long { 20 ≤ header_length 0 bytes.now }
+    requires there { header_length 0 bytes.now ≤ length bytes.now }
+    ensures checks { result_err result ≡ refusal (header_checks bytes.now) }
+    ensures start { IfOk result (λ start. start ≡ transport 0 bytes.now) }
+{
+    let start = read_header_length(bytes, 0);
+    if !is_right(&bytes[..start]) {
+        return Err(Cause::BadChecksum);
+    }
+    if is_fragment(bytes) {
+        return Err(Cause::Fragment);
+    }
+    if !is_known(bytes[9]) {
+        return Err(Cause::Unsupported);
+    }
+    Ok(start)
+}
+
+/// Whether a datagram is a fragment: more of them follow, or it stands past the first.
+fn is_fragment(bytes: &[u8]) -> bool
+    requires { 20 ≤ length bytes.now }
+    ensures { result ≡ (has_more 0 bytes.now || not (fragment_offset 0 bytes.now == 0)) }
+{
+    let word = read_word(bytes, 6);
+    word & 0x2000 != 0 || word & 0x1fff != 0
+}
+
+/// Whether a protocol is ICMP, TCP or UDP.
+fn is_known(protocol: u8) -> bool
+    ensures { result ≡ is_known protocol }
+{
+    protocol == 1 || protocol == 6 || protocol == 17
+}
+
+/// What a datagram carries, whose transport header begins at `start`.
+#[tactic(auto, unfolding(crate::specs::Fields::flags))]
+fn read_body(side: Side, bytes: &[u8], start: usize) -> Result<Body, Cause>
+    requires long { 20 ≤ start }
+    requires there { start ≤ length bytes.now }
+    requires small { length bytes.now ≤ 65535 }
+    requires start { start ≡ transport 0 bytes.now }
+    ensures checks { result_err result ≡ refusal (body_checks side bytes.now) }
+    ensures body { IfOk result (λ body. body ≡ body_of (form_at 0 bytes.now) bytes.now) }
+{
+    if bytes.len() < start + 8 {
+        return Err(Cause::BadHeader);
+    }
+    let form = Form::of(bytes, 0, start);
+    if has_bad_transport(form, &bytes[start..]) {
+        return Err(Cause::BadHeader);
+    }
+    if !is_translated(side, form, bytes[start]) {
+        return Err(Cause::Unsupported);
+    }
+    if has_port_zero(bytes, start, form) {
+        return Err(Cause::BadPort);
+    }
+    match form {
+        Form::Udp => Ok(Body::Udp),
+        Form::Tcp => Ok(Body::Tcp(read_flags(bytes[start + 13]))),
+        Form::Request => Ok(Body::Request),
+        Form::Reply => Ok(Body::Reply),
+        Form::Error => match read_quoted(side, bytes, start) {
+            Ok(quoted) => Ok(Body::Error(quoted)),
+            Err(cause) => Err(cause),
+        },
+    }
+}
+
+/// Whether a transport header cannot be: too short, or with a length field that cannot be.
+fn has_bad_transport(form: Form, payload: &[u8]) -> bool
+    requires { 8 ≤ length payload.now }
+    ensures { result ≡ has_bad_transport form payload.now }
+{
+    match form {
+        Form::Udp => {
+            let length = usize::from(read_word(payload, 4));
+            length < 8 || payload.len() < length
+        }
+        Form::Tcp => {
+            if payload.len() < 20 {
+                return true;
+            }
+            let offset = usize::from(payload[12] >> 4);
+            offset < 5 || payload.len() < 4 * offset
+        }
+        Form::Request | Form::Reply | Form::Error => false,
+    }
+}
+
+/// Whether a message from a side is translated, of a form and with an ICMP type.
+fn is_translated(side: Side, form: Form, icmp_type: u8) -> bool
+    ensures { result ≡ is_translated side form icmp_type }
+{
+    match (form, side) {
+        (Form::Udp | Form::Tcp, _) => true,
+        (Form::Request, Side::Inside) | (Form::Reply, Side::Outside) => true,
+        (Form::Request, Side::Outside) | (Form::Reply, Side::Inside) => false,
+        (Form::Error, _) => icmp_type == 3 || icmp_type == 11 || icmp_type == 12,
+    }
+}
+
+/// Whether a transport header that begins at `start` has ports, and one of them is 0.
+fn has_port_zero(bytes: &[u8], start: usize, form: Form) -> bool
+    requires { start + 8 ≤ length bytes.now }
+    ensures { result ≡ has_zero_port form start bytes.now }
+{
+    match form {
+        Form::Udp | Form::Tcp => read_word(bytes, start) == 0 || read_word(bytes, start + 2) == 0,
+        Form::Request | Form::Reply | Form::Error => false,
+    }
+}
+
+/// The control bits of a TCP header (RFC 9293 section 3.1).
+fn read_flags(bits: u8) -> Flags
+    ensures { result ≡ flags_of bits }
+{
+    Flags {
+        fin: bits & 1 != 0,
+        syn: bits & 2 != 0,
+        rst: bits & 4 != 0,
+        ack: bits & 16 != 0,
+    }
+}
+
+/// What an ICMP error quotes, whose message begins at `start`.
+#[tactic(auto, unfolding(crate::specs::Fields::inner))]
+fn read_quoted(side: Side, bytes: &[u8], start: usize) -> Result<Quoted, Cause>
+    requires long { 20 ≤ start }
+    requires there { start + 8 ≤ length bytes.now }
+    requires small { length bytes.now ≤ 65535 }
+    requires start { start ≡ transport 0 bytes.now }
+    ensures checks { result_err result ≡ refusal (error_checks side bytes.now) }
+    ensures quoted { IfOk result (λ quoted. quoted ≡ quoted_of bytes.now) }
+{
+    if !is_right(&bytes[start..]) {
+        return Err(Cause::BadChecksum);
+    }
+    let at = start + 8;
+    let Some((inner, form)) = read_inner(side, bytes, at) else {
+        return Err(Cause::BadInner);
+    };
+    if has_port_zero(bytes, inner, form) {
+        return Err(Cause::BadPort);
+    }
+    Ok(Quoted {
+        form,
+        start: inner,
+        inner: read_ends(bytes, at, inner, form),
+    })
+}
+
+/// Where the transport header of the datagram at `at` begins, and its form, if it is one that was
+/// translated the other way (RFC 5508 section 4).
+#[tactic(auto, unfolding(crate::specs::Reading::has_bad_inner))]
+fn read_inner(side: Side, bytes: &[u8], at: usize) -> Option<(usize, Form)>
+    requires there { at ≤ length bytes.now }
+    requires outer { 20 ≤ length bytes.now }
+    requires small { length bytes.now ≤ 65535 }
+    ensures bad { is_none result ≡ has_bad_inner side at bytes.now }
+    ensures start { IfSome result (λ found. found.0 ≡ transport at bytes.now) }
+    ensures form { IfSome result (λ found. found.1 ≡ form_at at bytes.now) }
+    ensures room { IfSome result (λ found. HasRoom at bytes.now) }
+{
+    if bytes.len() < at + 20 || bytes[at] >> 4 != 4 {
+        return None;
+    }
+    let header = read_header_length(bytes, at);
+    let start = at + header;
+    if header < 20 || bytes.len() < start + 8 || !is_right(&bytes[at..start]) {
+        return None;
+    }
+    if read_word(bytes, at + 6) & 0x1fff != 0 || !is_known(bytes[at + 9]) {
+        return None;
+    }
+    let form = Form::of(bytes, at, start);
+    if !is_quoted(side, form) || read_long(bytes, at + 12) != read_long(bytes, 16) {
+        return None;
+    }
+    Some((start, form))
+}
+
+/// Whether an error that comes from a side may quote a datagram of a form.
+fn is_quoted(side: Side, form: Form) -> bool
+    ensures { result ≡ is_quoted side form }
+{
+    match (form, side) {
+        (Form::Udp | Form::Tcp, _) => true,
+        (Form::Request, Side::Outside) | (Form::Reply, Side::Inside) => true,
+        (Form::Request, Side::Inside) | (Form::Reply, Side::Outside) => false,
+        (Form::Error, _) => false,
+    }
+}
