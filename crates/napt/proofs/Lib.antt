@@ -1,6 +1,3 @@
 pub mod LineLemmas
 pub mod OneKind
 pub mod OptionLemmas
-pub mod Numbers
-pub mod Runs
-pub mod SentFrom

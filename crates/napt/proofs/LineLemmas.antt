@@ -1,6 +1,6 @@
 -- What clap's answer says of a command line.
 use Rattle.std.proofs.Common.{◌≡◌, ◌≤◌, ◌∙◌, true, List, [], ◌∷◌, length, refl, sym, ap, inl, inr, arith}
-use Rattle.std.specs.Prelude.{◌≢◌, Option, None, codes}
+use Rattle.std.specs.Prelude.{◌≢◌, Option, codes}
 use Rattle.clap.specs.Words.{App, HasKind, HasMatchesOf, IsAmong, Kinds, Row, Text, fault_of, first_of, first_value, found_of, is_simple, is_simple_and_free, kind_of, matches_of, rows_of}
 use Rattle.clap.proofs.WalkLemmas.{first_value-rows}
 use Rattle.clap.specs.declared.error.kind.ErrorKind.{ErrorKind}
@@ -69,12 +69,13 @@ mistaken_line app words e is fails shown memory =
     rw (fault_is app words e is fails memory) (mistake_by (kind_of e) (matches_of napt_app words) shown)
 
 -- the files of the matches, as `get_str` reads them
-pub files_read : (m : ArgMatches) (config inside to_outside : Option Text)
+pub files_read : (m : ArgMatches) (config inside outside to_outside to_inside report : Option Text)
     → config ≡ first_value (found_of m) (codes "config") → inside ≡ first_value (found_of m) (codes "inside")
-    → to_outside ≡ first_value (found_of m) (codes "to-outside")
+    → outside ≡ first_value (found_of m) (codes "outside") → to_outside ≡ first_value (found_of m) (codes "to-outside")
+    → to_inside ≡ first_value (found_of m) (codes "to-inside") → report ≡ first_value (found_of m) (codes "report")
     → files_in (rows_of (found_of m))
-    ≡ record { config = config; inside = inside; outside = None; to_outside = to_outside; to_inside = None; report = None }
-files_read m config inside to_outside a b c =
+    ≡ record { config = config; inside = inside; outside = outside; to_outside = to_outside; to_inside = to_inside; report = report }
+files_read m config inside outside to_outside to_inside report a b c d e f =
     let read : (name : Text) → first_of name (rows_of (found_of m)) ≡ first_value (found_of m) name =
     λ name. sym (first_value-rows (found_of m) name) in
-    rw (read (codes "config"), read (codes "inside"), read (codes "to-outside"), a, b, c) refl
+    rw (read (codes "config"), read (codes "inside"), read (codes "outside"), read (codes "to-outside"), read (codes "to-inside"), read (codes "report"), a, b, c, d, e, f) refl

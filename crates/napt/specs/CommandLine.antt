@@ -18,7 +18,7 @@ with_options a [] = a
 with_options a (name ∷ more) = with_options (with_rule a (file_option name)) more
 
 abbrev pub option_names : List Text
-option_names = codes "config" ∷ codes "inside" ∷ codes "to-outside" ∷ []
+option_names = codes "config" ∷ codes "inside" ∷ codes "outside" ∷ codes "to-outside" ∷ codes "to-inside" ∷ codes "report" ∷ []
 
 -- the program's command; clap adds `-h` and `--help` to it
 abbrev pub napt_app : App
@@ -43,15 +43,15 @@ files_of o = record {
   report = option_map string_bytes o.report;
 }
 
--- the values in clap's matches; three options are not known yet
+-- the values in clap's matches
 abbrev pub files_in : List Row → Files
 files_in rows = record {
   config = first_of (codes "config") rows;
   inside = first_of (codes "inside") rows;
-  outside = None;
+  outside = first_of (codes "outside") rows;
   to_outside = first_of (codes "to-outside") rows;
-  to_inside = None;
-  report = None;
+  to_inside = first_of (codes "to-inside") rows;
+  report = first_of (codes "report") rows;
 }
 
 -- what a command line comes to: files, a wish for help, or a mistake

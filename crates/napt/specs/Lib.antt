@@ -1,4 +1,2 @@
 pub mod CommandLine
 pub mod Stop
-pub mod Outgoing
-pub mod FirstRun

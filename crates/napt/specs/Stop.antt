@@ -2,10 +2,16 @@
 use Rattle.std.specs.Prelude.{ℕ, List, ◌++◌, codes, decimal}
 use Rattle.napt.specs.declared.stop.Role.{Role}
 use Rattle.napt.specs.declared.stop.Role.TheVariants as role
-use Rattle.napt.specs.declared.stop.FirstFault.{FirstFault}
-use Rattle.napt.specs.declared.stop.FirstFault.TheVariants as first
 use Rattle.napt.specs.declared.stop.Stop.{Stop}
 use Rattle.napt.specs.declared.stop.Stop.TheVariants as stop
+use Rattle.napt_wire.specs.declared.Side.{Side}
+use Rattle.napt_wire.specs.declared.Side.TheVariants as side
+use Rattle.napt_run.specs.declared.Fault.{Fault}
+use Rattle.napt_run.specs.declared.Fault.TheVariants as run
+use Rattle.napt_run.specs.declared.RunFault.{RunFault}
+use Rattle.napt_run.specs.declared.RunFault.TheVariants as refused
+use Rattle.napt_run.specs.declared.Which.{Which}
+use Rattle.napt_run.specs.declared.Which.TheVariants as output
 use Rattle.napt_capture.specs.declared.CaptureFault.{CaptureFault}
 use Rattle.napt_capture.specs.declared.CaptureFault.TheVariants as capture
 use Rattle.napt_config.specs.declared.ConfigFault.{ConfigFault}
@@ -15,10 +21,10 @@ abbrev pub Text : Type 0
 Text = List ℕ
 
 -- 2 for the command line, 3 for the configuration, 4 for a capture, 5 for the run, 6 for a file
-abbrev pub status_of_fault : FirstFault → ℕ
-status_of_fault (first.Capture fault) = 4
-status_of_fault first.Memory = 5
-status_of_fault (first.Write fault) = 6
+abbrev pub status_of_fault : Fault → ℕ
+status_of_fault (run.Capture side fault) = 4
+status_of_fault (run.Run fault) = 5
+status_of_fault (run.Write which fault) = 6
 
 abbrev pub status_of : Stop → ℕ
 status_of stop.Usage = 2
@@ -52,6 +58,7 @@ config_name config.PoolInside = codes "pool-inside"
 config_name config.DoublePair = codes "double-pair"
 config_name config.NotInPool = codes "not-in-pool"
 config_name config.NotInside = codes "not-inside"
+config_name config.DoubleRedirect = codes "double-redirect"
 config_name config.TimerTooShort = codes "timer-too-short"
 config_name config.Memory = codes "memory"
 
@@ -67,11 +74,24 @@ capture_name capture.TooLarge = codes "too-large"
 capture_name capture.Read = codes "read"
 capture_name capture.Memory = codes "memory"
 
--- the capture that is read is the inside one, and the one that is written goes to the outside
-abbrev pub fault_text : FirstFault → Text
-fault_text (first.Capture fault) = codes "capture inside " ++ capture_name fault
-fault_text first.Memory = codes "run memory"
-fault_text (first.Write fault) = codes "write to-outside"
+abbrev pub side_name : Side → Text
+side_name side.Inside = codes "inside"
+side_name side.Outside = codes "outside"
+
+abbrev pub run_name : RunFault → Text
+run_name refused.Memory = codes "memory"
+run_name refused.TooMany = codes "too-many"
+
+-- the file that an output is written to
+abbrev pub output_role : Which → Role
+output_role output.Outside = role.ToOutside
+output_role output.Inside = role.ToInside
+output_role output.Report = role.Report
+
+abbrev pub fault_text : Fault → Text
+fault_text (run.Capture side fault) = codes "capture " ++ side_name side ++ codes " " ++ capture_name fault
+fault_text (run.Run fault) = codes "run " ++ run_name fault
+fault_text (run.Write which fault) = codes "write " ++ role_name (output_role which)
 
 -- the fault line after the program's name
 abbrev pub stop_text : Stop → Text

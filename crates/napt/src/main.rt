@@ -1,9 +1,8 @@
 //! The program `napt`.
 #![tactic(auto)]
 
-mod first_run;
+mod files;
 mod options;
-mod outgoing;
 mod program;
 mod stop;
 

@@ -7,12 +7,13 @@ use clap::error::ErrorKind;
 use clap::{Arg, ArgAction, ArgMatches, Command, Error};
 use std::alloc::{AllocError, Global};
 
-const ABOUT: &str = "Network address and port translation for IPv4: reads a capture of the packets \
-that inside hosts send, and writes the capture of what leaves for the outside, with external \
-addresses and ports as sources.";
+const ABOUT: &str = "Network address and port translation for IPv4: reads captures of the packets \
+that inside hosts and the outside send, and writes the captures of what leaves for the other side, \
+with addresses and ports translated.";
 
 const NOTES: &str = "Example:
-  napt --config napt.toml --inside inside.pcap --to-outside outside.pcap
+  napt --config napt.toml --inside inside.pcap --outside outside.pcap \\
+       --to-outside to-outside.pcap --to-inside to-inside.pcap --report report.txt
 
 Exit status:
   0  done
@@ -25,7 +26,7 @@ Exit status:
 With a status other than 0 one line on standard error says what is wrong.";
 
 // The options, each with its meaning, in the order of the help text.
-const OPTIONS: [(&str, &str); 3] = [
+const OPTIONS: [(&str, &str); 6] = [
     (
         "config",
         "Configuration in TOML [default: the built-in configuration]",
@@ -35,8 +36,20 @@ const OPTIONS: [(&str, &str); 3] = [
         "Capture of what inside hosts send [default: standard input]",
     ),
     (
+        "outside",
+        "Capture of what comes from the outside [default: no packets]",
+    ),
+    (
         "to-outside",
         "Capture of what leaves for the outside [default: standard output]",
+    ),
+    (
+        "to-inside",
+        "Capture of what goes to inside hosts [default: not written]",
+    ),
+    (
+        "report",
+        "Counts of what became of the packets, and the live bindings [default: not written]",
     ),
 ];
 
@@ -47,13 +60,13 @@ pub struct Options {
     pub config: Option<String>,
     /// The capture of what inside hosts send; absent, standard input.
     pub inside: Option<String>,
-    /// The capture of what comes from the outside. No option gives it yet.
+    /// The capture of what comes from the outside; absent, no packets.
     pub outside: Option<String>,
     /// The capture that goes to the outside; absent, standard output.
     pub to_outside: Option<String>,
-    /// The capture that goes to inside hosts. No option gives it yet.
+    /// The capture that goes to inside hosts; absent, it is not written.
     pub to_inside: Option<String>,
-    /// The report. No option gives it yet.
+    /// The report; absent, it is not written.
     pub report: Option<String>,
 }
 
@@ -95,10 +108,10 @@ pub fn parse_words(alloc: Global, words: Vec<String>) -> Result<Options, LineFau
         Ok(matches) => Ok(Options {
             config: value_of(alloc, &matches, "config")?,
             inside: value_of(alloc, &matches, "inside")?,
-            outside: None,
+            outside: value_of(alloc, &matches, "outside")?,
             to_outside: value_of(alloc, &matches, "to-outside")?,
-            to_inside: None,
-            report: None,
+            to_inside: value_of(alloc, &matches, "to-inside")?,
+            report: value_of(alloc, &matches, "report")?,
         }),
         Err(error) => Err(fault_of(alloc, &error)?),
     }

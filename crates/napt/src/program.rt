@@ -1,18 +1,14 @@
 //! What the program does: it reads its words and its configuration, opens the files in a fixed order, and runs over them.
 
-use crate::first_run::first_run;
+use crate::files::{created, created_at, opened, sink, sink_over, source, source_over};
 use crate::options::{LineFault, Options, parse_words};
-use crate::stop::{FirstFault, Role, Stop};
-use napt_capture::Watched;
+use crate::stop::{Role, Stop};
 use napt_config::{Config, ConfigFault};
+use napt_run::run_captures;
 use std::env::Env;
-use std::fs::File;
-use std::io::{BufReader, BufWriter, ErrorKind, Read, Write};
+use std::io::{ErrorKind, Read, Write};
 use std::rt::Files;
 use std::{env, fs, io};
-
-/// How many bytes are read or written at once.
-const BUFFERED: usize = 65_536;
 
 /// Runs over the files that the words name. Help goes to standard output.
 pub fn serve<R: Env + Files + Input + Print + AllocGlobal>(rt: &R) -> Result<(), Stop> {
@@ -54,10 +50,7 @@ fn run_over<R: Files + Input + Print + AllocGlobal>(rt: &R, options: &Options) -
     let config = configuration(rt, options.config.as_ref())?;
     match &options.inside {
         None => run_from(rt, &config, options, rt.reader()),
-        Some(path) => match File::open(rt, path.as_str()) {
-            Ok(file) => run_from(rt, &config, options, file),
-            Err(_) => Err(Stop::File(Role::Inside)),
-        },
+        Some(path) => run_from(rt, &config, options, opened(rt, path, Role::Inside)?),
     }
 }
 
@@ -67,29 +60,43 @@ fn run_from<R: Files + Print + AllocGlobal, S: Read + Drop>(
     options: &Options,
     inside: S,
 ) -> Result<(), Stop> {
+    let outside = match &options.outside {
+        None => None,
+        Some(path) => Some(opened(rt, path, Role::Outside)?),
+    };
     match &options.to_outside {
-        None => run_between(rt, config, inside, io::writer(rt)),
-        Some(path) => match File::create(rt, path.as_str()) {
-            Ok(file) => run_between(rt, config, inside, file),
-            Err(_) => Err(Stop::File(Role::ToOutside)),
-        },
+        None => run_into(rt, config, options, inside, outside, io::writer(rt)),
+        Some(path) => {
+            let to_outside = created(rt, path, Role::ToOutside)?;
+            run_into(rt, config, options, inside, outside, to_outside)
+        }
     }
 }
 
-fn run_between<R: AllocGlobal, S: Read + Drop, T: Write + Drop>(
+fn run_into<R: Files + AllocGlobal, S: Read + Drop, I: Read + Drop, T: Write + Drop>(
     rt: &R,
     config: &Config,
+    options: &Options,
     inside: S,
+    outside: Option<I>,
     to_outside: T,
 ) -> Result<(), Stop> {
+    let to_inside = created_at(rt, options.to_inside.as_ref(), Role::ToInside)?;
+    let report = created_at(rt, options.report.as_ref(), Role::Report)?;
     let alloc = rt.alloc();
-    let Ok(reader) = BufReader::with_capacity(alloc, BUFFERED, inside) else {
-        return Err(Stop::Run(FirstFault::Memory));
-    };
-    let Ok(writer) = BufWriter::with_capacity(alloc, BUFFERED, to_outside) else {
-        return Err(Stop::Run(FirstFault::Memory));
-    };
-    let mut source = Watched::new(reader);
-    let mut sink = Watched::new(writer);
-    first_run(alloc, config, &mut source, &mut sink).map_err(Stop::Run)
+    let mut inside = source(alloc, inside)?;
+    let mut outside = source_over(alloc, outside)?;
+    let mut to_outside = sink(alloc, to_outside)?;
+    let mut to_inside = sink_over(alloc, to_inside)?;
+    let mut report = sink_over(alloc, report)?;
+    run_captures(
+        alloc,
+        config,
+        &mut inside,
+        outside.as_mut(),
+        &mut to_outside,
+        to_inside.as_mut(),
+        report.as_mut(),
+    )
+    .map_err(Stop::Run)
 }

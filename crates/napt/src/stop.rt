@@ -1,9 +1,11 @@
 //! Why the program stops before it is done: the fault line for standard error and the exit status.
 ghost use Rattle.std.specs.Prelude.{◌≡◌, IfOk, Some, string_bytes};
-ghost use Rattle.napt.specs.Stop.{capture_name, config_name, fault_text, line_of, role_name, status_of, status_of_fault, stop_text};
+ghost use Rattle.napt.specs.Stop.{capture_name, config_name, fault_text, line_of, output_role, role_name, run_name, side_name, status_of, status_of_fault, stop_text};
 
-use napt_capture::{CaptureFault, WriteFault};
+use napt_capture::CaptureFault;
 use napt_config::ConfigFault;
+use napt_run::{Fault, RunFault, Which};
+use napt_wire::Side;
 use std::alloc::{AllocError, Global};
 use std::fmt;
 
@@ -40,29 +42,6 @@ impl Role {
     }
 }
 
-/// The fault of a run over one capture.
-#[derive(Clone, Copy, Debug, PartialEq, Eq)]
-pub enum FirstFault {
-    /// The inside capture is refused, or a read of it failed.
-    Capture(CaptureFault),
-    /// Memory ran out.
-    Memory,
-    /// A write of the outside capture failed.
-    Write(WriteFault),
-}
-
-impl FirstFault {
-    fn status(self) -> u8
-        ensures { result ≡ status_of_fault self }
-    {
-        match self {
-            FirstFault::Capture(_) => 4,
-            FirstFault::Memory => 5,
-            FirstFault::Write(_) => 6,
-        }
-    }
-}
-
 /// Why the program stops with a status other than 0.
 #[derive(Clone, Copy, Debug, PartialEq, Eq)]
 pub enum Stop {
@@ -75,11 +54,11 @@ pub enum Stop {
     /// The file cannot be opened or created, or the configuration cannot be read.
     File(Role),
     /// The run failed.
-    Run(FirstFault),
+    Run(Fault),
 }
 
-/// The exit status: 2 for the command line, 3 for the configuration, 4 for a capture, 5 for want
-/// of memory, and 6 for a file.
+/// The exit status: 2 for the command line, 3 for the configuration, 4 for a capture, 5 for a run
+/// that fails, and 6 for a file.
 pub fn stop_status(stop: &Stop) -> u8
     ensures { result ≡ status_of stop.now }
 {
@@ -88,7 +67,17 @@ pub fn stop_status(stop: &Stop) -> u8
         Stop::LineMemory => 5,
         Stop::Config(_) => 3,
         Stop::File(_) => 6,
-        Stop::Run(fault) => fault.status(),
+        Stop::Run(fault) => status_of_run(*fault),
+    }
+}
+
+fn status_of_run(fault: Fault) -> u8
+    ensures { result ≡ status_of_fault fault }
+{
+    match fault {
+        Fault::Capture(..) => 4,
+        Fault::Run(_) => 5,
+        Fault::Write(..) => 6,
     }
 }
 
@@ -115,24 +104,66 @@ impl fmt::Display for Stop {
                 f.write_str("file ")?;
                 f.write_str(role.name())
             }
-            Stop::Run(fault) => write!(f, "{fault}"),
+            Stop::Run(fault) => {
+                let fault = FaultText(*fault);
+                write!(f, "{fault}")
+            }
         }
     }
 }
 
-/// The fault line of a run after the program's name, as `capture inside bad-fraction 3`.
-impl fmt::Display for FirstFault {
-    ghost output = { λ fault. Some (fault_text fault) };
+/// The fault of a run, shown as its line after the program's name, as `capture inside bad-fraction 3`.
+#[derive(Clone, Copy, Debug)]
+struct FaultText(Fault);
+
+impl fmt::Display for FaultText {
+    ghost output = { λ text. Some (fault_text text.0) };
 
     fn fmt<W: fmt::Write>(&self, f: &mut fmt::Formatter<W>) -> fmt::Result {
-        match self {
-            FirstFault::Capture(fault) => {
-                let name = CaptureFaultName(*fault);
-                write!(f, "capture inside {name}")
+        match self.0 {
+            Fault::Capture(side, fault) => {
+                let side = name_of_side(side);
+                let name = CaptureFaultName(fault);
+                write!(f, "capture {side} {name}")
             }
-            FirstFault::Memory => f.write_str("run memory"),
-            FirstFault::Write(_) => f.write_str("write to-outside"),
+            Fault::Run(fault) => {
+                f.write_str("run ")?;
+                f.write_str(name_of_run_fault(fault))
+            }
+            Fault::Write(which, _) => {
+                f.write_str("write ")?;
+                f.write_str(role_of(which).name())
+            }
         }
+    }
+}
+
+fn name_of_side(side: Side) -> &'static str
+    ensures { result.now ≡ side_name side }
+{
+    match side {
+        Side::Inside => "inside",
+        Side::Outside => "outside",
+    }
+}
+
+fn name_of_run_fault(fault: RunFault) -> &'static str
+    ensures { result.now ≡ run_name fault }
+{
+    match fault {
+        RunFault::Memory => "memory",
+        RunFault::TooMany => "too-many",
+    }
+}
+
+/// The file that an output is written to.
+fn role_of(which: Which) -> Role
+    ensures { result ≡ output_role which }
+{
+    match which {
+        Which::Outside => Role::ToOutside,
+        Which::Inside => Role::ToInside,
+        Which::Report => Role::Report,
     }
 }
 
@@ -176,6 +207,7 @@ fn name_of_config_fault(fault: ConfigFault) -> &'static str
         ConfigFault::DoublePair => "double-pair",
         ConfigFault::NotInPool => "not-in-pool",
         ConfigFault::NotInside => "not-inside",
+        ConfigFault::DoubleRedirect => "double-redirect",
         ConfigFault::TimerTooShort => "timer-too-short",
         ConfigFault::Memory => "memory",
     }

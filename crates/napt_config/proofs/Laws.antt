@@ -1,11 +1,11 @@
 -- What a table configures keeps the rules of a configuration.
-use Rattle.std.proofs.Common.{◌≡◌, ℕ, ◌+◌, ◌-◌, ◌%◌, ◌^◌, ◌<◌, ◌≤◌, ◌==◌, Bool, true, false, not, ℤ, pos, negsuc, List, [], ◌∷◌, ◌++◌, length, get_or, Some, Ok, nat_lt, nat_le, nat_cmp, is_some, refl, sym, ap, subst, ◌∙◌, ltb-true, leb-true, eqb-true, length-append, arith}
+use Rattle.std.proofs.Common.{◌≡◌, ℕ, ◌+◌, ◌-◌, ◌%◌, ◌^◌, ◌<◌, ◌≤◌, ◌==◌, Bool, true, false, not, List, [], ◌∷◌, ◌++◌, length, get_or, Some, Ok, nat_lt, nat_le, nat_cmp, is_some, refl, sym, ap, subst, ◌∙◌, ltb-true, leb-true, eqb-true, length-append, arith}
 use Rattle.std.specs.Prelude.{All, ok_or, codes}
 use Rattle.std.specs.BTreeMap.{insert_entry}
 use Rattle.std.specs.List.{list_any, before_first, after_first}
 use Rattle.std.specs.List.Sorted.{IsStrictlySortedBy}
 use Rattle.std.specs.Map.{keys_of, values_of}
-use Rattle.std.proofs.lemmas.Bool.{and_parts, not-true}
+use Rattle.std.proofs.lemmas.Bool.{not-true}
 use Rattle.std.proofs.lemmas.List.Elements.{All-push, All-nil}
 use Rattle.std.proofs.lemmas.List.Folds.{list_any_at}
 use Rattle.std.proofs.lemmas.Map.Views.{All-keys-insert_entry, All-values-insert_entry}
@@ -15,23 +15,16 @@ use Rattle.napt_config.specs.declared.fault.ConfigFault.TheVariants.{BadAddress,
 use Rattle.napt_config.specs.declared.settings.Timers.{Timers}
 use Rattle.napt_config.specs.Network.{Network, IsNetwork, have_address}
 use Rattle.napt_config.specs.Text.{address_of, network_of, network_at, number_of, is_slash}
-use Rattle.napt_config.specs.Rules.{Rules, has, paired_with, IsTimer, AreTimers, IsInside, ArePairs, KeepsRules}
-use Rattle.napt_config.specs.Configured.{item_count, short_list, text_in, number_in, table_in, list_in, between, with_address, pool_in, with_prefix, prefixes_in, inside_in, filter_in, timer_at, timers_at, timers_in, default_timers, ring_at, ring_in, address_in, with_pair, pairs_at, pairs_in, required, optional, configured, knows_all_keys}
+use Rattle.napt_config.specs.Rules.{Rules, has, paired_with, paired, IsTimer, AreTimers, IsInside, ArePairs, KeepsRules}
+use Rattle.napt_config.specs.Configured.{item_count, short_list, text_in, number_in, table_in, list_in, between, with_address, pool_in, with_prefix, prefixes_in, inside_in, filter_in, timer_at, timers_at, timers_in, default_timers, ring_at, ring_in, address_in, with_pair, pairs_at, pairs_in, redirects_in, required, optional, configured, knows_all_keys}
 use Rattle.napt_config.proofs.Addresses.{address_of-bound}
 use Rattle.napt_config.proofs.Chains.{reads, holds, ok_or_ok, optional_reads, each_keeps, each_adds}
+use Rattle.napt_config.proofs.Numbers.{number_of-range, between-range}
 use Rattle.napt_config.proofs.PairEntries.{Pairs, sorted_inserted, one_more}
 use Rattle.napt_config.proofs.Pools.{AreDistinct, AreDistinct-push}
+use Rattle.napt_config.proofs.RedirectEntries.{redirects_in-keeps}
 
--- ---- texts and numbers
-
-number_of-range : (least most n : ℕ) (text : List ℕ) → number_of least most text ≡ Some n → (least ≤ n) × (n ≤ most)
-unfolding number_of
-number_of-range least most n text is =
-    let (tests, same) = cond_some _ _ n is in
-    let range = (and_parts _ _ tests).1 in
-    let (low, high) = and_parts _ _ range in
-    let P : ℕ → Type 0 = λ k. (least ≤ k) × (k ≤ most) in
-    subst P same (leb-true _ _ low, leb-true _ _ high)
+-- ---- texts
 
 network_at-is : (address bits : ℕ) (network : Network) → address < 2 ^ 32 → bits ≤ 32 → network_at address bits ≡ Some network → IsNetwork network
 network_at-is address bits network small few is =
@@ -44,14 +37,6 @@ network_of-is text network is =
     option_and_then_some _ (address_of (before_first is_slash text)) network is λ address found more.
     option_and_then_some _ (number_of 0 32 (after_first is_slash text)) network more λ bits counted made.
     network_at-is address bits network (address_of-bound _ address found) (number_of-range 0 32 bits _ counted).1 made
-
-between-range : (least most n : ℕ) (z : ℤ) → between least most z ≡ Some n → (least ≤ n) × (n ≤ most)
-between-range least most n (pos k) is =
-    let (tests, same) = cond_some _ _ n is in
-    let (low, high) = and_parts _ _ tests in
-    let P : ℕ → Type 0 = λ k. (least ≤ k) × (k ≤ most) in
-    subst P same (leb-true _ _ low, leb-true _ _ high)
-between-range least most n (negsuc k) is = cc
 
 -- ---- lists
 
@@ -291,12 +276,14 @@ configured-keeps table rules is =
     reads (filter_in table) _ rules rest₂ λ filter _ rest₃.
     reads (timers_in table) _ rules rest₃ λ timers timers_is rest₄.
     reads (ring_in table) _ rules rest₄ λ ring ring_is rest₅.
-    reads (pairs_in pool inside table) _ rules rest₅ λ pairs pairs_is last.
-    let made : Rules = record { pool = pool; inside = inside; filter = filter; timers = timers; ring = ring; pairs = pairs } in
+    reads (pairs_in pool inside table) _ rules rest₅ λ pairs pairs_is rest₆.
+    reads (redirects_in inside (paired pool pairs) table) _ rules rest₆ λ redirects redirects_are last.
+    let made : Rules = record { pool = pool; inside = inside; filter = filter; timers = timers; ring = ring; pairs = pairs; redirects = redirects } in
     let same : made ≡ rules = cc in
     let of_pool = pool_in-keeps table pool pool_is in
     let (of_inside, outside) = inside_in-keeps pool table inside inside_is in
     let of_ring = ring_in-keeps ring table ring_is in
+    let of_redirects = redirects_in-keeps inside (paired pool pairs) table redirects redirects_are in
     subst KeepsRules same (record {
       pool = record { some = of_pool.some; few = of_pool.few; addresses = of_pool.kept.addresses; distinct = of_pool.kept.distinct; outside = outside };
       inside = of_inside;
@@ -304,4 +291,7 @@ configured-keeps table rules is =
       ring_low = of_ring.0;
       ring_high = of_ring.1;
       pairs = pairs_in-keeps pool inside table pairs pairs_is;
+      redirects_few = of_redirects.few;
+      redirects = of_redirects.kept.redirects;
+      single = of_redirects.kept.single;
     })

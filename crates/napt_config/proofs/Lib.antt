@@ -7,5 +7,6 @@ pub mod Documents
 pub mod Pools
 pub mod PairEntries
 pub mod Chains
+pub mod RedirectEntries
 pub mod Laws
 pub mod Spellings

@@ -1,12 +1,14 @@
 -- Decimal numbers in texts.
-use Rattle.std.proofs.Common.{◌≡◌, ℕ, ◌^◌, ◌<◌, ◌==◌, ◌&&◌, not, true, List, [], ◌∷◌, length, get_or, None, Err, nat_lt, refl, inl, inr, arith, rules}
+use Rattle.std.proofs.Common.{◌≡◌, ℕ, ◌^◌, ◌<◌, ◌==◌, ◌≤◌, ◌&&◌, not, true, ℤ, pos, negsuc, Some, List, [], ◌∷◌, length, get_or, None, Err, nat_lt, refl, subst, leb-true, inl, inr, arith, rules}
 use Rattle.std.proofs.lemmas.Bool.{cases_lt, and_parts}
+use Rattle.std.proofs.lemmas.Option.{cond_some}
 use Rattle.std.proofs.lemmas.Bool.Decides.{nat_tests}
 use Rattle.std.proofs.lemmas.Str.Parse.{IsNumeralModel, numerals_by_value, parse_digits}
 use Rattle.std.specs.Char.{is_ascii_digit}
 use Rattle.std.specs.List.{list_all}
 use Rattle.std.specs.Str.Parse.{ParsesUnsigned, digits_value}
 use Rattle.napt_config.specs.Text.{number_of, is_number}
+use Rattle.napt_config.specs.Configured.{between}
 
 -- digits, as `parse` means them
 pub digits_model : IsNumeralModel (λ ds. list_all is_ascii_digit ds ≡ true) (digits_value 10)
@@ -35,3 +37,21 @@ number_of-unread e least most text bound number refused =
 pub number_of-nothing : (least most : ℕ) → number_of least most [] ≡ None
 unfolding number_of
 number_of-nothing least most = refl
+
+-- a number that is read is in its range
+pub number_of-range : (least most n : ℕ) (text : List ℕ) → number_of least most text ≡ Some n → (least ≤ n) × (n ≤ most)
+unfolding number_of
+number_of-range least most n text is =
+    let (tests, same) = cond_some _ _ n is in
+    let range = (and_parts _ _ tests).1 in
+    let (low, high) = and_parts _ _ range in
+    let P : ℕ → Type 0 = λ k. (least ≤ k) × (k ≤ most) in
+    subst P same (leb-true _ _ low, leb-true _ _ high)
+
+pub between-range : (least most n : ℕ) (z : ℤ) → between least most z ≡ Some n → (least ≤ n) × (n ≤ most)
+between-range least most n (pos k) is =
+    let (tests, same) = cond_some _ _ n is in
+    let (low, high) = and_parts _ _ tests in
+    let P : ℕ → Type 0 = λ k. (least ≤ k) × (k ≤ most) in
+    subst P same (leb-true _ _ low, leb-true _ _ high)
+between-range least most n (negsuc k) is = cc

@@ -1,12 +1,15 @@
 -- Addresses in a pool, and their places.
-use Rattle.std.proofs.Common.{◌≡◌, ℕ, suc, ◌+◌, ◌<◌, ◌||◌, Bool, true, false, cond, not, List, [], ◌∷◌, ◌++◌, length, get_or, IsSome, ◌==◌, refl, sym, ◌∙◌, eq-eqb, lt-ltb, arith, inl, inr, length-append}
-use Rattle.std.specs.Prelude.{position}
+use Rattle.std.proofs.Common.{◌≡◌, ℕ, suc, ◌+◌, ◌%◌, ◌<◌, ◌≤◌, ◌||◌, Bool, true, false, cond, not, List, [], ◌∷◌, ◌++◌, length, get_or, IsSome, IfSome, Option, Some, None, nat_cmp, ◌==◌, refl, sym, ◌∙◌, eq-eqb, lt-ltb, arith, inl, inr, length-append}
+use Rattle.std.specs.Prelude.{position, unwrap_or, All}
+use Rattle.std.specs.BTreeMap.{is_at}
+use Rattle.std.specs.Map.{values_of}
 use Rattle.std.specs.List.{list_any, position_or_len}
 use Rattle.std.proofs.lemmas.Bool.{cases_lt, false≢true}
 use Rattle.std.proofs.lemmas.List.Folds.{list_any_at}
 use Rattle.std.proofs.Math.Seq.{get_or-append_seam}
 use Rattle.std.proofs.lemmas.List.{get_or_append_left}
-use Rattle.napt_config.specs.Rules.{has}
+use Rattle.std.proofs.lemmas.Map.Views.{IfSome-lookup_from_All}
+use Rattle.napt_config.specs.Rules.{has, paired, paired_with}
 
 first_or_later : (b later : Bool) (n m : ℕ) → (b || later) ≡ true → (later ≡ true → n < m) → cond (not b) (1 + n) 0 < suc m
 first_or_later true later n m some more = omega arith
@@ -50,3 +53,13 @@ AreDistinct-push pool address distinct new i j i_in j_in same =
             | inr j_last ↦ omega arith
           ]
     ]
+
+has_either : (pool : List ℕ) (own : Option ℕ) (other : ℕ) → IfSome own (λ external. has pool external ≡ true) → has pool other ≡ true → has pool (unwrap_or own other) ≡ true
+has_either pool None other of_own of_other = of_other
+has_either pool (Some external) other of_own of_other = of_own
+
+-- the external address of a host is in the pool
+pub paired_in_pool : (pool : List ℕ) (pairs : List (ℕ × ℕ)) (host : ℕ) → 1 ≤ length pool → All (λ external. has pool external ≡ true) (values_of pairs) → has pool (paired pool pairs host) ≡ true
+paired_in_pool pool pairs host some externals =
+    has_either pool (paired_with pairs host) _ (IfSome-lookup_from_All (λ external. has pool external ≡ true) (is_at (nat_cmp host)) pairs externals)
+    (has-at pool (host % length pool) 0 (omega (arith, some)))

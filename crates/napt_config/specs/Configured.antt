@@ -1,6 +1,6 @@
 -- What the table of a configuration's text configures: its rules, or the fault of the first rule of a
 -- configuration that it breaks. Each function below reads from top to bottom, a rule a line.
-use Rattle.std.specs.Prelude.{ℕ, ◌+◌, ◌++◌, ◌&&◌, Bool, true, not, ℤ, pos, negsuc, List, [], ◌∷◌, codes, bytes_eq, if◌then◌else◌, nat_lt, nat_le, Option, Some, None, ok_or, is_some, Result, Ok}
+use Rattle.std.specs.Prelude.{ℕ, ◌+◌, ◌++◌, ◌&&◌, Bool, true, false, not, ℤ, pos, negsuc, List, [], ◌∷◌, codes, bytes_eq, if◌then◌else◌, nat_lt, nat_le, Option, Some, None, ok_or, is_some, Result, Ok}
 use Rattle.std.specs.List.{list_any}
 use Rattle.std.specs.Option.{option_map_or}
 use Rattle.std.specs.Ordering.{nat_cmp}
@@ -8,15 +8,16 @@ use Rattle.std.specs.BTreeMap.{insert_entry}
 use Rattle.std.specs.Str.{is_utf8}
 use Rattle.toml.specs.Data.{Data, Items, no_items, item, Members, no_members, member, get_member, as_str, as_integer, as_array, as_table}
 use Rattle.toml.specs.Parse.{parse_document}
-use Rattle.napt_config.specs.Network.{Network, have_address, private_networks}
-use Rattle.napt_config.specs.Text.{address_of, network_of}
+use Rattle.napt_config.specs.Network.{Network, Socket, have_address, private_networks}
+use Rattle.napt_config.specs.Text.{address_of, network_of, socket_of}
 use Rattle.napt_config.specs.Fault.{◌>>=◌, ◌>>◌, must}
-use Rattle.napt_config.specs.Rules.{Rules, has, paired_with}
+use Rattle.napt_config.specs.Rules.{Rules, has, paired_with, paired, is_double}
 use Rattle.napt_config.specs.declared.settings.Filter.{Filter}
 use Rattle.napt_config.specs.declared.settings.Filter.TheVariants.{Independent, Address, AddressPort}
 use Rattle.napt_config.specs.declared.settings.Timers.{Timers}
+use Rattle.napt_config.specs.declared.settings.Redirect.{Redirect}
 use Rattle.napt_config.specs.declared.fault.ConfigFault.{ConfigFault}
-use Rattle.napt_config.specs.declared.fault.ConfigFault.TheVariants.{NotToml, UnknownKey, Missing, BadShape, TooMany, BadAddress, BadPrefix, BadNumber, BadWord, DoubleAddress, PoolInside, DoublePair, NotInPool, NotInside, TimerTooShort}
+use Rattle.napt_config.specs.declared.fault.ConfigFault.TheVariants.{NotToml, UnknownKey, Missing, BadShape, TooMany, BadAddress, BadPrefix, BadNumber, BadWord, DoubleAddress, PoolInside, DoublePair, NotInPool, NotInside, DoubleRedirect, TimerTooShort}
 
 -- ---- keys
 
@@ -35,13 +36,16 @@ only_keys_in_each names no_items = true
 only_keys_in_each names (item entry rest) = only_keys_in names entry && only_keys_in_each names rest
 
 abbrev pub top_keys : List (List ℕ)
-top_keys = codes "pool" ∷ codes "inside" ∷ codes "filter" ∷ codes "timers" ∷ codes "ring" ∷ codes "pair" ∷ []
+top_keys = codes "pool" ∷ codes "inside" ∷ codes "filter" ∷ codes "timers" ∷ codes "ring" ∷ codes "pair" ∷ codes "redirect" ∷ []
 
 abbrev pub timer_keys : List (List ℕ)
 timer_keys = codes "udp" ∷ codes "tcp-established" ∷ codes "tcp-transitory" ∷ codes "icmp" ∷ []
 
 abbrev pub pair_keys : List (List ℕ)
 pair_keys = codes "host" ∷ codes "external" ∷ []
+
+abbrev pub redirect_keys : List (List ℕ)
+redirect_keys = codes "protocol" ∷ codes "inside" ∷ codes "external" ∷ []
 
 -- the same of each table in a list in a value; another value has no keys
 abbrev pub only_keys_in_list : List (List ℕ) → Data → Bool
@@ -53,9 +57,12 @@ knows_timer_keys table = option_map_or (only_keys_in timer_keys) (get_member (co
 abbrev pub knows_pair_keys : Members → Bool
 knows_pair_keys table = option_map_or (only_keys_in_list pair_keys) (get_member (codes "pair") table) true
 
--- whether each key, in `timers` and in each entry of `pair` too, is one that a configuration knows
+abbrev pub knows_redirect_keys : Members → Bool
+knows_redirect_keys table = option_map_or (only_keys_in_list redirect_keys) (get_member (codes "redirect") table) true
+
+-- whether each key, in `timers` and in each entry of `pair` and `redirect` too, is one that a configuration knows
 unfoldable pub knows_all_keys : Members → Bool
-knows_all_keys table = (only_keys top_keys table && knows_timer_keys table) && knows_pair_keys table
+knows_all_keys table = ((only_keys top_keys table && knows_timer_keys table) && knows_pair_keys table) && knows_redirect_keys table
 
 -- ---- values
 
@@ -215,6 +222,63 @@ pairs_at pool inside value = do
 unfoldable pub pairs_in : List ℕ → List Network → Members → Result (List (ℕ × ℕ)) ConfigFault
 pairs_in pool inside table = optional (codes "pair") [] (pairs_at pool inside) table
 
+-- ---- redirect
+
+-- whether the word is TCP's; else it is UDP's
+abbrev pub is_tcp_of : List ℕ → Option Bool
+is_tcp_of word =
+    if bytes_eq word (codes "tcp") then Some true
+    else (if bytes_eq word (codes "udp") then Some false else None)
+
+unfoldable pub is_tcp_in : Members → Result Bool ConfigFault
+is_tcp_in keys = do
+  value ← required (codes "protocol") keys
+  word ← text_in value
+  ok_or (is_tcp_of word) BadWord
+
+-- the endpoint at a required key
+unfoldable pub endpoint_in : List ℕ → Members → Result Socket ConfigFault
+endpoint_in key keys = do
+  value ← required key keys
+  text ← text_in value
+  ok_or (socket_of text) BadAddress
+
+-- the port at a required key
+unfoldable pub port_in : List ℕ → Members → Result ℕ ConfigFault
+port_in key keys = do
+  value ← required key keys
+  number ← number_in value
+  ok_or (between 1 65535 number) BadNumber
+
+unfoldable pub redirect_in : List Network → Data → Result Redirect ConfigFault
+redirect_in inside entry = do
+  keys ← table_in entry
+  tcp ← is_tcp_in keys
+  host ← endpoint_in (codes "inside") keys
+  must (have_address inside host.address) NotInside
+  external ← port_in (codes "external") keys
+  Ok (record { tcp = tcp; address = host.address; port = host.port; external = external })
+
+-- whether one of the redirects is double with a later one
+unfoldable pub have_double : (ℕ → ℕ) → List Redirect → Redirect → Bool
+have_double pair earlier later = list_any (λ redirect. is_double pair redirect later) earlier
+
+unfoldable pub with_redirect : List Network → (ℕ → ℕ) → List Redirect → Data → Result (List Redirect) ConfigFault
+with_redirect inside pair redirects entry = do
+  redirect ← redirect_in inside entry
+  must (not (have_double pair redirects redirect)) DoubleRedirect
+  Ok (redirects ++ redirect ∷ [])
+
+unfoldable pub redirects_at : List Network → (ℕ → ℕ) → Data → Result (List Redirect) ConfigFault
+redirects_at inside pair value = do
+  entries ← list_in value
+  must (nat_le (item_count entries) 256) TooMany
+  each_in_order (with_redirect inside pair) [] entries
+
+-- the redirects, where hosts have the external addresses of `pair`
+unfoldable pub redirects_in : List Network → (ℕ → ℕ) → Members → Result (List Redirect) ConfigFault
+redirects_in inside pair table = optional (codes "redirect") [] (redirects_at inside pair) table
+
 -- ---- the whole
 
 -- what the table configures
@@ -227,7 +291,8 @@ configured table = do
   timers ← timers_in table
   ring ← ring_in table
   pairs ← pairs_in pool inside table
-  Ok (record { pool = pool; inside = inside; filter = filter; timers = timers; ring = ring; pairs = pairs })
+  redirects ← redirects_in inside (paired pool pairs) table
+  Ok (record { pool = pool; inside = inside; filter = filter; timers = timers; ring = ring; pairs = pairs; redirects = redirects })
 
 -- the table that a text reads as: it is UTF-8, and TOML
 unfoldable pub document_of : List ℕ → Option Members
@@ -250,4 +315,5 @@ built_in = record {
   timers = default_timers;
   ring = 64;
   pairs = [];
+  redirects = [];
 }

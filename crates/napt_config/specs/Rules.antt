@@ -1,5 +1,6 @@
 -- What a configuration says, and the rules that each one keeps.
-use Rattle.std.specs.Prelude.{◌≡◌, ℕ, ◌%◌, ◌^◌, ◌<◌, ◌≤◌, ◌==◌, Bool, true, false, List, All, length, slice_index, position, Option, unwrap_or}
+use Rattle.std.specs.Prelude.{◌≡◌, ℕ, ◌%◌, ◌^◌, ◌<◌, ◌≤◌, ◌==◌, Bool, true, false, ◌&&◌, ◌||◌, List, [], ◌∷◌, All, length, slice_index, position, Option, unwrap_or}
+use Rattle.std.specs.Bool.{beq}
 use Rattle.std.specs.List.{list_any}
 use Rattle.std.specs.List.Sorted.{IsStrictlySortedBy}
 use Rattle.std.specs.Map.{keys_of, values_of, lookup}
@@ -8,8 +9,10 @@ use Rattle.std.specs.BTreeMap.{is_at}
 use Rattle.napt_config.specs.Network.{Network, IsNetwork, have_address}
 use Rattle.napt_config.specs.declared.settings.Filter.{Filter}
 use Rattle.napt_config.specs.declared.settings.Timers.{Timers}
+use Rattle.napt_config.specs.declared.settings.Redirect.{Redirect}
 
--- what a configuration says; the pairs are hosts with their external addresses, by ascending host
+-- what a configuration says; the pairs are hosts with their external addresses, by ascending host, and the
+-- redirects stand in the order of its text
 pub record Rules : Type 0 where
   pub pool : List ℕ
   pub inside : List Network
@@ -17,14 +20,20 @@ pub record Rules : Type 0 where
   pub timers : Timers
   pub ring : ℕ
   pub pairs : List (ℕ × ℕ)
+  pub redirects : List Redirect
 
 -- the address that a host is paired with by an entry of its own, where it has one
 abbrev pub paired_with : List (ℕ × ℕ) → ℕ → Option ℕ
 paired_with pairs host = lookup (is_at (nat_cmp host)) pairs
 
--- the external address of a host: its entry's, else the pool's at the host's number modulo the pool's size
+-- the external address of a host, of a pool and pairs: its entry's, else the pool's at the host's number modulo
+-- the pool's size
+abbrev pub paired : List ℕ → List (ℕ × ℕ) → ℕ → ℕ
+paired pool pairs host = unwrap_or (paired_with pairs host) (slice_index pool (host % length pool))
+
+-- the external address of a host (RFC 4787, section 4.1, "paired" pooling)
 abbrev pub pair_of : Rules → ℕ → ℕ
-pair_of rules host = unwrap_or (paired_with rules.pairs host) (slice_index rules.pool (host % length rules.pool))
+pair_of rules = paired rules.pool rules.pairs
 
 -- whether the address is of an inside host
 abbrev pub is_inside : Rules → ℕ → Bool
@@ -70,6 +79,29 @@ pub record ArePairs (pool : List ℕ) (inside : List Network) (pairs : List (ℕ
   pub hosts : All (λ host. have_address inside host ≡ true) (keys_of pairs)
   pub externals : All (λ external. has pool external ≡ true) (values_of pairs)
 
+-- a port of an inside host, and an external one; neither is 0
+pub record IsRedirect (inside : List Network) (redirect : Redirect) : Type 0 where
+  pub host : have_address inside redirect.address ≡ true
+  pub port : 0 < redirect.port
+  pub external : 0 < redirect.external
+
+-- of one inside endpoint
+abbrev pub share_inside : Redirect → Redirect → Bool
+share_inside a b = (a.address == b.address) && (a.port == b.port)
+
+-- of one external endpoint, whose address is that of the host's pairing
+abbrev pub share_external : (ℕ → ℕ) → Redirect → Redirect → Bool
+share_external pair a b = (pair a.address == pair b.address) && (a.external == b.external)
+
+-- of one protocol, with one inside endpoint or one external endpoint
+abbrev pub is_double : (ℕ → ℕ) → Redirect → Redirect → Bool
+is_double pair a b = beq a.tcp b.tcp && (share_inside a b || share_external pair a b)
+
+-- no two are double
+abbrev pub AreSingle : (ℕ → ℕ) → List Redirect → Type 0
+AreSingle pair [] = Unit {0}
+AreSingle pair (redirect ∷ redirects) = (list_any (is_double pair redirect) redirects ≡ false) × AreSingle pair redirects
+
 -- the rules that each configuration keeps
 pub record KeepsRules (rules : Rules) : Type 0 where
   pub pool : IsPool rules.inside rules.pool
@@ -78,3 +110,6 @@ pub record KeepsRules (rules : Rules) : Type 0 where
   pub ring_low : 1 ≤ rules.ring
   pub ring_high : rules.ring ≤ 4096
   pub pairs : ArePairs rules.pool rules.inside rules.pairs
+  pub redirects_few : length rules.redirects ≤ 256
+  pub redirects : All (IsRedirect rules.inside) rules.redirects
+  pub single : AreSingle (pair_of rules) rules.redirects

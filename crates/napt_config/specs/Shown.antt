@@ -11,4 +11,5 @@ shown config = record {
   timers = config.timers;
   ring = config.ring;
   pairs = config.pairs.entries;
+  redirects = config.redirects.items;
 }

@@ -6,7 +6,7 @@ ghost use Rattle.napt_config.specs.Fault.{Gives};
 ghost use Rattle.napt_config.specs.Configured.{document_of};
 ghost use Rattle.napt_config.specs.declared.fault.ConfigFault.TheVariants.{NotToml};
 
-use crate::{ConfigFault, Filter, Prefix, Timers, keys, reading};
+use crate::{ConfigFault, Filter, Prefix, Redirect, Timers, keys, pairing, reading, redirects};
 use std::alloc::{AllocError, Global};
 use std::collections::BTreeMap;
 use std::marker::Model;
@@ -19,7 +19,9 @@ use toml::Table;
 /// - the timers are at least 120 (UDP), 7440 (established), 240 (transitory) and 60 seconds (ICMP), and at
 ///   most 1,000,000,000;
 /// - a ring has 1 to 4096 slots;
-/// - at most 256 inside hosts are paired by an entry of their own, each once, with a pool address.
+/// - at most 256 inside hosts are paired by an entry of their own, each once, with a pool address;
+/// - at most 256 redirects, each of an inside host and with ports that are not 0; no two of one protocol have
+///   one inside endpoint or one external endpoint.
 #[derive(Debug, Drop)]
 pub struct Config {
     pool: Vec<u32>,
@@ -28,6 +30,7 @@ pub struct Config {
     timers: Timers,
     ring: usize,
     pairs: BTreeMap<u32, u32>,
+    redirects: Vec<Redirect>,
 }
 
 impl Model for Config {
@@ -72,6 +75,7 @@ impl Config {
         let timers = reading::timers(table)?;
         let ring = reading::ring(table)?;
         let pairs = reading::pairs(alloc, table, &pool, &inside)?;
+        let redirects = redirects::redirects(alloc, table, &inside, &pool, &pairs)?;
         Ok(Config {
             pool,
             inside,
@@ -79,6 +83,7 @@ impl Config {
             timers,
             ring,
             pairs,
+            redirects,
         })
     }
 
@@ -97,6 +102,7 @@ impl Config {
             timers: Timers::DEFAULT,
             ring: reading::DEFAULT_SLOTS,
             pairs: BTreeMap::new(alloc),
+            redirects: Vec::new(alloc),
         })
     }
 
@@ -111,6 +117,7 @@ impl Config {
             timers: self.timers,
             ring: self.ring,
             pairs: self.pairs.clone()?,
+            redirects: Vec::from_slice(alloc, &self.redirects)?,
         })
     }
 
@@ -122,10 +129,7 @@ impl Config {
         ensures in_pool { IsSome (place_of self.now result) }
         ensures kept { KeepsRules self.now }
     {
-        match self.pairs.get(&host) {
-            Some(external) => *external,
-            None => self.pool[host as usize % self.pool.len()],
-        }
+        pairing::pair(&self.pool, &self.pairs, host)
     }
 
     /// Whether the address is in one of the inside prefixes.
@@ -150,6 +154,15 @@ impl Config {
         ensures kept { KeepsRules self.now }
     {
         self.pool.as_slice()
+    }
+
+    /// The static redirects, in the order of the text: at most 256, each of an inside host, with ports that
+    /// are not 0. No two of one protocol have one inside endpoint or one external endpoint.
+    pub fn redirects(&self) -> &[Redirect]
+        ensures redirects { result.now ≡ self.now.redirects }
+        ensures kept { KeepsRules self.now }
+    {
+        self.redirects.as_slice()
     }
 
     /// How many slots each ring has, from 1 to 4096.

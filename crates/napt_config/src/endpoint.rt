@@ -31,7 +31,7 @@ impl Model for Endpoint {
 impl Endpoint {
     /// The endpoint that the text is.
     #[tactic(auto, unfolding(crate::specs::Text::socket_of))]
-    fn read(text: &str) -> Option<Endpoint>
+    pub(crate) fn read(text: &str) -> Option<Endpoint>
         ensures { result ≡ socket_of text.now }
     {
         let (address, port) = text.split_once(':')?;

@@ -12,29 +12,29 @@ pub enum ConfigFault {
     /// The text is not UTF-8, or not TOML; a whole number outside 64 bits is not TOML either.
     #[error("expected TOML in UTF-8")]
     NotToml,
-    /// A key that no configuration has, at the top, in `timers` or in an entry of `pair`.
-    #[error("unknown key: expected `pool`, `inside`, `filter`, `timers`, `ring` or `pair`; in `timers` `udp`, `tcp-established`, `tcp-transitory` or `icmp`; in a `pair` `host` or `external`")]
+    /// A key that no configuration has, at the top, in `timers` or in an entry of `pair` or `redirect`.
+    #[error("unknown key: expected `pool`, `inside`, `filter`, `timers`, `ring`, `pair` or `redirect`; in `timers` `udp`, `tcp-established`, `tcp-transitory` or `icmp`; in a `pair` `host` or `external`; in a `redirect` `protocol`, `inside` or `external`")]
     UnknownKey,
     /// A required key is absent, or its list is empty.
-    #[error("expected `pool` and `inside` with at least one entry each, and `host` and `external` in each `pair`")]
+    #[error("expected `pool` and `inside` with at least one entry each, `host` and `external` in each `pair`, and `protocol`, `inside` and `external` in each `redirect`")]
     Missing,
     /// A value is of another kind than its key asks for.
     #[error("expected a value of another kind: a text, a whole number, a list or a table, as its key asks for")]
     BadShape,
     /// A list has more entries than it may have.
-    #[error("expected at most 16 entries in `pool` and in `inside`, and at most 256 of `pair`")]
+    #[error("expected at most 16 entries in `pool` and in `inside`, and at most 256 of `pair` and of `redirect`")]
     TooMany,
-    /// A text is no address.
-    #[error("expected an IPv4 address, as `203.0.113.1`, without leading zeros")]
+    /// A text is no address, or no endpoint.
+    #[error("expected an IPv4 address, as `203.0.113.1`, or in a `redirect` an endpoint, as `10.0.0.3:7000`, without leading zeros")]
     BadAddress,
     /// A text is no prefix, or has bits past its length that are not 0.
     #[error("expected an IPv4 prefix, as `10.0.0.0/8`, whose bits past its length are 0")]
     BadPrefix,
     /// A number is out of its range.
-    #[error("expected a timer of 0 to 1000000000 seconds, or a `ring` of 1 to 4096")]
+    #[error("expected a timer of 0 to 1000000000 seconds, a `ring` of 1 to 4096, or an `external` port of 1 to 65535")]
     BadNumber,
     /// A text is no word that its key knows.
-    #[error("expected `independent`, `address` or `address-port` as `filter`")]
+    #[error("expected `independent`, `address` or `address-port` as `filter`, or `udp` or `tcp` as `protocol`")]
     BadWord,
     /// An address stands twice in the pool.
     #[error("expected each address of `pool` once")]
@@ -49,8 +49,11 @@ pub enum ConfigFault {
     #[error("expected an `external` address that is in `pool`")]
     NotInPool,
     /// A host is in none of the inside prefixes.
-    #[error("expected a `host` that is in a prefix of `inside`")]
+    #[error("expected a host that is in a prefix of `inside`")]
     NotInside,
+    /// Two redirects of one protocol have one inside endpoint, or one external endpoint.
+    #[error("expected at most one `redirect` of a protocol for each inside endpoint and for each external endpoint")]
+    DoubleRedirect,
     /// A timer is below its least value.
     #[error("expected at least 120 seconds for `udp`, 7440 for `tcp-established`, 240 for `tcp-transitory` and 60 for `icmp`")]
     TimerTooShort,

@@ -2,7 +2,7 @@
 ghost use Rattle.std.specs.Prelude.{◌≡◌, bytes_eq, map};
 ghost use Rattle.std.specs.List.{list_any};
 ghost use Rattle.toml.specs.View.{view, table_view, items_view};
-ghost use Rattle.napt_config.specs.Configured.{only_keys, only_keys_in, only_keys_in_each, only_keys_in_list, top_keys, knows_timer_keys, knows_pair_keys, knows_all_keys};
+ghost use Rattle.napt_config.specs.Configured.{only_keys, only_keys_in, only_keys_in_each, only_keys_in_list, top_keys, knows_timer_keys, knows_pair_keys, knows_redirect_keys, knows_all_keys};
 
 use crate::values::value_at;
 use toml::{Table, Value};
@@ -73,19 +73,34 @@ fn knows_pair_keys(table: &Table) -> bool
     }
 }
 
+fn knows_redirect_keys(table: &Table) -> bool
+    ensures { result ≡ knows_redirect_keys (table_view table.now) }
+{
+    match value_at(table, "redirect") {
+        Some(value) => only_keys_in_list(value, &["protocol", "inside", "external"]),
+        None => true,
+    }
+}
+
 fn knows_top_keys(table: &Table) -> bool
     ensures { result ≡ only_keys top_keys (table_view table.now) }
 {
     only_keys(
         table,
-        &["pool", "inside", "filter", "timers", "ring", "pair"],
+        &[
+            "pool", "inside", "filter", "timers", "ring", "pair", "redirect",
+        ],
     )
 }
 
-/// Whether each key, in `timers` and in each entry of `pair` too, is one that a configuration knows.
+/// Whether each key, in `timers` and in each entry of `pair` and `redirect` too, is one that a configuration
+/// knows.
 #[tactic(auto, unfolding(crate::specs::Configured::knows_all_keys))]
 pub(crate) fn knows_all_keys(table: &Table) -> bool
     ensures { result ≡ knows_all_keys (table_view table.now) }
 {
-    knows_top_keys(table) && knows_timer_keys(table) && knows_pair_keys(table)
+    knows_top_keys(table)
+        && knows_timer_keys(table)
+        && knows_pair_keys(table)
+        && knows_redirect_keys(table)
 }

@@ -9,8 +9,10 @@ mod config;
 mod endpoint;
 mod fault;
 mod keys;
+mod pairing;
 mod prefix;
 mod reading;
+mod redirects;
 mod settings;
 mod text;
 mod values;
@@ -20,7 +22,7 @@ pub use config::Config;
 pub use endpoint::Endpoint;
 pub use fault::ConfigFault;
 pub use prefix::Prefix;
-pub use settings::{Filter, Timers};
+pub use settings::{Filter, Redirect, Timers};
 
 #[cfg(test)]
 mod tests;

@@ -43,7 +43,7 @@ fn short_list<'a>(table: &'a Table, key: &str) -> Result<&'a [Value], ConfigFaul
 }
 
 /// The whole number, where it is from `least` to `most`.
-fn between(least: u64, most: u64, number: i64) -> Option<u64>
+pub(crate) fn between(least: u64, most: u64, number: i64) -> Option<u64>
     ensures { result ≡ between least most number }
 {
     match u64::try_from(number) {

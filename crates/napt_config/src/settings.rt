@@ -33,3 +33,17 @@ impl Timers {
         icmp: 60,
     };
 }
+
+/// A static redirect: a UDP or TCP port of an inside host, which an external port stands for (RFC 3022,
+/// section 2.2). Its external address is that of the host's pairing.
+#[derive(Clone, Copy, Debug, PartialEq, Eq)]
+pub struct Redirect {
+    /// Whether it is of TCP; else it is of UDP.
+    pub tcp: bool,
+    /// The inside host's address.
+    pub address: u32,
+    /// The inside host's port, which is not 0.
+    pub port: u16,
+    /// The external port, which is not 0.
+    pub external: u16,
+}

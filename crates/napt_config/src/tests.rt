@@ -1,4 +1,4 @@
-use crate::{Address, Config, ConfigFault, Endpoint, Filter, Prefix, Timers};
+use crate::{Address, Config, ConfigFault, Endpoint, Filter, Prefix, Redirect, Timers};
 use std::alloc::Global;
 use std::process::Abort;
 use std::test::Fail;
@@ -34,6 +34,10 @@ icmp = 60
 [[pair]]
 host = "10.0.0.5"
 external = "203.0.113.2"
+[[redirect]]
+protocol = "udp"
+inside = "10.0.0.3:7000"
+external = 7000
 "#;
     let config = Config::read(rt.alloc(), text.as_bytes())?;
     assert_eq!(rt; config.pool(), [0xCB00_7101, 0xCB00_7102].as_slice());
@@ -51,6 +55,13 @@ external = "203.0.113.2"
     assert_eq!(rt; config.timers(), timers);
     assert_eq!(rt; config.ring(), 64);
     assert_eq!(rt; config.pair(0x0A00_0005), 0xCB00_7102);
+    let redirect = Redirect {
+        tcp: false,
+        address: 0x0A00_0003,
+        port: 7000,
+        external: 7000,
+    };
+    assert_eq!(rt; config.redirects(), [redirect].as_slice());
     Ok(())
 }
 
@@ -77,6 +88,7 @@ timers = { icmp = 61, tcp-transitory = 241, tcp-established = 7441, udp = 100000
     };
     assert_eq!(rt; config.timers(), timers);
     assert_eq!(rt; config.ring(), 4096);
+    assert!(rt; config.redirects().is_empty());
     Ok(())
 }
 
@@ -191,7 +203,7 @@ inside = ["0.0.0.0/0"]
 #[test]
 fn faults_behind_the_head(rt: HostRuntime) -> Result<(), Fail> {
     let cases = r#"UnknownKey
-[[redirect]]
+[[redirects]]
 protocol = "udp"
 ---
 UnknownKey
@@ -426,6 +438,284 @@ fn most_pairs(rt: HostRuntime) -> Result<(), Fail> {
 }
 
 #[test]
+fn redirects(rt: HostRuntime) -> Result<(), Fail> {
+    let alloc = rt.alloc();
+    let text = format!(in alloc;
+        r#"{HEAD}
+[[redirect]]
+protocol = "tcp"
+inside = "10.0.0.3:7000"
+external = 65535
+[[redirect]]
+protocol = "udp"
+inside = "10.0.0.3:7000"
+external = 65535
+[[redirect]]
+protocol = "udp"
+inside = "10.0.0.4:65535"
+external = 65535
+[[redirect]]
+protocol = "udp"
+inside = "10.0.0.3:1"
+external = 1
+"#
+    )?;
+    let config = Config::read(alloc, text.as_bytes())?.copy(alloc)?;
+    let found = config.redirects();
+    assert_eq!(rt; found.len(), 4);
+    for (redirect, (tcp, address, port, external)) in found.iter().zip([
+        (true, 0x0A00_0003, 7000, 65535),
+        (false, 0x0A00_0003, 7000, 65535),
+        (false, 0x0A00_0004, 65535, 65535),
+        (false, 0x0A00_0003, 1, 1),
+    ]) {
+        let wanted = Redirect {
+            tcp,
+            address,
+            port,
+            external,
+        };
+        assert_eq!(rt; *redirect, wanted);
+    }
+    Ok(())
+}
+
+#[test]
+fn faults_of_a_redirect(rt: HostRuntime) -> Result<(), Fail> {
+    let cases = r#"UnknownKey
+[[redirect]]
+protocol = "udp"
+inside = "10.0.0.3:7000"
+external = 7000
+host = "10.0.0.3"
+---
+BadShape
+redirect = 1
+---
+BadShape
+[redirect]
+protocol = "udp"
+inside = "10.0.0.3:7000"
+external = 7000
+---
+BadShape
+redirect = ["10.0.0.3:7000"]
+---
+Missing
+[[redirect]]
+inside = "10.0.0.3:7000"
+external = 7000
+---
+BadShape
+[[redirect]]
+protocol = 17
+inside = "10.0.0.3:7000"
+external = 7000
+---
+BadWord
+[[redirect]]
+protocol = "UDP"
+inside = "10.0.0.3:7000"
+external = 7000
+---
+Missing
+[[redirect]]
+protocol = "udp"
+external = 7000
+---
+BadShape
+[[redirect]]
+protocol = "udp"
+inside = 7000
+external = 7000
+---
+BadAddress
+[[redirect]]
+protocol = "udp"
+inside = "10.0.0.3"
+external = 7000
+---
+BadAddress
+[[redirect]]
+protocol = "udp"
+inside = "10.0.0.3:0"
+external = 7000
+---
+BadAddress
+[[redirect]]
+protocol = "udp"
+inside = "10.0.0.3:65536"
+external = 7000
+---
+NotInside
+[[redirect]]
+protocol = "udp"
+inside = "11.0.0.3:7000"
+external = 7000
+---
+Missing
+[[redirect]]
+protocol = "udp"
+inside = "10.0.0.3:7000"
+---
+BadShape
+[[redirect]]
+protocol = "udp"
+inside = "10.0.0.3:7000"
+external = "7000"
+---
+BadNumber
+[[redirect]]
+protocol = "udp"
+inside = "10.0.0.3:7000"
+external = 0
+---
+BadNumber
+[[redirect]]
+protocol = "udp"
+inside = "10.0.0.3:7000"
+external = 65536
+---
+BadNumber
+[[redirect]]
+protocol = "udp"
+inside = "10.0.0.3:7000"
+external = -1
+---
+DoubleRedirect
+[[redirect]]
+protocol = "udp"
+inside = "10.0.0.3:7000"
+external = 7000
+[[redirect]]
+protocol = "udp"
+inside = "10.0.0.5:7001"
+external = 7000
+---
+DoubleRedirect
+[[pair]]
+host = "10.0.0.2"
+external = "203.0.113.2"
+[[redirect]]
+protocol = "tcp"
+inside = "10.0.0.2:7000"
+external = 7000
+[[redirect]]
+protocol = "tcp"
+inside = "10.0.0.5:7000"
+external = 7000
+---
+DoubleRedirect
+[[redirect]]
+protocol = "tcp"
+inside = "10.0.0.3:7000"
+external = 7000
+[[redirect]]
+protocol = "tcp"
+inside = "10.0.0.3:7000"
+external = 7001
+---
+DoubleRedirect
+[[redirect]]
+protocol = "tcp"
+inside = "10.0.0.3:7000"
+external = 7000
+[[redirect]]
+protocol = "udp"
+inside = "10.0.0.3:7000"
+external = 7000
+[[redirect]]
+protocol = "tcp"
+inside = "10.0.0.3:7000"
+external = 7000
+"#;
+    assert_faults(&rt, rt.alloc(), HEAD, cases)
+}
+
+/// Each text has two faults.
+#[test]
+fn first_of_two_faults_of_a_redirect(rt: HostRuntime) -> Result<(), Fail> {
+    let cases = r#"UnknownKey
+[[pair]]
+[[redirect]]
+port = 7000
+---
+Missing
+[[pair]]
+[[redirect]]
+protocol = "icmp"
+---
+BadWord
+[[redirect]]
+protocol = "icmp"
+inside = "10.0.0.3"
+---
+Missing
+[[redirect]]
+protocol = "udp"
+external = 0
+---
+BadAddress
+[[redirect]]
+protocol = "udp"
+inside = "11.0.0.3:0"
+external = 0
+---
+NotInside
+[[redirect]]
+protocol = "udp"
+inside = "11.0.0.3:7000"
+external = 0
+---
+BadNumber
+[[redirect]]
+protocol = "udp"
+inside = "10.0.0.3:7000"
+external = 7000
+[[redirect]]
+protocol = "udp"
+inside = "10.0.0.3:7000"
+external = 0
+---
+DoubleRedirect
+[[redirect]]
+protocol = "udp"
+inside = "10.0.0.3:7000"
+external = 7000
+[[redirect]]
+protocol = "udp"
+inside = "10.0.0.3:7000"
+external = 7000
+[[redirect]]
+---
+BadShape
+[redirect]
+port = 7000
+"#;
+    assert_faults(&rt, rt.alloc(), HEAD, cases)
+}
+
+#[test]
+fn most_redirects(rt: HostRuntime) -> Result<(), Fail> {
+    let alloc = rt.alloc();
+    let mut text = String::from_str(alloc, HEAD)?;
+    for port in 1..257u32 {
+        let entry = format!(in alloc;
+            "[[redirect]]\nprotocol = \"udp\"\ninside = \"10.0.0.3:{port}\"\nexternal = {port}\n"
+        )?;
+        text.push_str(entry.as_str())?;
+    }
+    let config = Config::read(alloc, text.as_bytes())?;
+    assert_eq!(rt; config.redirects().len(), 256);
+    text.push_str("[[redirect]]\n")?;
+    assert_eq!(rt;
+        Config::read(alloc, text.as_bytes()).err(),
+        Some(ConfigFault::TooMany)
+    );
+    Ok(())
+}
+
+#[test]
 fn built_in_and_copy(rt: HostRuntime) -> Result<(), Fail> {
     let alloc = rt.alloc();
     let config = Config::built_in(alloc)?.copy(alloc)?;
@@ -445,6 +735,7 @@ fn built_in_and_copy(rt: HostRuntime) -> Result<(), Fail> {
     assert_eq!(rt; config.ring(), 64);
     assert_eq!(rt; config.filter(), Filter::Independent);
     assert_eq!(rt; config.pair(7), 0xCB00_7101);
+    assert!(rt; config.redirects().is_empty());
     Ok(())
 }
 
@@ -490,7 +781,11 @@ fn messages(rt: HostRuntime) -> Result<(), Fail> {
         ),
         (
             ConfigFault::BadWord,
-            "expected `independent`, `address` or `address-port` as `filter`",
+            "expected `independent`, `address` or `address-port` as `filter`, or `udp` or `tcp` as `protocol`",
+        ),
+        (
+            ConfigFault::DoubleRedirect,
+            "expected at most one `redirect` of a protocol for each inside endpoint and for each external endpoint",
         ),
     ] {
         assert_eq!(rt; fault.to_string(alloc)?.as_str(), message);

@@ -4,3 +4,7 @@ pub mod StepsLocal
 pub mod Live
 pub mod Sound
 pub mod Standing
+pub mod Named
+pub mod Tables
+pub mod Opened
+pub mod Orders

@@ -8,3 +8,7 @@ pub mod Steps
 pub mod Endpoints
 pub mod Live
 pub mod Local
+pub mod Opening
+pub mod Tables
+pub mod Shown
+pub mod Rows

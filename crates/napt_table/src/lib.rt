@@ -7,12 +7,17 @@ ghost use Rattle.std.specs.Prelude.{◌≡◌, ℕ, List};
 ghost use Rattle.napt_table.specs.Local.{PurgeIsLocal, LaterPurgeCounts, OutIsLocal, OutLeavesOthers, InIsLocal, InLeavesOthers};
 ghost use Rattle.napt_table.specs.Endpoints.{PurgeStaysSound, OutStaysSound, InStaysSound, SoundIsApart};
 ghost use Rattle.napt_table.specs.Live.{OutLeavesLive, InLeavesLive};
+ghost use Rattle.napt_table.specs.Opening.{OpeningIsSound};
+ghost use Rattle.napt_table.specs.Rows.{RowsAreInOrder};
+ghost use Rattle.napt_table.specs.Tables.{TablesShareNothing, TablesAreNumbered};
 
 mod choice;
 mod life;
 mod list;
+mod rows;
 mod search;
 mod session;
+mod table;
 #[cfg(test)]
 mod tests;
 mod traffic;
@@ -20,6 +25,7 @@ mod traffic;
 pub use list::Bindings;
 use napt_wire::{Endpoint, Protocol};
 use std::marker::Model;
+pub use table::Table;
 
 /// What a TCP flow was seen to do: a SYN and a FIN of each side, and a reset (RFC 5382, REQ-2 and REQ-5).
 #[derive(Clone, Copy, Debug, PartialEq, Eq)]
@@ -70,6 +76,16 @@ pub struct Binding {
     pub flows: Flows,
 }
 
+/// What a table tells of one binding.
+#[derive(Clone, Copy, Debug, PartialEq, Eq)]
+pub struct Row {
+    pub protocol: Protocol,
+    pub inside: Endpoint,
+    pub external: Endpoint,
+    /// A static redirect.
+    pub fixed: bool,
+}
+
 /// A class of external numbers: the least one, how many, and how far apart.
 #[derive(Clone, Copy)]
 pub struct Class {
@@ -100,4 +116,20 @@ pub fn steps_stay_sound()
     ensures outbound { OutStaysSound }
     ensures inbound { InStaysSound }
     ensures apart { SoundIsApart }
+{}
+
+/// No two redirects of a configuration share an endpoint.
+pub fn opening_is_sound()
+    ensures { OpeningIsSound }
+{}
+
+/// No two bindings of a table share an endpoint, and no number of UDP or TCP is 0, at every moment.
+pub fn tables_share_nothing()
+    ensures apart { TablesShareNothing }
+    ensures numbered { TablesAreNumbered }
+{}
+
+/// The rows of a list are those of its bindings, in order.
+pub fn rows_are_in_order()
+    ensures { RowsAreInOrder }
 {}

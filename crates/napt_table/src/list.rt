@@ -2,15 +2,19 @@
 
 ghost use Rattle.std.specs.Prelude.{◌≡◌, ℕ, List, [], OnOk, OnErr, IfOk};
 ghost use Rattle.std.specs.Option.{option_map};
-ghost use Rattle.napt_config.specs.Rules.{AreTimers};
+ghost use Rattle.napt_config.specs.Rules.{AreTimers, pair_of};
 ghost use Rattle.napt_table.specs.Life as life;
+ghost use Rattle.napt_table.specs.Bindings.{of};
+ghost use Rattle.napt_table.specs.Opening.{opening, protocol_of, redirected};
+ghost use Rattle.napt_table.specs.Rows.{rows};
 ghost use Rattle.napt_table.specs.Steps as steps;
 
 use crate::choice::choose;
 use crate::life::purge;
+use crate::rows::sorted_rows;
 use crate::search::{live_inside_place, live_number_place, number_place};
-use crate::{Binding, Flows};
-use napt_config::{Filter, Timers};
+use crate::{Binding, Flows, Row};
+use napt_config::{Config, Filter, Redirect, Timers};
 use napt_wire::{Cause, Endpoint, Flags, Protocol};
 use std::alloc::{AllocError, Global};
 use std::marker::Model;
@@ -30,6 +34,37 @@ impl Model for Bindings {
     ghost view = { λ bindings. bindings.items.items };
 }
 
+/// The protocol of a redirect.
+fn protocol_of(tcp: bool) -> Protocol
+    ensures { result ≡ protocol_of tcp }
+{
+    if tcp { Protocol::Tcp } else { Protocol::Udp }
+}
+
+impl Binding {
+    /// The binding of a redirect, at the address with which its host is paired. It takes no memory.
+    fn redirected(alloc: Global, config: &Config, redirect: Redirect) -> Binding
+        ensures { result ≡ redirected (pair_of config.now) redirect }
+    {
+        Binding {
+            protocol: protocol_of(redirect.tcp),
+            inside: Endpoint {
+                address: redirect.address,
+                number: redirect.port,
+            },
+            external: Endpoint {
+                address: config.pair(redirect.address),
+                number: redirect.external,
+            },
+            fixed: true,
+            last: 0,
+            flows: Flows {
+                items: Vec::new(alloc),
+            },
+        }
+    }
+}
+
 impl Bindings {
     /// No bindings. It takes no memory.
     pub fn new(alloc: Global) -> Bindings
@@ -38,6 +73,25 @@ impl Bindings {
         Bindings {
             items: Vec::new(alloc),
         }
+    }
+
+    /// The bindings that a translator of the configuration begins with: its redirects, in their order.
+    pub fn opening(alloc: Global, config: &Config) -> Result<Bindings, AllocError>
+        ensures list { IfOk result (λ list. list ≡ opening config.now) }
+    {
+        let mut items = Vec::new(alloc);
+        for redirect in config.redirects() {
+            items.push(Binding::redirected(alloc, config, *redirect))?;
+        }
+        Ok(Bindings { items })
+    }
+
+    /// Drops the bindings of every other external address.
+    pub(crate) fn keep_at(&mut self, address: u32)
+        ensures { self.new ≡ of address self.old }
+    {
+        self.items
+            .retain(|binding| binding.external.address == address);
     }
 
     /// A packet goes out at the external address: answers the number that stands for its inside endpoint there, or
@@ -138,6 +192,14 @@ impl Bindings {
     {
         let place = live_inside_place(&self.items, timers, now, address, protocol, inside)?;
         Some(self.items[place].external.number)
+    }
+
+    /// What is live at `now` (ns), by protocol (ICMP, TCP, UDP), then by external number.
+    pub fn rows(&self, alloc: Global, timers: Timers, now: u64) -> Result<Vec<Row>, AllocError>
+        requires { AreTimers timers }
+        ensures { IfOk result (λ made. made.items ≡ rows timers now self.now) }
+    {
+        sorted_rows(alloc, &self.items, timers, now)
     }
 }
 

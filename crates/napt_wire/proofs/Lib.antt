@@ -4,5 +4,6 @@ pub mod Checksums
 pub mod Ends
 pub mod Readings
 pub mod RightKept
+pub mod Stays
 pub mod WithEnd
 pub mod WithInner

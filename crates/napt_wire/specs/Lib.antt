@@ -7,3 +7,4 @@ pub mod Packet
 pub mod Right
 pub mod Rewrite
 pub mod Room
+pub mod Laws

@@ -11,6 +11,7 @@
 mod bytes;
 mod checksum;
 mod form;
+mod laws;
 mod packet;
 mod reading;
 mod rewrite;
@@ -18,6 +19,7 @@ mod rewrite;
 mod tests;
 
 pub use checksum::{fix_check, fix_check_udp};
+pub use laws::{packets_carry_numbers, packets_keep_their_way};
 pub use packet::Packet;
 
 /// The side of the translator on which a packet arrived.

@@ -117,7 +117,6 @@ impl Packet {
     }
 
     /// What the packet is.
-
     #[tactic(auto, unfolding(crate::specs::Fields::kind))]
     pub fn kind(&self) -> Kind
         ensures { result ≡ kind self.now }

@@ -3,19 +3,24 @@ use std::alloc::{AllocError, Global};
 use std::test::Fail;
 
 const HELP: &str = "\
-Network address and port translation for IPv4: reads a capture of the packets that inside hosts send, \
-and writes the capture of what leaves for the outside, with external addresses and ports as sources.
+Network address and port translation for IPv4: reads captures of the packets that inside hosts and \
+the outside send, and writes the captures of what leaves for the other side, with addresses and \
+ports translated.
 
 Usage: napt [OPTIONS]
 
 Options:
       --config <FILE>      Configuration in TOML [default: the built-in configuration]
       --inside <FILE>      Capture of what inside hosts send [default: standard input]
+      --outside <FILE>     Capture of what comes from the outside [default: no packets]
       --to-outside <FILE>  Capture of what leaves for the outside [default: standard output]
+      --to-inside <FILE>   Capture of what goes to inside hosts [default: not written]
+      --report <FILE>      Counts of what became of the packets, and the live bindings [default: not written]
   -h, --help               Print help
 
 Example:
-  napt --config napt.toml --inside inside.pcap --to-outside outside.pcap
+  napt --config napt.toml --inside inside.pcap --outside outside.pcap \\
+       --to-outside to-outside.pcap --to-inside to-inside.pcap --report report.txt
 
 Exit status:
   0  done
@@ -45,45 +50,73 @@ fn owned(alloc: Global, text: Option<&str>) -> Result<Option<String>, AllocError
     }
 }
 
-fn options(
-    alloc: Global,
-    config: Option<&str>,
-    inside: Option<&str>,
-    to_outside: Option<&str>,
-) -> Result<Options, AllocError> {
+/// The files of the options, in the order of the help text.
+type Named<'a> = [Option<&'a str>; 6];
+
+const NOTHING: Named<'static> = [None, None, None, None, None, None];
+
+fn options(alloc: Global, named: Named<'_>) -> Result<Options, AllocError> {
+    let [config, inside, outside, to_outside, to_inside, report] = named;
     Ok(Options {
         config: owned(alloc, config)?,
         inside: owned(alloc, inside)?,
-        outside: None,
+        outside: owned(alloc, outside)?,
         to_outside: owned(alloc, to_outside)?,
-        to_inside: None,
-        report: None,
+        to_inside: owned(alloc, to_inside)?,
+        report: owned(alloc, report)?,
     })
 }
 
 #[test]
 fn gives_each_option_its_file(rt: HostRuntime) -> Result<(), Fail> {
     let alloc = rt.alloc();
-    let lines: [(&[&str], [Option<&str>; 3]); 10] = [
-        (&[], [None, None, None]),
-        (&["--config", "c"], [Some("c"), None, None]),
-        (&["--inside", "i"], [None, Some("i"), None]),
-        (&["--to-outside", "o"], [None, None, Some("o")]),
+    let lines: [(&[&str], Named<'_>); 9] = [
+        (&[], NOTHING),
         (
-            &["--config", "c", "--inside", "i", "--to-outside", "o"],
-            [Some("c"), Some("i"), Some("o")],
+            &["--config", "c"],
+            [Some("c"), None, None, None, None, None],
         ),
         (
-            &["--to-outside", "o", "--inside", "i", "--config", "c"],
-            [Some("c"), Some("i"), Some("o")],
+            &["--inside", "i"],
+            [None, Some("i"), None, None, None, None],
         ),
-        (&["--inside=i"], [None, Some("i"), None]),
-        (&["--inside", "-"], [None, Some("-"), None]),
-        (&["--inside=-x"], [None, Some("-x"), None]),
-        (&["--inside", "a b=c", "--"], [None, Some("a b=c"), None]),
+        (
+            &["--outside", "o"],
+            [None, None, Some("o"), None, None, None],
+        ),
+        (
+            &["--to-outside", "a"],
+            [None, None, None, Some("a"), None, None],
+        ),
+        (
+            &["--to-inside", "b"],
+            [None, None, None, None, Some("b"), None],
+        ),
+        (
+            &["--report", "r"],
+            [None, None, None, None, None, Some("r")],
+        ),
+        (
+            &[
+                "--report", "r", "--to-inside", "b", "--to-outside", "a", "--outside", "o", "--inside", "i",
+                "--config", "c",
+            ],
+            [
+                Some("c"),
+                Some("i"),
+                Some("o"),
+                Some("a"),
+                Some("b"),
+                Some("r"),
+            ],
+        ),
+        (
+            &["--outside=o", "--inside=-x", "--report", "-", "--"],
+            [None, Some("-x"), Some("o"), None, None, Some("-")],
+        ),
     ];
-    for (arguments, [config, inside, to_outside]) in lines {
-        let wanted = options(alloc, config, inside, to_outside)?;
+    for (arguments, named) in lines {
+        let wanted = options(alloc, named)?;
         assert_eq!(rt; parsed(alloc, arguments)?, Ok(wanted), "at {arguments:?}");
     }
     Ok(())
@@ -92,14 +125,14 @@ fn gives_each_option_its_file(rt: HostRuntime) -> Result<(), Fail> {
 #[test]
 fn takes_a_line_without_a_name(rt: HostRuntime) -> Result<(), Fail> {
     let alloc = rt.alloc();
-    let wanted = options(alloc, None, None, None)?;
+    let wanted = options(alloc, NOTHING)?;
     assert_eq!(rt; parse_words(alloc, Vec::new(alloc)), Ok(wanted));
     Ok(())
 }
 
 #[test]
 fn refuses_mistaken_lines(rt: HostRuntime) -> Result<(), Fail> {
-    let lines: [&[&str]; 17] = [
+    let lines: [&[&str]; 16] = [
         &["--inside"],
         &["--frob"],
         &["x"],
@@ -112,9 +145,8 @@ fn refuses_mistaken_lines(rt: HostRuntime) -> Result<(), Fail> {
         &["-i", "i"],
         &["-config", "c"],
         &["--Inside", "i"],
-        &["--outside", "o"],
-        &["--to-inside", "i"],
-        &["--report", "r"],
+        &["--report"],
+        &["--to-inside", "b", "--to-inside=b"],
         &["--version"],
         &["--frob", "--help"],
     ];

@@ -1,6 +1,8 @@
-use super::{FirstFault, Role, Stop, stop_line, stop_status};
+use super::{Role, Stop, stop_line, stop_status};
 use napt_capture::{CaptureFault, WriteFault};
 use napt_config::ConfigFault;
+use napt_run::{Fault, RunFault, Which};
+use napt_wire::Side;
 use std::test::Fail;
 
 #[test]
@@ -15,11 +17,30 @@ fn names_lines_files_and_runs(rt: HostRuntime) -> Result<(), Fail> {
         (Stop::File(Role::ToOutside), 6, "napt: file to-outside"),
         (Stop::File(Role::ToInside), 6, "napt: file to-inside"),
         (Stop::File(Role::Report), 6, "napt: file report"),
-        (Stop::Run(FirstFault::Memory), 5, "napt: run memory"),
         (
-            Stop::Run(FirstFault::Write(written)),
+            Stop::Run(Fault::Run(RunFault::Memory)),
+            5,
+            "napt: run memory",
+        ),
+        (
+            Stop::Run(Fault::Run(RunFault::TooMany)),
+            5,
+            "napt: run too-many",
+        ),
+        (
+            Stop::Run(Fault::Write(Which::Outside, written)),
             6,
             "napt: write to-outside",
+        ),
+        (
+            Stop::Run(Fault::Write(Which::Inside, written)),
+            6,
+            "napt: write to-inside",
+        ),
+        (
+            Stop::Run(Fault::Write(Which::Report, written)),
+            6,
+            "napt: write report",
         ),
     ];
     for (stop, status, line) in stops {
@@ -46,6 +67,7 @@ fn names_faults_of_configurations(rt: HostRuntime) -> Result<(), Fail> {
         (ConfigFault::DoublePair, "napt: config double-pair"),
         (ConfigFault::NotInPool, "napt: config not-in-pool"),
         (ConfigFault::NotInside, "napt: config not-inside"),
+        (ConfigFault::DoubleRedirect, "napt: config double-redirect"),
         (ConfigFault::TimerTooShort, "napt: config timer-too-short"),
         (ConfigFault::Memory, "napt: config memory"),
     ];
@@ -60,26 +82,28 @@ fn names_faults_of_configurations(rt: HostRuntime) -> Result<(), Fail> {
 #[test]
 fn names_faults_of_captures(rt: HostRuntime) -> Result<(), Fail> {
     let stops = [
-        (CaptureFault::NoHeader, "napt: capture inside no-header"),
-        (CaptureFault::BadMagic, "napt: capture inside bad-magic"),
-        (CaptureFault::BadVersion, "napt: capture inside bad-version"),
-        (CaptureFault::BadLink, "napt: capture inside bad-link"),
-        (
-            CaptureFault::BadFraction(3),
-            "napt: capture inside bad-fraction 3",
-        ),
+        (CaptureFault::NoHeader, "no-header"),
+        (CaptureFault::BadMagic, "bad-magic"),
+        (CaptureFault::BadVersion, "bad-version"),
+        (CaptureFault::BadLink, "bad-link"),
+        (CaptureFault::BadFraction(3), "bad-fraction 3"),
         (
             CaptureFault::TooLong(u64::MAX),
-            "napt: capture inside too-long 18446744073709551615",
+            "too-long 18446744073709551615",
         ),
-        (CaptureFault::TooLarge, "napt: capture inside too-large"),
-        (CaptureFault::Read, "napt: capture inside read"),
-        (CaptureFault::Memory, "napt: capture inside memory"),
+        (CaptureFault::TooLarge, "too-large"),
+        (CaptureFault::Read, "read"),
+        (CaptureFault::Memory, "memory"),
     ];
-    for (fault, line) in stops {
-        let stop = Stop::Run(FirstFault::Capture(fault));
-        assert_eq!(rt; stop_status(&stop), 4, "at {stop}");
-        assert_eq!(rt; stop_line(rt.alloc(), &stop)?.as_str(), line);
+    for (fault, name) in stops {
+        for (side, front) in [(Side::Inside, "inside"), (Side::Outside, "outside")] {
+            let stop = Stop::Run(Fault::Capture(side, fault));
+            assert_eq!(rt; stop_status(&stop), 4, "at {stop}");
+            assert_eq!(rt;
+                stop_line(rt.alloc(), &stop)?,
+                format!(in rt.alloc(); "napt: capture {front} {name}")?
+            );
+        }
     }
     Ok(())
 }

@@ -1,8 +1,13 @@
-use Rattle.std.proofs.Common.{rules}
+use Rattle.std.proofs.Common.{◌≡◌, Ok, rules}
 use Rattle.toml.specs.View.{table_view}
-use Rattle.napt_config.specs.Configured.{configured}
-use Rattle.napt_config.proofs.Laws.{configured-keeps}
+use Rattle.napt_config.specs.Configured.{configured, pool_in}
+use Rattle.napt_config.proofs.Laws.{configured-keeps, pool_in-keeps}
 use Rattle.napt_config.proofs.config.Config.of_table.Goals as goal
+
+pub redirects-requires : goal.redirects-requires
+redirects-requires c =
+    let is : pool_in (table_view c.args.table.now) ≡ Ok c.in_ok-pool.pool.items = search rules in
+    record { some = rw c.deref-5.ensures.value (pool_in-keeps (table_view c.args.table.now) _ is).some }
 
 pub invariant_of-result : goal.invariant_of-result
 unfolding configured

@@ -1,0 +1,124 @@
+-- Redirects that are read keep their rules.
+use Rattle.std.proofs.Common.{◌≡◌, ℕ, ◌+◌, ◌<◌, ◌≤◌, false, not, List, [], ◌∷◌, ◌++◌, length, Some, Ok, nat_le, refl, sym, ap, subst, ◌∙◌, leb-true, length-append, arith}
+use Rattle.std.specs.Prelude.{All, codes}
+use Rattle.std.specs.List.{before_first, after_first}
+use Rattle.std.proofs.lemmas.Bool.{not-true, or_parts, or_from}
+use Rattle.std.proofs.lemmas.List.Elements.{All-push, All-nil}
+use Rattle.std.proofs.lemmas.List.Folds.{list_any-append}
+use Rattle.std.proofs.lemmas.Option.{option_and_then_some}
+use Rattle.toml.specs.Data.{Data, Members}
+use Rattle.napt_config.specs.declared.fault.ConfigFault.TheVariants.{NotInside, TooMany, DoubleRedirect}
+use Rattle.napt_config.specs.declared.settings.Redirect.{Redirect}
+use Rattle.napt_config.specs.Network.{Network, Socket, have_address}
+use Rattle.napt_config.specs.Text.{address_of, number_of, socket_of, socket_at, is_colon}
+use Rattle.napt_config.specs.Rules.{IsRedirect, is_double, AreSingle}
+use Rattle.napt_config.specs.Configured.{item_count, text_in, number_in, table_in, list_in, required, is_tcp_in, endpoint_in, port_in, redirect_in, have_double, with_redirect, redirects_at, redirects_in}
+use Rattle.napt_config.proofs.Chains.{reads, holds, ok_or_ok, optional_reads, each_keeps, each_adds}
+use Rattle.napt_config.proofs.Numbers.{number_of-range, between-range}
+
+-- ---- one entry
+
+socket_of-port : (text : List ℕ) (socket : Socket) → socket_of text ≡ Some socket → 0 < socket.port
+unfolding socket_of
+socket_of-port text socket is =
+    option_and_then_some _ (address_of (before_first is_colon text)) socket is λ address _ more.
+    option_and_then_some _ (number_of 1 65535 (after_first is_colon text)) socket more λ port counted made.
+    let same : socket_at address port ≡ Some socket = made in
+    let P : Socket → Type 0 = λ s. 0 < s.port in
+    let low : 0 < port = omega (arith, (number_of-range 1 65535 port _ counted).0) in
+    let is : record { address = address; port = port } ≡ socket = cc in
+    subst P is low
+
+endpoint_in-port : (key : List ℕ) (keys : Members) (socket : Socket) → endpoint_in key keys ≡ Ok socket → 0 < socket.port
+unfolding endpoint_in
+endpoint_in-port key keys socket is =
+    reads (required key keys) _ socket is λ value _ read.
+    reads (text_in value) _ socket read λ text _ found.
+    socket_of-port text socket (ok_or_ok _ _ _ found)
+
+port_in-some : (key : List ℕ) (keys : Members) (port : ℕ) → port_in key keys ≡ Ok port → 0 < port
+unfolding port_in
+port_in-some key keys port is =
+    reads (required key keys) _ port is λ value _ read.
+    reads (number_in value) _ port read λ number _ ranged.
+    omega (arith, (between-range 1 65535 port number (ok_or_ok _ _ _ ranged)).0)
+
+redirect_in-is : (inside : List Network) (entry : Data) (redirect : Redirect) → redirect_in inside entry ≡ Ok redirect → IsRedirect inside redirect
+unfolding redirect_in
+redirect_in-is inside entry redirect is =
+    reads (table_in entry) _ redirect is λ keys _ rest.
+    reads (is_tcp_in keys) _ redirect rest λ tcp _ rest₁.
+    reads (endpoint_in (codes "inside") keys) _ redirect rest₁ λ host host_is ruled.
+    holds (have_address inside host.address) NotInside _ redirect ruled λ host_inside rest₂.
+    reads (port_in (codes "external") keys) _ redirect rest₂ λ external external_is last.
+    let made : Redirect = record { tcp = tcp; address = host.address; port = host.port; external = external } in
+    let same : made ≡ redirect = cc in
+    subst (IsRedirect inside) same (record {
+      host = host_inside;
+      port = endpoint_in-port (codes "inside") keys host host_is;
+      external = port_in-some (codes "external") keys external external_is;
+    })
+
+-- ---- all entries
+
+AreSingle-push : (pair : ℕ → ℕ) (redirects : List Redirect) (last : Redirect) → AreSingle pair redirects
+    → have_double pair redirects last ≡ false → AreSingle pair (redirects ++ last ∷ [])
+unfolding have_double
+AreSingle-push pair [] last single new = (refl, tt)
+AreSingle-push pair (redirect ∷ redirects) last single new =
+    let (apart, later) = or_parts (is_double pair redirect last) _ new in
+    let with_last = list_any-append (is_double pair redirect) redirects (last ∷ []) in
+    (with_last ∙ or_from _ _ single.0 (or_from _ _ apart refl), AreSingle-push pair redirects last single.1 later)
+
+module _ (inside : List Network) (pair : ℕ → ℕ) where
+  record RedirectStep (now next : List Redirect) : Type 0 where
+    pub redirect : Redirect
+    pub fine : IsRedirect inside redirect
+    pub new : have_double pair now redirect ≡ false
+    pub is : next ≡ now ++ redirect ∷ []
+
+  redirect_step : (now next : List Redirect) (entry : Data) → with_redirect inside pair now entry ≡ Ok next → RedirectStep now next
+  unfolding with_redirect
+  redirect_step now next entry is =
+      reads (redirect_in inside entry) _ next is λ redirect read ruled.
+      holds (not (have_double pair now redirect)) DoubleRedirect _ next ruled λ new last.
+      record { redirect = redirect; fine = redirect_in-is inside entry redirect read; new = not-true _ new; is = cc }
+
+  pub record RedirectsSoFar (read : List Redirect) : Type 0 where
+    pub redirects : All (IsRedirect inside) read
+    pub single : AreSingle pair read
+
+  redirects_keep : (now next : List Redirect) (entry : Data) → RedirectsSoFar now → with_redirect inside pair now entry ≡ Ok next → RedirectsSoFar next
+  redirects_keep now next entry start is =
+      let step = redirect_step now next entry is in
+      subst RedirectsSoFar (sym step.is) (record {
+        redirects = All-push (IsRedirect inside) now step.redirect start.redirects step.fine;
+        single = AreSingle-push pair now step.redirect start.single step.new;
+      })
+
+  redirects_add : (now next : List Redirect) (entry : Data) → with_redirect inside pair now entry ≡ Ok next → length next ≡ length now + 1
+  redirects_add now next entry is =
+      let step = redirect_step now next entry is in
+      ap length step.is ∙ length-append now (step.redirect ∷ [])
+
+  pub record RedirectRules (redirects : List Redirect) : Type 0 where
+    pub few : length redirects ≤ 256
+    pub kept : RedirectsSoFar redirects
+
+  no_redirects : RedirectsSoFar []
+  no_redirects = record { redirects = All-nil _; single = tt }
+
+  redirects_at-keeps : (value : Data) (redirects : List Redirect) → redirects_at inside pair value ≡ Ok redirects → RedirectRules redirects
+  unfolding redirects_at
+  redirects_at-keeps value redirects is =
+      reads (list_in value) _ redirects is λ entries _ ruled.
+      holds (nat_le (item_count entries) 256) TooMany _ redirects ruled λ few more.
+      let most = leb-true (item_count entries) 256 few in
+      let long = each_adds (with_redirect inside pair) length redirects_add [] redirects entries more in
+      record { few = omega (arith, most, long); kept = each_keeps (with_redirect inside pair) RedirectsSoFar redirects_keep [] redirects entries no_redirects more }
+
+  pub redirects_in-keeps : (table : Members) (redirects : List Redirect) → redirects_in inside pair table ≡ Ok redirects → RedirectRules redirects
+  unfolding redirects_in
+  redirects_in-keeps table redirects is =
+      optional_reads RedirectRules (codes "redirect") [] (redirects_at inside pair) table redirects is
+      (record { few = omega arith; kept = no_redirects }) (λ value y read. redirects_at-keeps value y read)

@@ -1,0 +1,9 @@
+use Rattle.std.proofs.Common.{◌≡◌, drop}
+use Rattle.std.specs.List.{list_any}
+use Rattle.napt_config.specs.Rules.{paired, is_double}
+use Rattle.napt_config.proofs.redirects.have_double.Given as goal
+
+abbrev pub invariant-loop-redirect : goal.invariant-loop-redirect
+invariant-loop-redirect l =
+    list_any (λ redirect. is_double (paired l.pool l.pairs.entries) redirect l.later) (drop l.redirect-index l.earlier)
+    ≡ list_any (λ redirect. is_double (paired l.pool l.pairs.entries) redirect l.later) l.earlier

@@ -1,0 +1,16 @@
+pub mod Alone
+pub mod Begun
+pub mod Devices
+pub mod Dispatched
+pub mod Grown
+pub mod LegsLocal
+pub mod Merges
+pub mod Results
+pub mod Rows
+pub mod RunsLocal
+pub mod Seats
+pub mod Sends
+pub mod Shown
+pub mod Sound
+pub mod Steps
+pub mod Texts

@@ -1,0 +1,17 @@
+use Rattle.std.proofs.Common.{ℕ, ◌++◌, ◌∙◌, ap, codes, count_by, flat_map, length, string_bytes}
+use Rattle.napt_run.specs.Report as model
+use Rattle.napt_run.proofs.Texts.{four_pieces}
+use Rattle.napt_run.proofs.report.push_counts.Goals as goal
+
+pub returns : goal.returns
+returns c =
+    four_pieces (string_bytes c.args.report.now)
+    (model.count_line (codes "packets") (length c.args.outcomes.now))
+    (model.count_line (codes "to outside") (count_by model.is_to_outside c.args.outcomes.now))
+    (model.count_line (codes "to inside") (count_by model.is_to_inside c.args.outcomes.now))
+    (flat_map (model.drop_line c.args.outcomes.now) model.causes)
+    (string_bytes c.push_count.new.report) (string_bytes c.push_count-2.new.report) (string_bytes c.push_count-3.new.report) (string_bytes c.push_drops.new.report)
+    c.in_ok-push_count.ensures
+    (c.in_ok-push_count-2.ensures ∙ ap (λ (count : ℕ). string_bytes c.push_count.new.report ++ model.count_line (codes "to outside") count) c.count_to_outside.ensures)
+    (c.in_ok-push_count-3.ensures ∙ ap (λ (count : ℕ). string_bytes c.push_count-2.new.report ++ model.count_line (codes "to inside") count) c.count_to_inside.ensures)
+    c.in_ok-push_drops.ensures

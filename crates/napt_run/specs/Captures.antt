@@ -1,0 +1,142 @@
+-- What a run over captures leaves on its devices. Where the bytes of a reader or a writer are not known, nothing is claimed of them.
+use Rattle.std.specs.Prelude.{◌≡◌, ℕ, ◌≤◌, ◌^◌, List, [], length, take, false, IfSome, string_bytes, Option, Some, None, Result, Ok, Err}
+use Rattle.std.specs.Io.KnownBytes.{Appends}
+use Rattle.napt_wire.specs.declared.Side.{Side}
+use Rattle.napt_wire.specs.declared.Side.TheVariants as sides
+use Rattle.napt_capture.specs.Contents.{Contents}
+use Rattle.napt_capture.specs.Capture.{IsCapture, Answers, failed_reads}
+use Rattle.napt_capture.specs.Text.{text}
+use Rattle.napt_capture.specs.declared.fault.CaptureFault.{CaptureFault}
+use Rattle.napt_config.specs.Rules.{Rules}
+use Rattle.napt_run.specs.declared.fault.Fault.{Fault}
+use Rattle.napt_run.specs.declared.fault.Fault.TheVariants.{Capture, Run, Write}
+use Rattle.napt_run.specs.declared.fault.RunFault.{RunFault}
+use Rattle.napt_run.specs.declared.fault.RunFault.TheVariants.{Memory, TooMany}
+use Rattle.napt_run.specs.declared.fault.Which.{Which}
+use Rattle.napt_run.specs.declared.fault.Which.TheVariants.{Outside, Inside, Report}
+use Rattle.napt_run.specs.declared.captures.Captures.{Captures}
+use Rattle.napt_run.specs.declared.captures.Outputs.{Outputs}
+use Rattle.napt_run.specs.Inputs.{Arrival}
+use Rattle.napt_run.specs.Sequential.{ran}
+use Rattle.napt_run.specs.Merge.{IsMerged}
+use Rattle.napt_run.specs.Output.{records_to}
+use Rattle.napt_run.specs.Report.{report_text}
+
+-- WHAT IS READ
+
+-- where the bytes of the inside capture are known, and those of the outside one where there is one
+abbrev pub IfKnown : Option (List ℕ) → Option (Option (List ℕ)) → (List ℕ → Option (List ℕ) → Type 0) → Type 0
+IfKnown inside outside Holds = IfSome inside (λ bytes. IfSome outside (λ others. Holds bytes others))
+
+-- no outside capture is one without records
+abbrev pub no_contents : Contents
+no_contents = record { records = []; cut = false }
+
+abbrev pub IsOutsideCapture : Option (List ℕ) → Contents → Type 0
+IsOutsideCapture None contents = contents ≡ no_contents
+IsOutsideCapture (Some bytes) contents = IsCapture bytes (Ok contents)
+
+-- what the bytes of both captures come to
+pub record AreRead (inside : List ℕ) (outside : Option (List ℕ)) (captures : Captures) : Type 0 where
+  pub inside_capture : IsCapture inside (Ok captures.inside)
+  pub outside_capture : IsOutsideCapture outside captures.outside
+
+-- WHAT IS WRITTEN
+
+-- the whole text of an output
+abbrev pub text_of : Rules → Which → Captures → List Arrival → List ℕ
+text_of rules Outside captures arrivals = text (records_to sides.Outside arrivals (ran rules arrivals).outcomes)
+text_of rules Inside captures arrivals = text (records_to sides.Inside arrivals (ran rules arrivals).outcomes)
+text_of rules Report captures arrivals = report_text captures.inside.cut captures.outside.cut (ran rules arrivals)
+
+-- what of its text an output gets
+pub data Share : Type 0 where
+  whole : Share
+  front : ℕ → Share
+  nothing : Share
+
+-- to the outside first, then to the inside, then the report; nothing after a fault of a capture or of the run
+abbrev pub share_of : Which → Result (Unit {0}) Fault → Share
+share_of which (Ok done) = whole
+share_of which (Err (Capture side fault)) = nothing
+share_of which (Err (Run fault)) = nothing
+share_of Outside (Err (Write Outside fault)) = front fault.written
+share_of Outside (Err (Write other fault)) = whole
+share_of Inside (Err (Write Outside fault)) = nothing
+share_of Inside (Err (Write Inside fault)) = front fault.written
+share_of Inside (Err (Write Report fault)) = whole
+share_of Report (Err (Write Report fault)) = front fault.written
+share_of Report (Err (Write other fault)) = nothing
+
+-- a writer whose bytes were old, and are new, got this share of a text
+abbrev pub Receives : Share → List ℕ → Option (List ℕ) → Option (List ℕ) → Type 0
+Receives whole text old new = Appends old new text
+Receives (front written) text old new = (written ≤ length text) × Appends old new (take written text)
+Receives nothing text old new = new ≡ old
+
+-- a writer got this share of the output of captures
+abbrev pub GetsOf : Rules → Captures → Which → Share → Option (List ℕ) → Option (List ℕ) → Type 0
+GetsOf rules captures which nothing old new = new ≡ old
+GetsOf rules captures which share old new =
+    (arrivals : List Arrival) × IsMerged captures.inside.records captures.outside.records arrivals
+    × Receives share (text_of rules which captures arrivals) old new
+
+-- and of the captures' bytes
+abbrev pub Gets : Rules → Which → Share → Option (List ℕ) → Option (Option (List ℕ)) → Option (List ℕ) → Option (List ℕ) → Type 0
+Gets rules which nothing inside outside old new = new ≡ old
+Gets rules which share inside outside old new =
+    IfKnown inside outside (λ bytes others. (captures : Captures) × AreRead bytes others captures × GetsOf rules captures which share old new)
+
+-- THE FAULT
+
+abbrev pub IsOutsideFault : Option (List ℕ) → CaptureFault → Type 0
+IsOutsideFault None fault = ⊥
+IsOutsideFault (Some bytes) fault = let answer : Result Contents CaptureFault = Err fault in Answers bytes answer
+
+-- the captures have too many records for a run
+abbrev pub AreTooMany : Captures → Type 0
+AreTooMany captures = (arrivals : List Arrival) × IsMerged captures.inside.records captures.outside.records arrivals × (2 ^ 32 ≤ length arrivals)
+
+-- what a fault says of the captures' bytes
+abbrev pub Explains : Option (List ℕ) → Option (Option (List ℕ)) → Fault → Type 0
+Explains inside outside (Capture sides.Inside fault) = IfSome inside (λ bytes. let answer : Result Contents CaptureFault = Err fault in Answers bytes answer)
+Explains inside outside (Capture sides.Outside fault) = IfSome outside (λ others. IsOutsideFault others fault)
+Explains inside outside (Run TooMany) =
+    IfKnown inside outside (λ bytes others. (captures : Captures) × AreRead bytes others captures × AreTooMany captures)
+Explains inside outside (Run Memory) = Unit {0}
+Explains inside outside (Write which fault) = Unit {0}
+
+-- how many reads of a side's capture failed, and how many writes of an output
+abbrev pub failed_readings : Side → Result (Unit {0}) Fault → ℕ
+failed_readings sides.Inside (Err (Capture sides.Inside fault)) = let answer : Result Contents CaptureFault = Err fault in failed_reads answer
+failed_readings sides.Outside (Err (Capture sides.Outside fault)) = let answer : Result Contents CaptureFault = Err fault in failed_reads answer
+failed_readings side other = 0
+
+abbrev pub failed_writings : Which → Result (Unit {0}) Fault → ℕ
+failed_writings Outside (Err (Write Outside fault)) = 1
+failed_writings Inside (Err (Write Inside fault)) = 1
+failed_writings Report (Err (Write Report fault)) = 1
+failed_writings which other = 0
+
+-- BETWEEN READING AND WRITING
+
+-- the outputs that were made for these captures
+pub record AreOutputs (rules : Rules) (captures : Captures) (outputs : Outputs) : Type 0 where
+  pub arrivals : List Arrival
+  pub merged : IsMerged captures.inside.records captures.outside.records arrivals
+  pub to_outside : outputs.to_outside.items ≡ records_to sides.Outside arrivals (ran rules arrivals).outcomes
+  pub to_inside : outputs.to_inside.items ≡ records_to sides.Inside arrivals (ran rules arrivals).outcomes
+  pub report : string_bytes outputs.report ≡ report_text captures.inside.cut captures.outside.cut (ran rules arrivals)
+
+-- what a fault says once the captures are read
+abbrev pub IsRefused : Captures → RunFault → Type 0
+IsRefused captures TooMany = AreTooMany captures
+IsRefused captures Memory = Unit {0}
+
+abbrev pub IsWriteFault : Fault → Type 0
+IsWriteFault (Write which fault) = Unit {0}
+IsWriteFault other = ⊥
+
+abbrev pub IsRefusedRun : Captures → Fault → Type 0
+IsRefusedRun captures (Run fault) = IsRefused captures fault
+IsRefusedRun captures fault = IsWriteFault fault

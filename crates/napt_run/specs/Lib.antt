@@ -1,0 +1,12 @@
+pub mod Inputs
+pub mod Sequential
+pub mod Seats
+pub mod Sound
+pub mod Laws
+pub mod Merge
+pub mod Taking
+pub mod Output
+pub mod Report
+pub mod Devices
+pub mod Captures
+pub mod Dispatching

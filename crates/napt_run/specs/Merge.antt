@@ -1,0 +1,55 @@
+-- The inputs of a run: the records of both captures, merged by their arrival times (this product's profile). Neither capture is sorted.
+use Rattle.std.specs.Prelude.{◌≡◌, ℕ, ◌+◌, ◌≤◌, ◌<◌, ◌↔◌, max, Bool, true, false, List, [], ◌∷◌, map, filter, take, slice_get, Some}
+use Rattle.napt_wire.specs.declared.Side.{Side}
+use Rattle.napt_wire.specs.declared.Side.TheVariants.{Inside, Outside}
+use Rattle.napt_capture.specs.Contents.{Entry}
+use Rattle.napt_run.specs.Inputs.{Arrival}
+
+-- what a record and its input have in common
+pub record Timed : Type 0 where
+  pub time : ℕ
+  pub bytes : List ℕ
+
+abbrev pub of_record : Entry → Timed
+of_record entry = record { time = entry.time; bytes = entry.bytes }
+
+abbrev pub of_input : Arrival → Timed
+of_input input = record { time = input.time; bytes = input.bytes }
+
+abbrev pub same_side : Side → Side → Bool
+same_side Inside Inside = true
+same_side Outside Outside = true
+same_side _ _ = false
+
+abbrev pub is_from : Side → Arrival → Bool
+is_from side input = same_side side input.side
+
+-- the greatest arrival time; 0 where there is no input
+abbrev pub latest : List Arrival → ℕ
+latest [] = 0
+latest (input ∷ inputs) = max input.time (latest inputs)
+
+-- the greatest arrival time up to a place
+abbrev pub clock_at : ℕ → List Arrival → ℕ
+clock_at place inputs = latest (take (place + 1) inputs)
+
+-- the same, of one side's inputs
+abbrev pub reach : Side → ℕ → List Arrival → ℕ
+reach side place inputs = latest (filter (is_from side) (take (place + 1) inputs))
+
+-- an inside input stands before an outside one exactly where the greatest time of the inside up to the one is at most that of the
+-- outside up to the other
+abbrev pub AreInOrder : List Arrival → Type 0
+AreInOrder inputs =
+    (i o : ℕ) (a b : Arrival) → slice_get inputs i ≡ Some a → slice_get inputs o ≡ Some b → a.side ≡ Inside → b.side ≡ Outside
+    → (i < o) ↔ (reach Inside i inputs ≤ reach Outside o inputs)
+
+abbrev pub HaveClocks : List Arrival → Type 0
+HaveClocks inputs = (place : ℕ) (input : Arrival) → slice_get inputs place ≡ Some input → input.clock ≡ clock_at place inputs
+
+-- each side's inputs are its records in their order, and both are in order
+pub record IsMerged (insides outsides : List Entry) (inputs : List Arrival) : Type 0 where
+  pub inside : map of_input (filter (is_from Inside) inputs) ≡ map of_record insides
+  pub outside : map of_input (filter (is_from Outside) inputs) ≡ map of_record outsides
+  pub order : AreInOrder inputs
+  pub clock : HaveClocks inputs

@@ -1,0 +1,31 @@
+-- The records that a run writes: the outcomes to a side in the order of their inputs, each with the arrival time of its input.
+use Rattle.std.specs.Prelude.{ℕ, ◌*◌, ◌<◌, ◌^◌, List, length, filter_map, zip, Option, Some, None}
+use Rattle.napt_wire.specs.declared.Side.{Side}
+use Rattle.napt_wire.specs.declared.Side.TheVariants.{Inside, Outside}
+use Rattle.napt_capture.specs.Contents.{Entry}
+use Rattle.napt_run.specs.declared.outcome.Outcome.{Outcome}
+use Rattle.napt_run.specs.declared.outcome.Outcome.TheVariants.{ToOutside, ToInside, Dropped}
+use Rattle.napt_run.specs.Inputs.{Arrival}
+
+-- the packet that an outcome sends to a side
+abbrev pub packet_to : Side → Outcome → Option (List ℕ)
+packet_to Outside (ToOutside packet) = Some packet
+packet_to Inside (ToInside packet) = Some packet
+packet_to side other = None
+
+abbrev pub sent_at : ℕ → List ℕ → Entry
+sent_at time packet = record { time = time; bytes = packet; original = length packet }
+
+abbrev pub record_at : ℕ → Option (List ℕ) → Option Entry
+record_at time (Some packet) = Some (sent_at time packet)
+record_at time None = None
+
+abbrev pub record_to : Side → Arrival × Outcome → Option Entry
+record_to side pair = record_at pair.0.time (packet_to side pair.1)
+
+abbrev pub records_to : Side → List Arrival → List Outcome → List Entry
+records_to side arrivals outcomes = filter_map (record_to side) (zip arrivals outcomes)
+
+-- arrival times for which a capture has room
+abbrev pub IsTimely : Arrival → Type 0
+IsTimely arrival = arrival.time < 2 ^ 32 * 1000000000

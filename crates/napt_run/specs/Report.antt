@@ -1,0 +1,114 @@
+-- The report of a run, a line for each fact: how many packets came and what became of them, which captures were cut, and the bindings
+-- (this product's format).
+use Rattle.std.specs.Prelude.{ℕ, ◌==◌, Bool, true, false, List, [], ◌∷◌, ◌++◌, length, codes, count_by, decimal, flat_map}
+use Rattle.napt_wire.specs.declared.Cause.{Cause}
+use Rattle.napt_wire.specs.declared.Cause.TheVariants.{Truncated, NotIpv4, BadHeader, BadChecksum, Fragment, Unsupported, BadInner, BadPort, Spoofed, NotOurs, NoBinding, Filtered, NoPort}
+use Rattle.napt_wire.specs.declared.Endpoint.{Endpoint}
+use Rattle.napt_wire.specs.declared.Protocol.{Protocol}
+use Rattle.napt_wire.specs.declared.Protocol.TheVariants.{Icmp, Tcp, Udp}
+use Rattle.napt_config.specs.Text.{address_text}
+use Rattle.napt_table.specs.declared.Row.{Row}
+use Rattle.napt_run.specs.declared.outcome.Outcome.{Outcome}
+use Rattle.napt_run.specs.declared.outcome.Outcome.TheVariants.{ToOutside, ToInside, Dropped}
+use Rattle.napt_run.specs.Sequential.{Ran}
+
+abbrev pub Text : Type 0
+Text = List ℕ
+
+-- COUNTS
+
+abbrev pub count_line : Text → ℕ → Text
+count_line name count = name ++ codes " " ++ decimal count ++ codes "\n"
+
+abbrev pub is_to_outside : Outcome → Bool
+is_to_outside (ToOutside packet) = true
+is_to_outside other = false
+
+abbrev pub is_to_inside : Outcome → Bool
+is_to_inside (ToInside packet) = true
+is_to_inside other = false
+
+-- the causes, in the order of their lines
+abbrev pub causes : List Cause
+causes =
+    Truncated ∷ NotIpv4 ∷ BadHeader ∷ BadChecksum ∷ Fragment ∷ Unsupported ∷ BadInner ∷ BadPort ∷ Spoofed ∷ NotOurs ∷ NoBinding ∷ Filtered
+    ∷ NoPort ∷ []
+
+-- the place of a cause among them, from 0
+abbrev pub place_of : Cause → ℕ
+place_of Truncated = 0
+place_of NotIpv4 = 1
+place_of BadHeader = 2
+place_of BadChecksum = 3
+place_of Fragment = 4
+place_of Unsupported = 5
+place_of BadInner = 6
+place_of BadPort = 7
+place_of Spoofed = 8
+place_of NotOurs = 9
+place_of NoBinding = 10
+place_of Filtered = 11
+place_of NoPort = 12
+
+abbrev pub cause_name : Cause → Text
+cause_name Truncated = codes "truncated"
+cause_name NotIpv4 = codes "not-ipv4"
+cause_name BadHeader = codes "bad-header"
+cause_name BadChecksum = codes "bad-checksum"
+cause_name Fragment = codes "fragment"
+cause_name Unsupported = codes "unsupported"
+cause_name BadInner = codes "bad-inner"
+cause_name BadPort = codes "bad-port"
+cause_name Spoofed = codes "spoofed"
+cause_name NotOurs = codes "not-ours"
+cause_name NoBinding = codes "no-binding"
+cause_name Filtered = codes "filtered"
+cause_name NoPort = codes "no-port"
+
+abbrev pub is_dropped : Cause → Outcome → Bool
+is_dropped cause (Dropped given) = place_of given == place_of cause
+is_dropped cause other = false
+
+abbrev pub drop_line : List Outcome → Cause → Text
+drop_line outcomes cause = codes "drop " ++ count_line (cause_name cause) (count_by (is_dropped cause) outcomes)
+
+-- CUTS
+
+abbrev pub cut_line : Text → Bool → Text
+cut_line side true = codes "cut " ++ side ++ codes "\n"
+cut_line side false = []
+
+-- BINDINGS
+
+abbrev pub protocol_name : Protocol → Text
+protocol_name Icmp = codes "icmp"
+protocol_name Tcp = codes "tcp"
+protocol_name Udp = codes "udp"
+
+-- the address and the number, also where that is the 0 of an echo
+abbrev pub endpoint_text : Endpoint → Text
+endpoint_text endpoint = address_text endpoint.address ++ codes ":" ++ decimal endpoint.number
+
+abbrev pub fixed_text : Bool → Text
+fixed_text true = codes " fixed"
+fixed_text false = []
+
+abbrev pub row_line : Row → Text
+row_line row =
+    protocol_name row.protocol ++ codes " " ++ endpoint_text row.inside ++ codes " " ++ endpoint_text row.external ++ fixed_text row.fixed
+    ++ codes "\n"
+
+-- ALL
+
+abbrev pub counts_text : List Outcome → Text
+counts_text outcomes =
+    count_line (codes "packets") (length outcomes)
+    ++ count_line (codes "to outside") (count_by is_to_outside outcomes)
+    ++ count_line (codes "to inside") (count_by is_to_inside outcomes)
+    ++ flat_map (drop_line outcomes) causes
+
+abbrev pub cuts_text : Bool → Bool → Text
+cuts_text inside outside = cut_line (codes "inside") inside ++ cut_line (codes "outside") outside
+
+unfoldable pub report_text : Bool → Bool → Ran → Text
+report_text cut_inside cut_outside ran = counts_text ran.outcomes ++ cuts_text cut_inside cut_outside ++ flat_map row_line ran.bindings

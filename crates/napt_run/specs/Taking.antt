@@ -1,0 +1,22 @@
+-- What the step of a merge takes: the earlier of the two first records, the inside one at a tie.
+use Rattle.std.specs.Prelude.{◌≡◌, ℕ, ◌<◌, ◌≤◌, max, Bool, true, false, nat_lt, List, [], ◌∷◌, Option, Some, None}
+use Rattle.napt_wire.specs.declared.Side.{Side}
+use Rattle.napt_wire.specs.declared.Side.TheVariants.{Inside, Outside}
+use Rattle.napt_capture.specs.Contents.{Entry}
+use Rattle.napt_run.specs.Inputs.{Arrival}
+
+-- whether an outside record is next
+abbrev pub is_outside_next : List Entry → List Entry → Bool
+is_outside_next [] outs = true
+is_outside_next (first ∷ ins) [] = false
+is_outside_next (first ∷ ins) (other ∷ outs) = nat_lt other.time first.time
+
+-- the record that is taken, and what is left on each side
+abbrev pub Takes : List Entry → List Entry → Option (Side × Entry) → List Entry → List Entry → Type 0
+Takes ins outs None ins_left outs_left = (ins ≡ []) × (outs ≡ [])
+Takes ins outs (Some (Inside, entry)) ins_left outs_left = (ins ≡ entry ∷ ins_left) × (outs ≡ outs_left) × (is_outside_next ins outs ≡ false)
+Takes ins outs (Some (Outside, entry)) ins_left outs_left = (outs ≡ entry ∷ outs_left) × (ins ≡ ins_left) × (is_outside_next ins outs ≡ true)
+
+-- the input that a record becomes
+abbrev pub input_of : Side → ℕ → Entry → Arrival
+input_of side clock entry = record { side = side; time = entry.time; clock = clock; bytes = entry.bytes }

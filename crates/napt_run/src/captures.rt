@@ -1,0 +1,306 @@
+//! A run over captures: both are read, the run is made in memory, and only then anything is written.
+ghost use Rattle.std.specs.Prelude.{◌≡◌, ◌+◌, ◌-◌, ◌^◌, ◌<◌, length, All, IfOk, IfErr, IfSome, Some, None, option_map, string_bytes};
+ghost use Rattle.napt_capture.specs.Text.{IsWritable, text};
+ghost use Rattle.napt_run.specs.Devices.{IfGiven, GrowsBy, bytes_in, some_bytes};
+ghost use Rattle.napt_run.specs.Captures.{AreOutputs, Explains, Gets, GetsOf, IsRefused, IsRefusedRun, IsWriteFault, Receives, failed_readings, failed_writings, no_contents, share_of};
+
+use crate::fault::{Fault, RunFault, Which};
+use crate::merging::merge;
+use crate::nowhere::Nowhere;
+use crate::output::records_sent;
+use crate::report::report_text;
+use crate::run::run_plain;
+use napt_capture::{Capture, Record, Sink, Source, read_capture, write_capture, write_text};
+use napt_config::Config;
+use napt_wire::Side;
+use std::alloc::Global;
+
+/// The captures of both sides.
+#[derive(Drop)]
+struct Captures {
+    inside: Capture,
+    outside: Capture,
+}
+
+/// What a run writes, ready in memory.
+#[derive(Drop)]
+struct Outputs {
+    to_outside: Vec<Record>,
+    to_inside: Vec<Record>,
+    report: String,
+}
+
+/// A capture without records.
+fn no_capture(alloc: Global) -> Capture
+    ensures { result ≡ no_contents }
+{
+    Capture {
+        records: Vec::new(alloc),
+        cut: false,
+    }
+}
+
+/// Runs over the captures, and makes all that is to be written.
+fn make_outputs(alloc: Global, config: &Config, captures: Captures) -> Result<Outputs, RunFault>
+    requires inside { All IsWritable captures.inside.records }
+    requires outside { All IsWritable captures.outside.records }
+    ensures ok { IfOk result (λ outputs. AreOutputs config.now captures outputs) }
+    ensures err { IfErr result (IsRefused captures) }
+    ensures outside_writable { IfOk result (λ outputs. All IsWritable outputs.to_outside.items) }
+    ensures inside_writable { IfOk result (λ outputs. All IsWritable outputs.to_inside.items) }
+    ensures outside_few { IfOk result (λ outputs. length outputs.to_outside.items < 2 ^ 32) }
+    ensures inside_few { IfOk result (λ outputs. length outputs.to_inside.items < 2 ^ 32) }
+{
+    let Captures { inside, outside } = captures;
+    let Ok(inputs) = merge(alloc, inside.records, outside.records) else {
+        return Err(RunFault::Memory);
+    };
+    let run = run_plain(alloc, config, &inputs)?;
+    let Ok(report) = report_text(alloc, &run, inside.cut, outside.cut) else {
+        return Err(RunFault::Memory);
+    };
+    let Ok(sent) = records_sent(alloc, &inputs, run.outcomes) else {
+        return Err(RunFault::Memory);
+    };
+    Ok(Outputs {
+        to_outside: sent.to_outside,
+        to_inside: sent.to_inside,
+        report,
+    })
+}
+
+/// Writes to the outside, to the inside, and then the report.
+fn write_outputs<W: Sink, W2: Sink, W3: Sink>(
+    outputs: &Outputs,
+    to_outside: &mut W,
+    to_inside: &mut W2,
+    report: &mut W3,
+) -> Result<(), Fault>
+    requires to_outside { W.failed to_outside.old < 2 ^ 64 - 1 }
+    requires to_inside { W2.failed to_inside.old < 2 ^ 64 - 1 }
+    requires report { W3.failed report.old < 2 ^ 64 - 1 }
+    requires outside_few { length outputs.now.to_outside.items < 2 ^ 32 }
+    requires inside_few { length outputs.now.to_inside.items < 2 ^ 32 }
+    requires outside_writable { All IsWritable outputs.now.to_outside.items }
+    requires inside_writable { All IsWritable outputs.now.to_inside.items }
+    ensures to_outside { Receives (share_of Which.Outside result) (text outputs.now.to_outside.items) (W.contents to_outside.old) (W.contents to_outside.new) }
+    ensures to_inside { Receives (share_of Which.Inside result) (text outputs.now.to_inside.items) (W2.contents to_inside.old) (W2.contents to_inside.new) }
+    ensures report { Receives (share_of Which.Report result) (string_bytes outputs.now.report) (W3.contents report.old) (W3.contents report.new) }
+    ensures fault { IfErr result IsWriteFault }
+    ensures outside_writings { W.failed to_outside.new ≡ W.failed to_outside.old + failed_writings Which.Outside result }
+    ensures inside_writings { W2.failed to_inside.new ≡ W2.failed to_inside.old + failed_writings Which.Inside result }
+    ensures report_writings { W3.failed report.new ≡ W3.failed report.old + failed_writings Which.Report result }
+{
+    if let Err(fault) = write_capture(to_outside, &outputs.to_outside) {
+        return Err(Fault::Write(Which::Outside, fault));
+    }
+    if let Err(fault) = write_capture(to_inside, &outputs.to_inside) {
+        return Err(Fault::Write(Which::Inside, fault));
+    }
+    if let Err(fault) = write_text(report, outputs.report.as_bytes()) {
+        return Err(Fault::Write(Which::Report, fault));
+    }
+    Ok(())
+}
+
+/// Runs over captures that were read, and writes what comes of it.
+fn run_between<W: Sink, W2: Sink, W3: Sink>(
+    alloc: Global,
+    config: &Config,
+    captures: Captures,
+    to_outside: &mut W,
+    to_inside: &mut W2,
+    report: &mut W3,
+) -> Result<(), Fault>
+    requires inside { All IsWritable captures.inside.records }
+    requires outside { All IsWritable captures.outside.records }
+    requires to_outside { W.failed to_outside.old < 2 ^ 64 - 1 }
+    requires to_inside { W2.failed to_inside.old < 2 ^ 64 - 1 }
+    requires report { W3.failed report.old < 2 ^ 64 - 1 }
+    ensures to_outside { GetsOf config.now captures Which.Outside (share_of Which.Outside result) (W.contents to_outside.old) (W.contents to_outside.new) }
+    ensures to_inside { GetsOf config.now captures Which.Inside (share_of Which.Inside result) (W2.contents to_inside.old) (W2.contents to_inside.new) }
+    ensures report { GetsOf config.now captures Which.Report (share_of Which.Report result) (W3.contents report.old) (W3.contents report.new) }
+    ensures fault { IfErr result (IsRefusedRun captures) }
+    ensures outside_writings { W.failed to_outside.new ≡ W.failed to_outside.old + failed_writings Which.Outside result }
+    ensures inside_writings { W2.failed to_inside.new ≡ W2.failed to_inside.old + failed_writings Which.Inside result }
+    ensures report_writings { W3.failed report.new ≡ W3.failed report.old + failed_writings Which.Report result }
+{
+    match make_outputs(alloc, config, captures) {
+        Ok(outputs) => write_outputs(&outputs, to_outside, to_inside, report),
+        Err(fault) => Err(Fault::Run(fault)),
+    }
+}
+
+/// Reads both captures, runs over them, and writes.
+fn run_both<R: Source, R2: Source, W: Sink, W2: Sink, W3: Sink>(
+    alloc: Global,
+    config: &Config,
+    inside: &mut R,
+    outside: &mut R2,
+    to_outside: &mut W,
+    to_inside: &mut W2,
+    report: &mut W3,
+) -> Result<(), Fault>
+    requires inside { R.failed inside.old < 2 ^ 64 - 1 }
+    requires outside { R2.failed outside.old < 2 ^ 64 - 1 }
+    requires to_outside { W.failed to_outside.old < 2 ^ 64 - 1 }
+    requires to_inside { W2.failed to_inside.old < 2 ^ 64 - 1 }
+    requires report { W3.failed report.old < 2 ^ 64 - 1 }
+    ensures to_outside { Gets config.now Which.Outside (share_of Which.Outside result) (R.remaining inside.old) (option_map some_bytes (R2.remaining outside.old)) (W.contents to_outside.old) (W.contents to_outside.new) }
+    ensures to_inside { Gets config.now Which.Inside (share_of Which.Inside result) (R.remaining inside.old) (option_map some_bytes (R2.remaining outside.old)) (W2.contents to_inside.old) (W2.contents to_inside.new) }
+    ensures report { Gets config.now Which.Report (share_of Which.Report result) (R.remaining inside.old) (option_map some_bytes (R2.remaining outside.old)) (W3.contents report.old) (W3.contents report.new) }
+    ensures fault { IfErr result (Explains (R.remaining inside.old) (option_map some_bytes (R2.remaining outside.old))) }
+    ensures inside_readings { R.failed inside.new ≡ R.failed inside.old + failed_readings Side.Inside result }
+    ensures outside_readings { R2.failed outside.new ≡ R2.failed outside.old + failed_readings Side.Outside result }
+    ensures outside_writings { W.failed to_outside.new ≡ W.failed to_outside.old + failed_writings Which.Outside result }
+    ensures inside_writings { W2.failed to_inside.new ≡ W2.failed to_inside.old + failed_writings Which.Inside result }
+    ensures report_writings { W3.failed report.new ≡ W3.failed report.old + failed_writings Which.Report result }
+{
+    let inside = match read_capture(alloc, inside) {
+        Ok(capture) => capture,
+        Err(fault) => return Err(Fault::Capture(Side::Inside, fault)),
+    };
+    let outside = match read_capture(alloc, outside) {
+        Ok(capture) => capture,
+        Err(fault) => return Err(Fault::Capture(Side::Outside, fault)),
+    };
+    let captures = Captures { inside, outside };
+    run_between(alloc, config, captures, to_outside, to_inside, report)
+}
+
+/// Reads the inside capture, runs over it alone, and writes.
+fn run_inside<R: Source, W: Sink, W2: Sink, W3: Sink>(
+    alloc: Global,
+    config: &Config,
+    inside: &mut R,
+    to_outside: &mut W,
+    to_inside: &mut W2,
+    report: &mut W3,
+) -> Result<(), Fault>
+    requires inside { R.failed inside.old < 2 ^ 64 - 1 }
+    requires to_outside { W.failed to_outside.old < 2 ^ 64 - 1 }
+    requires to_inside { W2.failed to_inside.old < 2 ^ 64 - 1 }
+    requires report { W3.failed report.old < 2 ^ 64 - 1 }
+    ensures to_outside { Gets config.now Which.Outside (share_of Which.Outside result) (R.remaining inside.old) (Some None) (W.contents to_outside.old) (W.contents to_outside.new) }
+    ensures to_inside { Gets config.now Which.Inside (share_of Which.Inside result) (R.remaining inside.old) (Some None) (W2.contents to_inside.old) (W2.contents to_inside.new) }
+    ensures report { Gets config.now Which.Report (share_of Which.Report result) (R.remaining inside.old) (Some None) (W3.contents report.old) (W3.contents report.new) }
+    ensures fault { IfErr result (Explains (R.remaining inside.old) (Some None)) }
+    ensures inside_readings { R.failed inside.new ≡ R.failed inside.old + failed_readings Side.Inside result }
+    ensures outside_readings { failed_readings Side.Outside result ≡ 0 }
+    ensures outside_writings { W.failed to_outside.new ≡ W.failed to_outside.old + failed_writings Which.Outside result }
+    ensures inside_writings { W2.failed to_inside.new ≡ W2.failed to_inside.old + failed_writings Which.Inside result }
+    ensures report_writings { W3.failed report.new ≡ W3.failed report.old + failed_writings Which.Report result }
+{
+    let inside = match read_capture(alloc, inside) {
+        Ok(capture) => capture,
+        Err(fault) => return Err(Fault::Capture(Side::Inside, fault)),
+    };
+    let outside = no_capture(alloc);
+    let captures = Captures { inside, outside };
+    run_between(alloc, config, captures, to_outside, to_inside, report)
+}
+
+/// Translates the inside capture and, where there is one, the outside capture, and writes what leaves to each side and a report.
+///
+/// All is read and made first. Then the outputs that are handed in are written: to the outside, to the inside, the report.
+pub fn run_captures<R: Source, R2: Source, W: Sink, W2: Sink, W3: Sink>(
+    alloc: Global,
+    config: &Config,
+    inside: &mut R,
+    outside: Option<&mut R2>,
+    to_outside: &mut W,
+    to_inside: Option<&mut W2>,
+    report: Option<&mut W3>,
+) -> Result<(), Fault>
+    requires inside { R.failed inside.old < 2 ^ 64 - 1 }
+    requires outside { IfSome outside (λ r. R2.failed r.now < 2 ^ 64 - 1) }
+    requires to_outside { W.failed to_outside.old < 2 ^ 64 - 1 }
+    requires to_inside { IfSome to_inside (λ w. W2.failed w.now < 2 ^ 64 - 1) }
+    requires report { IfSome report (λ w. W3.failed w.now < 2 ^ 64 - 1) }
+    ensures to_outside { Gets config.now Which.Outside (share_of Which.Outside result) (R.remaining inside.old) (bytes_in R2.remaining outside.entry) (W.contents to_outside.old) (W.contents to_outside.new) }
+    ensures to_inside { IfGiven to_inside.entry to_inside.exit (λ old new.
+        Gets config.now Which.Inside (share_of Which.Inside result) (R.remaining inside.old) (bytes_in R2.remaining outside.entry) (W2.contents old) (W2.contents new)) }
+    ensures report { IfGiven report.entry report.exit (λ old new.
+        Gets config.now Which.Report (share_of Which.Report result) (R.remaining inside.old) (bytes_in R2.remaining outside.entry) (W3.contents old) (W3.contents new)) }
+    ensures fault { IfErr result (Explains (R.remaining inside.old) (bytes_in R2.remaining outside.entry)) }
+    ensures inside_readings { R.failed inside.new ≡ R.failed inside.old + failed_readings Side.Inside result }
+    ensures outside_readings { GrowsBy R2.failed outside.entry outside.exit (failed_readings Side.Outside result) }
+    ensures outside_writings { W.failed to_outside.new ≡ W.failed to_outside.old + failed_writings Which.Outside result }
+    ensures inside_writings { GrowsBy W2.failed to_inside.entry to_inside.exit (failed_writings Which.Inside result) }
+    ensures report_writings { GrowsBy W3.failed report.entry report.exit (failed_writings Which.Report result) }
+{
+    match outside {
+        Some(outside) => match to_inside {
+            Some(to_inside) => match report {
+                Some(report) => {
+                    return run_both(
+                        alloc, config, inside, outside, to_outside, to_inside, report,
+                    );
+                }
+                None => {
+                    return run_both(
+                        alloc,
+                        config,
+                        inside,
+                        outside,
+                        to_outside,
+                        to_inside,
+                        &mut Nowhere,
+                    );
+                }
+            },
+            None => match report {
+                Some(report) => {
+                    return run_both(
+                        alloc,
+                        config,
+                        inside,
+                        outside,
+                        to_outside,
+                        &mut Nowhere,
+                        report,
+                    );
+                }
+                None => {
+                    return run_both(
+                        alloc,
+                        config,
+                        inside,
+                        outside,
+                        to_outside,
+                        &mut Nowhere,
+                        &mut Nowhere,
+                    );
+                }
+            },
+        },
+        None => match to_inside {
+            Some(to_inside) => match report {
+                Some(report) => {
+                    return run_inside(alloc, config, inside, to_outside, to_inside, report);
+                }
+                None => {
+                    return run_inside(alloc, config, inside, to_outside, to_inside, &mut Nowhere);
+                }
+            },
+            None => match report {
+                Some(report) => {
+                    return run_inside(alloc, config, inside, to_outside, &mut Nowhere, report);
+                }
+                None => {
+                    return run_inside(
+                        alloc,
+                        config,
+                        inside,
+                        to_outside,
+                        &mut Nowhere,
+                        &mut Nowhere,
+                    );
+                }
+            },
+        },
+    }
+}
+
+#[cfg(test)]
+mod tests;

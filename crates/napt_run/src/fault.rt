@@ -1,0 +1,35 @@
+//! Why a run ends early.
+
+use napt_capture::{CaptureFault, WriteFault};
+use napt_wire::Side;
+
+/// Why a run over inputs gives no outcomes.
+#[derive(Clone, Copy, Debug, PartialEq, Eq)]
+pub enum RunFault {
+    /// Memory ran out.
+    Memory,
+    /// There are more than 4,294,967,295 inputs.
+    TooMany,
+}
+
+/// What a run over captures writes, in the order in which it does.
+#[derive(Clone, Copy, Debug, PartialEq, Eq)]
+pub enum Which {
+    /// The capture that goes to the outside.
+    Outside,
+    /// The capture that goes to inside hosts.
+    Inside,
+    /// The report.
+    Report,
+}
+
+/// Why a run over captures ends early. Nothing is written where the fault is of a capture or of the run.
+#[derive(Clone, Copy, Debug, PartialEq, Eq)]
+pub enum Fault {
+    /// The capture of this side is refused, or reading it failed.
+    Capture(Side, CaptureFault),
+    /// The run failed, or memory ran out for what it is given or what it writes.
+    Run(RunFault),
+    /// Writing this output failed: those before it are whole, and those after it have nothing.
+    Write(Which, WriteFault),
+}

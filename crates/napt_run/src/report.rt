@@ -1,0 +1,255 @@
+//! The report: how many packets came and what became of them, which captures were cut, and the bindings.
+ghost use Rattle.std.specs.Prelude.{◌≡◌, ◌++◌, IfOk, OnOk, Some, codes, count_by, decimal, flat_map, string_bytes};
+ghost use Rattle.napt_run.specs.Report as model;
+
+use crate::outcome::{Outcome, Run};
+use napt_config::Address;
+use napt_table::Row;
+use napt_wire::{Cause, Endpoint, Protocol};
+use std::alloc::{AllocError, Global};
+use std::fmt;
+
+/// The causes of drops, in the order of their lines.
+const CAUSES: [Cause; 13] = [
+    Cause::Truncated,
+    Cause::NotIpv4,
+    Cause::BadHeader,
+    Cause::BadChecksum,
+    Cause::Fragment,
+    Cause::Unsupported,
+    Cause::BadInner,
+    Cause::BadPort,
+    Cause::Spoofed,
+    Cause::NotOurs,
+    Cause::NoBinding,
+    Cause::Filtered,
+    Cause::NoPort,
+];
+
+/// The place of a cause among them.
+fn place_of(cause: Cause) -> u8
+    ensures { result ≡ model.place_of cause }
+{
+    match cause {
+        Cause::Truncated => 0,
+        Cause::NotIpv4 => 1,
+        Cause::BadHeader => 2,
+        Cause::BadChecksum => 3,
+        Cause::Fragment => 4,
+        Cause::Unsupported => 5,
+        Cause::BadInner => 6,
+        Cause::BadPort => 7,
+        Cause::Spoofed => 8,
+        Cause::NotOurs => 9,
+        Cause::NoBinding => 10,
+        Cause::Filtered => 11,
+        Cause::NoPort => 12,
+    }
+}
+
+fn cause_name(cause: Cause) -> &'static str
+    ensures { result.now ≡ model.cause_name cause }
+{
+    match cause {
+        Cause::Truncated => "truncated",
+        Cause::NotIpv4 => "not-ipv4",
+        Cause::BadHeader => "bad-header",
+        Cause::BadChecksum => "bad-checksum",
+        Cause::Fragment => "fragment",
+        Cause::Unsupported => "unsupported",
+        Cause::BadInner => "bad-inner",
+        Cause::BadPort => "bad-port",
+        Cause::Spoofed => "spoofed",
+        Cause::NotOurs => "not-ours",
+        Cause::NoBinding => "no-binding",
+        Cause::Filtered => "filtered",
+        Cause::NoPort => "no-port",
+    }
+}
+
+fn protocol_name(protocol: Protocol) -> &'static str
+    ensures { result.now ≡ model.protocol_name protocol }
+{
+    match protocol {
+        Protocol::Icmp => "icmp",
+        Protocol::Tcp => "tcp",
+        Protocol::Udp => "udp",
+    }
+}
+
+fn is_to_outside(outcome: &Outcome) -> bool
+    ensures { result ≡ model.is_to_outside outcome.now }
+{
+    matches!(outcome, Outcome::ToOutside(_))
+}
+
+fn is_to_inside(outcome: &Outcome) -> bool
+    ensures { result ≡ model.is_to_inside outcome.now }
+{
+    matches!(outcome, Outcome::ToInside(_))
+}
+
+fn is_dropped(cause: Cause, outcome: &Outcome) -> bool
+    ensures { result ≡ model.is_dropped cause outcome.now }
+{
+    match outcome {
+        Outcome::Dropped(given) => place_of(*given) == place_of(cause),
+        Outcome::ToOutside(_) | Outcome::ToInside(_) => false,
+    }
+}
+
+fn count_to_outside(outcomes: &[Outcome]) -> usize
+    ensures { result ≡ count_by model.is_to_outside outcomes.now }
+{
+    outcomes
+        .iter()
+        .filter(|outcome| is_to_outside(outcome))
+        .count()
+}
+
+fn count_to_inside(outcomes: &[Outcome]) -> usize
+    ensures { result ≡ count_by model.is_to_inside outcomes.now }
+{
+    outcomes
+        .iter()
+        .filter(|outcome| is_to_inside(outcome))
+        .count()
+}
+
+fn count_dropped(outcomes: &[Outcome], cause: Cause) -> usize
+    ensures { result ≡ count_by (model.is_dropped cause) outcomes.now }
+{
+    outcomes
+        .iter()
+        .filter(|outcome| is_dropped(cause, outcome))
+        .count()
+}
+
+/// An endpoint as `10.0.0.2:5000`.
+#[derive(Clone, Copy)]
+struct EndpointText(Endpoint);
+
+impl fmt::Display for EndpointText {
+    ghost output = { λ text. Some (model.endpoint_text text.0) };
+
+    fn fmt<W: fmt::Write>(&self, f: &mut fmt::Formatter<W>) -> fmt::Result {
+        let address = Address(self.0.address);
+        let number = self.0.number;
+        write!(f, "{address}:{number}")
+    }
+}
+
+/// Adds a line with a name and a count.
+fn push_count(
+    alloc: Global,
+    report: &mut String,
+    name: &str,
+    count: usize,
+) -> Result<(), AllocError>
+    ensures { OnOk result (string_bytes report.new ≡ string_bytes report.old ++ model.count_line name.now count) }
+{
+    let line = format!(in alloc; "{name} {count}\n")?;
+    report.push_str(&line)
+}
+
+/// Adds the line of the packets that were dropped for a cause.
+fn push_drop(
+    alloc: Global,
+    report: &mut String,
+    outcomes: &[Outcome],
+    cause: Cause,
+) -> Result<(), AllocError>
+    ensures { OnOk result (string_bytes report.new ≡ string_bytes report.old ++ model.drop_line outcomes.now cause) }
+{
+    report.push_str("drop ")?;
+    push_count(
+        alloc,
+        report,
+        cause_name(cause),
+        count_dropped(outcomes, cause),
+    )
+}
+
+/// Adds the lines of the packets that were dropped, a cause each.
+fn push_drops(
+    alloc: Global,
+    report: &mut String,
+    outcomes: &[Outcome],
+    causes: &[Cause],
+) -> Result<(), AllocError>
+    ensures { OnOk result (string_bytes report.new ≡ string_bytes report.old ++ flat_map (model.drop_line outcomes.now) causes.now) }
+{
+    for cause in causes {
+        push_drop(alloc, report, outcomes, *cause)?;
+    }
+    Ok(())
+}
+
+/// Adds the line of a binding.
+fn push_row(alloc: Global, report: &mut String, row: Row) -> Result<(), AllocError>
+    ensures { OnOk result (string_bytes report.new ≡ string_bytes report.old ++ model.row_line row) }
+{
+    let protocol = protocol_name(row.protocol);
+    let inside = EndpointText(row.inside);
+    let external = EndpointText(row.external);
+    let fixed = if row.fixed { " fixed" } else { "" };
+    let line = format!(in alloc; "{protocol} {inside} {external}{fixed}\n")?;
+    report.push_str(&line)
+}
+
+/// Adds the lines of the bindings.
+fn push_rows(alloc: Global, report: &mut String, rows: &[Row]) -> Result<(), AllocError>
+    ensures { OnOk result (string_bytes report.new ≡ string_bytes report.old ++ flat_map model.row_line rows.now) }
+{
+    for row in rows {
+        push_row(alloc, report, *row)?;
+    }
+    Ok(())
+}
+
+/// Adds the lines that count the packets.
+fn push_counts(alloc: Global, report: &mut String, outcomes: &[Outcome]) -> Result<(), AllocError>
+    ensures { OnOk result (string_bytes report.new ≡ string_bytes report.old ++ model.counts_text outcomes.now) }
+{
+    push_count(alloc, report, "packets", outcomes.len())?;
+    push_count(alloc, report, "to outside", count_to_outside(outcomes))?;
+    push_count(alloc, report, "to inside", count_to_inside(outcomes))?;
+    push_drops(alloc, report, outcomes, &CAUSES)?;
+    Ok(())
+}
+
+/// Adds the lines of the captures that were cut.
+fn push_cuts(report: &mut String, cut_inside: bool, cut_outside: bool) -> Result<(), AllocError>
+    ensures { OnOk result (string_bytes report.new ≡ string_bytes report.old ++ model.cuts_text cut_inside cut_outside) }
+{
+    if cut_inside {
+        report.push_str("cut inside\n")?;
+    }
+    if cut_outside {
+        report.push_str("cut outside\n")?;
+    }
+    Ok(())
+}
+
+/// The report of a run: how many packets came and what became of them, which captures end inside a record, and the bindings.
+///
+/// Each line ends with a line feed. The lines of the bindings stand in the order of `Run::bindings`, as
+/// `udp 10.0.0.2:5000 203.0.113.1:5000`, with ` fixed` behind a redirect. Fails only where memory runs out.
+#[tactic(auto, unfolding(crate::specs::Report::report_text))]
+pub fn report_text(
+    alloc: Global,
+    run: &Run,
+    cut_inside: bool,
+    cut_outside: bool,
+) -> Result<String, AllocError>
+    ensures { IfOk result (λ report. string_bytes report ≡ model.report_text cut_inside cut_outside run.now) }
+{
+    let mut report = String::new(alloc);
+    push_counts(alloc, &mut report, &run.outcomes)?;
+    push_cuts(&mut report, cut_inside, cut_outside)?;
+    push_rows(alloc, &mut report, &run.bindings)?;
+    Ok(report)
+}
+
+#[cfg(test)]
+mod tests;

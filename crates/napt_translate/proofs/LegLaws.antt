@@ -1,0 +1,86 @@
+-- What every leg keeps to.
+use Rattle.std.proofs.Common.{◌≡◌, ℕ, true, max, List, Option, Some, None, Result, Ok, Err, refl, ◌∙◌, ap}
+use Rattle.napt_wire.specs.declared.Way.{Way}
+use Rattle.napt_wire.specs.declared.Way.TheVariants.{Outgoing, Incoming}
+use Rattle.napt_wire.specs.declared.Cause.{Cause}
+use Rattle.napt_wire.specs.declared.Endpoint.{Endpoint}
+use Rattle.napt_wire.specs.declared.Kind.{Kind}
+use Rattle.napt_wire.specs.declared.Kind.TheVariants.{Udp, Tcp, Echo, ErrorOf}
+use Rattle.napt_wire.specs.Fields.{destination, kind, is_error}
+use Rattle.napt_config.specs.Rules.{Rules, place_of}
+use Rattle.napt_table.specs.declared.Binding.{Binding}
+use Rattle.napt_translate.specs.Ends.{ErrorsChangeNothing, IsToItsSide, LegsEndAtTheirSide, is_in_or_dropped, InStaysIn}
+use Rattle.napt_translate.specs.Legs.{Kept, act_by, onward_by, gone_out, end_out, end_in, error_out, error_in, time_after}
+
+-- ERRORS
+
+module _ (rules : Rules) (address now at : ℕ) (packet : List ℕ) (list : List Binding) where
+  error_keeps : (way : Way) (k : Kind) → is_error k ≡ true → (let kept : Kept = record { list = (act_by rules address now packet list way k).list; at = time_after k at now } in kept ≡ record { list = list; at = at })
+  error_keeps Outgoing (ErrorOf inner) h = refl
+  error_keeps Incoming (ErrorOf inner) h = refl
+  error_keeps way Udp h = cc
+  error_keeps way (Tcp flags) h = cc
+  error_keeps way Echo h = cc
+
+pub errors_change_nothing : ErrorsChangeNothing
+errors_change_nothing rules address leg kept h = error_keeps rules address (max leg.now kept.at) kept.at leg.packet kept.list leg.way (kind leg.packet) h
+
+-- SIDES
+
+module _ (rules : Rules) where
+  onward_side : (packet : List ℕ) (place : Option ℕ) → place_of rules (destination packet).address ≡ place → IsToItsSide rules (onward_by place packet)
+  onward_side packet None h = h
+  onward_side packet (Some place) h = h
+
+  out_side : (packet : List ℕ) → IsToItsSide rules (gone_out rules packet)
+  out_side packet = onward_side packet (place_of rules (destination packet).address) refl
+
+  sent_side : (address : ℕ) (packet : List ℕ) (number : Result ℕ Cause) → IsToItsSide rules (end_out rules address packet number)
+  sent_side address packet (Ok number) = out_side _
+  sent_side address packet (Err cause) = tt
+
+  error_side : (packet : List ℕ) (found : Option Binding) → IsToItsSide rules (error_out rules packet found)
+  error_side packet (Some binding) = out_side _
+  error_side packet None = tt
+
+  came_side : (packet : List ℕ) (inside : Result Endpoint Cause) → IsToItsSide rules (end_in packet inside)
+  came_side packet (Ok inside) = tt
+  came_side packet (Err cause) = tt
+
+  error_came_side : (packet : List ℕ) (found : Option Binding) → IsToItsSide rules (error_in packet found)
+  error_came_side packet (Some binding) = tt
+  error_came_side packet None = tt
+
+  leg_side : (address now : ℕ) (packet : List ℕ) (list : List Binding) (way : Way) (k : Kind) → IsToItsSide rules (act_by rules address now packet list way k).end
+  leg_side address now packet list Outgoing Udp = sent_side _ _ _
+  leg_side address now packet list Outgoing (Tcp flags) = sent_side _ _ _
+  leg_side address now packet list Outgoing Echo = sent_side _ _ _
+  leg_side address now packet list Outgoing (ErrorOf inner) = error_side _ _
+  leg_side address now packet list Incoming Udp = came_side _ _
+  leg_side address now packet list Incoming (Tcp flags) = came_side _ _
+  leg_side address now packet list Incoming Echo = came_side _ _
+  leg_side address now packet list Incoming (ErrorOf inner) = error_came_side _ _
+
+pub legs_end_at_their_side : LegsEndAtTheirSide
+legs_end_at_their_side rules address leg kept = leg_side rules address (max leg.now kept.at) leg.packet kept.list leg.way (kind leg.packet)
+
+-- IN
+
+came_in : (packet : List ℕ) (inside : Result Endpoint Cause) → is_in_or_dropped (end_in packet inside) ≡ true
+came_in packet (Ok inside) = refl
+came_in packet (Err cause) = refl
+
+error_came_in : (packet : List ℕ) (found : Option Binding) → is_in_or_dropped (error_in packet found) ≡ true
+error_came_in packet (Some binding) = refl
+error_came_in packet None = refl
+
+leg_in : (rules : Rules) (address now : ℕ) (packet : List ℕ) (list : List Binding) (k : Kind) → is_in_or_dropped (act_by rules address now packet list Incoming k).end ≡ true
+leg_in rules address now packet list Udp = came_in _ _
+leg_in rules address now packet list (Tcp flags) = came_in _ _
+leg_in rules address now packet list Echo = came_in _ _
+leg_in rules address now packet list (ErrorOf inner) = error_came_in _ _
+
+pub in_stays_in : InStaysIn
+in_stays_in rules address leg kept way =
+    ap (λ (w : Way). is_in_or_dropped (act_by rules address (max leg.now kept.at) leg.packet kept.list w (kind leg.packet)).end) way
+    ∙ leg_in rules address (max leg.now kept.at) leg.packet kept.list (kind leg.packet)

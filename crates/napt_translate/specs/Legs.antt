@@ -1,0 +1,112 @@
+-- A leg: one packet on one way through the bindings of one external address, at one time.
+--
+-- RFC 3022, sections 2.2 and 4.1 to 4.3: out, the source becomes the external endpoint of its binding; in, the destination becomes the inside
+-- endpoint. RFC 5508, REQ-3 to REQ-6: an ICMP error is translated by the datagram that it quotes and changes no binding. RFC 4787, REQ-9: a
+-- packet that goes out to an external address of the pool goes back in at that address.
+use Rattle.std.specs.Prelude.{ℕ, max, false, List, [], ◌∷◌, Option, Some, None, Result, Ok, Err}
+use Rattle.napt_wire.specs.declared.Protocol.TheVariants as protocols
+use Rattle.napt_wire.specs.declared.Way.{Way}
+use Rattle.napt_wire.specs.declared.Way.TheVariants.{Outgoing, Incoming}
+use Rattle.napt_wire.specs.declared.Cause.{Cause}
+use Rattle.napt_wire.specs.declared.Cause.TheVariants.{NoBinding}
+use Rattle.napt_wire.specs.declared.Endpoint.{Endpoint}
+use Rattle.napt_wire.specs.declared.Flags.{Flags}
+use Rattle.napt_wire.specs.declared.Kind.{Kind}
+use Rattle.napt_wire.specs.declared.Kind.TheVariants.{Udp, Tcp, Echo, ErrorOf}
+use Rattle.napt_wire.specs.Fields.{source, destination, kind}
+use Rattle.napt_wire.specs.Rewriting.{with_source, with_destination, reverted}
+use Rattle.napt_config.specs.Rules.{Rules, place_of}
+use Rattle.napt_table.specs.declared.Binding.{Binding}
+use Rattle.napt_table.specs.Steps.{Out, In, step_out, step_in, by_inside, by_number}
+use Rattle.napt_translate.specs.declared.translator.Leg.{Leg}
+use Rattle.napt_translate.specs.declared.translator.Answer.{Answer}
+use Rattle.napt_translate.specs.declared.translator.End.{End}
+use Rattle.napt_translate.specs.declared.translator.End.TheVariants.{ToOutside, ToInside, Onward, Dropped}
+
+abbrev pub no_flags : Flags
+no_flags = record { fin = false; syn = false; rst = false; ack = false }
+
+-- what a leg gives: how it ends, and the list
+pub record Acted : Type 0 where
+  pub end : End
+  pub list : List Binding
+
+-- a packet on its way out: onward where its destination is in the pool, else to the outside
+abbrev pub onward_by : Option ℕ → List ℕ → End
+onward_by None packet = ToOutside packet
+onward_by (Some worker) packet = Onward worker packet
+
+abbrev pub gone_out : Rules → List ℕ → End
+gone_out rules packet = onward_by (place_of rules (destination packet).address) packet
+
+-- OUT
+
+abbrev pub end_out : Rules → ℕ → List ℕ → Result ℕ Cause → End
+end_out rules address packet (Ok number) = gone_out rules (with_source (record { address = address; number = number }) packet)
+end_out rules address packet (Err cause) = Dropped cause
+
+abbrev pub acted_out : Rules → ℕ → List ℕ → Out → Acted
+acted_out rules address packet out = record { end = end_out rules address packet out.number; list = out.list }
+
+-- IN
+
+abbrev pub end_in : List ℕ → Result Endpoint Cause → End
+end_in packet (Ok inside) = ToInside (with_destination inside packet)
+end_in packet (Err cause) = Dropped cause
+
+abbrev pub acted_in : List ℕ → In → Acted
+acted_in packet came = record { end = end_in packet came.inside; list = came.list }
+
+-- AN ERROR, out and in
+
+abbrev pub error_out : Rules → List ℕ → Option Binding → End
+error_out rules packet (Some binding) = gone_out rules (reverted Outgoing binding.external packet)
+error_out rules packet None = Dropped NoBinding
+
+abbrev pub error_in : List ℕ → Option Binding → End
+error_in packet (Some binding) = ToInside (reverted Incoming binding.inside packet)
+error_in packet None = Dropped NoBinding
+
+-- by what the packet is
+abbrev pub act_by : Rules → ℕ → ℕ → List ℕ → List Binding → Way → Kind → Acted
+act_by rules address now packet list Outgoing Udp = acted_out rules address packet (step_out rules.timers address now protocols.Udp (source packet) (destination packet) no_flags list)
+act_by rules address now packet list Outgoing (Tcp flags) = acted_out rules address packet (step_out rules.timers address now protocols.Tcp (source packet) (destination packet) flags list)
+act_by rules address now packet list Outgoing Echo = acted_out rules address packet (step_out rules.timers address now protocols.Icmp (source packet) (destination packet) no_flags list)
+act_by rules address now packet list Outgoing (ErrorOf inner) = record { end = error_out rules packet (by_inside rules.timers address now inner.protocol inner.destination list); list = list }
+act_by rules address now packet list Incoming Udp = acted_in packet (step_in rules.timers rules.filter address now protocols.Udp (destination packet).number (source packet) no_flags list)
+act_by rules address now packet list Incoming (Tcp flags) = acted_in packet (step_in rules.timers rules.filter address now protocols.Tcp (destination packet).number (source packet) flags list)
+act_by rules address now packet list Incoming Echo = acted_in packet (step_in rules.timers rules.filter address now protocols.Icmp (destination packet).number (source packet) no_flags list)
+act_by rules address now packet list Incoming (ErrorOf inner) = record { end = error_in packet (by_number rules.timers address now inner.protocol inner.source.number list); list = list }
+
+-- a leg at an address
+abbrev pub act : Rules → ℕ → Leg → List Binding → Acted
+act rules address leg list = act_by rules address leg.now leg.packet list leg.way (kind leg.packet)
+
+-- A TRANSLATOR BY ITS LIST AND ITS TIME: a leg before that time acts at that time, and an error moves neither
+
+pub record Kept : Type 0 where
+  pub list : List Binding
+  pub at : ℕ
+
+abbrev pub time_after : Kind → ℕ → ℕ → ℕ
+time_after (ErrorOf inner) at now = at
+time_after Udp at now = now
+time_after (Tcp flags) at now = now
+time_after Echo at now = now
+
+abbrev pub kept_act : Rules → ℕ → Leg → Kept → Acted
+kept_act rules address leg kept = act_by rules address (max leg.now kept.at) leg.packet kept.list leg.way (kind leg.packet)
+
+abbrev pub kept_after : Rules → ℕ → Leg → Kept → Kept
+kept_after rules address leg kept = record { list = (kept_act rules address leg kept).list; at = time_after (kind leg.packet) kept.at (max leg.now kept.at) }
+
+abbrev pub kept_answer : Rules → ℕ → Leg → Kept → Answer
+kept_answer rules address leg kept = record { number = leg.number; end = (kept_act rules address leg kept).end }
+
+abbrev pub kept_replies : Rules → ℕ → List Leg → Kept → List Answer
+kept_replies rules address [] kept = []
+kept_replies rules address (leg ∷ legs) kept = kept_answer rules address leg kept ∷ kept_replies rules address legs (kept_after rules address leg kept)
+
+abbrev pub kept_after_all : Rules → ℕ → List Leg → Kept → Kept
+kept_after_all rules address [] kept = kept
+kept_after_all rules address (leg ∷ legs) kept = kept_after_all rules address legs (kept_after rules address leg kept)

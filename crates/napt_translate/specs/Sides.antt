@@ -1,0 +1,66 @@
+-- Which packets may cross the translator, and at which external address a packet is served.
+--
+-- RFC 2827: a source address that belongs to the other side is spoofed. RFC 4787, REQ-9 and RFC 5508, REQ-7: a packet from inside to an
+-- external address goes back inside; echoes are not sent back so here.
+use Rattle.std.specs.Prelude.{ℕ, Bool, true, false, not, ◌&&◌, ◌||◌, cond, List, Option, Some, None, is_some, ok_or, Result, Err}
+use Rattle.napt_wire.specs.declared.Protocol.TheVariants.{Icmp}
+use Rattle.napt_wire.specs.declared.Side.{Side}
+use Rattle.napt_wire.specs.declared.Side.TheVariants.{Inside, Outside}
+use Rattle.napt_wire.specs.declared.Way.{Way}
+use Rattle.napt_wire.specs.declared.Way.TheVariants.{Outgoing, Incoming}
+use Rattle.napt_wire.specs.declared.Cause.{Cause}
+use Rattle.napt_wire.specs.declared.Cause.TheVariants.{Spoofed, NotOurs, Unsupported}
+use Rattle.napt_wire.specs.declared.Kind.{Kind}
+use Rattle.napt_wire.specs.declared.Kind.TheVariants.{Udp, Tcp, Echo, ErrorOf}
+use Rattle.napt_wire.specs.Fields.{source, destination, kind, local_end}
+use Rattle.napt_config.specs.Rules.{Rules, pair_of, is_inside, place_of}
+use Rattle.napt_table.specs.Bindings.{same_protocol}
+
+abbrev pub is_in_pool : Rules → ℕ → Bool
+is_in_pool rules address = is_some (place_of rules address)
+
+-- an echo, or an error about one
+abbrev pub is_about_echo : Kind → Bool
+is_about_echo Udp = false
+is_about_echo (Tcp flags) = false
+is_about_echo Echo = true
+is_about_echo (ErrorOf inner) = same_protocol inner.protocol Icmp
+
+-- the source belongs to the other side
+abbrev pub is_spoofed : Rules → Side → List ℕ → Bool
+is_spoofed rules Inside packet = not (is_inside rules (source packet).address)
+is_spoofed rules Outside packet = is_inside rules (source packet).address || is_in_pool rules (source packet).address
+
+-- the destination is not beyond the translator
+abbrev pub is_not_ours : Rules → Side → List ℕ → Bool
+is_not_ours rules Inside packet = is_inside rules (destination packet).address
+is_not_ours rules Outside packet = not (is_in_pool rules (destination packet).address)
+
+-- an echo of the inside, or an error about one, to an external address
+abbrev pub is_unsupported : Rules → Side → List ℕ → Bool
+is_unsupported rules Inside packet = is_about_echo (kind packet) && is_in_pool rules (destination packet).address
+is_unsupported rules Outside packet = false
+
+-- the first cause that stands, if one does
+abbrev pub refusal : Rules → Side → List ℕ → Option Cause
+refusal rules side packet =
+    cond (is_spoofed rules side packet) (Some Spoofed)
+    (cond (is_not_ours rules side packet) (Some NotOurs)
+    (cond (is_unsupported rules side packet) (Some Unsupported) None))
+
+abbrev pub way_from : Side → Way
+way_from Inside = Outgoing
+way_from Outside = Incoming
+
+-- the external address at which a packet is served: that of its inside host's pairing, or the one that it came to
+abbrev pub served_at : Rules → Way → List ℕ → ℕ
+served_at rules Outgoing packet = pair_of rules (local_end Outgoing packet).address
+served_at rules Incoming packet = (destination packet).address
+
+-- the refusal, or the place in the pool of the address at which the packet is served
+abbrev pub routed : Rules → ℕ → Option Cause → Result ℕ Cause
+routed rules address (Some cause) = Err cause
+routed rules address None = ok_or (place_of rules address) NotOurs
+
+unfoldable pub route : Rules → Side → List ℕ → Result ℕ Cause
+route rules side packet = routed rules (served_at rules (way_from side) packet) (refusal rules side packet)

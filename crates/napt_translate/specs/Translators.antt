@@ -1,0 +1,45 @@
+-- What a translator shows: its place in the pool, its configuration, and the table of its external address.
+use Rattle.std.specs.Prelude.{◌≡◌, ℕ, ◌<◌, List, length, slice_index}
+use Rattle.napt_wire.specs.declared.Protocol.{Protocol}
+use Rattle.napt_wire.specs.declared.Flags.{Flags}
+use Rattle.napt_wire.specs.Fields.{source, destination}
+use Rattle.napt_table.specs.Steps.{Out, In, step_out, step_in}
+use Rattle.napt_config.specs.Rules.{Rules, KeepsRules}
+use Rattle.napt_table.specs.Tables.{TableState, opened}
+use Rattle.napt_translate.specs.Legs.{Kept, kept_after}
+use Rattle.napt_translate.specs.declared.translator.Leg.{Leg}
+
+pub record TranslatorState : Type 0 where
+  -- the place of its external address in the pool, from 0
+  pub index : ℕ
+  pub rules : Rules
+  pub table : TableState
+
+-- at a place of a configuration's pool, before any leg
+abbrev pub begun : ℕ → Rules → TranslatorState
+begun index rules = record { index = index; rules = rules; table = opened rules (slice_index rules.pool index) }
+
+-- the table is one of the configuration, at the address of its place
+pub record IsTranslator (state : TranslatorState) : Type 0 where
+  pub place : state.index < length state.rules.pool
+  pub rules : KeepsRules state.rules
+  pub address : state.table.address ≡ slice_index state.rules.pool state.index
+  pub timers : state.table.timers ≡ state.rules.timers
+  pub filter : state.table.filter ≡ state.rules.filter
+
+abbrev pub kept_of : TableState → Kept
+kept_of table = record { list = table.list; at = table.at }
+
+abbrev pub with_kept : TranslatorState → Kept → TranslatorState
+with_kept state kept = record state { table = record state.table { list = kept.list; at = kept.at } }
+
+-- what a leg leaves
+abbrev pub left_by : Leg → TranslatorState → TranslatorState
+left_by leg state = with_kept state (kept_after state.rules state.table.address leg (kept_of state.table))
+
+-- a packet's step out at a time, and in
+abbrev pub out_at : TranslatorState → ℕ → Protocol → Flags → List ℕ → Out
+out_at state now protocol flags packet = step_out state.rules.timers state.table.address now protocol (source packet) (destination packet) flags state.table.list
+
+abbrev pub in_at : TranslatorState → ℕ → Protocol → Flags → List ℕ → In
+in_at state now protocol flags packet = step_in state.rules.timers state.rules.filter state.table.address now protocol (destination packet).number (source packet) flags state.table.list

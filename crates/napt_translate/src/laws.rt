@@ -1,0 +1,11 @@
+//! What legs keep to, whatever the bindings.
+
+ghost use Rattle.napt_translate.specs.Ends.{ErrorsChangeNothing, InStaysIn, LegsEndAtTheirSide};
+
+/// An ICMP error changes no binding and no time; what leaves goes to no external address of the pool, and what goes
+/// onward to the one at that place; what comes in reaches the inside or is dropped.
+pub fn legs_keep_to_their_way()
+    ensures errors { ErrorsChangeNothing }
+    ensures sides { LegsEndAtTheirSide }
+    ensures incoming { InStaysIn }
+{}

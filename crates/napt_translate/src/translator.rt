@@ -1,0 +1,240 @@
+//! The translator of one external address.
+
+ghost use Rattle.std.specs.Prelude.{◌≡◌, ◌≤◌, ◌<◌, ℕ, max, length, slice_index, Some, IfOk, OnOk, OnErr};
+ghost use Rattle.napt_wire.specs.Fields.{source, destination, kind};
+ghost use Rattle.napt_table.specs.Rows.{rows};
+ghost use Rattle.napt_table.specs.Steps as steps;
+ghost use Rattle.napt_translate.specs.Carried.{carried_by};
+ghost use Rattle.napt_translate.specs.Legs as legs;
+ghost use Rattle.napt_translate.specs.Translators as translators;
+
+use napt_config::Config;
+use napt_table::{Row, Table};
+use napt_wire::{Cause, Endpoint, Flags, Inner, Kind, Packet, Protocol, Way};
+use std::alloc::{AllocError, Global};
+use std::marker::Model;
+
+/// One packet on one way through the bindings of an external address.
+#[derive(Drop)]
+pub struct Leg {
+    /// What the answer is known by.
+    pub number: u64,
+    /// The time, in ns.
+    pub now: u64,
+    pub way: Way,
+    pub packet: Packet,
+}
+
+/// What becomes of a leg's packet.
+#[derive(Drop)]
+pub struct Answer {
+    /// The number of the leg.
+    pub number: u64,
+    pub end: End,
+}
+
+/// How a leg ends.
+#[derive(Drop)]
+pub enum End {
+    /// The packet leaves to the outside.
+    ToOutside(Packet),
+    /// The packet goes to an inside host.
+    ToInside(Packet),
+    /// The packet went out to the external address at this place of the pool, from 0: there it comes in again.
+    Onward(u32, Packet),
+    Dropped(Cause),
+}
+
+/// Flags count for TCP alone.
+const NO_FLAGS: Flags = Flags {
+    fin: false,
+    syn: false,
+    rst: false,
+    ack: false,
+};
+
+/// The translator of one external address of a configuration's pool, with its bindings.
+#[derive(Drop)]
+pub struct Translator {
+    index: u32,
+    config: Config,
+    table: Table,
+}
+
+impl Model for Translator {
+    ghost use Rattle.napt_translate.specs.Translators.{TranslatorState, IsTranslator};
+
+    ghost Value = { TranslatorState };
+
+    ghost view = { λ t. record { index = t.index; rules = t.config; table = t.table } };
+
+    ghost invariant = { λ t. IsTranslator (record { index = t.index; rules = t.config; table = t.table }) };
+}
+
+impl Translator {
+    /// The translator of the external address at a place of the configuration's pool, from 0. Its bindings are the
+    /// redirects of that address.
+    pub fn new(alloc: Global, index: u32, config: Config) -> Result<Translator, AllocError>
+        requires place { index < length config.pool }
+        ensures shown { IfOk result (λ translator. translator ≡ translators.begun index config) }
+    {
+        let address = config.pool()[index as usize];
+        let table = Table::new(alloc, address, &config)?;
+        Ok(Translator {
+            index,
+            config,
+            table,
+        })
+    }
+
+    /// Takes a packet one way: out as its source's external endpoint, in as its inside endpoint, an ICMP error by the
+    /// datagram that it quotes. The packet is changed in place. A time before that of the last leg counts as that
+    /// one; an error changes no binding and no time. A packet that comes in never answers `Onward`.
+    ///
+    /// Where memory is refused nothing is changed, and the leg is spent.
+    pub fn translate(&mut self, alloc: Global, leg: Leg) -> Result<Answer, AllocError>
+        ensures answer { IfOk result (λ answer. answer ≡ legs.kept_answer self.old.rules self.old.table.address leg (translators.kept_of self.old.table)) }
+        ensures left { OnOk result (self.new ≡ translators.left_by leg self.old) }
+        ensures refused { OnErr result (self.new ≡ self.old) }
+    {
+        let Leg {
+            number,
+            now,
+            way,
+            packet,
+        } = leg;
+        let now = now.max(self.table.at());
+        let end = match (way, packet.kind()) {
+            (Way::Outgoing, Kind::Udp) => self.send(alloc, now, Protocol::Udp, NO_FLAGS, packet)?,
+            (Way::Outgoing, Kind::Tcp(flags)) => self.send(
+                alloc,
+                now,
+                Protocol::Tcp,
+                flags,
+                packet,
+            )?,
+            (Way::Outgoing, Kind::Echo) => self.send(alloc, now, Protocol::Icmp, NO_FLAGS, packet)?,
+            (Way::Outgoing, Kind::ErrorOf(inner)) => self.revert_out(now, inner, packet),
+            (Way::Incoming, Kind::Udp) => self.deliver(now, Protocol::Udp, NO_FLAGS, packet),
+            (Way::Incoming, Kind::Tcp(flags)) => self.deliver(now, Protocol::Tcp, flags, packet),
+            (Way::Incoming, Kind::Echo) => self.deliver(now, Protocol::Icmp, NO_FLAGS, packet),
+            (Way::Incoming, Kind::ErrorOf(inner)) => self.revert_in(now, inner, packet),
+        };
+        Ok(Answer { number, end })
+    }
+
+    /// The live bindings at a time, in ns, sorted by protocol and external number; a time before that of the last leg
+    /// counts as that one.
+    pub fn bindings(&self, alloc: Global, now: u64) -> Result<Vec<Row>, AllocError>
+        ensures { IfOk result (λ made. made.items ≡ rows self.now.rules.timers (max now self.now.table.at) self.now.table.list) }
+    {
+        self.table.bindings(alloc, now.max(self.table.at()))
+    }
+
+    /// A packet that is no error goes out.
+    fn send(
+        &mut self,
+        alloc: Global,
+        now: u64,
+        protocol: Protocol,
+        flags: Flags,
+        mut packet: Packet,
+    ) -> Result<End, AllocError>
+        requires later { self.old.table.at ≤ now }
+        requires carried { carried_by (kind packet) ≡ Some protocol }
+        ensures end { IfOk result (λ end. end ≡ (legs.acted_out self.old.rules self.old.table.address packet (translators.out_at self.old now protocol flags packet)).end) }
+        ensures left { OnOk result (self.new ≡ translators.with_kept self.old (record { list = (translators.out_at self.old now protocol flags packet).list; at = now })) }
+        ensures refused { OnErr result (self.new ≡ self.old) }
+    {
+        let source = packet.source();
+        let remote = packet.destination();
+        let answer = self
+            .table
+            .outbound(alloc, now, protocol, source, remote, flags)?;
+        match answer {
+            Ok(number) => {
+                packet.set_source(Endpoint {
+                    address: self.address(),
+                    number,
+                });
+                Ok(gone_out(&self.config, packet))
+            }
+            Err(cause) => Ok(End::Dropped(cause)),
+        }
+    }
+
+    /// A packet that is no error comes in.
+    fn deliver(&mut self, now: u64, protocol: Protocol, flags: Flags, mut packet: Packet) -> End
+        requires later { self.old.table.at ≤ now }
+        requires carried { carried_by (kind packet) ≡ Some protocol }
+        ensures end { result ≡ (legs.acted_in packet (translators.in_at self.old now protocol flags packet)).end }
+        ensures left { self.new ≡ translators.with_kept self.old (record { list = (translators.in_at self.old now protocol flags packet).list; at = now }) }
+    {
+        let number = packet.destination().number;
+        let remote = packet.source();
+        let answer = self.table.inbound(now, protocol, number, remote, flags);
+        match answer {
+            Ok(inside) => {
+                packet.set_destination(inside);
+                End::ToInside(packet)
+            }
+            Err(cause) => End::Dropped(cause),
+        }
+    }
+
+    /// An ICMP error goes out, by the destination of what it quotes (RFC 5508, REQ-5).
+    fn revert_out(&self, now: u64, inner: Inner, mut packet: Packet) -> End
+        requires later { self.now.table.at ≤ now }
+        requires error { kind packet ≡ Kind.ErrorOf inner }
+        ensures { result ≡ legs.error_out self.now.rules packet (steps.by_inside self.now.rules.timers self.now.table.address now inner.protocol inner.destination self.now.table.list) }
+    {
+        match self.table.by_inside(now, inner.protocol, inner.destination) {
+            Some(number) => {
+                packet.revert_inner(
+                    Way::Outgoing,
+                    Endpoint {
+                        address: self.address(),
+                        number,
+                    },
+                );
+                gone_out(&self.config, packet)
+            }
+            None => End::Dropped(Cause::NoBinding),
+        }
+    }
+
+    /// An ICMP error comes in, by the source of what it quotes (RFC 5508, REQ-4).
+    fn revert_in(&self, now: u64, inner: Inner, mut packet: Packet) -> End
+        requires later { self.now.table.at ≤ now }
+        requires error { kind packet ≡ Kind.ErrorOf inner }
+        ensures { result ≡ legs.error_in packet (steps.by_number self.now.rules.timers self.now.table.address now inner.protocol inner.source.number self.now.table.list) }
+    {
+        match self
+            .table
+            .by_external(now, inner.protocol, inner.source.number)
+        {
+            Some(inside) => {
+                packet.revert_inner(Way::Incoming, inside);
+                End::ToInside(packet)
+            }
+            None => End::Dropped(Cause::NoBinding),
+        }
+    }
+
+    /// The external address.
+    fn address(&self) -> u32
+        ensures { result ≡ self.now.table.address }
+    {
+        self.config.pool()[self.index as usize]
+    }
+}
+
+/// A packet on its way out: onward where it goes to an external address of the pool, else to the outside.
+fn gone_out(config: &Config, packet: Packet) -> End
+    ensures { result ≡ legs.gone_out config.now packet }
+{
+    match config.pool_index(packet.destination().address) {
+        Some(place) => End::Onward(place, packet),
+        None => End::ToOutside(packet),
+    }
+}

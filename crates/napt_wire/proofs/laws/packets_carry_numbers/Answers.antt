@@ -1,0 +1,6 @@
+use Rattle.napt_wire.proofs.Carried.{source-carried}
+use Rattle.napt_wire.proofs.Readings.{reads_again}
+use Rattle.napt_wire.proofs.laws.packets_carry_numbers.Goals as goal
+
+pub returns : goal.returns
+returns c = λ side bytes packet reads plain. source-carried side packet (reads_again side bytes packet reads) plain
