@@ -1,5 +1,5 @@
 -- What a command line means, by what clap makes of its words.
-use Rattle.std.specs.Prelude.{List, [], ◌∷◌, Option, Some, None, codes, option_map, string_bytes}
+use Rattle.std.specs.Prelude.{List, [], ◌∷◌, Option, Some, codes, option_map, string_bytes}
 use Rattle.clap.specs.Words.{App, Kinds, Row, Rule, Text, fault_of, first_of, matches_of, new_app, new_rule, with_rule}
 use Rattle.clap.specs.declared.builder.action.ArgAction.TheVariants.{Set}
 use Rattle.clap.specs.declared.error.kind.ErrorKind.TheVariants.{DisplayHelp}

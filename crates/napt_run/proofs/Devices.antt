@@ -1,7 +1,7 @@
 -- From what was read and what was made to what the devices show.
 use Rattle.std.proofs.Common.{◌≡◌, ℕ, ◌+◌, arith, List, Option, Some, None, IfSome, IfErr, option_map, Result, Ok, Err}
 use Rattle.napt_capture.specs.Contents.{Contents}
-use Rattle.napt_capture.specs.Capture.{IsCapture, Answers}
+use Rattle.napt_capture.specs.Capture.{Answers}
 use Rattle.napt_capture.specs.declared.fault.CaptureFault.{CaptureFault}
 use Rattle.napt_config.specs.Rules.{Rules}
 use Rattle.napt_run.specs.declared.fault.Fault.{Fault}
@@ -10,7 +10,7 @@ use Rattle.napt_run.specs.declared.fault.RunFault.TheVariants.{Memory, TooMany}
 use Rattle.napt_run.specs.declared.fault.Which.{Which}
 use Rattle.napt_run.specs.declared.captures.Captures.{Captures}
 use Rattle.napt_run.specs.Devices.{some_bytes}
-use Rattle.napt_run.specs.Captures.{AreRead, AreTooMany, Explains, Gets, GetsOf, IfKnown, IsRefusedRun, Share, whole, front, nothing, no_contents}
+use Rattle.napt_run.specs.Captures.{AreRead, Explains, Gets, GetsOf, IfKnown, IsRefusedRun, Share, whole, front, nothing, no_contents}
 
 IfKnown-more : {P Q : List ℕ → Option (List ℕ) → Type 0} (inside : Option (List ℕ)) (outside : Option (Option (List ℕ)))
     → ((bytes : List ℕ) (others : Option (List ℕ)) → P bytes others → Q bytes others) → IfKnown inside outside P → IfKnown inside outside Q

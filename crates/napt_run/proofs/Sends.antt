@@ -1,5 +1,5 @@
 -- The records of the packets that leave, outcome by outcome.
-use Rattle.std.proofs.Common.{◌≡◌, ℕ, ◌+◌, ◌≤◌, suc, Option, Some, None, List, [], ◌∷◌, ◌++◌, length, zip, filter_map, option_to_list, refl, sym, ◌∙◌, ap, ap₂, append_assoc, append-nil, arith}
+use Rattle.std.proofs.Common.{◌≡◌, ◌+◌, ◌≤◌, suc, Option, Some, None, List, [], ◌∷◌, ◌++◌, length, zip, filter_map, option_to_list, refl, sym, ◌∙◌, ap, ap₂, append_assoc, append-nil, arith}
 use Rattle.std.specs.List.{cons_option}
 use Rattle.napt_wire.specs.declared.Side.{Side}
 use Rattle.napt_capture.specs.Contents.{Entry}

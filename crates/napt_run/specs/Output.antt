@@ -4,7 +4,7 @@ use Rattle.napt_wire.specs.declared.Side.{Side}
 use Rattle.napt_wire.specs.declared.Side.TheVariants.{Inside, Outside}
 use Rattle.napt_capture.specs.Contents.{Entry}
 use Rattle.napt_run.specs.declared.outcome.Outcome.{Outcome}
-use Rattle.napt_run.specs.declared.outcome.Outcome.TheVariants.{ToOutside, ToInside, Dropped}
+use Rattle.napt_run.specs.declared.outcome.Outcome.TheVariants.{ToOutside, ToInside}
 use Rattle.napt_run.specs.Inputs.{Arrival}
 
 -- the packet that an outcome sends to a side

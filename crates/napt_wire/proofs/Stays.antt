@@ -37,9 +37,9 @@ error_leaves side end bytes p =
     let inner : HasRoom (inner_at bytes) bytes = inner_room side (inner_at bytes) bytes p.inner_good in
     let outer : HasRoom 0 bytes = room_of side bytes p.passes in
     let within : AreWithin 20 (length bytes) (quoted ++ c ∷ []) =
-        within-append 20 (length bytes) quoted (c ∷ [])
-        (within-wider (inner_at bytes + 10) (length bytes) 20 (length bytes) quoted (omega (arith, outer.header)) (omega arith) (quoted_within (inner_at bytes) Destination end bytes inner))
-        (omega (arith, outer.header), omega (arith, outer.transport_start), tt) in
+    within-append 20 (length bytes) quoted (c ∷ [])
+    (within-wider (inner_at bytes + 10) (length bytes) 20 (length bytes) quoted (omega (arith, outer.header)) (omega arith) (quoted_within (inner_at bytes) Destination end bytes inner))
+    (omega (arith, outer.header), omega (arith, outer.transport_start), tt) in
     ap (address 0 Destination) (outer_last quoted (address_changes 0 Source end.address bytes) c bytes)
     ∙ destination_stays 0 end.address bytes (changed (quoted ++ c ∷ []) bytes)
     ∙ long_other 20 (length bytes) 16 (quoted ++ c ∷ []) bytes within (inl (omega arith))

@@ -98,8 +98,18 @@ fn gives_each_option_its_file(rt: HostRuntime) -> Result<(), Fail> {
         ),
         (
             &[
-                "--report", "r", "--to-inside", "b", "--to-outside", "a", "--outside", "o", "--inside", "i",
-                "--config", "c",
+                "--report",
+                "r",
+                "--to-inside",
+                "b",
+                "--to-outside",
+                "a",
+                "--outside",
+                "o",
+                "--inside",
+                "i",
+                "--config",
+                "c",
             ],
             [
                 Some("c"),

@@ -1,4 +1,4 @@
-use Rattle.std.proofs.Common.{subst, ap, sym}
+use Rattle.std.proofs.Common.{subst, sym}
 use Rattle.std.specs.Prelude.{All}
 use Rattle.napt_capture.specs.Text.{IsWritable}
 use Rattle.napt_capture.specs.Contents.{Contents}

@@ -1,11 +1,8 @@
-use Rattle.std.proofs.Common.{◌≡◌, ℕ, List, [], ◌∷◌, ◌++◌, sym, ◌∙◌, ap, subst, subst₂, Some}
-use Rattle.std.specs.Prelude.{All}
+use Rattle.std.proofs.Common.{◌≡◌, [], ◌∷◌, ◌++◌, sym, ◌∙◌, ap, subst, Some}
 use Rattle.napt_capture.specs.Contents.{Entry}
-use Rattle.napt_capture.specs.Text.{IsWritable}
 use Rattle.napt_run.specs.Inputs.{Arrival}
-use Rattle.napt_run.specs.Output.{IsTimely}
 use Rattle.napt_run.specs.Taking.{Takes, input_of}
-use Rattle.napt_run.proofs.Merges.{Merging, begins, ends, takes, takes_timely, none_yet, none_left}
+use Rattle.napt_run.proofs.Merges.{begins, ends, takes, takes_timely, none_yet, none_left}
 use Rattle.napt_run.proofs.merging.merge.Goals as goal
 
 pub loop-side-init : goal.loop-side-init

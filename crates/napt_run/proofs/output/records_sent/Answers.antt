@@ -1,11 +1,10 @@
-use Rattle.std.proofs.Common.{◌≡◌, suc, ◌+◌, ◌≤◌, arith, ◌++◌, ◌∷◌, ◌∙◌, List, All, ap, sym, subst, inl, inr, length}
+use Rattle.std.proofs.Common.{◌≡◌, suc, ◌+◌, ◌≤◌, arith, ◌∷◌, ◌∙◌, List, All, ap, sym, subst, inl, inr, length}
 use Rattle.std.specs.Vec.Iter.{into_iter_items, into_iter_len}
 use Rattle.std.proofs.lemmas.List.Elements.{All-tail}
-use Rattle.napt_wire.specs.declared.Side.{Side}
 use Rattle.napt_wire.specs.declared.Side.TheVariants.{Inside, Outside}
 use Rattle.napt_capture.specs.Contents.{Entry}
 use Rattle.napt_run.specs.Inputs.{Arrival}
-use Rattle.napt_run.specs.Output.{IsTimely, records_to}
+use Rattle.napt_run.specs.Output.{IsTimely}
 use Rattle.napt_run.proofs.Sends.{records-more, no_inputs, no_outcomes, length-records, nil_of}
 use Rattle.napt_run.proofs.output.records_sent.Goals as goal
 

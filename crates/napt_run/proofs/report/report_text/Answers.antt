@@ -1,4 +1,4 @@
-use Rattle.std.proofs.Common.{◌≡◌, ℕ, List, [], ◌++◌, ◌∙◌, ap, sym, flat_map, string_bytes}
+use Rattle.std.proofs.Common.{◌≡◌, ℕ, List, [], ◌++◌, ◌∙◌, ap, flat_map, string_bytes}
 use Rattle.napt_table.specs.declared.Row.{Row}
 use Rattle.napt_run.specs.declared.outcome.Outcome.{Outcome}
 use Rattle.napt_run.specs.Sequential.{Ran}
