@@ -22,7 +22,7 @@ mod table;
 mod tests;
 mod traffic;
 
-pub use list::Bindings;
+pub(crate) use list::Bindings;
 use napt_wire::{Endpoint, Protocol};
 use std::marker::Model;
 pub use table::Table;
