@@ -18,7 +18,11 @@ const MANY: u32 = 1000;
 const MILLISECOND: u64 = 1_000_000;
 
 /// A UDP packet without payload, with the lifetime 64, the identification 1 and right checksums (RFC 791, RFC 768).
-pub(crate) fn udp(alloc: Global, source: Endpoint, destination: Endpoint) -> Result<Vec<u8>, AllocError>
+pub(crate) fn udp(
+    alloc: Global,
+    source: Endpoint,
+    destination: Endpoint,
+) -> Result<Vec<u8>, AllocError>
     ensures { IfOk result (λ bytes. length bytes.items ≡ 28) }
 {
     let [a, b] = halves(source.address);
