@@ -1,5 +1,6 @@
 /* Stands before the C library's allocator and refuses one growth: the one whose number, from 1, is in the environment
-   variable REFUSED_GROWTH. Where that growth is met, the file that REFUSED_MARK names is made.
+   variable REFUSED_GROWTH. The growths of all threads are counted together, in one atomic count. Where that growth is
+   met, the file that REFUSED_MARK names is made.
    It is built by the toolchain's clang alone, so it declares what it uses of the C library itself. */
 typedef unsigned long size;
 
@@ -28,45 +29,48 @@ static int is_refused(void) {
     return 1;
 }
 
-void *malloc(size bytes) {
-    static void *(*next)(size);
-    if (next == 0) {
-        next = (void *(*)(size))dlsym(NEXT, "malloc");
+static void *(*next_malloc)(size);
+static void *(*next_realloc)(void *, size);
+static void *(*next_calloc)(size, size);
+static int (*next_posix_memalign)(void **, size, size);
+static void *(*next_aligned_alloc)(size, size);
+
+/* All are looked up at once, at the latest before main begins and so before there is a second thread. The lookup itself
+   may ask calloc for memory, and does without it. */
+__attribute__((constructor)) static void look_up(void) {
+    static int is_looked_up;
+    if (is_looked_up) {
+        return;
     }
-    return is_refused() ? 0 : next(bytes);
+    is_looked_up = 1;
+    next_malloc = (void *(*)(size))dlsym(NEXT, "malloc");
+    next_realloc = (void *(*)(void *, size))dlsym(NEXT, "realloc");
+    next_calloc = (void *(*)(size, size))dlsym(NEXT, "calloc");
+    next_posix_memalign = (int (*)(void **, size, size))dlsym(NEXT, "posix_memalign");
+    next_aligned_alloc = (void *(*)(size, size))dlsym(NEXT, "aligned_alloc");
+}
+
+void *malloc(size bytes) {
+    look_up();
+    return next_malloc == 0 || is_refused() ? 0 : next_malloc(bytes);
 }
 
 void *realloc(void *old, size bytes) {
-    static void *(*next)(void *, size);
-    if (next == 0) {
-        next = (void *(*)(void *, size))dlsym(NEXT, "realloc");
-    }
-    return is_refused() ? 0 : next(old, bytes);
+    look_up();
+    return next_realloc == 0 || is_refused() ? 0 : next_realloc(old, bytes);
 }
 
 void *calloc(size count, size bytes) {
-    static void *(*next)(size, size);
-    static int is_looked_up;
-    if (!is_looked_up) {
-        /* dlsym itself may ask for memory once, and does without it */
-        is_looked_up = 1;
-        next = (void *(*)(size, size))dlsym(NEXT, "calloc");
-    }
-    return next == 0 || is_refused() ? 0 : next(count, bytes);
+    look_up();
+    return next_calloc == 0 || is_refused() ? 0 : next_calloc(count, bytes);
 }
 
 int posix_memalign(void **to, size alignment, size bytes) {
-    static int (*next)(void **, size, size);
-    if (next == 0) {
-        next = (int (*)(void **, size, size))dlsym(NEXT, "posix_memalign");
-    }
-    return is_refused() ? NO_MEMORY : next(to, alignment, bytes);
+    look_up();
+    return next_posix_memalign == 0 || is_refused() ? NO_MEMORY : next_posix_memalign(to, alignment, bytes);
 }
 
 void *aligned_alloc(size alignment, size bytes) {
-    static void *(*next)(size, size);
-    if (next == 0) {
-        next = (void *(*)(size, size))dlsym(NEXT, "aligned_alloc");
-    }
-    return is_refused() ? 0 : next(alignment, bytes);
+    look_up();
+    return next_aligned_alloc == 0 || is_refused() ? 0 : next_aligned_alloc(alignment, bytes);
 }

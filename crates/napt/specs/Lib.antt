@@ -1,2 +1,4 @@
 pub mod CommandLine
+pub mod Files
+pub mod Program
 pub mod Stop

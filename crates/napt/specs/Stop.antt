@@ -10,6 +10,7 @@ use Rattle.napt_run.specs.declared.Fault.{Fault}
 use Rattle.napt_run.specs.declared.Fault.TheVariants as run
 use Rattle.napt_run.specs.declared.RunFault.{RunFault}
 use Rattle.napt_run.specs.declared.RunFault.TheVariants as refused
+use Rattle.napt_pool.specs.declared.PoolFault.TheVariants as pool
 use Rattle.napt_run.specs.declared.Which.{Which}
 use Rattle.napt_run.specs.declared.Which.TheVariants as output
 use Rattle.napt_capture.specs.declared.CaptureFault.{CaptureFault}
@@ -81,6 +82,10 @@ side_name side.Outside = codes "outside"
 abbrev pub run_name : RunFault → Text
 run_name refused.Memory = codes "memory"
 run_name refused.TooMany = codes "too-many"
+run_name (refused.Pool pool.Memory) = codes "memory"
+run_name (refused.Pool pool.NoThread) = codes "no-thread"
+run_name (refused.Pool (pool.GateShut worker)) = codes "gate-shut " ++ decimal worker
+run_name (refused.Pool pool.Ring) = codes "ring"
 
 -- the file that an output is written to
 abbrev pub output_role : Which → Role

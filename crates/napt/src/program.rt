@@ -1,17 +1,29 @@
 //! What the program does: it reads its words and its configuration, opens the files in a fixed order, and runs over them.
 
-use crate::files::{created, created_at, opened, sink, sink_over, source, source_over};
+ghost use Rattle.std.specs.Prelude.{◌≡◌, ◌⊎◌, None, IfErr, IfOk, is_some};
+ghost use Rattle.napt_config.specs.Configured.{built_in};
+ghost use Rattle.napt.specs.Program.{IsConfigStop, IsStopOf};
+
+use crate::files::{MEMORY, created, created_at, opened, sink, sink_over, source, source_over};
 use crate::options::{LineFault, Options, parse_words};
 use crate::stop::{Role, Stop};
 use napt_config::{Config, ConfigFault};
+use napt_pool::OpenGate;
 use napt_run::run_captures;
 use std::env::Env;
 use std::io::{ErrorKind, Read, Write};
 use std::rt::Files;
+use std::sync::{Arc, Wait};
+use std::thread::Threads;
 use std::{env, fs, io};
 
-/// Runs over the files that the words name. Help goes to standard output.
-pub fn serve<R: Env + Files + Input + Print + AllocGlobal>(rt: &R) -> Result<(), Stop> {
+/// Runs over the files that the words name, with a worker thread for each external address. Help goes to standard output.
+///
+/// Fails, before any file is touched, where the words are not understood, where memory runs out for them, or where the
+/// configuration is refused; else where a file cannot be opened or created, or the run fails.
+pub fn serve<R: Env + Files + Input + Print + AllocGlobal + Threads + Wait + Copy + Send + 'static>(
+    rt: &R,
+) -> Result<(), Stop> {
     match parse_words(rt.alloc(), words(rt)?) {
         Ok(options) => run_over(rt, &options),
         Err(LineFault::Help(text)) => match rt.print(text) {
@@ -24,7 +36,9 @@ pub fn serve<R: Env + Files + Input + Print + AllocGlobal>(rt: &R) -> Result<(),
 }
 
 /// The words of the command line. One that is no text is not understood.
-fn words<R: Env + AllocGlobal>(rt: &R) -> Result<Vec<String>, Stop> {
+fn words<R: Env + AllocGlobal>(rt: &R) -> Result<Vec<String>, Stop>
+    ensures { IfErr result (λ stop. (stop ≡ Stop.Usage) ⊎ (stop ≡ Stop.LineMemory)) }
+{
     match env::args(rt) {
         Ok(args) => args.collect(rt.alloc()).map_err(|_| Stop::LineMemory),
         Err(error) if error.kind() == ErrorKind::OutOfMemory => Err(Stop::LineMemory),
@@ -33,7 +47,10 @@ fn words<R: Env + AllocGlobal>(rt: &R) -> Result<Vec<String>, Stop> {
 }
 
 /// The configuration that the file holds; the built-in one where there is none.
-fn configuration<R: Files + AllocGlobal>(rt: &R, path: Option<&String>) -> Result<Config, Stop> {
+fn configuration<R: Files + AllocGlobal>(rt: &R, path: Option<&String>) -> Result<Config, Stop>
+    ensures built_in { path.entry ≡ None → IfOk result (λ config. config ≡ built_in) }
+    ensures stop { IfErr result (IsConfigStop (is_some path.entry)) }
+{
     let Some(path) = path else {
         return Config::built_in(rt.alloc()).map_err(|_| Stop::Config(ConfigFault::Memory));
     };
@@ -46,7 +63,13 @@ fn configuration<R: Files + AllocGlobal>(rt: &R, path: Option<&String>) -> Resul
     }
 }
 
-fn run_over<R: Files + Input + Print + AllocGlobal>(rt: &R, options: &Options) -> Result<(), Stop> {
+/// Reads the configuration, opens the inside capture and runs.
+fn run_over<R: Files + Input + Print + AllocGlobal + Threads + Wait + Copy + Send + 'static>(
+    rt: &R,
+    options: &Options,
+) -> Result<(), Stop>
+    ensures { IfErr result (IsStopOf options.now) }
+{
     let config = configuration(rt, options.config.as_ref())?;
     match &options.inside {
         None => run_from(rt, &config, options, rt.reader()),
@@ -54,12 +77,13 @@ fn run_over<R: Files + Input + Print + AllocGlobal>(rt: &R, options: &Options) -
     }
 }
 
-fn run_from<R: Files + Print + AllocGlobal, S: Read + Drop>(
-    rt: &R,
-    config: &Config,
-    options: &Options,
-    inside: S,
-) -> Result<(), Stop> {
+/// Opens the outside capture and the capture to the outside, and runs.
+fn run_from<
+    R: Files + Print + AllocGlobal + Threads + Wait + Copy + Send + 'static,
+    S: Read + Drop,
+>(rt: &R, config: &Config, options: &Options, inside: S) -> Result<(), Stop>
+    ensures { IfErr result (IsStopOf options.now) }
+{
     let outside = match &options.outside {
         None => None,
         Some(path) => Some(opened(rt, path, Role::Outside)?),
@@ -73,14 +97,22 @@ fn run_from<R: Files + Print + AllocGlobal, S: Read + Drop>(
     }
 }
 
-fn run_into<R: Files + AllocGlobal, S: Read + Drop, I: Read + Drop, T: Write + Drop>(
+/// Creates the other outputs, puts buffers over all files, and runs.
+fn run_into<
+    R: Files + AllocGlobal + Threads + Wait + Copy + Send + 'static,
+    S: Read + Drop,
+    I: Read + Drop,
+    T: Write + Drop,
+>(
     rt: &R,
     config: &Config,
     options: &Options,
     inside: S,
     outside: Option<I>,
     to_outside: T,
-) -> Result<(), Stop> {
+) -> Result<(), Stop>
+    ensures { IfErr result (IsStopOf options.now) }
+{
     let to_inside = created_at(rt, options.to_inside.as_ref(), Role::ToInside)?;
     let report = created_at(rt, options.report.as_ref(), Role::Report)?;
     let alloc = rt.alloc();
@@ -89,7 +121,9 @@ fn run_into<R: Files + AllocGlobal, S: Read + Drop, I: Read + Drop, T: Write + D
     let mut to_outside = sink(alloc, to_outside)?;
     let mut to_inside = sink_over(alloc, to_inside)?;
     let mut report = sink_over(alloc, report)?;
+    let gate = Arc::new(alloc, OpenGate).map_err(|_| MEMORY)?;
     run_captures(
+        rt,
         alloc,
         config,
         &mut inside,
@@ -97,6 +131,7 @@ fn run_into<R: Files + AllocGlobal, S: Read + Drop, I: Read + Drop, T: Write + D
         &mut to_outside,
         to_inside.as_mut(),
         report.as_mut(),
+        gate,
     )
     .map_err(Stop::Run)
 }

@@ -4,6 +4,7 @@ ghost use Rattle.napt.specs.Stop.{capture_name, config_name, fault_text, line_of
 
 use napt_capture::CaptureFault;
 use napt_config::ConfigFault;
+use napt_pool::PoolFault;
 use napt_run::{Fault, RunFault, Which};
 use napt_wire::Side;
 use std::alloc::{AllocError, Global};
@@ -127,8 +128,8 @@ impl fmt::Display for FaultText {
                 write!(f, "capture {side} {name}")
             }
             Fault::Run(fault) => {
-                f.write_str("run ")?;
-                f.write_str(name_of_run_fault(fault))
+                let name = RunFaultName(fault);
+                write!(f, "run {name}")
             }
             Fault::Write(which, _) => {
                 f.write_str("write ")?;
@@ -147,12 +148,21 @@ fn name_of_side(side: Side) -> &'static str
     }
 }
 
-fn name_of_run_fault(fault: RunFault) -> &'static str
-    ensures { result.now ≡ run_name fault }
-{
-    match fault {
-        RunFault::Memory => "memory",
-        RunFault::TooMany => "too-many",
+/// A run's fault, shown by its name, and by the worker's number where a gate was shut.
+#[derive(Clone, Copy, Debug)]
+struct RunFaultName(RunFault);
+
+impl fmt::Display for RunFaultName {
+    ghost output = { λ name. Some (run_name name.0) };
+
+    fn fmt<W: fmt::Write>(&self, f: &mut fmt::Formatter<W>) -> fmt::Result {
+        match self.0 {
+            RunFault::Memory | RunFault::Pool(PoolFault::Memory) => f.write_str("memory"),
+            RunFault::TooMany => f.write_str("too-many"),
+            RunFault::Pool(PoolFault::NoThread) => f.write_str("no-thread"),
+            RunFault::Pool(PoolFault::GateShut(worker)) => write!(f, "gate-shut {worker}"),
+            RunFault::Pool(PoolFault::Ring) => f.write_str("ring"),
+        }
     }
 }
 

@@ -6,7 +6,7 @@ use Rattle.napt_capture.specs.declared.fault.CaptureFault.{CaptureFault}
 use Rattle.napt_config.specs.Rules.{Rules}
 use Rattle.napt_run.specs.declared.fault.Fault.{Fault}
 use Rattle.napt_run.specs.declared.fault.Fault.TheVariants.{Capture, Run, Write}
-use Rattle.napt_run.specs.declared.fault.RunFault.TheVariants.{Memory, TooMany}
+use Rattle.napt_run.specs.declared.fault.RunFault.TheVariants.{Memory, TooMany, Pool}
 use Rattle.napt_run.specs.declared.fault.Which.{Which}
 use Rattle.napt_run.specs.declared.captures.Captures.{Captures}
 use Rattle.napt_run.specs.Devices.{some_bytes}
@@ -46,6 +46,7 @@ explains_one : (inside : Option (List ℕ)) (outside : Option (Option (List ℕ)
 explains_one inside outside captures (Capture side fault) read refused = absurd refused
 explains_one inside outside captures (Run TooMany) read refused = IfKnown-more inside outside (λ bytes others are. (captures, are, refused)) read
 explains_one inside outside captures (Run Memory) read refused = tt
+explains_one inside outside captures (Run (Pool fault)) read refused = tt
 explains_one inside outside captures (Write which fault) read refused = tt
 
 pub explains : (inside : Option (List ℕ)) (outside : Option (Option (List ℕ))) (captures : Captures) (result : Result (Unit {0}) Fault)

@@ -1,16 +1,12 @@
 -- The laws for a dispatcher.
-use Rattle.std.proofs.Common.{◌≡◌, ℕ, suc, ◌+◌, ◌-◌, ◌≤◌, max, true, List, [], ◌∷◌, ◌++◌, length, Option, Some, None, IfSome, Result, Ok, Err, refl, sym, ◌∙◌, ap, subst, arith, append_assoc}
+use Rattle.std.proofs.Common.{◌≡◌, ℕ, suc, ◌+◌, ◌-◌, ◌≤◌, max, List, [], ◌∷◌, ◌++◌, length, Option, Some, None, IfSome, Result, Ok, Err, refl, sym, ◌∙◌, ap, subst, arith, append_assoc}
 use Rattle.std.specs.List.{slice_get}
 use Rattle.napt_wire.specs.declared.Side.{Side}
 use Rattle.napt_wire.specs.declared.Way.{Way}
-use Rattle.napt_wire.specs.declared.Way.TheVariants.{Outgoing, Incoming}
+use Rattle.napt_wire.specs.declared.Way.TheVariants.{Incoming}
 use Rattle.napt_wire.specs.declared.Cause.{Cause}
-use Rattle.napt_wire.specs.declared.Endpoint.{Endpoint}
-use Rattle.napt_wire.specs.declared.Kind.{Kind}
-use Rattle.napt_wire.specs.declared.Kind.TheVariants.{Udp, Tcp, Echo, ErrorOf}
-use Rattle.napt_wire.specs.Fields.{destination, kind, is_error}
+use Rattle.napt_wire.specs.Fields.{destination, kind}
 use Rattle.napt_wire.specs.Reading.{reading}
-use Rattle.napt_wire.specs.Rewriting.{with_source, reverted}
 use Rattle.napt_wire.specs.Laws.{SourcesLeaveDestinations, ErrorsLeaveDestinations}
 use Rattle.napt_config.specs.Rules.{Rules, place_of}
 use Rattle.napt_table.specs.declared.Binding.{Binding}
@@ -21,7 +17,7 @@ use Rattle.napt_translate.specs.declared.translator.Answer.{Answer}
 use Rattle.napt_translate.specs.declared.translator.End.{End}
 use Rattle.napt_translate.specs.declared.translator.End.TheVariants.{ToOutside, ToInside, Onward, Dropped}
 use Rattle.napt_translate.specs.Sides.{refusal, way_from, served_at}
-use Rattle.napt_translate.specs.Legs.{Acted, onward_by, end_out, end_in, error_out, error_in, act_by, act, Kept, kept_after, kept_answer, kept_replies}
+use Rattle.napt_translate.specs.Legs.{Acted, act, Kept, kept_after, kept_answer, kept_replies}
 use Rattle.napt_run.specs.declared.outcome.Outcome.{Outcome}
 use Rattle.napt_run.specs.Inputs.{Arrival}
 use Rattle.napt_run.specs.Sequential.{Act, Stepped, outcome_of, follow_by, judged, read_as, step, Course, run_from, run}
@@ -29,6 +25,7 @@ use Rattle.napt_run.specs.Laws.{answers_at}
 use Rattle.napt_run.specs.Dispatching.{IsFront, RightAnswersAreTheRuns, RunsGrow, told, IsTold, AnswersTellOutcomes, OnwardIsForetold}
 use Rattle.napt_run.proofs.Grown.{grows}
 use Rattle.napt_run.proofs.RunsLocal.{translators_answer_alone}
+use Rattle.napt_run.proofs.Steps.{OnwardBy, onward}
 
 -- FRONTS
 
@@ -134,49 +131,8 @@ answers_tell rules inputs list =
 
 -- ONWARD
 
--- what an onward end says of the way and the packet
-abbrev Foretold : Rules → List ℕ → ℕ → List ℕ → Way → Type 0
-Foretold rules packet place next way = (way ≡ Outgoing) × (place_of rules (destination packet).address ≡ Some place) × ((destination next).address ≡ (destination packet).address)
-
-onward_from : (rules : Rules) (packet p : List ℕ) → (destination p).address ≡ (destination packet).address → (found : Option ℕ) → place_of rules (destination p).address ≡ found → (place : ℕ) (next : List ℕ) → onward_by found p ≡ Onward place next → Foretold rules packet place next Outgoing
-onward_from rules packet p destined None e place next h = cc
-onward_from rules packet p destined (Some found) e place next h =
-    let same : p ≡ next = cc in
-    let which : found ≡ place = cc in
-    (refl, ap (place_of rules) (sym destined) ∙ (e ∙ ap Some which), ap (λ (x : List ℕ). (destination x).address) (sym same) ∙ destined)
-
-module _ (packets : SourcesLeaveDestinations) (errors : ErrorsLeaveDestinations) (rules : Rules) (side : Side) (packet : List ℕ) (reads : reading side packet ≡ Ok packet) where
-  foretold_out : (address : ℕ) (number : Result ℕ Cause) (place : ℕ) (next : List ℕ) → end_out rules address packet number ≡ Onward place next → Foretold rules packet place next Outgoing
-  foretold_out address (Ok number) place next h =
-      let p : List ℕ = with_source (record { address = address; number = number }) packet in
-      onward_from rules packet p (packets side packet reads (record { address = address; number = number })) (place_of rules (destination p).address) refl place next h
-  foretold_out address (Err cause) place next h = cc
-
-  foretold_in : (inside : Result Endpoint Cause) (place : ℕ) (next : List ℕ) → end_in packet inside ≡ Onward place next → Foretold rules packet place next Incoming
-  foretold_in (Ok end) place next h = cc
-  foretold_in (Err cause) place next h = cc
-
-  foretold_error_out : is_error (kind packet) ≡ true → (found : Option Binding) (place : ℕ) (next : List ℕ) → error_out rules packet found ≡ Onward place next → Foretold rules packet place next Outgoing
-  foretold_error_out is (Some binding) place next h =
-      let p : List ℕ = reverted Outgoing binding.external packet in
-      onward_from rules packet p (errors side packet reads is binding.external) (place_of rules (destination p).address) refl place next h
-  foretold_error_out is None place next h = cc
-
-  foretold_error_in : (found : Option Binding) (place : ℕ) (next : List ℕ) → error_in packet found ≡ Onward place next → Foretold rules packet place next Incoming
-  foretold_error_in (Some binding) place next h = cc
-  foretold_error_in None place next h = cc
-
-  foretold_by : (address now : ℕ) (list : List Binding) (way : Way) (k : Kind) → kind packet ≡ k → (place : ℕ) (next : List ℕ) → (act_by rules address now packet list way k).end ≡ Onward place next → Foretold rules packet place next way
-  foretold_by address now list Outgoing Udp is place next h = foretold_out address _ place next h
-  foretold_by address now list Outgoing (Tcp flags) is place next h = foretold_out address _ place next h
-  foretold_by address now list Outgoing Echo is place next h = foretold_out address _ place next h
-  foretold_by address now list Outgoing (ErrorOf inner) is place next h = foretold_error_out (ap is_error is) _ place next h
-  foretold_by address now list Incoming Udp is place next h = foretold_in _ place next h
-  foretold_by address now list Incoming (Tcp flags) is place next h = foretold_in _ place next h
-  foretold_by address now list Incoming Echo is place next h = foretold_in _ place next h
-  foretold_by address now list Incoming (ErrorOf inner) is place next h = foretold_error_in _ place next h
-
 pub foretold : SourcesLeaveDestinations → ErrorsLeaveDestinations → OnwardIsForetold
 foretold packets errors rules address leg list place packet side reads h =
-    let f : Foretold rules leg.packet place packet leg.way = foretold_by packets errors rules side leg.packet reads address leg.now list leg.way (kind leg.packet) refl place packet h in
-    record { way = f.0; served = f.1; kept = f.2 }
+    let goes : List ℕ → Type 0 = λ q. (destination q).address ≡ (destination leg.packet).address in
+    let to : OnwardBy rules goes leg.way place packet = onward rules leg.packet goes (packets side leg.packet reads) (errors side leg.packet reads) address leg.now list leg.way (kind leg.packet) refl place packet h in
+    record { way = to.0; served = ap (place_of rules) (sym to.2) ∙ to.1; kept = to.2 }

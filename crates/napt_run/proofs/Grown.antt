@@ -18,10 +18,7 @@ use Rattle.napt_run.specs.declared.outcome.Outcome.{Outcome}
 use Rattle.napt_run.specs.declared.seat.Seat.{Seat}
 use Rattle.napt_run.specs.Sequential.{Act, Stepped, follow_by, judged, read_as, step, Course, ahead, run_from, run, last_clock}
 use Rattle.napt_run.specs.Seats.{AreSeats, StandBy, Follows, moment_of}
-
--- a course, and the step of one input more
-abbrev joined : Course → Stepped → Course
-joined course next = record { outcomes = course.outcomes ++ next.outcome ∷ []; acts = course.acts ++ next.acts; list = next.list }
+use Rattle.napt_run.specs.Dispatching.{joined}
 
 ahead_joined : (first : Stepped) (course : Course) (next : Stepped) → ahead first (joined course next) ≡ joined (ahead first course) next
 ahead_joined first course next = ap (λ (acts : List Act). record { outcomes = first.outcome ∷ (course.outcomes ++ next.outcome ∷ []); acts = acts; list = next.list }) (sym (append_assoc first.acts course.acts next.acts))
@@ -40,7 +37,7 @@ grows rules number clock (i ∷ inputs) input list at e =
     ap (ahead first) (grows rules (number + 1) now inputs input first.list at (omega arith))
     ∙ ahead_joined first rest (step rules at (max (last_clock now inputs) input.clock) input rest.list)
 
-clock_more : (clock : ℕ) (inputs : List Arrival) (input : Arrival) → last_clock clock (inputs ++ input ∷ []) ≡ max (last_clock clock inputs) input.clock
+pub clock_more : (clock : ℕ) (inputs : List Arrival) (input : Arrival) → last_clock clock (inputs ++ input ∷ []) ≡ max (last_clock clock inputs) input.clock
 clock_more clock [] input = refl
 clock_more clock (i ∷ inputs) input = clock_more (max clock i.clock) inputs input
 

@@ -14,3 +14,9 @@ pub mod Shown
 pub mod Sound
 pub mod Steps
 pub mod Texts
+pub mod Ledgers
+pub mod Advance
+pub mod Hairpin
+pub mod OneInput
+pub mod Ended
+pub mod Closed

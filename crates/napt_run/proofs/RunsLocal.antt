@@ -118,7 +118,7 @@ later_at_once rules address clock now le own list once = record {
   past = omega (arith, once.past);
 }
 
-record SeenAlone (rules : Rules) (address last : ℕ) (own : Kept) (acts : List Act) (new : List Binding) : Type 0 where
+pub record SeenAlone (rules : Rules) (address last : ℕ) (own : Kept) (acts : List Act) (new : List Binding) : Type 0 where
   pub answers : kept_replies rules address (map (λ a. a.leg) acts) own ≡ map answer_of acts
   pub leaves : IsAtOnce rules address last (kept_after_all rules address (map (λ a. a.leg) acts) own) new
 
@@ -146,7 +146,7 @@ turn_alone rules address clock own list (a ∷ acts) last new once p =
           (other_at_once rules address clock own list once a.address (λ e. eqb-false a.address address h (sym e)) a.leg p.0) p.2
     ] refl
 
-seen : (rules : Rules) (inputs : List Arrival) (list : List Binding) (address : ℕ) → SeenAlone rules address (last_clock 0 inputs) (record { list = of address list; at = 0 }) (acts_at address (run rules inputs list).acts) (run rules inputs list).list
+pub seen : (rules : Rules) (inputs : List Arrival) (list : List Binding) (address : ℕ) → SeenAlone rules address (last_clock 0 inputs) (record { list = of address list; at = 0 }) (acts_at address (run rules inputs list).acts) (run rules inputs list).list
 seen rules inputs list address =
     turn_alone rules address 0 (record { list = of address list; at = 0 }) list (run rules inputs list).acts (last_clock 0 inputs) (run rules inputs list).list
     (record { agrees = record { same = refl }; past = omega arith }) (run_turn rules 0 0 inputs list)

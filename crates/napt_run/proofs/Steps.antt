@@ -14,7 +14,7 @@ use Rattle.napt_wire.specs.declared.Cause.TheVariants.{Spoofed, NotOurs, Unsuppo
 use Rattle.napt_wire.specs.declared.Endpoint.{Endpoint}
 use Rattle.napt_wire.specs.declared.Kind.{Kind}
 use Rattle.napt_wire.specs.declared.Kind.TheVariants.{Udp, Tcp, Echo, ErrorOf}
-use Rattle.napt_wire.specs.Fields.{destination, kind, local_end}
+use Rattle.napt_wire.specs.Fields.{destination, kind, is_error, local_end}
 use Rattle.napt_wire.specs.Rewriting.{with_source, reverted}
 use Rattle.napt_config.specs.Rules.{Rules, KeepsRules, pair_of, place_of}
 use Rattle.napt_config.proofs.Pools.{paired_in_pool, position_of_member}
@@ -38,47 +38,54 @@ stands_at pool address place is =
     let p : (place < length pool) × ((get_or pool place 0 == address) ≡ true) × ((k : ℕ) → k < place → (get_or pool k 0 == address) ≡ false) = position-Some (λ other. other == address) pool place 0 is in
     slice_get-get_or pool place 0 p.0 ∙ ap Some (eqb-true (get_or pool place 0) address p.1)
 
--- ONWARD: only to the place of the packet's destination
+-- ONWARD
 
-onward_from : (rules : Rules) (p : List ℕ) (found : Option ℕ) → place_of rules (destination p).address ≡ found → (place : ℕ) (packet : List ℕ) → onward_by found p ≡ Onward place packet → place_of rules (destination packet).address ≡ Some place
-onward_from rules p None is place packet h = cc
-onward_from rules p (Some found) is place packet h =
-    let same : p ≡ packet = cc in
-    let which : found ≡ place = cc in
-    ap (λ (x : List ℕ). place_of rules (destination x).address) (sym same) ∙ (is ∙ ap Some which)
+-- only on the way out, to the place of the packet's destination; P holds of the packet
+abbrev pub OnwardBy : Rules → (List ℕ → Type 0) → Way → ℕ → List ℕ → Type 0
+OnwardBy rules P way place packet = (way ≡ Outgoing) × (place_of rules (destination packet).address ≡ Some place) × P packet
 
-onward_out : (rules : Rules) (address : ℕ) (p : List ℕ) (number : Result ℕ Cause) (place : ℕ) (packet : List ℕ) → end_out rules address p number ≡ Onward place packet → place_of rules (destination packet).address ≡ Some place
-onward_out rules address p (Ok number) place packet h =
-    let gone : List ℕ = with_source (record { address = address; number = number }) p in
-    onward_from rules gone (place_of rules (destination gone).address) refl place packet h
-onward_out rules address p (Err cause) place packet h = cc
+-- where P holds of a packet that leaves
+module _ (rules : Rules) (p : List ℕ) (P : List ℕ → Type 0) (sources : (end : Endpoint) → P (with_source end p)) (errors : is_error (kind p) ≡ true → (end : Endpoint) → P (reverted Outgoing end p)) where
+  onward_from : (gone : List ℕ) → P gone → (found : Option ℕ) → place_of rules (destination gone).address ≡ found → (place : ℕ) (packet : List ℕ) → onward_by found gone ≡ Onward place packet → OnwardBy rules P Outgoing place packet
+  onward_from gone holds None is place packet h = cc
+  onward_from gone holds (Some found) is place packet h =
+      let same : gone ≡ packet = cc in
+      let which : found ≡ place = cc in
+      (refl, ap (λ (x : List ℕ). place_of rules (destination x).address) (sym same) ∙ (is ∙ ap Some which), subst P same holds)
 
-onward_in : (rules : Rules) (p : List ℕ) (inside : Result Endpoint Cause) (place : ℕ) (packet : List ℕ) → end_in p inside ≡ Onward place packet → place_of rules (destination packet).address ≡ Some place
-onward_in rules p (Ok end) place packet h = cc
-onward_in rules p (Err cause) place packet h = cc
+  onward_out : (address : ℕ) (number : Result ℕ Cause) (place : ℕ) (packet : List ℕ) → end_out rules address p number ≡ Onward place packet → OnwardBy rules P Outgoing place packet
+  onward_out address (Ok number) place packet h =
+      let end : Endpoint = record { address = address; number = number } in
+      onward_from (with_source end p) (sources end) (place_of rules (destination (with_source end p)).address) refl place packet h
+  onward_out address (Err cause) place packet h = cc
 
-onward_error_out : (rules : Rules) (p : List ℕ) (found : Option Binding) (place : ℕ) (packet : List ℕ) → error_out rules p found ≡ Onward place packet → place_of rules (destination packet).address ≡ Some place
-onward_error_out rules p (Some binding) place packet h =
-    let gone : List ℕ = reverted Outgoing binding.external p in
-    onward_from rules gone (place_of rules (destination gone).address) refl place packet h
-onward_error_out rules p None place packet h = cc
+  onward_in : (inside : Result Endpoint Cause) (place : ℕ) (packet : List ℕ) → end_in p inside ≡ Onward place packet → OnwardBy rules P Incoming place packet
+  onward_in (Ok end) place packet h = cc
+  onward_in (Err cause) place packet h = cc
 
-onward_error_in : (rules : Rules) (p : List ℕ) (found : Option Binding) (place : ℕ) (packet : List ℕ) → error_in p found ≡ Onward place packet → place_of rules (destination packet).address ≡ Some place
-onward_error_in rules p (Some binding) place packet h = cc
-onward_error_in rules p None place packet h = cc
+  onward_error_out : is_error (kind p) ≡ true → (found : Option Binding) (place : ℕ) (packet : List ℕ) → error_out rules p found ≡ Onward place packet → OnwardBy rules P Outgoing place packet
+  onward_error_out is (Some binding) place packet h =
+      onward_from (reverted Outgoing binding.external p) (errors is binding.external) (place_of rules (destination (reverted Outgoing binding.external p)).address) refl place packet h
+  onward_error_out is None place packet h = cc
 
-onward_to : (rules : Rules) (address now : ℕ) (p : List ℕ) (list : List Binding) (way : Way) (kind : Kind) (place : ℕ) (packet : List ℕ) → (act_by rules address now p list way kind).end ≡ Onward place packet → place_of rules (destination packet).address ≡ Some place
-onward_to rules address now p list Outgoing Udp place packet h = onward_out rules address p _ place packet h
-onward_to rules address now p list Outgoing (Tcp flags) place packet h = onward_out rules address p _ place packet h
-onward_to rules address now p list Outgoing Echo place packet h = onward_out rules address p _ place packet h
-onward_to rules address now p list Outgoing (ErrorOf inner) place packet h = onward_error_out rules p _ place packet h
-onward_to rules address now p list Incoming Udp place packet h = onward_in rules p _ place packet h
-onward_to rules address now p list Incoming (Tcp flags) place packet h = onward_in rules p _ place packet h
-onward_to rules address now p list Incoming Echo place packet h = onward_in rules p _ place packet h
-onward_to rules address now p list Incoming (ErrorOf inner) place packet h = onward_error_in rules p _ place packet h
+  onward_error_in : (found : Option Binding) (place : ℕ) (packet : List ℕ) → error_in p found ≡ Onward place packet → OnwardBy rules P Incoming place packet
+  onward_error_in (Some binding) place packet h = cc
+  onward_error_in None place packet h = cc
+
+  pub onward : (address now : ℕ) (list : List Binding) (way : Way) (k : Kind) → kind p ≡ k → (place : ℕ) (packet : List ℕ) → (act_by rules address now p list way k).end ≡ Onward place packet → OnwardBy rules P way place packet
+  onward address now list Outgoing Udp is place packet h = onward_out address _ place packet h
+  onward address now list Outgoing (Tcp flags) is place packet h = onward_out address _ place packet h
+  onward address now list Outgoing Echo is place packet h = onward_out address _ place packet h
+  onward address now list Outgoing (ErrorOf inner) is place packet h = onward_error_out (ap is_error is) _ place packet h
+  onward address now list Incoming Udp is place packet h = onward_in _ place packet h
+  onward address now list Incoming (Tcp flags) is place packet h = onward_in _ place packet h
+  onward address now list Incoming Echo is place packet h = onward_in _ place packet h
+  onward address now list Incoming (ErrorOf inner) is place packet h = onward_error_in _ place packet h
 
 pub onward_place : (rules : Rules) (address : ℕ) (leg : Leg) (list : List Binding) (place : ℕ) (packet : List ℕ) → (act rules address leg list).end ≡ Onward place packet → place_of rules (destination packet).address ≡ Some place
-onward_place rules address leg list place packet h = onward_to rules address leg.now leg.packet list leg.way (kind leg.packet) place packet h
+onward_place rules address leg list place packet h =
+    let onward_to : OnwardBy rules (λ q. Unit {0}) leg.way place packet = onward rules leg.packet (λ q. Unit {0}) (λ end. tt) (λ is end. tt) address leg.now list leg.way (kind leg.packet) refl place packet h in
+    onward_to.1
 
 -- A FIRST LEG ALONE, OR TWO
 

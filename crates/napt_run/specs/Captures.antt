@@ -1,5 +1,5 @@
 -- What a run over captures leaves on its devices. Where the bytes of a reader or a writer are not known, nothing is claimed of them.
-use Rattle.std.specs.Prelude.{◌≡◌, ℕ, ◌≤◌, ◌^◌, List, [], length, take, false, IfSome, string_bytes, Option, Some, None, Result, Ok, Err}
+use Rattle.std.specs.Prelude.{◌≡◌, ℕ, ◌≤◌, ◌^◌, List, [], length, take, Bool, false, IfSome, string_bytes, Option, Some, None, Result, Ok, Err}
 use Rattle.std.specs.Io.KnownBytes.{Appends}
 use Rattle.napt_wire.specs.declared.Side.{Side}
 use Rattle.napt_wire.specs.declared.Side.TheVariants as sides
@@ -11,7 +11,7 @@ use Rattle.napt_config.specs.Rules.{Rules}
 use Rattle.napt_run.specs.declared.fault.Fault.{Fault}
 use Rattle.napt_run.specs.declared.fault.Fault.TheVariants.{Capture, Run, Write}
 use Rattle.napt_run.specs.declared.fault.RunFault.{RunFault}
-use Rattle.napt_run.specs.declared.fault.RunFault.TheVariants.{Memory, TooMany}
+use Rattle.napt_run.specs.declared.fault.RunFault.TheVariants.{Memory, TooMany, Pool}
 use Rattle.napt_run.specs.declared.fault.Which.{Which}
 use Rattle.napt_run.specs.declared.fault.Which.TheVariants.{Outside, Inside, Report}
 use Rattle.napt_run.specs.declared.captures.Captures.{Captures}
@@ -21,6 +21,7 @@ use Rattle.napt_run.specs.Sequential.{ran}
 use Rattle.napt_run.specs.Merge.{IsMerged}
 use Rattle.napt_run.specs.Output.{records_to}
 use Rattle.napt_run.specs.Report.{report_text}
+use Rattle.napt_run.specs.Dispatch.{is_gate_fault}
 
 -- WHAT IS READ
 
@@ -104,7 +105,14 @@ Explains inside outside (Capture sides.Outside fault) = IfSome outside (λ other
 Explains inside outside (Run TooMany) =
     IfKnown inside outside (λ bytes others. (captures : Captures) × AreRead bytes others captures × AreTooMany captures)
 Explains inside outside (Run Memory) = Unit {0}
+Explains inside outside (Run (Pool fault)) = Unit {0}
 Explains inside outside (Write which fault) = Unit {0}
+
+-- whether a fault says that the gate was shut
+abbrev pub tells_shut_gate : Fault → Bool
+tells_shut_gate (Capture side fault) = false
+tells_shut_gate (Run fault) = is_gate_fault fault
+tells_shut_gate (Write which fault) = false
 
 -- how many reads of a side's capture failed, and how many writes of an output
 abbrev pub failed_readings : Side → Result (Unit {0}) Fault → ℕ
@@ -132,6 +140,7 @@ pub record AreOutputs (rules : Rules) (captures : Captures) (outputs : Outputs) 
 abbrev pub IsRefused : Captures → RunFault → Type 0
 IsRefused captures TooMany = AreTooMany captures
 IsRefused captures Memory = Unit {0}
+IsRefused captures (Pool fault) = Unit {0}
 
 abbrev pub IsWriteFault : Fault → Type 0
 IsWriteFault (Write which fault) = Unit {0}

@@ -30,12 +30,15 @@ RightAnswersAreTheRuns = (rules : Rules) (inputs : List Arrival) (list : List Bi
     let course : Course = run rules inputs list in
     IsFront given (legs_at address course.acts) → IsFront taken (kept_replies rules address given (record { list = of address list; at = 0 })) → IsFront taken (answers_at address course.acts)
 
+-- a course, and the step of one input more
+abbrev pub joined : Course → Stepped → Course
+joined course next = record { outcomes = course.outcomes ++ next.outcome ∷ []; acts = course.acts ++ next.acts; list = next.list }
+
 -- a run over one input more is the run, and the step of that input
 abbrev pub RunsGrow : Type 0
 RunsGrow = (rules : Rules) (inputs : List Arrival) (input : Arrival) (list : List Binding) →
     let course : Course = run rules inputs list in
-    let next : Stepped = step rules (length inputs) (max (last_clock 0 inputs) input.clock) input course.list in
-    run rules (inputs ++ input ∷ []) list ≡ record { outcomes = course.outcomes ++ next.outcome ∷ []; acts = course.acts ++ next.acts; list = next.list }
+    run rules (inputs ++ input ∷ []) list ≡ joined course (step rules (length inputs) (max (last_clock 0 inputs) input.clock) input course.list)
 
 -- the outcome that the end of a leg tells, where it is the last
 abbrev pub told : End → Option Outcome

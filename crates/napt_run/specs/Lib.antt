@@ -10,3 +10,4 @@ pub mod Report
 pub mod Devices
 pub mod Captures
 pub mod Dispatching
+pub mod Dispatch

@@ -1,19 +1,23 @@
-//! A run over captures: both are read, the run is made in memory, and only then anything is written.
-ghost use Rattle.std.specs.Prelude.{◌≡◌, ◌+◌, ◌-◌, ◌^◌, ◌<◌, length, All, IfOk, IfErr, IfSome, Some, None, option_map, string_bytes};
+//! A run over captures: both are read, workers run in memory, and only then anything is written.
+ghost use Rattle.std.specs.Prelude.{◌≡◌, ◌+◌, ◌-◌, ◌^◌, ◌<◌, length, All, IfOk, IfErr, IfSome, Some, None, option_map, string_bytes, true, false};
 ghost use Rattle.napt_capture.specs.Text.{IsWritable, text};
 ghost use Rattle.napt_run.specs.Devices.{IfGiven, GrowsBy, bytes_in, some_bytes};
-ghost use Rattle.napt_run.specs.Captures.{AreOutputs, Explains, Gets, GetsOf, IsRefused, IsRefusedRun, IsWriteFault, Receives, failed_readings, failed_writings, no_contents, share_of};
+ghost use Rattle.napt_run.specs.Captures.{AreOutputs, Explains, Gets, GetsOf, IsRefused, IsRefusedRun, IsWriteFault, Receives, failed_readings, failed_writings, no_contents, share_of, tells_shut_gate};
+ghost use Rattle.napt_run.specs.Dispatch.{is_gate_fault};
 
 use crate::fault::{Fault, RunFault, Which};
 use crate::merging::merge;
 use crate::nowhere::Nowhere;
 use crate::output::records_sent;
 use crate::report::report_text;
-use crate::run::run_plain;
+use crate::workers::run_workers;
 use napt_capture::{Capture, Record, Sink, Source, read_capture, write_capture, write_text};
 use napt_config::Config;
+use napt_pool::Gate;
 use napt_wire::Side;
 use std::alloc::Global;
+use std::sync::{Arc, Wait};
+use std::thread::Threads;
 
 /// The captures of both sides.
 #[derive(Drop)]
@@ -41,11 +45,18 @@ fn no_capture(alloc: Global) -> Capture
 }
 
 /// Runs over the captures, and makes all that is to be written.
-fn make_outputs(alloc: Global, config: &Config, captures: Captures) -> Result<Outputs, RunFault>
+fn make_outputs<T: Threads + Wait + Copy + Send + 'static, G: Gate + Send + Sync + Drop + 'static>(
+    rt: &T,
+    alloc: Global,
+    config: &Config,
+    captures: Captures,
+    gate: Arc<G>,
+) -> Result<Outputs, RunFault>
     requires inside { All IsWritable captures.inside.records }
     requires outside { All IsWritable captures.outside.records }
     ensures ok { IfOk result (λ outputs. AreOutputs config.now captures outputs) }
     ensures err { IfErr result (IsRefused captures) }
+    ensures gate { G.is_open ≡ true → IfErr result (λ fault. is_gate_fault fault ≡ false) }
     ensures outside_writable { IfOk result (λ outputs. All IsWritable outputs.to_outside.items) }
     ensures inside_writable { IfOk result (λ outputs. All IsWritable outputs.to_inside.items) }
     ensures outside_few { IfOk result (λ outputs. length outputs.to_outside.items < 2 ^ 32) }
@@ -55,7 +66,7 @@ fn make_outputs(alloc: Global, config: &Config, captures: Captures) -> Result<Ou
     let Ok(inputs) = merge(alloc, inside.records, outside.records) else {
         return Err(RunFault::Memory);
     };
-    let run = run_plain(alloc, config, &inputs)?;
+    let run = run_workers(rt, alloc, config, &inputs, gate)?;
     let Ok(report) = report_text(alloc, &run, inside.cut, outside.cut) else {
         return Err(RunFault::Memory);
     };
@@ -104,13 +115,21 @@ fn write_outputs<W: Sink, W2: Sink, W3: Sink>(
 }
 
 /// Runs over captures that were read, and writes what comes of it.
-fn run_between<W: Sink, W2: Sink, W3: Sink>(
+fn run_between<
+    T: Threads + Wait + Copy + Send + 'static,
+    W: Sink,
+    W2: Sink,
+    W3: Sink,
+    G: Gate + Send + Sync + Drop + 'static,
+>(
+    rt: &T,
     alloc: Global,
     config: &Config,
     captures: Captures,
     to_outside: &mut W,
     to_inside: &mut W2,
     report: &mut W3,
+    gate: Arc<G>,
 ) -> Result<(), Fault>
     requires inside { All IsWritable captures.inside.records }
     requires outside { All IsWritable captures.outside.records }
@@ -121,18 +140,28 @@ fn run_between<W: Sink, W2: Sink, W3: Sink>(
     ensures to_inside { GetsOf config.now captures Which.Inside (share_of Which.Inside result) (W2.contents to_inside.old) (W2.contents to_inside.new) }
     ensures report { GetsOf config.now captures Which.Report (share_of Which.Report result) (W3.contents report.old) (W3.contents report.new) }
     ensures fault { IfErr result (IsRefusedRun captures) }
+    ensures gate { G.is_open ≡ true → IfErr result (λ fault. tells_shut_gate fault ≡ false) }
     ensures outside_writings { W.failed to_outside.new ≡ W.failed to_outside.old + failed_writings Which.Outside result }
     ensures inside_writings { W2.failed to_inside.new ≡ W2.failed to_inside.old + failed_writings Which.Inside result }
     ensures report_writings { W3.failed report.new ≡ W3.failed report.old + failed_writings Which.Report result }
 {
-    match make_outputs(alloc, config, captures) {
+    match make_outputs(rt, alloc, config, captures, gate) {
         Ok(outputs) => write_outputs(&outputs, to_outside, to_inside, report),
         Err(fault) => Err(Fault::Run(fault)),
     }
 }
 
 /// Reads both captures, runs over them, and writes.
-fn run_both<R: Source, R2: Source, W: Sink, W2: Sink, W3: Sink>(
+fn run_both<
+    T: Threads + Wait + Copy + Send + 'static,
+    R: Source,
+    R2: Source,
+    W: Sink,
+    W2: Sink,
+    W3: Sink,
+    G: Gate + Send + Sync + Drop + 'static,
+>(
+    rt: &T,
     alloc: Global,
     config: &Config,
     inside: &mut R,
@@ -140,6 +169,7 @@ fn run_both<R: Source, R2: Source, W: Sink, W2: Sink, W3: Sink>(
     to_outside: &mut W,
     to_inside: &mut W2,
     report: &mut W3,
+    gate: Arc<G>,
 ) -> Result<(), Fault>
     requires inside { R.failed inside.old < 2 ^ 64 - 1 }
     requires outside { R2.failed outside.old < 2 ^ 64 - 1 }
@@ -150,6 +180,7 @@ fn run_both<R: Source, R2: Source, W: Sink, W2: Sink, W3: Sink>(
     ensures to_inside { Gets config.now Which.Inside (share_of Which.Inside result) (R.remaining inside.old) (option_map some_bytes (R2.remaining outside.old)) (W2.contents to_inside.old) (W2.contents to_inside.new) }
     ensures report { Gets config.now Which.Report (share_of Which.Report result) (R.remaining inside.old) (option_map some_bytes (R2.remaining outside.old)) (W3.contents report.old) (W3.contents report.new) }
     ensures fault { IfErr result (Explains (R.remaining inside.old) (option_map some_bytes (R2.remaining outside.old))) }
+    ensures gate { G.is_open ≡ true → IfErr result (λ fault. tells_shut_gate fault ≡ false) }
     ensures inside_readings { R.failed inside.new ≡ R.failed inside.old + failed_readings Side.Inside result }
     ensures outside_readings { R2.failed outside.new ≡ R2.failed outside.old + failed_readings Side.Outside result }
     ensures outside_writings { W.failed to_outside.new ≡ W.failed to_outside.old + failed_writings Which.Outside result }
@@ -165,17 +196,28 @@ fn run_both<R: Source, R2: Source, W: Sink, W2: Sink, W3: Sink>(
         Err(fault) => return Err(Fault::Capture(Side::Outside, fault)),
     };
     let captures = Captures { inside, outside };
-    run_between(alloc, config, captures, to_outside, to_inside, report)
+    run_between(
+        rt, alloc, config, captures, to_outside, to_inside, report, gate,
+    )
 }
 
 /// Reads the inside capture, runs over it alone, and writes.
-fn run_inside<R: Source, W: Sink, W2: Sink, W3: Sink>(
+fn run_inside<
+    T: Threads + Wait + Copy + Send + 'static,
+    R: Source,
+    W: Sink,
+    W2: Sink,
+    W3: Sink,
+    G: Gate + Send + Sync + Drop + 'static,
+>(
+    rt: &T,
     alloc: Global,
     config: &Config,
     inside: &mut R,
     to_outside: &mut W,
     to_inside: &mut W2,
     report: &mut W3,
+    gate: Arc<G>,
 ) -> Result<(), Fault>
     requires inside { R.failed inside.old < 2 ^ 64 - 1 }
     requires to_outside { W.failed to_outside.old < 2 ^ 64 - 1 }
@@ -185,6 +227,7 @@ fn run_inside<R: Source, W: Sink, W2: Sink, W3: Sink>(
     ensures to_inside { Gets config.now Which.Inside (share_of Which.Inside result) (R.remaining inside.old) (Some None) (W2.contents to_inside.old) (W2.contents to_inside.new) }
     ensures report { Gets config.now Which.Report (share_of Which.Report result) (R.remaining inside.old) (Some None) (W3.contents report.old) (W3.contents report.new) }
     ensures fault { IfErr result (Explains (R.remaining inside.old) (Some None)) }
+    ensures gate { G.is_open ≡ true → IfErr result (λ fault. tells_shut_gate fault ≡ false) }
     ensures inside_readings { R.failed inside.new ≡ R.failed inside.old + failed_readings Side.Inside result }
     ensures outside_readings { failed_readings Side.Outside result ≡ 0 }
     ensures outside_writings { W.failed to_outside.new ≡ W.failed to_outside.old + failed_writings Which.Outside result }
@@ -197,13 +240,34 @@ fn run_inside<R: Source, W: Sink, W2: Sink, W3: Sink>(
     };
     let outside = no_capture(alloc);
     let captures = Captures { inside, outside };
-    run_between(alloc, config, captures, to_outside, to_inside, report)
+    run_between(
+        rt, alloc, config, captures, to_outside, to_inside, report, gate,
+    )
 }
 
-/// Translates the inside capture and, where there is one, the outside capture, and writes what leaves to each side and a report.
+/// Translates the inside capture and, where there is one, the outside capture, and writes what leaves to each side and a
+/// report: exactly what a run on one thread comes to, whatever the gate, the size of the rings and the schedule are.
 ///
-/// All is read and made first. Then the outputs that are handed in are written: to the outside, to the inside, the report.
-pub fn run_captures<R: Source, R2: Source, W: Sink, W2: Sink, W3: Sink>(
+/// All is read first. Then the run is made in memory, with a worker on a thread of its own for each external address; each
+/// worker asks the gate before each leg, and the gate decides nothing but when it goes on. The workers are closed and
+/// joined before any fault of the run is told. At last the outputs that are handed in are written: to the outside, to the
+/// inside, the report.
+///
+/// `Fault::Capture` comes where the capture of that side is refused or reading it failed, the inside first.
+/// `Fault::Run` comes with `TooMany` only where the captures have more than 4,294,967,295 records, with `Memory` where
+/// memory is refused, and with `Pool` where a worker could not be started or stopped early; `GateShut` never comes under
+/// a gate that promises yes. After these nothing is written. `Fault::Write` comes where writing that output failed: those
+/// before it are whole, it has the first `written` bytes of its text, and those after it have nothing.
+pub fn run_captures<
+    T: Threads + Wait + Copy + Send + 'static,
+    R: Source,
+    R2: Source,
+    W: Sink,
+    W2: Sink,
+    W3: Sink,
+    G: Gate + Send + Sync + Drop + 'static,
+>(
+    rt: &T,
     alloc: Global,
     config: &Config,
     inside: &mut R,
@@ -211,6 +275,7 @@ pub fn run_captures<R: Source, R2: Source, W: Sink, W2: Sink, W3: Sink>(
     to_outside: &mut W,
     to_inside: Option<&mut W2>,
     report: Option<&mut W3>,
+    gate: Arc<G>,
 ) -> Result<(), Fault>
     requires inside { R.failed inside.old < 2 ^ 64 - 1 }
     requires outside { IfSome outside (λ r. R2.failed r.now < 2 ^ 64 - 1) }
@@ -223,6 +288,7 @@ pub fn run_captures<R: Source, R2: Source, W: Sink, W2: Sink, W3: Sink>(
     ensures report { IfGiven report.entry report.exit (λ old new.
         Gets config.now Which.Report (share_of Which.Report result) (R.remaining inside.old) (bytes_in R2.remaining outside.entry) (W3.contents old) (W3.contents new)) }
     ensures fault { IfErr result (Explains (R.remaining inside.old) (bytes_in R2.remaining outside.entry)) }
+    ensures gate { G.is_open ≡ true → IfErr result (λ fault. tells_shut_gate fault ≡ false) }
     ensures inside_readings { R.failed inside.new ≡ R.failed inside.old + failed_readings Side.Inside result }
     ensures outside_readings { GrowsBy R2.failed outside.entry outside.exit (failed_readings Side.Outside result) }
     ensures outside_writings { W.failed to_outside.new ≡ W.failed to_outside.old + failed_writings Which.Outside result }
@@ -234,11 +300,12 @@ pub fn run_captures<R: Source, R2: Source, W: Sink, W2: Sink, W3: Sink>(
             Some(to_inside) => match report {
                 Some(report) => {
                     return run_both(
-                        alloc, config, inside, outside, to_outside, to_inside, report,
+                        rt, alloc, config, inside, outside, to_outside, to_inside, report, gate,
                     );
                 }
                 None => {
                     return run_both(
+                        rt,
                         alloc,
                         config,
                         inside,
@@ -246,12 +313,14 @@ pub fn run_captures<R: Source, R2: Source, W: Sink, W2: Sink, W3: Sink>(
                         to_outside,
                         to_inside,
                         &mut Nowhere,
+                        gate,
                     );
                 }
             },
             None => match report {
                 Some(report) => {
                     return run_both(
+                        rt,
                         alloc,
                         config,
                         inside,
@@ -259,10 +328,12 @@ pub fn run_captures<R: Source, R2: Source, W: Sink, W2: Sink, W3: Sink>(
                         to_outside,
                         &mut Nowhere,
                         report,
+                        gate,
                     );
                 }
                 None => {
                     return run_both(
+                        rt,
                         alloc,
                         config,
                         inside,
@@ -270,6 +341,7 @@ pub fn run_captures<R: Source, R2: Source, W: Sink, W2: Sink, W3: Sink>(
                         to_outside,
                         &mut Nowhere,
                         &mut Nowhere,
+                        gate,
                     );
                 }
             },
@@ -277,24 +349,46 @@ pub fn run_captures<R: Source, R2: Source, W: Sink, W2: Sink, W3: Sink>(
         None => match to_inside {
             Some(to_inside) => match report {
                 Some(report) => {
-                    return run_inside(alloc, config, inside, to_outside, to_inside, report);
+                    return run_inside(
+                        rt, alloc, config, inside, to_outside, to_inside, report, gate,
+                    );
                 }
                 None => {
-                    return run_inside(alloc, config, inside, to_outside, to_inside, &mut Nowhere);
+                    return run_inside(
+                        rt,
+                        alloc,
+                        config,
+                        inside,
+                        to_outside,
+                        to_inside,
+                        &mut Nowhere,
+                        gate,
+                    );
                 }
             },
             None => match report {
                 Some(report) => {
-                    return run_inside(alloc, config, inside, to_outside, &mut Nowhere, report);
+                    return run_inside(
+                        rt,
+                        alloc,
+                        config,
+                        inside,
+                        to_outside,
+                        &mut Nowhere,
+                        report,
+                        gate,
+                    );
                 }
                 None => {
                     return run_inside(
+                        rt,
                         alloc,
                         config,
                         inside,
                         to_outside,
                         &mut Nowhere,
                         &mut Nowhere,
+                        gate,
                     );
                 }
             },

@@ -1,6 +1,7 @@
 //! Why a run ends early.
 
 use napt_capture::{CaptureFault, WriteFault};
+use napt_pool::PoolFault;
 use napt_wire::Side;
 
 /// Why a run over inputs gives no outcomes.
@@ -10,6 +11,8 @@ pub enum RunFault {
     Memory,
     /// There are more than 4,294,967,295 inputs.
     TooMany,
+    /// A worker stopped early, or the workers could not be started.
+    Pool(PoolFault),
 }
 
 /// What a run over captures writes, in the order in which it does.

@@ -1,6 +1,6 @@
 //! The sequential run.
 
-ghost use Rattle.std.specs.Prelude.{◌≡◌, ◌↔◌, ◌+◌, ◌*◌, ◌^◌, ◌<◌, ◌≤◌, ℕ, [], length, map, flat_map, AllPairs, IfOk, OnOk, Some, Err};
+ghost use Rattle.std.specs.Prelude.{◌≡◌, ◌↔◌, ◌+◌, ◌*◌, ◌^◌, ◌<◌, ◌≤◌, ℕ, [], length, map, flat_map, AllPairs, IfOk, IfErr, OnOk, Some, Err};
 ghost use Rattle.std.specs.List.{slice_get};
 ghost use Rattle.napt_config.specs.Rules.{KeepsRules};
 ghost use Rattle.napt_table.specs.Opening.{opening};
@@ -9,6 +9,7 @@ ghost use Rattle.napt_translate.specs.Sides as sides;
 ghost use Rattle.napt_run.specs.Sequential as model;
 ghost use Rattle.napt_run.specs.Seats as standing;
 ghost use Rattle.napt_run.specs.Sound.{AreRowsApart};
+ghost use Rattle.napt_run.specs.Dispatch.{IsOneThreadFault};
 
 use crate::laws::runs_are_sound;
 use crate::seat::Seat;
@@ -78,7 +79,8 @@ fn follow(
     }
 }
 
-fn way_from(side: Side) -> Way
+/// The way of an input that came from a side.
+pub(crate) fn way_from(side: Side) -> Way
     ensures { result ≡ sides.way_from side }
 {
     match side {
@@ -203,10 +205,11 @@ fn run(alloc: Global, config: &Config, inputs: &[Input]) -> Result<Run, AllocErr
 /// copied once.
 ///
 /// `RunFault::TooMany` comes exactly where there are more than 4,294,967,295 inputs, `RunFault::Memory` only where
-/// memory is refused.
+/// memory is refused, and `RunFault::Pool` never.
 pub fn run_plain(alloc: Global, config: &Config, inputs: &[Input]) -> Result<Run, RunFault>
     ensures run { IfOk result (λ run. run ≡ model.ran config.now inputs.now) }
     ensures too_many { (result ≡ Err RunFault.TooMany) ↔ (2 ^ 32 ≤ length inputs.now) }
+    ensures never_pool { IfErr result IsOneThreadFault }
     ensures one_each { IfOk result (λ run. length run.outcomes ≡ length inputs.now) }
     ensures apart { IfOk result (λ run. AllPairs AreRowsApart run.bindings) }
 {

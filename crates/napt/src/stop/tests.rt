@@ -1,6 +1,7 @@
 use super::{Role, Stop, stop_line, stop_status};
 use napt_capture::{CaptureFault, WriteFault};
 use napt_config::ConfigFault;
+use napt_pool::PoolFault;
 use napt_run::{Fault, RunFault, Which};
 use napt_wire::Side;
 use std::test::Fail;
@@ -26,6 +27,26 @@ fn names_lines_files_and_runs(rt: HostRuntime) -> Result<(), Fail> {
             Stop::Run(Fault::Run(RunFault::TooMany)),
             5,
             "napt: run too-many",
+        ),
+        (
+            Stop::Run(Fault::Run(RunFault::Pool(PoolFault::Memory))),
+            5,
+            "napt: run memory",
+        ),
+        (
+            Stop::Run(Fault::Run(RunFault::Pool(PoolFault::NoThread))),
+            5,
+            "napt: run no-thread",
+        ),
+        (
+            Stop::Run(Fault::Run(RunFault::Pool(PoolFault::GateShut(3)))),
+            5,
+            "napt: run gate-shut 3",
+        ),
+        (
+            Stop::Run(Fault::Run(RunFault::Pool(PoolFault::Ring))),
+            5,
+            "napt: run ring",
         ),
         (
             Stop::Run(Fault::Write(Which::Outside, written)),
