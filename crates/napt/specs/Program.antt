@@ -1,5 +1,6 @@
 -- What stops the program once its words are read.
-use Rattle.std.specs.Prelude.{◌≡◌, Bool, true, is_some}
+use Rattle.std.specs.Prelude.{◌≡◌, Bool, true, false, is_some}
+use Rattle.napt_run.specs.Captures.{tells_shut_gate}
 use Rattle.napt.specs.declared.options.Options.{Options}
 use Rattle.napt.specs.declared.stop.Role.{Role}
 use Rattle.napt.specs.declared.stop.Role.TheVariants as role
@@ -21,9 +22,9 @@ IsConfigStop named (stop.Config fault) = Unit {0}
 IsConfigStop named (stop.File role.Config) = named ≡ true
 IsConfigStop named other = ⊥
 
--- a fault of the configuration, of a file that the words name, or of the run
+-- a fault of the configuration, of a file that the words name, or of the run, whose gate is open
 abbrev pub IsStopOf : Options → Stop → Type 0
 IsStopOf options (stop.Config fault) = Unit {0}
 IsStopOf options (stop.File role) = is_named options role ≡ true
-IsStopOf options (stop.Run fault) = Unit {0}
+IsStopOf options (stop.Run fault) = tells_shut_gate fault ≡ false
 IsStopOf options other = ⊥

@@ -19,7 +19,7 @@ use std::{env, fs, io};
 
 /// Runs over the files that the words name, with a worker thread for each external address. Help goes to standard output.
 ///
-/// Fails, before any file is touched, where the words are not understood, where memory runs out for them, or where the
+/// Fails, before any capture is opened, where the words are not understood, where memory runs out for them, or where the
 /// configuration is refused; else where a file cannot be opened or created, or the run fails.
 pub fn serve<R: Env + Files + Input + Print + AllocGlobal + Threads + Wait + Copy + Send + 'static>(
     rt: &R,

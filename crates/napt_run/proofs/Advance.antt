@@ -16,7 +16,8 @@ use Rattle.napt_run.specs.Laws.{answer_of, answers_at}
 use Rattle.napt_run.specs.Dispatching.{IsFront, told, IsTold}
 use Rattle.napt_run.specs.Dispatch.{of_worker, Ledger, Owes, IsIdle, noted_by, Settled, LastIs, fresh, Fronts, Known, AdvanceBy, Advance, Drained, DrainedEach, Stalled, Given}
 use Rattle.napt_run.proofs.Dispatched.{right_answers, answers_tell}
-use Rattle.napt_run.proofs.Ledgers.{length_push, settled_own, settled_others}
+use Rattle.std.proofs.lemmas.List.{length_push}
+use Rattle.napt_run.proofs.Ledgers.{settled_own, settled_others}
 
 front_less : {X : Type 0} (xs ys zs : List X) → IsFront (xs ++ ys) zs → IsFront xs zs
 front_less xs ys zs h = (ys ++ h.0, sym (append_assoc xs ys h.0) ∙ h.1)

@@ -1,15 +1,12 @@
 -- Counts of offers and answers.
-use Rattle.std.proofs.Common.{◌≡◌, ◌≢◌, ℕ, zero, suc, ◌+◌, ◌<◌, ◌≤◌, List, [], ◌∷◌, ◌++◌, length, map, Option, Some, refl, sym, ◌∙◌, ap, subst, arith, inl, inr, length-append, replicate}
+use Rattle.std.proofs.Common.{◌≡◌, ◌≢◌, ℕ, zero, suc, ◌+◌, ◌<◌, ◌≤◌, List, [], ◌∷◌, ◌++◌, length, map, Option, Some, refl, sym, ◌∙◌, ap, subst, arith, inl, inr, replicate}
 use Rattle.std.specs.Prelude.{slice_index, slice_set, slice_get}
 use Rattle.std.proofs.lemmas.Bool.{cases_eq}
-use Rattle.std.proofs.lemmas.List.{length-replicate, length-set, map-set, get_or-set_same, get_or-set_other}
+use Rattle.std.proofs.lemmas.List.{length-replicate, length_push, length-set, map-set, get_or-set_same, get_or-set_other}
 use Rattle.napt_translate.specs.declared.translator.Leg.{Leg}
 use Rattle.napt_translate.specs.declared.translator.Answer.{Answer}
 use Rattle.napt_run.specs.declared.books.Hairpin.{Hairpin}
 use Rattle.napt_run.specs.Dispatch.{of_worker, Ledger, AreCounted, Owes, Settled}
-
-pub length_push : {X : Type 0} (xs : List X) (x : X) → length (xs ++ x ∷ []) ≡ length xs + 1
-length_push xs x = length-append xs (x ∷ [])
 
 -- the list of a worker to whose list one is added, and of another
 pub push_own : {X : Type 0} (lists : List (List X)) (w : ℕ) (x : X) → w < length lists → of_worker (slice_set lists w (of_worker lists w ++ x ∷ [])) w ≡ of_worker lists w ++ x ∷ []
@@ -92,14 +89,7 @@ counted_offer count w leg ledger later offered taken later_offered later_taken l
           ];
     }
 
--- answers are fewer where they are not as many
-pub strict : (m n : ℕ) → m ≤ n → n ≢ m → m < n
-strict zero zero le ne = absurd (ne refl)
-strict zero (suc n) le ne = omega arith
-strict (suc m) zero le ne = absurd (omega arith)
-strict (suc m) (suc n) le ne = let rest : m < n = strict m n (omega arith) (λ e. ne (ap suc e)) in omega arith
-
--- the counts too
+-- the count of its answers is not more than that of its offers
 pub counted_few : (count : ℕ) (ledger : Ledger) (offered taken : List ℕ) → AreCounted count ledger offered taken → (w : ℕ) → slice_index taken w ≤ slice_index offered w
 counted_few count ledger offered taken c w =
     let few : length (of_worker ledger.taken w) ≤ length (of_worker ledger.offered w) = c.few w in

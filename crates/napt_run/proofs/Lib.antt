@@ -5,6 +5,9 @@ pub mod Dispatched
 pub mod Grown
 pub mod LegsLocal
 pub mod Merges
+pub mod MergesAreOne
+pub mod MergesExist
+pub mod OutputsAreOne
 pub mod Results
 pub mod Rows
 pub mod RunsLocal

@@ -20,7 +20,7 @@ use Rattle.napt_run.specs.Merge.{Timed, of_record, of_input, same_side, is_from,
 
 -- TIMES
 
-latest-push : (xs : List Arrival) (x : Arrival) → latest (xs ++ x ∷ []) ≡ max (latest xs) x.time
+pub latest-push : (xs : List Arrival) (x : Arrival) → latest (xs ++ x ∷ []) ≡ max (latest xs) x.time
 latest-push xs x = max_push latest (λ (a : Arrival). a.time) refl (λ a l. refl) xs x
 
 latest-append : (xs ys : List Arrival) → latest xs ≤ latest (xs ++ ys)
@@ -31,15 +31,17 @@ latest-append (x ∷ xs) ys = let more : latest xs ≤ latest (xs ++ ys) = lates
 abbrev pub whole : Side → List Arrival → ℕ
 whole side inputs = latest (filter (is_from side) inputs)
 
-whole-own : (side : Side) (xs : List Arrival) (x : Arrival) → is_from side x ≡ true → whole side (xs ++ x ∷ []) ≡ max (whole side xs) x.time
+pub whole-own : (side : Side) (xs : List Arrival) (x : Arrival) → is_from side x ≡ true → whole side (xs ++ x ∷ []) ≡ max (whole side xs) x.time
 whole-own side xs x own =
     ap latest (filter-append (is_from side) xs (x ∷ []) ∙ ap (λ (b : Bool). filter (is_from side) xs ++ cond b (x ∷ []) []) own)
     ∙ latest-push (filter (is_from side) xs) x
 
-whole-other : (side : Side) (xs : List Arrival) (x : Arrival) → is_from side x ≡ false → whole side (xs ++ x ∷ []) ≡ whole side xs
-whole-other side xs x other =
-    ap latest (filter-append (is_from side) xs (x ∷ []) ∙ ap (λ (b : Bool). filter (is_from side) xs ++ cond b (x ∷ []) []) other
-    ∙ append-nil (filter (is_from side) xs))
+pub filter-other : (side : Side) (xs : List Arrival) (x : Arrival) → is_from side x ≡ false → filter (is_from side) (xs ++ x ∷ []) ≡ filter (is_from side) xs
+filter-other side xs x other =
+    filter-append (is_from side) xs (x ∷ []) ∙ ap (λ (b : Bool). filter (is_from side) xs ++ cond b (x ∷ []) []) other ∙ append-nil (filter (is_from side) xs)
+
+pub whole-other : (side : Side) (xs : List Arrival) (x : Arrival) → is_from side x ≡ false → whole side (xs ++ x ∷ []) ≡ whole side xs
+whole-other side xs x other = ap latest (filter-other side xs x other)
 
 reach-whole : (side : Side) (place : ℕ) (xs : List Arrival) → reach side place xs ≤ whole side xs
 reach-whole side place xs =
@@ -50,10 +52,10 @@ reach-whole side place xs =
 
 -- PLACES, BEFORE AND AFTER ONE MORE INPUT
 
-take-within : (xs : List Arrival) (x : Arrival) (place : ℕ) → place < length xs → take (place + 1) (xs ++ x ∷ []) ≡ take (place + 1) xs
+pub take-within : (xs : List Arrival) (x : Arrival) (place : ℕ) → place < length xs → take (place + 1) (xs ++ x ∷ []) ≡ take (place + 1) xs
 take-within xs x place within = let least : place + 1 ≤ length xs = omega arith in take-append-le (place + 1) xs (x ∷ []) least
 
-take-last : (xs : List Arrival) (x : Arrival) → take (length xs + 1) (xs ++ x ∷ []) ≡ xs ++ x ∷ []
+pub take-last : (xs : List Arrival) (x : Arrival) → take (length xs + 1) (xs ++ x ∷ []) ≡ xs ++ x ∷ []
 take-last xs x = take-append-add xs (x ∷ []) 1
 
 get-push : (xs : List Arrival) (x : Arrival) (place : ℕ) (a : Arrival) → slice_get (xs ++ x ∷ []) place ≡ Some a
@@ -63,10 +65,10 @@ get-push [] x (suc place) a is = cc
 get-push (y ∷ xs) x zero a is = inl is
 get-push (y ∷ xs) x (suc place) a is = elim (get-push xs x place a is) [ inl within ↦ inl within | inr last ↦ inr (ap suc last.0, last.1) ]
 
-within-reach : (side : Side) (xs : List Arrival) (x : Arrival) (place : ℕ) → place < length xs → reach side place (xs ++ x ∷ []) ≡ reach side place xs
+pub within-reach : (side : Side) (xs : List Arrival) (x : Arrival) (place : ℕ) → place < length xs → reach side place (xs ++ x ∷ []) ≡ reach side place xs
 within-reach side xs x place within = ap (λ (l : List Arrival). latest (filter (is_from side) l)) (take-within xs x place within)
 
-last-reach : (side : Side) (xs : List Arrival) (x : Arrival) → reach side (length xs) (xs ++ x ∷ []) ≡ whole side (xs ++ x ∷ [])
+pub last-reach : (side : Side) (xs : List Arrival) (x : Arrival) → reach side (length xs) (xs ++ x ∷ []) ≡ whole side (xs ++ x ∷ [])
 last-reach side xs x = ap (λ (l : List Arrival). latest (filter (is_from side) l)) (take-last xs x)
 
 -- CLOCKS
@@ -97,7 +99,7 @@ inside-not-outside is = cc
 not_both : (a : Arrival) → a.side ≡ Inside → a.side ≡ Outside → ⊥
 not_both a is other = inside-not-outside (sym is ∙ other)
 
-own_from : (side : Side) (a : Arrival) → a.side ≡ side → is_from side a ≡ true
+pub own_from : (side : Side) (a : Arrival) → a.side ≡ side → is_from side a ≡ true
 own_from Inside a is = ap (same_side Inside) is
 own_from Outside a is = ap (same_side Outside) is
 
@@ -170,20 +172,21 @@ order-push xs x order may i o a b at also inside outside = order-by xs x order m
 abbrev pub held : Side → List Arrival → List Timed
 held side inputs = map of_input (filter (is_from side) inputs)
 
+pub held-push : (side : Side) (xs : List Arrival) (x : Arrival) → is_from side x ≡ true → held side (xs ++ x ∷ []) ≡ held side xs ++ of_input x ∷ []
+held-push side xs x own =
+    let mine : List Arrival = filter (is_from side) xs in
+    ap (map of_input) (filter-append (is_from side) xs (x ∷ []) ∙ ap (λ (b : Bool). mine ++ cond b (x ∷ []) []) own) ∙ map-append of_input mine (x ∷ [])
+
 held-own : (side : Side) (xs : List Arrival) (x : Arrival) (entry : Entry) (rest : List Entry) (all : List Timed) → is_from side x ≡ true → of_input x ≡ of_record entry
     → held side xs ++ map of_record (entry ∷ rest) ≡ all → held side (xs ++ x ∷ []) ++ map of_record rest ≡ all
 held-own side xs x entry rest all own same whole_is =
-    let mine : List Arrival = filter (is_from side) xs in
-    ap (λ (l : List Arrival). map of_input l ++ map of_record rest)
-    (filter-append (is_from side) xs (x ∷ []) ∙ ap (λ (b : Bool). mine ++ cond b (x ∷ []) []) own)
-    ∙ ap (λ (l : List Timed). l ++ map of_record rest) (map-append of_input mine (x ∷ []))
-    ∙ append_assoc (map of_input mine) (of_input x ∷ []) (map of_record rest)
-    ∙ ap (λ (t : Timed). map of_input mine ++ t ∷ map of_record rest) same
+    ap (λ (l : List Timed). l ++ map of_record rest) (held-push side xs x own)
+    ∙ append_assoc (held side xs) (of_input x ∷ []) (map of_record rest)
+    ∙ ap (λ (t : Timed). held side xs ++ t ∷ map of_record rest) same
     ∙ whole_is
 
-held-other : (side : Side) (xs : List Arrival) (x : Arrival) → is_from side x ≡ false → held side (xs ++ x ∷ []) ≡ held side xs
-held-other side xs x other =
-    ap (map of_input) (filter-append (is_from side) xs (x ∷ []) ∙ ap (λ (b : Bool). filter (is_from side) xs ++ cond b (x ∷ []) []) other ∙ append-nil (filter (is_from side) xs))
+pub held-other : (side : Side) (xs : List Arrival) (x : Arrival) → is_from side x ≡ false → held side (xs ++ x ∷ []) ≡ held side xs
+held-other side xs x other = ap (map of_input) (filter-other side xs x other)
 
 -- A MERGE ON ITS WAY
 
@@ -235,7 +238,7 @@ ends insides outsides inputs ins outs clock merging none also = record {
 inside-inside : (xs : List Arrival) (x : Arrival) (ins : List Entry) → x.side ≡ Inside → MayFollow Inside xs x.time → NextMayFollow Inside (xs ++ x ∷ []) ins
 inside-inside xs x [] side may = tt
 inside-inside xs x (entry ∷ ins) side (inl none) =
-    inl (filter-append (is_from Outside) xs (x ∷ []) ∙ ap (λ (b : Bool). filter (is_from Outside) xs ++ cond b (x ∷ []) []) (ap (same_side Outside) side) ∙ append-nil (filter (is_from Outside) xs) ∙ none)
+    inl (filter-other Outside xs x (ap (same_side Outside) side) ∙ none)
 inside-inside xs x (entry ∷ ins) side (inr may) =
     let mine : whole Inside (xs ++ x ∷ []) ≡ max (whole Inside xs) x.time = whole-own Inside xs x (ap (same_side Inside) side) in
     let others : whole Outside (xs ++ x ∷ []) ≡ whole Outside xs = whole-other Outside xs x (ap (same_side Outside) side) in

@@ -56,7 +56,7 @@ AnswersTellOutcomes = (rules : Rules) (inputs : List Arrival) (list : List Bindi
     let course : Course = run rules inputs list in
     Each (IsTold course.outcomes) course.acts
 
--- a leg goes onward only on its way out, and to the place of its packet's destination
+-- a leg goes onward only on its way out, and to the place of its packet's destination (RFC 4787, REQ-9)
 pub record IsForetold (rules : Rules) (leg : Leg) (place : ℕ) (packet : List ℕ) : Type 0 where
   pub way : leg.way ≡ Outgoing
   pub served : place_of rules (destination leg.packet).address ≡ Some place

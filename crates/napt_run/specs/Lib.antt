@@ -9,5 +9,6 @@ pub mod Output
 pub mod Report
 pub mod Devices
 pub mod Captures
+pub mod MergeLaws
 pub mod Dispatching
 pub mod Dispatch

@@ -1,6 +1,6 @@
 //! What a dispatcher writes down of its workers and of the run.
 
-ghost use Rattle.std.specs.Prelude.{◌≡◌, ◌+◌, ◌<◌, ◌≤◌, length, IfOk, IfSome, OnOk, Some, None, replicate, map, slice_index, slice_set};
+ghost use Rattle.std.specs.Prelude.{◌≡◌, ◌+◌, ◌<◌, ◌≤◌, ◌-◌, ◌^◌, ◌⊎◌, length, IfOk, IfSome, OnOk, OnErr, Contains, Some, None, replicate, map, slice_index, slice_set};
 ghost use Rattle.napt_run.specs.Dispatch.{noted, noted_by, hairpin_of};
 ghost use Rattle.napt_run.specs.declared.outcome.Outcome.TheVariants.{Dropped as DroppedBy};
 
@@ -50,10 +50,11 @@ impl Books {
         })
     }
 
-    /// Counts a leg that was offered to worker `w`.
+    /// Counts a leg that was offered to worker `w`. A count is at most `u64::MAX`.
     pub(crate) fn count_offer(&mut self, w: u32) -> Result<(), Stranger>
         requires { w < length self.old.offered.items }
         ensures offered { OnOk result (self.new.offered.items ≡ slice_set self.old.offered.items w (slice_index self.old.offered.items w + 1)) }
+        ensures full { OnErr result (slice_index self.old.offered.items w ≡ 2 ^ 64 - 1) }
         ensures taken { self.new.taken.items ≡ self.old.taken.items }
         ensures outcomes { self.new.outcomes.items ≡ self.old.outcomes.items }
     {
@@ -62,10 +63,11 @@ impl Books {
         Ok(())
     }
 
-    /// Counts an answer that was taken of worker `w`.
+    /// Counts an answer that was taken of worker `w`. A count is at most `u64::MAX`.
     fn count_answer(&mut self, w: u32) -> Result<(), Stranger>
         requires { w < length self.old.taken.items }
         ensures taken { OnOk result (self.new.taken.items ≡ slice_set self.old.taken.items w (slice_index self.old.taken.items w + 1)) }
+        ensures full { OnErr result (slice_index self.old.taken.items w ≡ 2 ^ 64 - 1) }
         ensures offered { self.new.offered.items ≡ self.old.offered.items }
         ensures outcomes { self.new.outcomes.items ≡ self.old.outcomes.items }
     {
@@ -90,6 +92,7 @@ impl Books {
         ensures taken { OnOk result (self.new.taken.items ≡ slice_set self.old.taken.items w (slice_index self.old.taken.items w + 1)) }
         ensures outcomes { OnOk result (self.new.outcomes.items ≡ noted self.old.outcomes.items answer) }
         ensures hairpin { IfOk result (λ hairpin. hairpin ≡ hairpin_of answer) }
+        ensures stranger { OnErr result ((length self.old.outcomes.items ≤ answer.number) ⊎ (slice_index self.old.taken.items w ≡ 2 ^ 64 - 1)) }
         ensures offered { self.new.offered.items ≡ self.old.offered.items }
     {
         self.count_answer(w)?;
@@ -102,6 +105,7 @@ impl Books {
     fn note(&mut self, answer: Answer) -> Result<Option<Hairpin>, Stranger>
         ensures outcomes { OnOk result (self.new.outcomes.items ≡ noted self.old.outcomes.items answer) }
         ensures hairpin { IfOk result (λ hairpin. hairpin ≡ hairpin_of answer) }
+        ensures stranger { OnErr result (length self.old.outcomes.items ≤ answer.number) }
         ensures offered { self.new.offered.items ≡ self.old.offered.items }
         ensures taken { self.new.taken.items ≡ self.old.taken.items }
     {
@@ -122,6 +126,7 @@ impl Books {
     fn close(&mut self, number: u64, outcome: Outcome) -> Result<Option<Hairpin>, Stranger>
         ensures outcomes { OnOk result (self.new.outcomes.items ≡ slice_set self.old.outcomes.items number (Some outcome)) }
         ensures hairpin { IfOk result (λ hairpin. hairpin ≡ None) }
+        ensures stranger { OnErr result (length self.old.outcomes.items ≤ number) }
         ensures offered { self.new.offered.items ≡ self.old.offered.items }
         ensures taken { self.new.taken.items ≡ self.old.taken.items }
     {
@@ -132,6 +137,8 @@ impl Books {
     /// Writes down the outcome of an input.
     fn write(&mut self, number: u64, outcome: Outcome) -> Result<(), Stranger>
         ensures outcomes { OnOk result (self.new.outcomes.items ≡ slice_set self.old.outcomes.items number (Some outcome)) }
+        ensures within { OnOk result (number < length self.old.outcomes.items) }
+        ensures stranger { OnErr result (length self.old.outcomes.items ≤ number) }
         ensures offered { self.new.offered.items ≡ self.old.offered.items }
         ensures taken { self.new.taken.items ≡ self.old.taken.items }
     {
@@ -145,6 +152,7 @@ impl Books {
     /// Writes down that an input was dropped before any leg.
     pub(crate) fn note_dropped(&mut self, number: u64, cause: Cause) -> Result<(), Stranger>
         ensures outcomes { OnOk result (self.new.outcomes.items ≡ noted_by self.old.outcomes.items number (Some (DroppedBy cause))) }
+        ensures stranger { OnErr result (length self.old.outcomes.items ≤ number) }
         ensures offered { self.new.offered.items ≡ self.old.offered.items }
         ensures taken { self.new.taken.items ≡ self.old.taken.items }
     {
@@ -170,6 +178,7 @@ pub(crate) fn all_known(
 ) -> Result<Option<Vec<Outcome>>, AllocError>
     ensures known { IfOk result (λ found. IfSome found (λ all. outcomes.items ≡ map Some all.items)) }
     ensures many { IfOk result (λ found. IfSome found (λ all. length outcomes.items ≡ count)) }
+    ensures unknown { IfOk result (λ found. found ≡ None → length outcomes.items ≡ count → Contains outcomes.items None) }
 {
     if outcomes.len() != count {
         return Ok(None);

@@ -3,7 +3,7 @@
 //! Legs are offered in the order of the inputs. An outgoing leg whose packet goes to an external address may be answered
 //! onward (RFC 4787, REQ-9), so what follows it waits: all answers that are owed are taken, and where it was answered
 //! onward its second leg is offered first.
-ghost use Rattle.std.specs.Prelude.{◌≡◌, ◌≢◌, ◌+◌, ◌≤◌, ◌<◌, ◌^◌, ℕ, max, List, Ok, Err, [], ◌∷◌, ◌++◌, length, map, replicate, slice_set, slice_get, IfOk, IfErr, OnOk, MatchOption, Some, None, false};
+ghost use Rattle.std.specs.Prelude.{◌≡◌, ◌≢◌, ◌+◌, ◌≤◌, ◌<◌, ◌^◌, ℕ, max, List, Ok, Err, [], ◌∷◌, ◌++◌, length, map, replicate, slice_set, slice_get, IfOk, IfErr, OnOk, MatchOption, IsSome, Some, None, true, false};
 ghost use Rattle.napt_wire.specs.declared.Way.TheVariants.{Outgoing as OutgoingWay};
 ghost use Rattle.napt_wire.specs.Fields.{destination};
 ghost use Rattle.napt_wire.specs.Packet.{IsPacket};
@@ -240,6 +240,7 @@ fn follow<R: Wait, G: Gate>(
 
 /// Whether a first leg may be answered onward.
 fn may_go_onward(config: &Config, way: Way, packet: &Packet) -> bool
+    ensures yes { result ≡ true → (way ≡ OutgoingWay) × IsSome (place_of config.now (destination packet.now).address) }
     ensures no { result ≡ false → way ≡ OutgoingWay → place_of config.now (destination packet.now).address ≡ None }
     ensures reads { IsPacket packet.now }
 {

@@ -1,7 +1,9 @@
 //! A whole run of the translator: captures in, captures and a report out.
 //!
-//! [`merge`] makes the inputs of a run out of the records of both sides' captures, [`run_plain`] takes them through the
-//! translators of all external addresses, and [`run_captures`] does both and writes what leaves to each side, with a report.
+//! [`merge`] makes the inputs of a run out of the records of both sides' captures. [`run_plain`] takes them through the
+//! translators of all external addresses on one thread; [`run_workers`] does so by [`dispatch`], with a worker on a thread
+//! of its own for each address, and both answer the same run. [`run_captures`] reads, merges, runs over workers, and writes
+//! what leaves to each side, with a report.
 #![tactic(auto)]
 
 mod books;
@@ -10,6 +12,7 @@ mod dispatcher;
 mod fault;
 mod input;
 mod laws;
+mod merge_laws;
 mod merging;
 mod nowhere;
 mod outcome;
@@ -26,6 +29,7 @@ pub use dispatcher::dispatch;
 pub use fault::{Fault, RunFault, Which};
 pub use input::Input;
 pub use laws::{legs_are_local, right_answers, runs_are_sound, translators_are_local};
+pub use merge_laws::{merge_is_one, outputs_are_one};
 pub use merging::merge;
 pub use outcome::{Outcome, Run};
 pub use report::report_text;

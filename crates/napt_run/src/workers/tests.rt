@@ -161,13 +161,17 @@ fn slow_worker_is_waited_for(rt: HostRuntime) -> Result<(), Fail> {
         },
     )?;
     let inputs = lost_hairpin(alloc)?;
+    let watched = Arc::try_clone(&gate)?;
     let run = run_workers(&rt, alloc, &config(alloc, TWO)?, &inputs, gate).map_err(run_failed)?;
+    // One leg of worker 0, which is let in at the ask after the thousand.
+    assert_eq!(rt; watched.asks.load(Ordering::SeqCst), 1001);
     assert_lost_hairpin(&rt, alloc, &run)
 }
 
 /// At its first leg each worker looks for the other.
 #[derive(Drop)]
 struct Meeting {
+    looks: u32,
     first: AtomicU64,
     second: AtomicU64,
     seen: AtomicU64,
@@ -188,7 +192,7 @@ impl Gate for Meeting {
             (&self.second, &self.first)
         };
         own.store(1, Ordering::SeqCst);
-        for _ in 0..MOST_LOOKS {
+        for _ in 0..self.looks {
             if other.load(Ordering::SeqCst) == 1 {
                 self.seen.fetch_add(1, Ordering::SeqCst);
                 return true;
@@ -199,24 +203,53 @@ impl Gate for Meeting {
     }
 }
 
-#[test]
-fn held_until_other(rt: HostRuntime) -> Result<(), Fail> {
+/// So many packets for the first worker, and then one for the second.
+fn sent_to_both(alloc: Global, many: u64) -> Result<Vec<Input>, AllocError> {
+    let mut inputs = Vec::new(alloc);
+    for k in 0..many {
+        inputs.push(sent(alloc, k * SECOND, host(2, 5000), RESOLVER)?)?;
+    }
+    inputs.push(sent(alloc, many * SECOND, host(3, 5000), RESOLVER)?)?;
+    Ok(inputs)
+}
+
+/// How many of two workers see the other at their first leg, where the second has one leg after so many of the first.
+fn meetings<R: Threads + Wait + Abort + AllocGlobal + Copy + Send + 'static>(
+    rt: &R,
+    ring: &str,
+    legs: u64,
+    looks: u32,
+) -> Result<u64, Fail> {
     let alloc = rt.alloc();
+    let text = format!(in alloc; "{TWO}ring = {ring}\n")?;
+    let config = config(alloc, &text)?;
     let gate = Arc::new(
         alloc,
         Meeting {
+            looks,
             first: AtomicU64::new(0),
             second: AtomicU64::new(0),
             seen: AtomicU64::new(0),
         },
     )?;
-    let mut inputs = Vec::new(alloc);
-    inputs.push(sent(alloc, SECOND, host(2, 5000), RESOLVER)?)?;
-    inputs.push(sent(alloc, 2 * SECOND, host(3, 5000), RESOLVER)?)?;
+    let inputs = sent_to_both(alloc, legs)?;
     let watched = Arc::try_clone(&gate)?;
-    let run = run_workers(&rt, alloc, &config(alloc, TWO)?, &inputs, gate).map_err(run_failed)?;
-    assert_eq!(rt; run.legs.as_slice(), [1, 1].as_slice());
-    assert_eq!(rt; watched.seen.load(Ordering::SeqCst), 2);
+    let run = run_workers(rt, alloc, &config, &inputs, gate).map_err(run_failed)?;
+    assert_eq!(rt; run.legs.as_slice(), [legs, 1].as_slice());
+    Ok(watched.seen.load(Ordering::SeqCst))
+}
+
+#[test]
+fn held_until_other(rt: HostRuntime) -> Result<(), Fail> {
+    assert_eq!(rt; meetings(&rt, "64", 1, MOST_LOOKS)?, 2);
+    Ok(())
+}
+
+/// A worker that answers nothing yet is handed as many legs as the configuration's rings hold, and no more.
+#[test]
+fn ring_of_four_holds_four(rt: HostRuntime) -> Result<(), Fail> {
+    assert_eq!(rt; meetings(&rt, "4", 4, MOST_LOOKS)?, 2);
+    assert_eq!(rt; meetings(&rt, "4", 5, 1000)?, 1);
     Ok(())
 }
 
