@@ -204,12 +204,12 @@ impl Gate for Meeting {
 }
 
 /// So many packets for the first worker, and then one for the second.
-fn sent_to_both(alloc: Global, many: u64) -> Result<Vec<Input>, AllocError> {
+fn sent_to_both(alloc: Global, many: u32) -> Result<Vec<Input>, AllocError> {
     let mut inputs = Vec::new(alloc);
     for k in 0..many {
-        inputs.push(sent(alloc, k * SECOND, host(2, 5000), RESOLVER)?)?;
+        inputs.push(sent(alloc, k as u64 * SECOND, host(2, 5000), RESOLVER)?)?;
     }
-    inputs.push(sent(alloc, many * SECOND, host(3, 5000), RESOLVER)?)?;
+    inputs.push(sent(alloc, many as u64 * SECOND, host(3, 5000), RESOLVER)?)?;
     Ok(inputs)
 }
 
@@ -217,7 +217,7 @@ fn sent_to_both(alloc: Global, many: u64) -> Result<Vec<Input>, AllocError> {
 fn meetings<R: Threads + Wait + Abort + AllocGlobal + Copy + Send + 'static>(
     rt: &R,
     ring: &str,
-    legs: u64,
+    legs: u32,
     looks: u32,
 ) -> Result<u64, Fail> {
     let alloc = rt.alloc();
@@ -235,7 +235,7 @@ fn meetings<R: Threads + Wait + Abort + AllocGlobal + Copy + Send + 'static>(
     let inputs = sent_to_both(alloc, legs)?;
     let watched = Arc::try_clone(&gate)?;
     let run = run_workers(rt, alloc, &config, &inputs, gate).map_err(run_failed)?;
-    assert_eq!(rt; run.legs.as_slice(), [legs, 1].as_slice());
+    assert_eq!(rt; run.legs.as_slice(), [legs as u64, 1].as_slice());
     Ok(watched.seen.load(Ordering::SeqCst))
 }
 
