@@ -81,26 +81,26 @@ fn make_outputs<T: Threads + Wait + Copy + Send + 'static, G: Gate + Send + Sync
 }
 
 /// Writes to the outside, to the inside, and then the report.
-fn write_outputs<W: Sink, W2: Sink, W3: Sink>(
+fn write_outputs<W: Sink, V: Sink, U: Sink>(
     outputs: &Outputs,
     to_outside: &mut W,
-    to_inside: &mut W2,
-    report: &mut W3,
+    to_inside: &mut V,
+    report: &mut U,
 ) -> Result<(), Fault>
     requires to_outside { W.failed to_outside.old < 2 ^ 64 - 1 }
-    requires to_inside { W2.failed to_inside.old < 2 ^ 64 - 1 }
-    requires report { W3.failed report.old < 2 ^ 64 - 1 }
+    requires to_inside { V.failed to_inside.old < 2 ^ 64 - 1 }
+    requires report { U.failed report.old < 2 ^ 64 - 1 }
     requires outside_few { length outputs.now.to_outside.items < 2 ^ 32 }
     requires inside_few { length outputs.now.to_inside.items < 2 ^ 32 }
     requires outside_writable { All IsWritable outputs.now.to_outside.items }
     requires inside_writable { All IsWritable outputs.now.to_inside.items }
     ensures to_outside { Receives (share_of Which.Outside result) (text outputs.now.to_outside.items) (W.contents to_outside.old) (W.contents to_outside.new) }
-    ensures to_inside { Receives (share_of Which.Inside result) (text outputs.now.to_inside.items) (W2.contents to_inside.old) (W2.contents to_inside.new) }
-    ensures report { Receives (share_of Which.Report result) (string_bytes outputs.now.report) (W3.contents report.old) (W3.contents report.new) }
+    ensures to_inside { Receives (share_of Which.Inside result) (text outputs.now.to_inside.items) (V.contents to_inside.old) (V.contents to_inside.new) }
+    ensures report { Receives (share_of Which.Report result) (string_bytes outputs.now.report) (U.contents report.old) (U.contents report.new) }
     ensures fault { IfErr result IsWriteFault }
     ensures outside_writings { W.failed to_outside.new ≡ W.failed to_outside.old + failed_writings Which.Outside result }
-    ensures inside_writings { W2.failed to_inside.new ≡ W2.failed to_inside.old + failed_writings Which.Inside result }
-    ensures report_writings { W3.failed report.new ≡ W3.failed report.old + failed_writings Which.Report result }
+    ensures inside_writings { V.failed to_inside.new ≡ V.failed to_inside.old + failed_writings Which.Inside result }
+    ensures report_writings { U.failed report.new ≡ U.failed report.old + failed_writings Which.Report result }
 {
     if let Err(fault) = write_capture(to_outside, &outputs.to_outside) {
         return Err(Fault::Write(Which::Outside, fault));
@@ -118,8 +118,8 @@ fn write_outputs<W: Sink, W2: Sink, W3: Sink>(
 fn run_between<
     T: Threads + Wait + Copy + Send + 'static,
     W: Sink,
-    W2: Sink,
-    W3: Sink,
+    V: Sink,
+    U: Sink,
     G: Gate + Send + Sync + Drop + 'static,
 >(
     rt: &T,
@@ -127,23 +127,23 @@ fn run_between<
     config: &Config,
     captures: Captures,
     to_outside: &mut W,
-    to_inside: &mut W2,
-    report: &mut W3,
+    to_inside: &mut V,
+    report: &mut U,
     gate: Arc<G>,
 ) -> Result<(), Fault>
     requires inside { All IsWritable captures.inside.records }
     requires outside { All IsWritable captures.outside.records }
     requires to_outside { W.failed to_outside.old < 2 ^ 64 - 1 }
-    requires to_inside { W2.failed to_inside.old < 2 ^ 64 - 1 }
-    requires report { W3.failed report.old < 2 ^ 64 - 1 }
+    requires to_inside { V.failed to_inside.old < 2 ^ 64 - 1 }
+    requires report { U.failed report.old < 2 ^ 64 - 1 }
     ensures to_outside { GetsOf config.now captures Which.Outside (share_of Which.Outside result) (W.contents to_outside.old) (W.contents to_outside.new) }
-    ensures to_inside { GetsOf config.now captures Which.Inside (share_of Which.Inside result) (W2.contents to_inside.old) (W2.contents to_inside.new) }
-    ensures report { GetsOf config.now captures Which.Report (share_of Which.Report result) (W3.contents report.old) (W3.contents report.new) }
+    ensures to_inside { GetsOf config.now captures Which.Inside (share_of Which.Inside result) (V.contents to_inside.old) (V.contents to_inside.new) }
+    ensures report { GetsOf config.now captures Which.Report (share_of Which.Report result) (U.contents report.old) (U.contents report.new) }
     ensures fault { IfErr result (IsRefusedRun captures) }
     ensures gate { G.is_open ≡ true → IfErr result (λ fault. tells_shut_gate fault ≡ false) }
     ensures outside_writings { W.failed to_outside.new ≡ W.failed to_outside.old + failed_writings Which.Outside result }
-    ensures inside_writings { W2.failed to_inside.new ≡ W2.failed to_inside.old + failed_writings Which.Inside result }
-    ensures report_writings { W3.failed report.new ≡ W3.failed report.old + failed_writings Which.Report result }
+    ensures inside_writings { V.failed to_inside.new ≡ V.failed to_inside.old + failed_writings Which.Inside result }
+    ensures report_writings { U.failed report.new ≡ U.failed report.old + failed_writings Which.Report result }
 {
     match make_outputs(rt, alloc, config, captures, gate) {
         Ok(outputs) => write_outputs(&outputs, to_outside, to_inside, report),
@@ -155,37 +155,37 @@ fn run_between<
 fn run_both<
     T: Threads + Wait + Copy + Send + 'static,
     R: Source,
-    R2: Source,
+    Q: Source,
     W: Sink,
-    W2: Sink,
-    W3: Sink,
+    V: Sink,
+    U: Sink,
     G: Gate + Send + Sync + Drop + 'static,
 >(
     rt: &T,
     alloc: Global,
     config: &Config,
     inside: &mut R,
-    outside: &mut R2,
+    outside: &mut Q,
     to_outside: &mut W,
-    to_inside: &mut W2,
-    report: &mut W3,
+    to_inside: &mut V,
+    report: &mut U,
     gate: Arc<G>,
 ) -> Result<(), Fault>
     requires inside { R.failed inside.old < 2 ^ 64 - 1 }
-    requires outside { R2.failed outside.old < 2 ^ 64 - 1 }
+    requires outside { Q.failed outside.old < 2 ^ 64 - 1 }
     requires to_outside { W.failed to_outside.old < 2 ^ 64 - 1 }
-    requires to_inside { W2.failed to_inside.old < 2 ^ 64 - 1 }
-    requires report { W3.failed report.old < 2 ^ 64 - 1 }
-    ensures to_outside { Gets config.now Which.Outside (share_of Which.Outside result) (R.remaining inside.old) (option_map some_bytes (R2.remaining outside.old)) (W.contents to_outside.old) (W.contents to_outside.new) }
-    ensures to_inside { Gets config.now Which.Inside (share_of Which.Inside result) (R.remaining inside.old) (option_map some_bytes (R2.remaining outside.old)) (W2.contents to_inside.old) (W2.contents to_inside.new) }
-    ensures report { Gets config.now Which.Report (share_of Which.Report result) (R.remaining inside.old) (option_map some_bytes (R2.remaining outside.old)) (W3.contents report.old) (W3.contents report.new) }
-    ensures fault { IfErr result (Explains (R.remaining inside.old) (option_map some_bytes (R2.remaining outside.old))) }
+    requires to_inside { V.failed to_inside.old < 2 ^ 64 - 1 }
+    requires report { U.failed report.old < 2 ^ 64 - 1 }
+    ensures to_outside { Gets config.now Which.Outside (share_of Which.Outside result) (R.remaining inside.old) (option_map some_bytes (Q.remaining outside.old)) (W.contents to_outside.old) (W.contents to_outside.new) }
+    ensures to_inside { Gets config.now Which.Inside (share_of Which.Inside result) (R.remaining inside.old) (option_map some_bytes (Q.remaining outside.old)) (V.contents to_inside.old) (V.contents to_inside.new) }
+    ensures report { Gets config.now Which.Report (share_of Which.Report result) (R.remaining inside.old) (option_map some_bytes (Q.remaining outside.old)) (U.contents report.old) (U.contents report.new) }
+    ensures fault { IfErr result (Explains (R.remaining inside.old) (option_map some_bytes (Q.remaining outside.old))) }
     ensures gate { G.is_open ≡ true → IfErr result (λ fault. tells_shut_gate fault ≡ false) }
     ensures inside_readings { R.failed inside.new ≡ R.failed inside.old + failed_readings Side.Inside result }
-    ensures outside_readings { R2.failed outside.new ≡ R2.failed outside.old + failed_readings Side.Outside result }
+    ensures outside_readings { Q.failed outside.new ≡ Q.failed outside.old + failed_readings Side.Outside result }
     ensures outside_writings { W.failed to_outside.new ≡ W.failed to_outside.old + failed_writings Which.Outside result }
-    ensures inside_writings { W2.failed to_inside.new ≡ W2.failed to_inside.old + failed_writings Which.Inside result }
-    ensures report_writings { W3.failed report.new ≡ W3.failed report.old + failed_writings Which.Report result }
+    ensures inside_writings { V.failed to_inside.new ≡ V.failed to_inside.old + failed_writings Which.Inside result }
+    ensures report_writings { U.failed report.new ≡ U.failed report.old + failed_writings Which.Report result }
 {
     let inside = match read_capture(alloc, inside) {
         Ok(capture) => capture,
@@ -206,8 +206,8 @@ fn run_inside<
     T: Threads + Wait + Copy + Send + 'static,
     R: Source,
     W: Sink,
-    W2: Sink,
-    W3: Sink,
+    V: Sink,
+    U: Sink,
     G: Gate + Send + Sync + Drop + 'static,
 >(
     rt: &T,
@@ -215,24 +215,24 @@ fn run_inside<
     config: &Config,
     inside: &mut R,
     to_outside: &mut W,
-    to_inside: &mut W2,
-    report: &mut W3,
+    to_inside: &mut V,
+    report: &mut U,
     gate: Arc<G>,
 ) -> Result<(), Fault>
     requires inside { R.failed inside.old < 2 ^ 64 - 1 }
     requires to_outside { W.failed to_outside.old < 2 ^ 64 - 1 }
-    requires to_inside { W2.failed to_inside.old < 2 ^ 64 - 1 }
-    requires report { W3.failed report.old < 2 ^ 64 - 1 }
+    requires to_inside { V.failed to_inside.old < 2 ^ 64 - 1 }
+    requires report { U.failed report.old < 2 ^ 64 - 1 }
     ensures to_outside { Gets config.now Which.Outside (share_of Which.Outside result) (R.remaining inside.old) (Some None) (W.contents to_outside.old) (W.contents to_outside.new) }
-    ensures to_inside { Gets config.now Which.Inside (share_of Which.Inside result) (R.remaining inside.old) (Some None) (W2.contents to_inside.old) (W2.contents to_inside.new) }
-    ensures report { Gets config.now Which.Report (share_of Which.Report result) (R.remaining inside.old) (Some None) (W3.contents report.old) (W3.contents report.new) }
+    ensures to_inside { Gets config.now Which.Inside (share_of Which.Inside result) (R.remaining inside.old) (Some None) (V.contents to_inside.old) (V.contents to_inside.new) }
+    ensures report { Gets config.now Which.Report (share_of Which.Report result) (R.remaining inside.old) (Some None) (U.contents report.old) (U.contents report.new) }
     ensures fault { IfErr result (Explains (R.remaining inside.old) (Some None)) }
     ensures gate { G.is_open ≡ true → IfErr result (λ fault. tells_shut_gate fault ≡ false) }
     ensures inside_readings { R.failed inside.new ≡ R.failed inside.old + failed_readings Side.Inside result }
     ensures outside_readings { failed_readings Side.Outside result ≡ 0 }
     ensures outside_writings { W.failed to_outside.new ≡ W.failed to_outside.old + failed_writings Which.Outside result }
-    ensures inside_writings { W2.failed to_inside.new ≡ W2.failed to_inside.old + failed_writings Which.Inside result }
-    ensures report_writings { W3.failed report.new ≡ W3.failed report.old + failed_writings Which.Report result }
+    ensures inside_writings { V.failed to_inside.new ≡ V.failed to_inside.old + failed_writings Which.Inside result }
+    ensures report_writings { U.failed report.new ≡ U.failed report.old + failed_writings Which.Report result }
 {
     let inside = match read_capture(alloc, inside) {
         Ok(capture) => capture,
@@ -261,39 +261,39 @@ fn run_inside<
 pub fn run_captures<
     T: Threads + Wait + Copy + Send + 'static,
     R: Source,
-    R2: Source,
+    Q: Source,
     W: Sink,
-    W2: Sink,
-    W3: Sink,
+    V: Sink,
+    U: Sink,
     G: Gate + Send + Sync + Drop + 'static,
 >(
     rt: &T,
     alloc: Global,
     config: &Config,
     inside: &mut R,
-    outside: Option<&mut R2>,
+    outside: Option<&mut Q>,
     to_outside: &mut W,
-    to_inside: Option<&mut W2>,
-    report: Option<&mut W3>,
+    to_inside: Option<&mut V>,
+    report: Option<&mut U>,
     gate: Arc<G>,
 ) -> Result<(), Fault>
     requires inside { R.failed inside.old < 2 ^ 64 - 1 }
-    requires outside { IfSome outside (λ r. R2.failed r.now < 2 ^ 64 - 1) }
+    requires outside { IfSome outside (λ r. Q.failed r.now < 2 ^ 64 - 1) }
     requires to_outside { W.failed to_outside.old < 2 ^ 64 - 1 }
-    requires to_inside { IfSome to_inside (λ w. W2.failed w.now < 2 ^ 64 - 1) }
-    requires report { IfSome report (λ w. W3.failed w.now < 2 ^ 64 - 1) }
-    ensures to_outside { Gets config.now Which.Outside (share_of Which.Outside result) (R.remaining inside.old) (bytes_in R2.remaining outside.entry) (W.contents to_outside.old) (W.contents to_outside.new) }
+    requires to_inside { IfSome to_inside (λ w. V.failed w.now < 2 ^ 64 - 1) }
+    requires report { IfSome report (λ w. U.failed w.now < 2 ^ 64 - 1) }
+    ensures to_outside { Gets config.now Which.Outside (share_of Which.Outside result) (R.remaining inside.old) (bytes_in Q.remaining outside.entry) (W.contents to_outside.old) (W.contents to_outside.new) }
     ensures to_inside { IfGiven to_inside.entry to_inside.exit (λ old new.
-        Gets config.now Which.Inside (share_of Which.Inside result) (R.remaining inside.old) (bytes_in R2.remaining outside.entry) (W2.contents old) (W2.contents new)) }
+        Gets config.now Which.Inside (share_of Which.Inside result) (R.remaining inside.old) (bytes_in Q.remaining outside.entry) (V.contents old) (V.contents new)) }
     ensures report { IfGiven report.entry report.exit (λ old new.
-        Gets config.now Which.Report (share_of Which.Report result) (R.remaining inside.old) (bytes_in R2.remaining outside.entry) (W3.contents old) (W3.contents new)) }
-    ensures fault { IfErr result (Explains (R.remaining inside.old) (bytes_in R2.remaining outside.entry)) }
+        Gets config.now Which.Report (share_of Which.Report result) (R.remaining inside.old) (bytes_in Q.remaining outside.entry) (U.contents old) (U.contents new)) }
+    ensures fault { IfErr result (Explains (R.remaining inside.old) (bytes_in Q.remaining outside.entry)) }
     ensures gate { G.is_open ≡ true → IfErr result (λ fault. tells_shut_gate fault ≡ false) }
     ensures inside_readings { R.failed inside.new ≡ R.failed inside.old + failed_readings Side.Inside result }
-    ensures outside_readings { GrowsBy R2.failed outside.entry outside.exit (failed_readings Side.Outside result) }
+    ensures outside_readings { GrowsBy Q.failed outside.entry outside.exit (failed_readings Side.Outside result) }
     ensures outside_writings { W.failed to_outside.new ≡ W.failed to_outside.old + failed_writings Which.Outside result }
-    ensures inside_writings { GrowsBy W2.failed to_inside.entry to_inside.exit (failed_writings Which.Inside result) }
-    ensures report_writings { GrowsBy W3.failed report.entry report.exit (failed_writings Which.Report result) }
+    ensures inside_writings { GrowsBy V.failed to_inside.entry to_inside.exit (failed_writings Which.Inside result) }
+    ensures report_writings { GrowsBy U.failed report.entry report.exit (failed_writings Which.Report result) }
 {
     match outside {
         Some(outside) => match to_inside {

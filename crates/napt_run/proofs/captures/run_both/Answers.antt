@@ -9,22 +9,22 @@ use Rattle.napt_run.proofs.captures.run_both.Goals as goal
 pub returns-clause-to_outside : goal.returns-clause-to_outside
 returns-clause-to_outside g c =
     let captures : Captures = record { inside = c.in-Ok.capture; outside = c.in-Ok-read_capture.capture } in
-    gets c.args.config.now Outside (share_of Outside c.run_between.result) (g.R.Source.remaining c.args.inside.now) (option_map some_bytes (g.R2.Source.remaining c.args.outside.now)) (g.W.Sink.contents c.args.to_outside.now) (g.W.Sink.contents c.run_between.new.to_outside)
-    captures (both_read (g.R.Source.remaining c.args.inside.now) (g.R2.Source.remaining c.args.outside.now) captures c.in-Ok.ensures.answer c.in-Ok-read_capture.ensures.answer) c.run_between.ensures.to_outside
+    gets c.args.config.now Outside (share_of Outside c.run_between.result) (g.R.Source.remaining c.args.inside.now) (option_map some_bytes (g.Q.Source.remaining c.args.outside.now)) (g.W.Sink.contents c.args.to_outside.now) (g.W.Sink.contents c.run_between.new.to_outside)
+    captures (both_read (g.R.Source.remaining c.args.inside.now) (g.Q.Source.remaining c.args.outside.now) captures c.in-Ok.ensures.answer c.in-Ok-read_capture.ensures.answer) c.run_between.ensures.to_outside
 
 pub returns-clause-to_inside : goal.returns-clause-to_inside
 returns-clause-to_inside g c =
     let captures : Captures = record { inside = c.in-Ok.capture; outside = c.in-Ok-read_capture.capture } in
-    gets c.args.config.now Inside (share_of Inside c.run_between.result) (g.R.Source.remaining c.args.inside.now) (option_map some_bytes (g.R2.Source.remaining c.args.outside.now)) (g.W2.Sink.contents c.args.to_inside.now) (g.W2.Sink.contents c.run_between.new.to_inside)
-    captures (both_read (g.R.Source.remaining c.args.inside.now) (g.R2.Source.remaining c.args.outside.now) captures c.in-Ok.ensures.answer c.in-Ok-read_capture.ensures.answer) c.run_between.ensures.to_inside
+    gets c.args.config.now Inside (share_of Inside c.run_between.result) (g.R.Source.remaining c.args.inside.now) (option_map some_bytes (g.Q.Source.remaining c.args.outside.now)) (g.V.Sink.contents c.args.to_inside.now) (g.V.Sink.contents c.run_between.new.to_inside)
+    captures (both_read (g.R.Source.remaining c.args.inside.now) (g.Q.Source.remaining c.args.outside.now) captures c.in-Ok.ensures.answer c.in-Ok-read_capture.ensures.answer) c.run_between.ensures.to_inside
 
 pub returns-clause-report : goal.returns-clause-report
 returns-clause-report g c =
     let captures : Captures = record { inside = c.in-Ok.capture; outside = c.in-Ok-read_capture.capture } in
-    gets c.args.config.now Report (share_of Report c.run_between.result) (g.R.Source.remaining c.args.inside.now) (option_map some_bytes (g.R2.Source.remaining c.args.outside.now)) (g.W3.Sink.contents c.args.report.now) (g.W3.Sink.contents c.run_between.new.report)
-    captures (both_read (g.R.Source.remaining c.args.inside.now) (g.R2.Source.remaining c.args.outside.now) captures c.in-Ok.ensures.answer c.in-Ok-read_capture.ensures.answer) c.run_between.ensures.report
+    gets c.args.config.now Report (share_of Report c.run_between.result) (g.R.Source.remaining c.args.inside.now) (option_map some_bytes (g.Q.Source.remaining c.args.outside.now)) (g.U.Sink.contents c.args.report.now) (g.U.Sink.contents c.run_between.new.report)
+    captures (both_read (g.R.Source.remaining c.args.inside.now) (g.Q.Source.remaining c.args.outside.now) captures c.in-Ok.ensures.answer c.in-Ok-read_capture.ensures.answer) c.run_between.ensures.report
 
 pub returns-clause-fault : goal.returns-clause-fault
 returns-clause-fault g c =
     let captures : Captures = record { inside = c.in-Ok.capture; outside = c.in-Ok-read_capture.capture } in
-    explains (g.R.Source.remaining c.args.inside.now) (option_map some_bytes (g.R2.Source.remaining c.args.outside.now)) captures c.run_between.result (both_read (g.R.Source.remaining c.args.inside.now) (g.R2.Source.remaining c.args.outside.now) captures c.in-Ok.ensures.answer c.in-Ok-read_capture.ensures.answer) c.run_between.ensures.fault
+    explains (g.R.Source.remaining c.args.inside.now) (option_map some_bytes (g.Q.Source.remaining c.args.outside.now)) captures c.run_between.result (both_read (g.R.Source.remaining c.args.inside.now) (g.Q.Source.remaining c.args.outside.now) captures c.in-Ok.ensures.answer c.in-Ok-read_capture.ensures.answer) c.run_between.ensures.fault

@@ -14,13 +14,13 @@ returns-clause-to_outside g c =
 pub returns-clause-to_inside : goal.returns-clause-to_inside
 returns-clause-to_inside g c =
     let captures : Captures = record { inside = c.in-Ok.capture; outside = c.no_capture-outside.result } in
-    gets c.args.config.now Inside (share_of Inside c.run_between.result) (g.R.Source.remaining c.args.inside.now) (Some None) (g.W2.Sink.contents c.args.to_inside.now) (g.W2.Sink.contents c.run_between.new.to_inside)
+    gets c.args.config.now Inside (share_of Inside c.run_between.result) (g.R.Source.remaining c.args.inside.now) (Some None) (g.V.Sink.contents c.args.to_inside.now) (g.V.Sink.contents c.run_between.new.to_inside)
     captures (one_read (g.R.Source.remaining c.args.inside.now) captures c.in-Ok.ensures.answer c.no_capture-outside.ensures) c.run_between.ensures.to_inside
 
 pub returns-clause-report : goal.returns-clause-report
 returns-clause-report g c =
     let captures : Captures = record { inside = c.in-Ok.capture; outside = c.no_capture-outside.result } in
-    gets c.args.config.now Report (share_of Report c.run_between.result) (g.R.Source.remaining c.args.inside.now) (Some None) (g.W3.Sink.contents c.args.report.now) (g.W3.Sink.contents c.run_between.new.report)
+    gets c.args.config.now Report (share_of Report c.run_between.result) (g.R.Source.remaining c.args.inside.now) (Some None) (g.U.Sink.contents c.args.report.now) (g.U.Sink.contents c.run_between.new.report)
     captures (one_read (g.R.Source.remaining c.args.inside.now) captures c.in-Ok.ensures.answer c.no_capture-outside.ensures) c.run_between.ensures.report
 
 pub returns-clause-fault : goal.returns-clause-fault
