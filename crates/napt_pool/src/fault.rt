@@ -1,6 +1,7 @@
 // Why an item, a worker or a pool was refused.
-ghost use Rattle.std.specs.Prelude.{◌≡◌, ℕ};
+ghost use Rattle.std.specs.Prelude.{◌≡◌, ℕ, Some};
 ghost use Rattle.napt_pool.specs.Faults.{fault_of};
+ghost use Rattle.napt_pool.specs.Messages.{fault_message, refusal_message};
 
 use std::error::Error;
 use std::fmt;
@@ -19,6 +20,8 @@ pub enum PoolFault {
 }
 
 impl fmt::Display for PoolFault {
+    ghost output = { λ fault. Some (fault_message fault) };
+
     fn fmt<W: fmt::Write>(&self, f: &mut fmt::Formatter<W>) -> fmt::Result {
         match self {
             PoolFault::Memory => f.write_str("out of memory"),
@@ -53,6 +56,8 @@ impl<I> fmt::Debug for OfferRefused<I> {
 }
 
 impl<I> fmt::Display for OfferRefused<I> {
+    ghost output = { λ refused. Some (refusal_message refused) };
+
     fn fmt<W: fmt::Write>(&self, f: &mut fmt::Formatter<W>) -> fmt::Result {
         f.write_str(match self {
             OfferRefused::Full(_) => "the worker owes as many answers as it may",
