@@ -10,6 +10,7 @@ mod ends;
 mod gates;
 mod machines;
 mod meeting;
+mod messages;
 mod rounds;
 mod unasked;
 
