@@ -1,4 +1,5 @@
 pub mod CommandLine
 pub mod Files
+pub mod Places
 pub mod Program
 pub mod Stop

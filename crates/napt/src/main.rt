@@ -3,6 +3,8 @@
 
 mod files;
 mod options;
+mod place;
+mod places;
 mod program;
 mod stop;
 

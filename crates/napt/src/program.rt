@@ -6,6 +6,7 @@ ghost use Rattle.napt.specs.Program.{IsConfigStop, IsStopOf};
 
 use crate::files::{MEMORY, created, created_at, opened, sink, sink_over, source, source_over};
 use crate::options::{LineFault, Options, parse_words};
+use crate::places::refuse_lost_file;
 use crate::stop::{Role, Stop};
 use napt_config::{Config, ConfigFault};
 use napt_pool::OpenGate;
@@ -88,6 +89,7 @@ fn run_from<
         None => None,
         Some(path) => Some(opened(rt, path, Role::Outside)?),
     };
+    refuse_lost_file(rt, options)?;
     match &options.to_outside {
         None => run_into(rt, config, options, inside, outside, io::writer(rt)),
         Some(path) => {

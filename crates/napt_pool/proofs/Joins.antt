@@ -1,6 +1,6 @@
 -- The workers that were joined so far.
-use Rattle.std.proofs.Common.{◌≡◌, ℕ, zero, suc, ◌+◌, ◌<◌, add-one, refl, sym, ap, ◌∙◌, arith, Bool, true, false, List, map, length, [], ◌∷◌, ◌++◌, append_assoc, length-append}
-use Rattle.std.specs.Prelude.{Result, Ok, Err, OnOk, IfOk, IfErr, replicate}
+use Rattle.std.proofs.Common.{◌≡◌, ℕ, zero, suc, ◌+◌, ◌<◌, add-one, refl, sym, ap, ◌∙◌, arith, Bool, true, false, List, map, length, [], ◌∷◌, ◌++◌, append_assoc, length-append, ◌⊎◌, inl, inr, ⊎_elim, get_or}
+use Rattle.std.specs.Prelude.{Result, Ok, Err, OnOk, IfOk, IfErr, MatchResult, Contains, replicate}
 use Rattle.std.proofs.lemmas.List.{length-map}
 use Rattle.std.proofs.lemmas.Result.{IfOk-weaker}
 use Rattle.napt_pool.specs.declared.fault.PoolFault.{PoolFault}
@@ -9,11 +9,13 @@ use Rattle.napt_pool.specs.declared.fault.Stop.TheVariants.{Memory, GateShut, Ri
 use Rattle.napt_pool.specs.declared.machine.Machine.{Ghosts}
 use Rattle.napt_pool.specs.declared.closing.Closing.{Closing}
 use Rattle.napt_pool.specs.declared.closing.Ended.{Ended}
+use Rattle.napt_pool.specs.declared.message.Reply.TheVariants.{Stopped}
 use Rattle.napt_pool.specs.declared.pool.Pool.{Pool}
-use Rattle.napt_pool.specs.Faults.{is_shut, is_gate_shut, fault_of, IsFaultOf, IsLeastFault}
+use Rattle.napt_pool.specs.declared.serve.Bench.{Bench}
+use Rattle.napt_pool.specs.Faults.{is_shut, is_gate_shut, fault_of, IsFaultOf, IsFaultUpTo, IsLeastFault}
 use Rattle.napt_pool.specs.Histories.{after, replies}
-use Rattle.napt_pool.specs.Workers.{IsEnd, AreEnds, closing_machine, closing_accepted, closing_taken}
-use Rattle.napt_pool.specs.Pools.{starts, accepts, takes, zip_with, IsLeastStop}
+use Rattle.napt_pool.specs.Workers.{IsEnd, AreEnds, closing_machine, closing_bench, closing_accepted, closing_taken, closing_heard}
+use Rattle.napt_pool.specs.Pools.{starts, accepts, takes, heard, benches, zip_with, HasTold, HaveReceived, IsLeastStop}
 use Rattle.napt_pool.proofs.Ending.{length-replies}
 use Rattle.napt_pool.proofs.Serving.{map-snoc}
 
@@ -138,11 +140,71 @@ module _ {M G I A : Type 0} (g : Ghosts M I A) (open_gate : Bool) where
       rw least.fault_is (fault_of_is least.stop (length least.before) (length ms) below)
 
   pub least_if_err : {T : Type 0} (p : Pool M G I A) (ws : List (Closing M G I A)) (es : List (Result (Ended M I A) Stop))
-      → map closing_machine ws ≡ starts p → map closing_accepted ws ≡ accepts p → map closing_taken ws ≡ takes p → AreEnds g open_gate ws es
+      → map closing_machine ws ≡ starts p → map closing_accepted ws ≡ accepts p → map closing_taken ws ≡ takes p
+      → map closing_heard ws ≡ heard p → map closing_bench ws ≡ benches p → AreEnds g open_gate ws es
       → (r : Result T PoolFault) → IfErr r (λ fault. IsLeastFault es fault) → IfErr r (λ fault. IsLeastStop g open_gate p fault)
-  least_if_err p ws es began accepted taken h (Ok v) least = tt
-  least_if_err p ws es began accepted taken h (Err fault) least =
-      record { closing = ws; ends = es; machines_are = began; accepted_are = accepted; taken_are = taken; ends_are = h; least = least }
+  least_if_err p ws es began accepted taken listened given h (Ok v) least = tt
+  least_if_err p ws es began accepted taken listened given h (Err fault) least = record {
+    closing = ws;
+    ends = es;
+    machines_are = began;
+    accepted_are = accepted;
+    taken_are = taken;
+    heard_are = listened;
+    benches_are = given;
+    ends_are = h;
+    least = least;
+  }
+
+  -- a worker that told that it stopped: where all ended well there is none, and else the least that stopped is that one or one before it
+  all_well_untold : (ws : List (Closing M G I A)) (es : List (Ended M I A)) → AreEnds g open_gate ws (map Ok es)
+      → (w : ℕ) (stop : Stop) → Contains (get_or (map closing_heard ws) w []) (Stopped stop) → ⊥
+  all_well_untold [] [] h w stop c = let below = c.1 in absurd (omega arith)
+  all_well_untold [] (e ∷ es) h w stop c = absurd h
+  all_well_untold (v ∷ ws) [] h w stop c = absurd h
+  all_well_untold (v ∷ ws) (e ∷ es) h zero stop c = let here = h.0.told stop c in cc
+  all_well_untold (v ∷ ws) (e ∷ es) h (suc w) stop c = all_well_untold ws es h.1 w stop c
+
+  least_up_to : (ws : List (Closing M G I A)) (before : List (Ended M I A)) (s : Stop) (rest : List (Result (Ended M I A) Stop))
+      → AreEnds g open_gate ws (map Ok before ++ Err s ∷ rest) → (w : ℕ) (stop : Stop) → Contains (get_or (map closing_heard ws) w []) (Stopped stop)
+      → (length before < w) ⊎ ((length before ≡ w) × (s ≡ stop))
+  least_up_to [] [] s rest h w stop c = absurd h
+  least_up_to [] (b ∷ bs) s rest h w stop c = absurd h
+  least_up_to (v ∷ ws) [] s rest h zero stop c = let here = h.0.told stop c in inr (refl, cc)
+  least_up_to (v ∷ ws) [] s rest h (suc w) stop c = inl (omega arith)
+  least_up_to (v ∷ ws) (b ∷ bs) s rest h zero stop c = let here = h.0.told stop c in cc
+  least_up_to (v ∷ ws) (b ∷ bs) s rest h (suc w) stop c =
+      ⊎_elim (λ less. inl (omega arith)) (λ same. inr (ap suc same.0, same.1)) (least_up_to ws bs s rest h.1 w stop c)
+
+  pub told_is : {T : Type 0} (p : Pool M G I A) (items : T → List (Ended M I A)) (ws : List (Closing M G I A)) (es : List (Result (Ended M I A) Stop))
+      → AreEnds g open_gate ws es → map closing_heard ws ≡ heard p
+      → (r : Result T PoolFault) → IfOk r (λ v. map Ok (items v) ≡ es) → IfErr r (λ fault. IsLeastFault es fault)
+      → (w : ℕ) (fault : PoolFault) → HasTold p w fault → MatchResult r (λ _. ⊥) (IsFaultUpTo w fault)
+  told_is p items ws es h listened (Ok v) ended least w fault told =
+      let here = rw (← ended) at h in
+      let c : Contains (get_or (map closing_heard ws) w []) (Stopped told.0) = rw listened told.1 in
+      all_well_untold ws (items v) here w told.0 c
+  told_is p items ws es h listened (Err f) ended least w fault told =
+      let here = rw least.ends_are at h in
+      let c : Contains (get_or (map closing_heard ws) w []) (Stopped told.0) = rw listened told.1 in
+      ⊎_elim
+      (λ less. let first : 0 < w = omega arith in inr (first, rw least.fault_is (fault_of_is least.stop (length least.before) w less)))
+      (λ same. inl (least.fault_is ∙ ap (fault_of least.stop) same.0 ∙ ap (λ s. fault_of s w) same.1 ∙ sym told.2))
+      (least_up_to ws least.before least.stop least.rest here w told.0 c)
+
+  received_are : (ws : List (Closing M G I A)) (es : List (Ended M I A)) → AreEnds g open_gate ws (map Ok es)
+      → HaveReceived g open_gate (map closing_bench ws) (map closing_accepted ws)
+  received_are [] [] h = tt
+  received_are [] (e ∷ es) h = absurd h
+  received_are (w ∷ ws) [] h = absurd h
+  received_are (w ∷ ws) (e ∷ es) h = (h.0.has_received, received_are ws es h.1)
+
+  pub received_on_ok : {T : Type 0} (items : T → List (Ended M I A)) (ws : List (Closing M G I A)) (es : List (Result (Ended M I A) Stop))
+      (bs : List (Bench M G I A)) (xs : List (List I)) → AreEnds g open_gate ws es → map closing_bench ws ≡ bs → map closing_accepted ws ≡ xs
+      → (r : Result T PoolFault) → IfOk r (λ v. map Ok (items v) ≡ es) → OnOk r (HaveReceived g open_gate bs xs)
+  received_on_ok items ws es bs xs h given accepted (Ok v) ended =
+      let here = rw (← ended) at h in rw (← given, ← accepted) (received_are ws (items v) here)
+  received_on_ok items ws es bs xs h given accepted (Err e) ended = tt
 
   pub gate_if_err : {T : Type 0} (ws : List (Closing M G I A)) (es : List (Result (Ended M I A) Stop)) (r : Result T PoolFault)
       → AreEnds g open_gate ws es → open_gate ≡ true → IfErr r (λ fault. IsLeastFault es fault) → IfErr r (λ fault. is_shut fault ≡ false)

@@ -24,8 +24,9 @@ module _ {X Y : Type 0} (f : X → List Y) (xs : List X) (i : ℕ) (x d : X) (at
   grown_on_ok (Ok v) y h e = map-grown f xs i x d y h at e
   grown_on_ok (Err v) y h e = tt
 
-  pub grown_if_some : (o : Option Y) → i < length xs
-      → MatchOption o (f x ≡ f d) (λ a. f x ≡ f d ++ a ∷ [])
-      → MatchOption o (map f (set xs i x) ≡ map f xs) (λ a. map f (set xs i x) ≡ set (map f xs) i (get_or (map f xs) i [] ++ a ∷ []))
-  grown_if_some None h e = map-kept f xs i x d at e
-  grown_if_some (Some a) h e = map-grown f xs i x d a h at e
+  -- k: what an element of the option adds
+  pub grown_if_some : {Z : Type 0} (k : Z → Y) (o : Option Z) → i < length xs
+      → MatchOption o (f x ≡ f d) (λ a. f x ≡ f d ++ k a ∷ [])
+      → MatchOption o (map f (set xs i x) ≡ map f xs) (λ a. map f (set xs i x) ≡ set (map f xs) i (get_or (map f xs) i [] ++ k a ∷ []))
+  grown_if_some k None h e = map-kept f xs i x d at e
+  grown_if_some k (Some a) h e = map-grown f xs i x d (k a) h at e

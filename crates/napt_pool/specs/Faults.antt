@@ -1,5 +1,5 @@
 -- What faults and refusals say.
-use Rattle.std.specs.Prelude.{◌≡◌, ⊤, ℕ, Bool, true, false, Result, Ok, Err, List, map, length, ◌∷◌, ◌++◌}
+use Rattle.std.specs.Prelude.{◌≡◌, ◌⊎◌, ◌<◌, ⊤, ℕ, Bool, true, false, Result, Ok, Err, List, map, length, ◌∷◌, ◌++◌}
 use Rattle.napt_pool.specs.declared.fault.PoolFault.{PoolFault}
 use Rattle.napt_pool.specs.declared.fault.PoolFault.TheVariants as Fault
 use Rattle.napt_pool.specs.declared.fault.Stop.{Stop}
@@ -22,6 +22,10 @@ IsFaultOf W Fault.Memory = ⊤
 IsFaultOf W Fault.NoThread = ⊥
 IsFaultOf W (Fault.GateShut w) = W w
 IsFaultOf W Fault.Ring = ⊤
+
+-- the fault that was told of worker w, or one of a worker before it
+abbrev pub IsFaultUpTo : ℕ → PoolFault → PoolFault → Type 0
+IsFaultUpTo w told fault = (fault ≡ told) ⊎ ((0 < w) × IsFaultOf (λ v. v < w) fault)
 
 -- a fault of the start of a pool
 abbrev pub IsStartFault : PoolFault → Type 0

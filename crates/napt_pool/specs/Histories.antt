@@ -1,5 +1,7 @@
 -- What the rings have carried, and the folds of a machine's step.
-use Rattle.std.specs.Prelude.{◌≡◌, List, map, [], ◌∷◌, ◌++◌}
+use Rattle.std.specs.Prelude.{◌≡◌, ◌⊎◌, List, map, [], ◌∷◌, ◌++◌}
+use Rattle.napt_pool.specs.declared.fault.Stop.{Stop}
+use Rattle.napt_pool.specs.declared.fault.Stop.TheVariants.{Ring}
 use Rattle.napt_pool.specs.declared.machine.Machine.{Ghosts}
 use Rattle.napt_pool.specs.declared.message.Message.{Message}
 use Rattle.napt_pool.specs.declared.message.Message.TheVariants.{Work, Close}
@@ -29,6 +31,10 @@ accepted p = items_of (sent p)
 abbrev pub taken : {A H P : Type 0} → Consumer (Reply A) H P → List A
 taken c = answers_of (received c)
 
+-- a worker told why it stops; or it could not, and its end says that the ends of a ring do not agree
+abbrev pub Told : {A : Type 0} → Stop → List (Reply A) → List (Reply A) → Type 0
+Told stop before after = (after ≡ before ++ Stopped stop ∷ []) ⊎ ((stop ≡ Ring) × (after ≡ before))
+
 module _ {M I A : Type 0} (g : Ghosts M I A) where
   -- the state after a step on each item
   abbrev pub after : M → List I → M
@@ -54,3 +60,10 @@ module _ {M I A : Type 0} (g : Ghosts M I A) where
     pub received_is : messages ≡ map Work seen ++ Close ∷ []
     pub sent_is : sends ≡ map Done (replies m seen)
     pub machine_is : n ≡ after m seen
+
+  -- the same of a worker that stopped: it met no Close, answered the first of the items that it received, and told why it stopped
+  pub record HasStopped (m : M) (stop : Stop) (messages : List (Message I)) (sends : List (Reply A)) : Type 0 where
+    pub seen : List I
+    pub rest : List I
+    pub received_is : messages ≡ map Work (seen ++ rest)
+    pub sent_is : Told stop (map Done (replies m seen)) sends

@@ -1,18 +1,25 @@
 -- What a worker shows: the machine that it began with, the items that were accepted for it, and the answers that were taken.
-use Rattle.std.specs.Prelude.{◌≡◌, ⊤, Bool, true, false, Result, IfOk, IfErr, List, [], ◌∷◌, ◌++◌}
+use Rattle.std.specs.Prelude.{◌≡◌, ⊤, Bool, true, false, Result, Err, OnOk, IfOk, IfErr, List, Contains, [], ◌∷◌, ◌++◌}
 use Rattle.napt_pool.specs.declared.fault.Stop.{Stop}
+use Rattle.napt_pool.specs.declared.serve.Bench.{Bench}
 use Rattle.napt_pool.specs.declared.worker.Worker.{Worker}
 use Rattle.napt_pool.specs.declared.closing.Closing.{Closing}
 use Rattle.napt_pool.specs.declared.closing.Ended.{Ended}
 use Rattle.napt_pool.specs.declared.machine.Machine.{Ghosts}
 use Rattle.napt_pool.specs.declared.message.Reply.{Reply}
+use Rattle.napt_pool.specs.declared.message.Reply.TheVariants.{Stopped}
 use Rattle.rtrb.specs.Ring.{received}
+use Rattle.napt_pool.specs.Benches.{HasReceived, HasBrokenOff}
 use Rattle.napt_pool.specs.Faults.{is_gate_shut}
 use Rattle.napt_pool.specs.Histories.{after, replies, accepted, taken}
 
 module _ {M G I A : Type 0} where
   abbrev pub machine_of : Worker M G I A → M
   machine_of w = w.thread.promise.bench.value.machine
+
+  -- what its thread was given to work with
+  abbrev pub bench_of : Worker M G I A → Bench M G I A
+  bench_of w = w.thread.promise.bench.value
 
   abbrev pub accepted_of : Worker M G I A → List I
   accepted_of w = accepted w.items
@@ -28,19 +35,29 @@ module _ {M G I A : Type 0} where
   abbrev pub closing_machine : Closing M G I A → M
   closing_machine w = w.thread.promise.bench.value.machine
 
+  abbrev pub closing_bench : Closing M G I A → Bench M G I A
+  closing_bench w = w.thread.promise.bench.value
+
   abbrev pub closing_accepted : Closing M G I A → List I
   closing_accepted w = accepted w.items
 
   abbrev pub closing_taken : Closing M G I A → List A
   closing_taken w = taken w.answers
 
--- How a worker ended: with the machine after what was accepted, and with answers that, put after those that were taken,
--- are the replies to it; or it stopped, and not at a gate that promises yes
+  abbrev pub closing_heard : Closing M G I A → List (Reply A)
+  closing_heard w = received w.answers
+
+-- How a worker ended: with the machine after what was accepted, which its thread received, and with answers that, put after those
+-- that were taken, are the replies to it; or it stopped, as its thread did, and not at a gate that promises yes. Where the word that
+-- it stopped came out of its answer ring, that is its end
 module _ {M G I A : Type 0} (g : Ghosts M I A) (open_gate : Bool) where
   pub record IsEnd (w : Closing M G I A) (end : Result (Ended M I A) Stop) : Type 0 where
     pub machine_is : IfOk end (λ e. e.machine ≡ after g (closing_machine w) (closing_accepted w))
     pub answers_are : IfOk end (λ e. closing_taken w ++ e.answers.items ≡ replies g (closing_machine w) (closing_accepted w))
     pub gate : open_gate ≡ true → IfErr end (λ stop. is_gate_shut stop ≡ false)
+    pub told : (stop : Stop) → Contains (closing_heard w) (Stopped stop) → end ≡ Err stop
+    pub has_received : OnOk end (HasReceived g open_gate (closing_bench w) (closing_accepted w))
+    pub has_broken_off : IfErr end (HasBrokenOff g open_gate (closing_bench w))
 
   -- the same of each worker
   abbrev pub AreEnds : List (Closing M G I A) → List (Result (Ended M I A) Stop) → Type 0

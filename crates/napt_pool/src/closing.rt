@@ -56,39 +56,49 @@ impl<M: Machine, G: Gate> Closing<M, G> {
         if !is_told {
             // The worker ends once its item ring has no other end.
             drop(items);
-            drop(thread.join(rt));
-            return Err(Stop::Ring);
+            let mut left = thread.join(rt);
+            answers.slots_beside(&mut left.bench.answers);
+            return Err(left.stop());
         }
         let mut left = thread.join(rt);
+        answers.slots_beside(&mut left.bench.answers);
         left.bench.items.slots_beside(&mut items);
         left.settle(&mut answers, rest)
     }
 }
 
 impl<M: Machine, G: Gate> Left<M, G> {
-    ghost use Rattle.std.specs.Prelude.{◌≡◌, ◌+◌, ◌≤◌, [], ◌++◌, map, length, vec_capacity, IfOk, OnOk, MatchResult};
-    ghost use Rattle.rtrb.specs.Ring.{sent, received, IsPair};
-    ghost use Rattle.napt_pool.specs.Histories.{answers_of, taken};
+    ghost use Rattle.std.specs.Prelude.{◌≡◌, ◌≤◌, [], map, length, vec_capacity, IfOk, OnOk, MatchResult};
+    ghost use Rattle.rtrb.specs.Ring.{known_items};
+    ghost use Rattle.napt_pool.specs.Histories.{answers_of};
+    ghost use Rattle.napt_pool.specs.declared.fault.Stop.TheVariants.{Ring};
     ghost use Rattle.napt_pool.specs.declared.message.Reply.TheVariants.{Done};
 
-    /// The machine, and the answers that are still in the ring, of a worker that met Close.
+    /// Why the worker stopped. Where it met Close, though nobody sent it, the ends of a ring do not agree.
+    fn stop(self) -> Stop
+        ensures { MatchResult self.end (λ _. result ≡ Ring) (λ stop. result ≡ stop) }
+    {
+        match self.end {
+            Ok(()) => Stop::Ring,
+            Err(stop) => stop,
+        }
+    }
+
+    /// The machine of a worker that met Close, and the answers that are known to be in the ring.
     fn settle(
         self,
         answers: &mut Consumer<Reply<M::Answer>, Global, Honest<G>>,
         rest: Vec<M::Answer>,
     ) -> Result<Ended<M>, Stop>
-        requires ring { IsPair self.bench.answers answers.old }
-        requires answered { OnOk self.end (sent self.bench.answers ≡ map Done (answers_of (sent self.bench.answers))) }
-        requires room { OnOk self.end (length (sent self.bench.answers) ≤ length (received answers.old) + vec_capacity rest) }
+        requires answered { OnOk self.end (known_items answers.old ≡ map Done (answers_of (known_items answers.old))) }
+        requires room { OnOk self.end (length (known_items answers.old) ≤ vec_capacity rest) }
         requires empty { rest.items ≡ [] }
         ensures end { MatchResult result (λ _. self.end ≡ Ok tt) (λ stop. self.end ≡ Err stop) }
         ensures machine { IfOk result (λ e. e.machine ≡ self.bench.machine) }
-        ensures answers { IfOk result (λ e. taken answers.old ++ e.answers.items ≡ answers_of (sent self.bench.answers)) }
+        ensures answers { IfOk result (λ e. e.answers.items ≡ answers_of (known_items answers.old)) }
     {
         let Left { bench, end } = self;
         end?;
-        let mut replies = bench.answers;
-        answers.slots_beside(&mut replies);
         let answers = pop_all(answers, rest);
         Ok(Ended {
             machine: bench.machine,

@@ -1,7 +1,7 @@
 // Closing and joining a list of workers.
 ghost use Rattle.std.specs.Prelude.{◌≡◌, ◌≤◌, ◌<◌, ◌^◌, vec_len, vec_capacity, [], map, IfOk, IfErr};
 ghost use Rattle.napt_pool.specs.Faults.{IsLeastFault};
-ghost use Rattle.napt_pool.specs.Workers.{machine_of, accepted_of, taken_of, closing_machine, closing_accepted, closing_taken, AreEnds};
+ghost use Rattle.napt_pool.specs.Workers.{machine_of, bench_of, accepted_of, taken_of, heard_of, closing_machine, closing_bench, closing_accepted, closing_taken, closing_heard, AreEnds};
 
 use crate::closing::{Closing, Ended};
 use crate::fault::{PoolFault, Stop};
@@ -27,6 +27,8 @@ pub(crate) fn close_all<M: Machine, G: Gate>(
     ensures machines { map closing_machine result.items ≡ map machine_of workers.items }
     ensures accepted { map closing_accepted result.items ≡ map accepted_of workers.items }
     ensures taken { map closing_taken result.items ≡ map taken_of workers.items }
+    ensures heard { map closing_heard result.items ≡ map heard_of workers.items }
+    ensures benches { map closing_bench result.items ≡ map bench_of workers.items }
     ensures len { vec_len result ≡ vec_len workers }
 {
     let mut into = into;

@@ -8,6 +8,7 @@
 #![tactic(auto)]
 
 mod answers;
+mod backoff;
 mod closing;
 mod fault;
 mod gate;
@@ -22,6 +23,7 @@ mod starting;
 mod tests;
 mod worker;
 
+pub use backoff::Backoff;
 pub use closing::Ended;
 pub use fault::{OfferRefused, PoolFault};
 pub use gate::{Gate, OpenGate};

@@ -28,7 +28,8 @@ pub struct Pool<M: Machine, G: Gate> {
 impl<M: Machine, G: Gate> Pool<M, G> {
     ghost use Rattle.std.specs.Prelude.{◌+◌, ◌↔◌, [], ◌∷◌, ◌++◌, length, slice_set, IsTrue, OnOk, IfOk, IfErr, OnErr, MatchOption, true, false};
     ghost use Rattle.napt_pool.specs.Faults.{IsFaultOf, is_shut, item_back, is_full, is_memory};
-    ghost use Rattle.napt_pool.specs.Pools.{starts, accepts, takes, capacity_of, Tells};
+    ghost use Rattle.napt_pool.specs.Pools.{starts, accepts, takes, heard, capacity_of, Tells};
+    ghost use Rattle.napt_pool.specs.declared.message.Reply.TheVariants.{Done};
 
     /// Hands an item to worker `w`, or hands it back with nothing changed. It waits for nobody and takes no memory.
     ///
@@ -44,6 +45,7 @@ impl<M: Machine, G: Gate> Pool<M, G> {
         ensures starts { starts self.new ≡ starts self.old }
         ensures capacity { capacity_of self.new ≡ capacity_of self.old }
         ensures takes { takes self.new ≡ takes self.old }
+        ensures heard { heard self.new ≡ heard self.old }
         ensures accepted { OnOk result (accepts self.new ≡ slice_set (accepts self.old) w (slice_index_or (accepts self.old) w [] ++ item ∷ [])) }
         ensures refused { IfErr result (λ e. (item_back e ≡ item) × (accepts self.new ≡ accepts self.old)) }
         ensures full { IsTrue (is_full result) ↔ (length (slice_index_or (accepts self.old) w []) ≡ length (slice_index_or (takes self.old) w []) + capacity_of self.old) }
@@ -68,6 +70,7 @@ impl<M: Machine, G: Gate> Pool<M, G> {
         ensures capacity { capacity_of self.new ≡ capacity_of self.old }
         ensures accepts { accepts self.new ≡ accepts self.old }
         ensures some { IfOk result (λ got. MatchOption got (takes self.new ≡ takes self.old) (λ a. takes self.new ≡ slice_set (takes self.old) w (slice_index_or (takes self.old) w [] ++ a ∷ []))) }
+        ensures silent { IfOk result (λ got. MatchOption got (heard self.new ≡ heard self.old) (λ a. heard self.new ≡ slice_set (heard self.old) w (slice_index_or (heard self.old) w [] ++ Done a ∷ []))) }
         ensures none { length (slice_index_or (accepts self.old) w []) ≡ length (slice_index_or (takes self.old) w []) → result ≡ Ok None }
         ensures err { OnErr result (takes self.new ≡ takes self.old) }
         ensures told { IfErr result (λ fault. Tells self.old self.new w fault) }
@@ -83,20 +86,27 @@ impl<M: Machine, G: Gate> Pool<M, G> {
 }
 
 impl<M: Machine, G: Gate> Pool<M, G> {
-    ghost use Rattle.std.specs.Prelude.{true, false, map, length, ◌++◌, IfOk, IfErr, OnOk};
-    ghost use Rattle.napt_pool.specs.Faults.{IsFaultOf, is_shut};
+    ghost use Rattle.std.specs.Prelude.{true, false, map, length, ◌++◌, IfOk, IfErr, OnOk, MatchResult};
+    ghost use Rattle.napt_pool.specs.Faults.{IsFaultOf, IsFaultUpTo, is_shut};
     ghost use Rattle.napt_pool.specs.Histories.{after, replies};
-    ghost use Rattle.napt_pool.specs.Pools.{starts, accepts, takes, zip_with, IsLeastStop};
+    ghost use Rattle.napt_pool.specs.Pools.{starts, accepts, takes, benches, zip_with, HasTold, HaveReceived, IsLeastStop};
 
     /// Sends Close to each worker, joins all, and hands back the machines in worker order, each with the answers that
     /// were not taken.
     ///
+    /// On `Ok` the thread of each worker received the items that were accepted for it, once and in the order in which they
+    /// were offered, and then Close.
+    ///
     /// Where workers stopped early, the fault is that of the least such worker, and the machines and the answers are
-    /// dropped. `close` takes no memory of its own: `start` made the room.
+    /// dropped. Where `take` told of a worker that it stopped, `close` tells the same fault, or that of a worker before
+    /// it. Of a worker that stopped and of which `take` told nothing no contract says why it did: tests alone show that
+    /// its fault is its own (`least_fault_is_told`). `close` takes no memory of its own: `start` made the room.
     pub fn close<R: Threads>(self, rt: &R, _alloc: Global) -> Result<Vec<Ended<M>>, PoolFault>
+        ensures received { OnOk result (HaveReceived M.Machine G.is_open (benches self) (accepts self)) }
         ensures machines { IfOk result (λ v. map (λ e. e.machine) v.items ≡ zip_with (after M.Machine) (starts self) (accepts self)) }
         ensures answers { IfOk result (λ v. zip_with (λ t rest. t ++ rest) (takes self) (map (λ e. e.answers.items) v.items) ≡ zip_with (replies M.Machine) (starts self) (accepts self)) }
         ensures settled { map length (takes self) ≡ map length (accepts self) → OnOk result (takes self ≡ zip_with (replies M.Machine) (starts self) (accepts self)) }
+        ensures told { (w : ℕ) (fault : _) → HasTold self w fault → MatchResult result (λ _. ⊥) (IsFaultUpTo w fault) }
         ensures least { IfErr result (λ fault. IsLeastStop M.Machine G.is_open self fault) }
         ensures fault { IfErr result (λ fault. IsFaultOf (λ v. v < length (starts self)) fault) }
         ensures gate { G.is_open ≡ true → IfErr result (λ fault. is_shut fault ≡ false) }
@@ -121,7 +131,7 @@ impl<M: Machine, G: Gate> Pool<M, G> {
 impl<M: Machine, G: Gate + Send + Sync + Drop + 'static> Pool<M, G> {
     ghost use Rattle.std.specs.Prelude.{[], replicate, IfOk, IfErr};
     ghost use Rattle.napt_pool.specs.Faults.{IsStartFault};
-    ghost use Rattle.napt_pool.specs.Pools.{starts, accepts, takes, capacity_of};
+    ghost use Rattle.napt_pool.specs.Pools.{starts, accepts, takes, heard, capacity_of};
 
     /// Starts a thread for each machine, with rings for `capacity` items and as many answers.
     ///
@@ -144,6 +154,7 @@ impl<M: Machine, G: Gate + Send + Sync + Drop + 'static> Pool<M, G> {
         ensures starts { IfOk result (λ p. starts p ≡ machines.items) }
         ensures accepts { IfOk result (λ p. accepts p ≡ replicate (vec_len machines) []) }
         ensures takes { IfOk result (λ p. takes p ≡ replicate (vec_len machines) []) }
+        ensures heard { IfOk result (λ p. heard p ≡ replicate (vec_len machines) []) }
         ensures refused { IfErr result IsStartFault }
     {
         let Ok(room) = Room::new(alloc, machines.len()) else {

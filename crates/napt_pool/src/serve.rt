@@ -1,8 +1,10 @@
 // What a worker's thread does.
 ghost use Rattle.std.specs.Prelude.{◌≡◌, true, false};
-ghost use Rattle.rtrb.specs.Ring.{SameProducer};
+ghost use Rattle.rtrb.specs.Ring.{sent, SameProducer};
 ghost use Rattle.napt_pool.specs.Faults.{is_gate_shut};
+ghost use Rattle.napt_pool.specs.Histories.{Told};
 
+use crate::backoff::Backoff;
 use crate::fault::Stop;
 use crate::gate::{Gate, is_let_in};
 use crate::machine::Machine;
@@ -10,10 +12,6 @@ use crate::message::{Honest, Message, Reply};
 use rtrb::{Consumer, Producer};
 use std::alloc::Global;
 use std::sync::Wait;
-use std::{hint, thread};
-
-/// How often a worker looks again at an empty ring before it lets another thread run.
-const LOOKS: u32 = 32;
 
 /// What a worker's thread works with.
 #[derive(Drop)]
@@ -34,9 +32,10 @@ impl<M: Machine, G: Gate> Bench<M, G> {
     ghost use Rattle.std.specs.Prelude.{◌≡◌, true, false, [], ◌∷◌, ◌++◌, OnOk, IfErr};
     ghost use Rattle.rtrb.specs.Ring.{sent, received, SameProducer, SameConsumer};
     ghost use Rattle.napt_pool.specs.Faults.{is_gate_shut};
-    ghost use Rattle.napt_pool.specs.Histories.{Served};
+    ghost use Rattle.napt_pool.specs.Histories.{Served, HasStopped, Told};
     ghost use Rattle.napt_pool.specs.Benches.{Worked};
     ghost use Rattle.napt_pool.specs.declared.message.Reply.TheVariants.{Done};
+    ghost use Rattle.napt_pool.specs.declared.fault.Stop.TheVariants.{Ring};
 
     /// Steps on each item until Close comes, and hands back what it worked with.
     pub(crate) fn serve<R: Wait>(self, rt: &R, alloc: Global, gate: &G, worker: u32) -> Left<M, G>
@@ -61,6 +60,7 @@ impl<M: Machine, G: Gate> Bench<M, G> {
         ensures items { SameConsumer self.old.items self.new.items }
         ensures answers { SameProducer self.old.answers self.new.answers }
         ensures served { OnOk result (Served M.Machine self.old.machine (received self.new.items) (sent self.new.answers) self.new.machine) }
+        ensures stopped { IfErr result (λ stop. HasStopped M.Machine self.old.machine stop (received self.new.items) (sent self.new.answers)) }
         ensures gate { G.is_open ≡ true → IfErr result (λ stop. is_gate_shut stop ≡ false) }
     {
         let mut turn = 0u64;
@@ -71,7 +71,7 @@ impl<M: Machine, G: Gate> Bench<M, G> {
                     turn = turn.saturating_add(1);
                 }
                 Ok(Message::Close) => return Ok(()),
-                Err(_) => self.wait_for_message()?,
+                Err(_) => self.wait_for_message(rt)?,
             }
         }
         unreachable!()
@@ -90,6 +90,7 @@ impl<M: Machine, G: Gate> Bench<M, G> {
         ensures answers { SameProducer self.old.answers self.new.answers }
         ensures stepped { OnOk result (self.new.machine ≡ M.stepped self.old.machine item) }
         ensures answered { OnOk result (sent self.new.answers ≡ sent self.old.answers ++ Done (M.reply self.old.machine item) ∷ []) }
+        ensures told { IfErr result (λ stop. Told stop (sent self.old.answers) (sent self.new.answers)) }
         ensures gate { G.is_open ≡ true → IfErr result (λ stop. is_gate_shut stop ≡ false) }
     {
         if !is_let_in(gate, worker, turn) {
@@ -104,24 +105,25 @@ impl<M: Machine, G: Gate> Bench<M, G> {
         }
     }
 
-    /// Looks at the empty item ring a few times more, and then lets another thread run.
-    fn wait_for_message(&mut self) -> Result<(), Stop>
+    /// Waits until the empty item ring has a message, or has no other end.
+    fn wait_for_message<R: Wait>(&mut self, rt: &R) -> Result<(), Stop>
         ensures machine { self.new.machine ≡ self.old.machine }
         ensures items { SameConsumer self.old.items self.new.items × (received self.new.items ≡ received self.old.items) }
         ensures answers { self.new.answers ≡ self.old.answers }
+        ensures ring { IfErr result (λ stop. stop ≡ Ring) }
         ensures gate { IfErr result (λ stop. is_gate_shut stop ≡ false) }
     {
-        if self.items.is_abandoned() {
-            return Err(Stop::Ring);
-        }
-        for _ in 0..LOOKS {
+        let mut backoff = Backoff::new();
+        for _ in rt.forever() {
             if !self.items.is_empty() {
                 return Ok(());
             }
-            hint::spin_loop();
+            if self.items.is_abandoned() {
+                return Err(Stop::Ring);
+            }
+            backoff.pause(rt);
         }
-        thread::yield_now();
-        Ok(())
+        unreachable!()
     }
 }
 
@@ -129,6 +131,7 @@ impl<M: Machine, G: Gate> Bench<M, G> {
 fn tell<A: Drop, G: Gate>(answers: &mut Producer<Reply<A>, Global, Honest<G>>, stop: Stop) -> Stop
     requires { G.is_open ≡ true → is_gate_shut stop ≡ false }
     ensures ring { SameProducer answers.old answers.new }
+    ensures told { Told result (sent answers.old) (sent answers.new) }
     ensures gate { G.is_open ≡ true → is_gate_shut result ≡ false }
 {
     match answers.push(Reply::Stopped(stop)) {

@@ -1,7 +1,7 @@
 // Starting a list of workers.
 ghost use Rattle.std.specs.Prelude.{◌≡◌, ◌≤◌, ◌<◌, ℕ, vec_len, [], map, replicate, slice_index_or, IfOk, IfErr};
 ghost use Rattle.napt_pool.specs.Faults.{IsStartFault};
-ghost use Rattle.napt_pool.specs.Workers.{machine_of, accepted_of, taken_of};
+ghost use Rattle.napt_pool.specs.Workers.{machine_of, accepted_of, taken_of, heard_of};
 
 use crate::fault::PoolFault;
 use crate::gate::Gate;
@@ -33,6 +33,7 @@ where
     ensures machines { IfOk result (λ v. map machine_of v.items ≡ machines.items) }
     ensures accepted { IfOk result (λ v. map accepted_of v.items ≡ replicate (vec_len machines) []) }
     ensures taken { IfOk result (λ v. map taken_of v.items ≡ replicate (vec_len machines) []) }
+    ensures heard { IfOk result (λ v. map heard_of v.items ≡ replicate (vec_len machines) []) }
     ensures capacity { IfOk result (λ v. (k : ℕ) (d : _) → k < vec_len v → (slice_index_or v.items k d).capacity ≡ capacity) }
     ensures refused { IfErr result IsStartFault }
 {

@@ -13,6 +13,7 @@ mod meeting;
 mod messages;
 mod rounds;
 mod unasked;
+mod waiting;
 
 /// The most often that a test looks for what another thread does.
 const MOST_LOOKS: u32 = 1_000_000;

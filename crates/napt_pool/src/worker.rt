@@ -53,14 +53,15 @@ pub(crate) struct Worker<M: Machine, G: Gate> {
 impl<M: Machine, G: Gate> Worker<M, G> {
     ghost use Rattle.std.specs.Prelude.{◌↔◌, IsTrue, OnOk, IfOk, IfErr, OnErr, MatchOption};
     ghost use Rattle.napt_pool.specs.Faults.{is_gate_shut, item_back, is_full, is_memory};
-    ghost use Rattle.napt_pool.specs.declared.message.Reply.TheVariants.{Stopped};
-    ghost use Rattle.napt_pool.specs.Workers.{machine_of, accepted_of, taken_of, heard_of, closing_machine, closing_accepted, closing_taken};
+    ghost use Rattle.napt_pool.specs.declared.message.Reply.TheVariants.{Done, Stopped};
+    ghost use Rattle.napt_pool.specs.Workers.{machine_of, bench_of, accepted_of, taken_of, heard_of, closing_machine, closing_bench, closing_accepted, closing_taken, closing_heard};
 
     /// Hands an item to the worker, or hands it back.
     pub(crate) fn offer(&mut self, item: M::Item) -> Result<(), OfferRefused<M::Item>>
         ensures machine { machine_of self.new ≡ machine_of self.old }
         ensures capacity { self.new.capacity ≡ self.old.capacity }
         ensures taken { taken_of self.new ≡ taken_of self.old }
+        ensures heard { heard_of self.new ≡ heard_of self.old }
         ensures accepted { OnOk result (accepted_of self.new ≡ accepted_of self.old ++ item ∷ []) }
         ensures refused { IfErr result (λ e. (item_back e ≡ item) × (accepted_of self.new ≡ accepted_of self.old)) }
         ensures full { IsTrue (is_full result) ↔ (length (accepted_of self.old) ≡ length (taken_of self.old) + self.old.capacity) }
@@ -85,6 +86,7 @@ impl<M: Machine, G: Gate> Worker<M, G> {
         ensures capacity { self.new.capacity ≡ self.old.capacity }
         ensures accepted { accepted_of self.new ≡ accepted_of self.old }
         ensures some { IfOk result (λ got. MatchOption got (taken_of self.new ≡ taken_of self.old) (λ a. taken_of self.new ≡ taken_of self.old ++ a ∷ [])) }
+        ensures heard { IfOk result (λ got. MatchOption got (heard_of self.new ≡ heard_of self.old) (λ a. heard_of self.new ≡ heard_of self.old ++ Done a ∷ [])) }
         ensures none { length (accepted_of self.old) ≡ length (taken_of self.old) → result ≡ Ok None }
         ensures err { OnErr result (taken_of self.new ≡ taken_of self.old) }
         ensures told { IfErr result (λ stop. heard_of self.new ≡ heard_of self.old ++ Stopped stop ∷ []) }
@@ -107,6 +109,8 @@ impl<M: Machine, G: Gate> Worker<M, G> {
         ensures machine { closing_machine result ≡ machine_of self }
         ensures accepted { closing_accepted result ≡ accepted_of self }
         ensures taken { closing_taken result ≡ taken_of self }
+        ensures heard { closing_heard result ≡ heard_of self }
+        ensures bench { closing_bench result ≡ bench_of self }
     {
         let Worker {
             mut items,
@@ -131,7 +135,7 @@ impl<M: Machine, G: Gate + Send + Sync + Drop + 'static> Worker<M, G> {
     ghost use Rattle.std.specs.Prelude.{IfOk, IfErr};
     ghost use Rattle.rtrb.specs.Ring.{received};
     ghost use Rattle.napt_pool.specs.Faults.{IsStartFault};
-    ghost use Rattle.napt_pool.specs.Workers.{machine_of, accepted_of, taken_of};
+    ghost use Rattle.napt_pool.specs.Workers.{machine_of, accepted_of, taken_of, heard_of};
 
     /// Starts a worker's thread behind two rings.
     pub(crate) fn start<R: Threads + Wait + Copy + Send + 'static>(
@@ -149,7 +153,7 @@ impl<M: Machine, G: Gate + Send + Sync + Drop + 'static> Worker<M, G> {
         requires { (1 ≤ capacity) × (capacity ≤ 4096) }
         ensures machine { IfOk result (λ w. machine_of w ≡ machine) }
         ensures capacity { IfOk result (λ w. w.capacity ≡ capacity) }
-        ensures empty { IfOk result (λ w. (accepted_of w ≡ []) × (taken_of w ≡ [])) }
+        ensures empty { IfOk result (λ w. (accepted_of w ≡ []) × (taken_of w ≡ []) × (heard_of w ≡ [])) }
         ensures refused { IfErr result IsStartFault }
     {
         let Ok((items, theirs)) = RingBuffer::new(alloc, capacity + 1) else {

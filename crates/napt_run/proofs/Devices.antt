@@ -1,16 +1,25 @@
 -- From what was read and what was made to what the devices show.
-use Rattle.std.proofs.Common.{◌≡◌, ℕ, ◌+◌, arith, List, Option, Some, None, IfSome, IfErr, option_map, Result, Ok, Err}
+use Rattle.std.proofs.Common.{◌≡◌, ◌⊎◌, ℕ, ◌+◌, ◌≤◌, inl, inr, refl, ap, subst, List, length, take, string_bytes, Option, Some, None, IfSome, option_map, Result, Err}
+use Rattle.std.specs.Borrow.{MutBor}
+use Rattle.std.specs.Io.KnownBytes.{Appends}
+use Rattle.napt_wire.specs.declared.Side.{Side}
+use Rattle.napt_wire.specs.declared.Side.TheVariants as sides
 use Rattle.napt_capture.specs.Contents.{Contents}
-use Rattle.napt_capture.specs.Capture.{Answers}
+use Rattle.napt_capture.specs.Capture.{Answers, failed_reads}
+use Rattle.napt_capture.specs.Text.{text}
 use Rattle.napt_capture.specs.declared.fault.CaptureFault.{CaptureFault}
+use Rattle.napt_capture.specs.declared.fault.WriteFault.{WriteFault}
 use Rattle.napt_config.specs.Rules.{Rules}
 use Rattle.napt_run.specs.declared.fault.Fault.{Fault}
 use Rattle.napt_run.specs.declared.fault.Fault.TheVariants.{Capture, Run, Write}
+use Rattle.napt_run.specs.declared.fault.RunFault.{RunFault}
 use Rattle.napt_run.specs.declared.fault.RunFault.TheVariants.{Memory, TooMany, Pool}
 use Rattle.napt_run.specs.declared.fault.Which.{Which}
+use Rattle.napt_run.specs.declared.fault.Which.TheVariants.{Outside, Inside, Report}
 use Rattle.napt_run.specs.declared.captures.Captures.{Captures}
+use Rattle.napt_run.specs.declared.captures.Outputs.{Outputs}
 use Rattle.napt_run.specs.Devices.{some_bytes}
-use Rattle.napt_run.specs.Captures.{AreRead, Explains, Gets, GetsOf, IfKnown, IsRefusedRun, Share, whole, front, nothing, no_contents}
+use Rattle.napt_run.specs.Captures.{AreOutputs, AreRead, Explains, Gets, GetsOf, IfKnown, IsReadAsOutside, IsReadFrom, IsRefused, IsUnread, IsWriteFaultOf, Receives, Share, whole, front, nothing, WasRead, failed_readings, failed_writings, share_of, text_of}
 
 IfKnown-more : {P Q : List ℕ → Option (List ℕ) → Type 0} (inside : Option (List ℕ)) (outside : Option (Option (List ℕ)))
     → ((bytes : List ℕ) (others : Option (List ℕ)) → P bytes others → Q bytes others) → IfKnown inside outside P → IfKnown inside outside Q
@@ -18,21 +27,66 @@ IfKnown-more None outside more holds = tt
 IfKnown-more (Some bytes) None more holds = tt
 IfKnown-more (Some bytes) (Some others) more holds = more bytes others holds
 
--- what was read of the inside capture alone
-pub one_read : (inside : Option (List ℕ)) (captures : Captures)
-    → IfSome inside (λ bytes. let answer : Result Contents CaptureFault = Ok captures.inside in Answers bytes answer)
-    → captures.outside ≡ no_contents → IfKnown inside (Some None) (λ bytes others. AreRead bytes others captures)
-one_read None captures first second = tt
-one_read (Some bytes) captures first second = record { inside_capture = first; outside_capture = second }
-
 -- what was read of both
-pub both_read : (inside outside : Option (List ℕ)) (captures : Captures)
-    → IfSome inside (λ bytes. let answer : Result Contents CaptureFault = Ok captures.inside in Answers bytes answer)
-    → IfSome outside (λ bytes. let answer : Result Contents CaptureFault = Ok captures.outside in Answers bytes answer)
-    → IfKnown inside (option_map some_bytes outside) (λ bytes others. AreRead bytes others captures)
+pub both_read : (inside : Option (List ℕ)) (outside : Option (Option (List ℕ))) (captures : Captures)
+    → IsReadFrom inside captures.inside → IsReadAsOutside outside captures.outside
+    → IfKnown inside outside (λ bytes others. AreRead bytes others captures)
 both_read None outside captures first second = tt
 both_read (Some bytes) None captures first second = tt
 both_read (Some bytes) (Some others) captures first second = record { inside_capture = first; outside_capture = second }
+
+-- of the outside capture where there is one
+pub outside_read : (known : Option (List ℕ)) (contents : Contents) → IsReadFrom known contents → IsReadAsOutside (option_map some_bytes known) contents
+outside_read None contents is = tt
+outside_read (Some bytes) contents is = is
+
+pub outside_unread : (known : Option (List ℕ)) (fault : Fault) (inside : Option (List ℕ))
+    → WasRead inside → IsUnread sides.Outside known fault → Explains inside (option_map some_bytes known) fault
+outside_unread None (Capture sides.Outside fault) inside first is = (first, tt)
+outside_unread (Some bytes) (Capture sides.Outside fault) inside first is = (first, is)
+outside_unread known (Capture sides.Inside fault) inside first is = absurd is
+outside_unread known (Run fault) inside first is = absurd is
+outside_unread known (Write which fault) inside first is = absurd is
+
+-- READING
+
+pub unread : (side : Side) (known : Option (List ℕ)) (fault : CaptureFault)
+    → IfSome known (λ bytes. let answer : Result Contents CaptureFault = Err fault in Answers bytes answer) → IsUnread side known (Capture side fault)
+unread sides.Inside known fault is = is
+unread sides.Outside known fault is = is
+
+pub own_readings : (side : Side) (fault : CaptureFault) (old new : ℕ)
+    → (let answer : Result Contents CaptureFault = Err fault in new ≡ old + failed_reads answer)
+    → (let answer : Result Contents Fault = Err (Capture side fault) in new ≡ old + failed_readings side answer)
+own_readings sides.Inside fault old new more = more
+own_readings sides.Outside fault old new more = more
+
+-- THE RUN'S FAULT
+
+pub refused : (inside : Option (List ℕ)) (outside : Option (Option (List ℕ))) (captures : Captures) (fault : RunFault)
+    → IsReadFrom inside captures.inside → IsReadAsOutside outside captures.outside → IsRefused captures fault
+    → Explains inside outside (Run fault)
+refused inside outside captures TooMany first second is =
+    (((captures.inside, first), (captures.outside, second)), IfKnown-more inside outside (λ bytes others are. (captures, are, is)) (both_read inside outside captures first second))
+refused inside outside captures Memory first second is = ((captures.inside, first), (captures.outside, second))
+refused inside outside captures (Pool fault) first second is = ((captures.inside, first), (captures.outside, second))
+
+-- the outputs before one that could not be written are whole
+pub before_inside : (fault : Fault) → IsWriteFaultOf Inside fault → share_of Outside (Err fault) ≡ whole
+before_inside (Write Inside fault) is = refl
+before_inside (Write Outside fault) is = absurd is
+before_inside (Write Report fault) is = absurd is
+before_inside (Capture side fault) is = absurd is
+before_inside (Run fault) is = absurd is
+
+pub before_report : (fault : Fault) → IsWriteFaultOf Report fault → (share_of Outside (Err fault) ≡ whole) × (share_of Inside (Err fault) ≡ whole)
+before_report (Write Report fault) is = (refl, refl)
+before_report (Write Outside fault) is = absurd is
+before_report (Write Inside fault) is = absurd is
+before_report (Capture side fault) is = absurd is
+before_report (Run fault) is = absurd is
+
+-- THE OUTPUTS
 
 pub gets : (rules : Rules) (which : Which) (share : Share) (inside : Option (List ℕ)) (outside : Option (Option (List ℕ))) (old new : Option (List ℕ)) (captures : Captures)
     → IfKnown inside outside (λ bytes others. AreRead bytes others captures) → GetsOf rules captures which share old new
@@ -41,19 +95,50 @@ gets rules which nothing inside outside old new captures read got = got
 gets rules which whole inside outside old new captures read got = IfKnown-more inside outside (λ bytes others are. (captures, are, got)) read
 gets rules which (front written) inside outside old new captures read got = IfKnown-more inside outside (λ bytes others are. (captures, are, got)) read
 
-explains_one : (inside : Option (List ℕ)) (outside : Option (Option (List ℕ))) (captures : Captures) (fault : Fault)
-    → IfKnown inside outside (λ bytes others. AreRead bytes others captures) → IsRefusedRun captures fault → Explains inside outside fault
-explains_one inside outside captures (Capture side fault) read refused = absurd refused
-explains_one inside outside captures (Run TooMany) read refused = IfKnown-more inside outside (λ bytes others are. (captures, are, refused)) read
-explains_one inside outside captures (Run Memory) read refused = tt
-explains_one inside outside captures (Run (Pool fault)) read refused = tt
-explains_one inside outside captures (Write which fault) read refused = tt
+-- the text of an output that was made
+abbrev pub text_made : Which → Outputs → List ℕ
+text_made Outside outputs = text outputs.to_outside.items
+text_made Inside outputs = text outputs.to_inside.items
+text_made Report outputs = string_bytes outputs.report
 
-pub explains : (inside : Option (List ℕ)) (outside : Option (Option (List ℕ))) (captures : Captures) (result : Result (Unit {0}) Fault)
-    → IfKnown inside outside (λ bytes others. AreRead bytes others captures) → IfErr result (IsRefusedRun captures) → IfErr result (Explains inside outside)
-explains inside outside captures (Ok done) read refused = tt
-explains inside outside captures (Err fault) read refused = explains_one inside outside captures fault read refused
+text_is : (which : Which) (rules : Rules) (captures : Captures) (outputs : Outputs) (made : AreOutputs rules captures outputs)
+    → text_made which outputs ≡ text_of rules which captures made.arrivals
+text_is Outside rules captures outputs made = ap text made.to_outside
+text_is Inside rules captures outputs made = ap text made.to_inside
+text_is Report rules captures outputs made = made.report
 
--- a device that never fails
-pub none_failed : (failed : ℕ) → 0 ≡ 0 + failed → failed ≡ 0
-none_failed failed same = omega (arith, same)
+gets_made : (which : Which) (share : Share) (rules : Rules) (captures : Captures) (outputs : Outputs) (old new : Option (List ℕ))
+    → AreOutputs rules captures outputs → Receives share (text_made which outputs) old new → GetsOf rules captures which share old new
+gets_made which whole rules captures outputs old new made got =
+    (made.arrivals, made.merged, subst (λ (l : List ℕ). Receives whole l old new) (text_is which rules captures outputs made) got)
+gets_made which (front written) rules captures outputs old new made got =
+    (made.arrivals, made.merged, subst (λ (l : List ℕ). Receives (front written) l old new) (text_is which rules captures outputs made) got)
+gets_made which nothing rules captures outputs old new made got = got
+
+-- what was received of the text that was made
+pub received : (which : Which) (share : Share) (rules : Rules) (inside : Option (List ℕ)) (outside : Option (Option (List ℕ))) (captures : Captures) (outputs : Outputs)
+    (told : List ℕ) (old new : Option (List ℕ)) → IsReadFrom inside captures.inside → IsReadAsOutside outside captures.outside → AreOutputs rules captures outputs
+    → told ≡ text_made which outputs → Receives share told old new → Gets rules which share inside outside old new
+received which share rules inside outside captures outputs told old new first second made is got =
+    gets rules which share inside outside old new captures (both_read inside outside captures first second)
+    (gets_made which share rules captures outputs old new made (subst (λ (l : List ℕ). Receives share l old new) is got))
+
+-- DEVICES THAT ARE HANDED IN OR NOT
+
+pub none_or_some : {D : Type 0} (device : Option (MutBor D)) → (device ≡ None) ⊎ ((given : MutBor D) × (device ≡ Some given))
+none_or_some None = inl refl
+none_or_some (Some given) = inr (given, refl)
+
+-- WRITING
+
+pub own_share : (which : Which) (fault : WriteFault) (text : List ℕ) (old new : Option (List ℕ))
+    → (fault.written ≤ length text) × Appends old new (take fault.written text)
+    → Receives (share_of which (Err (Write which fault))) text old new
+own_share Outside fault text old new got = got
+own_share Inside fault text old new got = got
+own_share Report fault text old new got = got
+
+pub own_writings : (which : Which) (fault : WriteFault) (old new : ℕ) → new ≡ old + 1 → new ≡ old + failed_writings which (Err (Write which fault))
+own_writings Outside fault old new more = more
+own_writings Inside fault old new more = more
+own_writings Report fault old new more = more

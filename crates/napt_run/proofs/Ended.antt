@@ -1,12 +1,9 @@
 -- What the end of a dispatch tells.
-use Rattle.std.proofs.Common.{◌≡◌, ◌≢◌, ℕ, zero, suc, ◌+◌, ◌<◌, List, [], ◌∷◌, ◌++◌, length, map, Option, Some, None, refl, sym, ◌∙◌, ap, subst, arith, append-nil, length-append, replicate, inl, inr, ◌⊎◌}
+use Rattle.std.proofs.Common.{◌≡◌, ◌≢◌, ℕ, zero, suc, ◌+◌, ◌<◌, List, [], ◌∷◌, ◌++◌, length, map, Option, Some, None, refl, sym, ◌∙◌, ap, arith, append-nil, length-append, replicate, inl, inr, ◌⊎◌}
 use Rattle.std.specs.Prelude.{slice_index, slice_index_or, slice_get}
 use Rattle.std.proofs.Math.ListN.{get_or-append}
 use Rattle.std.proofs.Math.Seq.{get_or-append_seam}
-use Rattle.std.proofs.lemmas.List.{length-map}
-use Rattle.std.proofs.lemmas.Simd.{map-map}
 use Rattle.napt_config.specs.Rules.{Rules}
-use Rattle.napt_table.specs.Opening.{opening}
 use Rattle.napt_translate.specs.declared.translator.Leg.{Leg}
 use Rattle.napt_translate.specs.declared.translator.Answer.{Answer}
 use Rattle.napt_translate.specs.Legs.{kept_answer, kept_replies}
@@ -15,10 +12,7 @@ use Rattle.napt_pool.specs.declared.machine.Machine.{Ghosts}
 use Rattle.napt_pool.specs.Histories.{replies}
 use Rattle.napt_pool.specs.Pools.{zip_with}
 use Rattle.napt_run.specs.declared.outcome.Outcome.{Outcome}
-use Rattle.napt_run.specs.Inputs.{Arrival}
-use Rattle.napt_run.specs.Sequential.{Course, run, legs_at}
-use Rattle.napt_run.specs.Dispatch.{started, of_worker, Ledger, AreCounted, fresh, Right, Fronts, Known, AdvanceBy, ReachedBy, DrainedEach, IsServed, ServesSoFar, IsDispatched}
-use Rattle.napt_run.proofs.Grown.{outcomes_long}
+use Rattle.napt_run.specs.Dispatch.{started, of_worker, fresh, Right}
 
 -- LISTS
 
@@ -28,7 +22,7 @@ zip_index f (x ∷ xs) [] w d e lt lu = absurd (omega arith)
 zip_index f (x ∷ xs) (y ∷ ys) zero d e lt lu = refl
 zip_index f (x ∷ xs) (y ∷ ys) (suc w) d e lt lu = zip_index f xs ys w d e (omega arith) (omega arith)
 
-map_at : {X : Type 0} (f : ℕ → List X) (lists : List (List X)) (pool : List ℕ) → length lists ≡ length pool → ((w : ℕ) → w < length pool → of_worker lists w ≡ f (slice_index pool w)) → lists ≡ map f pool
+pub map_at : {X : Type 0} (f : ℕ → List X) (lists : List (List X)) (pool : List ℕ) → length lists ≡ length pool → ((w : ℕ) → w < length pool → of_worker lists w ≡ f (slice_index pool w)) → lists ≡ map f pool
 map_at f [] [] e h = refl
 map_at f [] (a ∷ pool) e h = absurd (omega arith)
 map_at f (l ∷ lists) [] e h = absurd (omega arith)
@@ -41,7 +35,7 @@ same_lengths [] (y ∷ ys) e h = absurd (omega arith)
 same_lengths (x ∷ xs) [] e h = absurd (omega arith)
 same_lengths (x ∷ xs) (y ∷ ys) e h = ap (λ (n : ℕ). n ∷ map length xs) (h zero (omega arith)) ∙ ap (λ (ns : List ℕ). length y ∷ ns) (same_lengths xs ys (omega arith) (λ v lt. h (suc v) (omega arith)))
 
-same_known : (all outs : List Outcome) → length all ≡ length outs → ((i : ℕ) (o : Outcome) → slice_get (map (λ (x : Outcome). let s : Option Outcome = Some x in s) all) i ≡ Some (Some o) → slice_get outs i ≡ Some o) → all ≡ outs
+pub same_known : (all outs : List Outcome) → length all ≡ length outs → ((i : ℕ) (o : Outcome) → slice_get (map (λ (x : Outcome). let s : Option Outcome = Some x in s) all) i ≡ Some (Some o) → slice_get outs i ≡ Some o) → all ≡ outs
 same_known [] [] e h = refl
 same_known [] (o ∷ outs) e h = absurd (omega arith)
 same_known (a ∷ all) [] e h = absurd (omega arith)
@@ -88,33 +82,13 @@ module _ (g : Ghosts TranslatorState Leg Answer) (stepped_is : (s : TranslatorSt
       ∙ ap (λ (as_are : List Answer). kept_answer s.rules s.table.address leg (kept_of s.table) ∷ as_are) (replies_kept (left_by leg s) legs))
 
   -- what the workers answered is right
-  pub right_since : (rules : Rules) (starts : List TranslatorState) (ledger : Ledger) → starts ≡ started rules (length rules.pool) → length ledger.offered ≡ length rules.pool → ledger.taken ≡ zip_with (replies g) starts ledger.offered → Right rules ledger
-  right_since rules starts ledger began many taken = λ w lt.
+  pub right_since : (rules : Rules) (starts : List TranslatorState) (offered : List (List Leg)) (taken : List (List Answer)) → starts ≡ started rules (length rules.pool) → length offered ≡ length rules.pool → taken ≡ zip_with (replies g) starts offered → Right rules offered taken
+  right_since rules starts offered taken began many is_taken = λ w lt.
       let long : length (started rules (length rules.pool)) ≡ length rules.pool = length_started rules (length rules.pool) in
-      let is : of_worker ledger.taken w ≡ kept_replies rules (slice_index rules.pool w) (of_worker ledger.offered w) (fresh rules (slice_index rules.pool w)) =
-      ap (λ (t : List (List Answer)). of_worker t w) taken
-      ∙ (ap (λ (s : List TranslatorState). of_worker (zip_with (replies g) s ledger.offered) w) began
-      ∙ (zip_index (replies g) (started rules (length rules.pool)) ledger.offered w (begun w rules) [] (omega arith) (omega arith)
-      ∙ (ap (λ (s : TranslatorState). replies g s (of_worker ledger.offered w)) (started_at rules (length rules.pool) w (begun w rules) lt)
-      ∙ replies_kept (begun w rules) (of_worker ledger.offered w)))) in
-      ([], append-nil (of_worker ledger.taken w) ∙ is)
-
--- all were served, and all answers taken
-pub dispatched : (rules : Rules) (inputs : List Arrival) (before later : Ledger) (offered taken : List ℕ) (all : List Outcome) (count : ℕ) → length rules.pool ≡ count → ServesSoFar rules inputs inputs before → DrainedEach count 0 count before later → AreCounted count later offered taken →
-    later.outcomes ≡ map Some all → length later.outcomes ≡ length inputs → Right rules later → IsDispatched rules inputs later.offered all offered
-dispatched rules inputs before later offered taken all count many so_far d counted outcomes long right =
-    let course : Course = run rules inputs (opening rules) in
-    let a : AdvanceBy rules before later = d.advance rules many right in
-    let held : IsServed rules inputs inputs before = so_far a.back in
-    let reached : ReachedBy rules course.acts later.offered = subst (ReachedBy rules course.acts) (sym d.offered_is) held.reached in
-    let fronts : Fronts rules inputs later.offered = λ w lt. ([], append-nil (of_worker later.offered w) ∙ reached w lt) in
-    let known : Known rules inputs (map Some all) = subst (Known rules inputs) outcomes (a.keeps inputs fronts held.known) in
-    let legs : later.offered ≡ map (λ (address : ℕ). legs_at address course.acts) rules.pool = map_at (λ address. legs_at address course.acts) later.offered rules.pool (counted.offered_many ∙ sym many) reached in
-    let all_long : length (map (λ (x : Outcome). let s : Option Outcome = Some x in s) all) ≡ length all = length-map all Some in
-    let run_long : length course.outcomes ≡ length inputs = outcomes_long rules 0 0 inputs (opening rules) in
-    let outs_long : length later.outcomes ≡ length (map (λ (x : Outcome). let s : Option Outcome = Some x in s) all) = ap length outcomes in
-    record {
-      legs = legs;
-      outcomes_are = same_known all course.outcomes (omega arith) known;
-      numbers_are = counted.offered_is ∙ (ap (map length) legs ∙ map-map length (λ (address : ℕ). legs_at address course.acts) rules.pool);
-    }
+      let is : of_worker taken w ≡ kept_replies rules (slice_index rules.pool w) (of_worker offered w) (fresh rules (slice_index rules.pool w)) =
+      ap (λ (t : List (List Answer)). of_worker t w) is_taken
+      ∙ (ap (λ (s : List TranslatorState). of_worker (zip_with (replies g) s offered) w) began
+      ∙ (zip_index (replies g) (started rules (length rules.pool)) offered w (begun w rules) [] (omega arith) (omega arith)
+      ∙ (ap (λ (s : TranslatorState). replies g s (of_worker offered w)) (started_at rules (length rules.pool) w (begun w rules) lt)
+      ∙ replies_kept (begun w rules) (of_worker offered w)))) in
+      ([], append-nil (of_worker taken w) ∙ is)

@@ -18,8 +18,10 @@ pub mod Sound
 pub mod Steps
 pub mod Texts
 pub mod Ledgers
-pub mod Advance
 pub mod Hairpin
 pub mod OneInput
 pub mod Ended
 pub mod Closed
+pub mod Places
+pub mod Queues
+pub mod Standing

@@ -37,6 +37,13 @@ abbrev pub IsOutsideCapture : Option (List ℕ) → Contents → Type 0
 IsOutsideCapture None contents = contents ≡ no_contents
 IsOutsideCapture (Some bytes) contents = IsCapture bytes (Ok contents)
 
+-- where its bytes are known, a capture was read as these contents
+abbrev pub IsReadFrom : Option (List ℕ) → Contents → Type 0
+IsReadFrom inside contents = IfSome inside (λ bytes. IsCapture bytes (Ok contents))
+
+abbrev pub IsReadAsOutside : Option (Option (List ℕ)) → Contents → Type 0
+IsReadAsOutside outside contents = IfSome outside (λ others. IsOutsideCapture others contents)
+
 -- what the bytes of both captures come to
 pub record AreRead (inside : List ℕ) (outside : Option (List ℕ)) (captures : Captures) : Type 0 where
   pub inside_capture : IsCapture inside (Ok captures.inside)
@@ -98,15 +105,22 @@ IsOutsideFault (Some bytes) fault = let answer : Result Contents CaptureFault = 
 abbrev pub AreTooMany : Captures → Type 0
 AreTooMany captures = (arrivals : List Arrival) × IsMerged captures.inside.records captures.outside.records arrivals × (2 ^ 32 ≤ length arrivals)
 
--- what a fault says of the captures' bytes
+-- a capture was read, and both were
+abbrev pub WasRead : Option (List ℕ) → Type 0
+WasRead inside = (contents : Contents) × IsReadFrom inside contents
+
+abbrev pub WereRead : Option (List ℕ) → Option (Option (List ℕ)) → Type 0
+WereRead inside outside = WasRead inside × ((contents : Contents) × IsReadAsOutside outside contents)
+
+-- what a fault says of the captures' bytes; the inside one is read first, and the run begins with both
 abbrev pub Explains : Option (List ℕ) → Option (Option (List ℕ)) → Fault → Type 0
 Explains inside outside (Capture sides.Inside fault) = IfSome inside (λ bytes. let answer : Result Contents CaptureFault = Err fault in Answers bytes answer)
-Explains inside outside (Capture sides.Outside fault) = IfSome outside (λ others. IsOutsideFault others fault)
+Explains inside outside (Capture sides.Outside fault) = WasRead inside × IfSome outside (λ others. IsOutsideFault others fault)
 Explains inside outside (Run TooMany) =
-    IfKnown inside outside (λ bytes others. (captures : Captures) × AreRead bytes others captures × AreTooMany captures)
-Explains inside outside (Run Memory) = Unit {0}
-Explains inside outside (Run (Pool fault)) = Unit {0}
-Explains inside outside (Write which fault) = Unit {0}
+    WereRead inside outside × IfKnown inside outside (λ bytes others. (captures : Captures) × AreRead bytes others captures × AreTooMany captures)
+Explains inside outside (Run Memory) = WereRead inside outside
+Explains inside outside (Run (Pool fault)) = WereRead inside outside
+Explains inside outside (Write which fault) = WereRead inside outside
 
 -- whether a fault says that the gate was shut
 abbrev pub tells_shut_gate : Fault → Bool
@@ -115,18 +129,26 @@ tells_shut_gate (Run fault) = is_gate_fault fault
 tells_shut_gate (Write which fault) = false
 
 -- how many reads of a side's capture failed, and how many writes of an output
-abbrev pub failed_readings : Side → Result (Unit {0}) Fault → ℕ
+abbrev pub failed_readings : {T : Type 0} → Side → Result T Fault → ℕ
+failed_readings side (Ok done) = 0
 failed_readings sides.Inside (Err (Capture sides.Inside fault)) = let answer : Result Contents CaptureFault = Err fault in failed_reads answer
 failed_readings sides.Outside (Err (Capture sides.Outside fault)) = let answer : Result Contents CaptureFault = Err fault in failed_reads answer
 failed_readings side other = 0
 
 abbrev pub failed_writings : Which → Result (Unit {0}) Fault → ℕ
+failed_writings which (Ok done) = 0
 failed_writings Outside (Err (Write Outside fault)) = 1
 failed_writings Inside (Err (Write Inside fault)) = 1
 failed_writings Report (Err (Write Report fault)) = 1
 failed_writings which other = 0
 
 -- BETWEEN READING AND WRITING
+
+-- the capture of a side was not read
+abbrev pub IsUnread : Side → Option (List ℕ) → Fault → Type 0
+IsUnread sides.Inside known (Capture sides.Inside fault) = IfSome known (λ bytes. let answer : Result Contents CaptureFault = Err fault in Answers bytes answer)
+IsUnread sides.Outside known (Capture sides.Outside fault) = IfSome known (λ bytes. let answer : Result Contents CaptureFault = Err fault in Answers bytes answer)
+IsUnread side known other = ⊥
 
 -- the outputs that were made for these captures
 pub record AreOutputs (rules : Rules) (captures : Captures) (outputs : Outputs) : Type 0 where
@@ -142,10 +164,9 @@ IsRefused captures TooMany = AreTooMany captures
 IsRefused captures Memory = Unit {0}
 IsRefused captures (Pool fault) = Unit {0}
 
-abbrev pub IsWriteFault : Fault → Type 0
-IsWriteFault (Write which fault) = Unit {0}
-IsWriteFault other = ⊥
-
-abbrev pub IsRefusedRun : Captures → Fault → Type 0
-IsRefusedRun captures (Run fault) = IsRefused captures fault
-IsRefusedRun captures fault = IsWriteFault fault
+-- writing this output failed
+abbrev pub IsWriteFaultOf : Which → Fault → Type 0
+IsWriteFaultOf Outside (Write Outside fault) = Unit {0}
+IsWriteFaultOf Inside (Write Inside fault) = Unit {0}
+IsWriteFaultOf Report (Write Report fault) = Unit {0}
+IsWriteFaultOf which other = ⊥

@@ -12,3 +12,5 @@ pub mod Captures
 pub mod MergeLaws
 pub mod Dispatching
 pub mod Dispatch
+pub mod Places
+pub mod Standing

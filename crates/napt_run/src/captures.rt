@@ -1,13 +1,12 @@
 //! A run over captures: both are read, workers run in memory, and only then anything is written.
-ghost use Rattle.std.specs.Prelude.{◌≡◌, ◌+◌, ◌-◌, ◌^◌, ◌<◌, length, All, IfOk, IfErr, IfSome, Some, None, option_map, string_bytes, true, false};
+ghost use Rattle.std.specs.Prelude.{◌≡◌, ◌+◌, ◌-◌, ◌^◌, ◌<◌, length, All, OnOk, IfOk, IfErr, IfSome, true, false};
 ghost use Rattle.napt_capture.specs.Text.{IsWritable, text};
-ghost use Rattle.napt_run.specs.Devices.{IfGiven, GrowsBy, bytes_in, some_bytes};
-ghost use Rattle.napt_run.specs.Captures.{AreOutputs, Explains, Gets, GetsOf, IsRefused, IsRefusedRun, IsWriteFault, Receives, failed_readings, failed_writings, no_contents, share_of, tells_shut_gate};
+ghost use Rattle.napt_run.specs.Devices.{IfGiven, GrowsBy, bytes_in};
+ghost use Rattle.napt_run.specs.Captures.{AreOutputs, Explains, Gets, IsReadFrom, IsRefused, IsUnread, IsWriteFaultOf, Receives, failed_readings, failed_writings, no_contents, share_of, tells_shut_gate};
 ghost use Rattle.napt_run.specs.Dispatch.{is_gate_fault};
 
 use crate::fault::{Fault, RunFault, Which};
 use crate::merging::merge;
-use crate::nowhere::Nowhere;
 use crate::output::records_sent;
 use crate::report::report_text;
 use crate::workers::run_workers;
@@ -44,6 +43,20 @@ fn no_capture(alloc: Global) -> Capture
     }
 }
 
+/// Reads the capture of a side.
+fn read_side<R: Source>(alloc: Global, side: Side, source: &mut R) -> Result<Capture, Fault>
+    requires { R.failed source.old < 2 ^ 64 - 1 }
+    ensures ok { IfOk result (IsReadFrom (R.remaining source.old)) }
+    ensures err { IfErr result (IsUnread side (R.remaining source.old)) }
+    ensures writable { IfOk result (λ capture. All IsWritable capture.records) }
+    ensures count { R.failed source.new ≡ R.failed source.old + failed_readings side result }
+{
+    match read_capture(alloc, source) {
+        Ok(capture) => Ok(capture),
+        Err(fault) => Err(Fault::Capture(side, fault)),
+    }
+}
+
 /// Runs over the captures, and makes all that is to be written.
 fn make_outputs<T: Threads + Wait + Copy + Send + 'static, G: Gate + Send + Sync + Drop + 'static>(
     rt: &T,
@@ -63,16 +76,10 @@ fn make_outputs<T: Threads + Wait + Copy + Send + 'static, G: Gate + Send + Sync
     ensures inside_few { IfOk result (λ outputs. length outputs.to_inside.items < 2 ^ 32) }
 {
     let Captures { inside, outside } = captures;
-    let Ok(inputs) = merge(alloc, inside.records, outside.records) else {
-        return Err(RunFault::Memory);
-    };
+    let inputs = merge(alloc, inside.records, outside.records)?;
     let run = run_workers(rt, alloc, config, &inputs, gate)?;
-    let Ok(report) = report_text(alloc, &run, inside.cut, outside.cut) else {
-        return Err(RunFault::Memory);
-    };
-    let Ok(sent) = records_sent(alloc, &inputs, run.outcomes) else {
-        return Err(RunFault::Memory);
-    };
+    let report = report_text(alloc, &run, inside.cut, outside.cut)?;
+    let sent = records_sent(alloc, &inputs, run.outcomes)?;
     Ok(Outputs {
         to_outside: sent.to_outside,
         to_inside: sent.to_inside,
@@ -80,169 +87,36 @@ fn make_outputs<T: Threads + Wait + Copy + Send + 'static, G: Gate + Send + Sync
     })
 }
 
-/// Writes to the outside, to the inside, and then the report.
-fn write_outputs<W: Sink, V: Sink, U: Sink>(
-    outputs: &Outputs,
-    to_outside: &mut W,
-    to_inside: &mut V,
-    report: &mut U,
-) -> Result<(), Fault>
-    requires to_outside { W.failed to_outside.old < 2 ^ 64 - 1 }
-    requires to_inside { V.failed to_inside.old < 2 ^ 64 - 1 }
-    requires report { U.failed report.old < 2 ^ 64 - 1 }
-    requires outside_few { length outputs.now.to_outside.items < 2 ^ 32 }
-    requires inside_few { length outputs.now.to_inside.items < 2 ^ 32 }
-    requires outside_writable { All IsWritable outputs.now.to_outside.items }
-    requires inside_writable { All IsWritable outputs.now.to_inside.items }
-    ensures to_outside { Receives (share_of Which.Outside result) (text outputs.now.to_outside.items) (W.contents to_outside.old) (W.contents to_outside.new) }
-    ensures to_inside { Receives (share_of Which.Inside result) (text outputs.now.to_inside.items) (V.contents to_inside.old) (V.contents to_inside.new) }
-    ensures report { Receives (share_of Which.Report result) (string_bytes outputs.now.report) (U.contents report.old) (U.contents report.new) }
-    ensures fault { IfErr result IsWriteFault }
-    ensures outside_writings { W.failed to_outside.new ≡ W.failed to_outside.old + failed_writings Which.Outside result }
-    ensures inside_writings { V.failed to_inside.new ≡ V.failed to_inside.old + failed_writings Which.Inside result }
-    ensures report_writings { U.failed report.new ≡ U.failed report.old + failed_writings Which.Report result }
+/// Writes the capture of an output, and flushes it.
+fn write_records<W: Sink>(which: Which, output: &mut W, records: &[Record]) -> Result<(), Fault>
+    requires output { W.failed output.old < 2 ^ 64 - 1 }
+    requires few { length records.now < 2 ^ 32 }
+    requires writable { All IsWritable records.now }
+    ensures bytes { Receives (share_of which result) (text records.now)
+        (W.contents output.old) (W.contents output.new) }
+    ensures flushed { OnOk result (W.is_flushed output.new) }
+    ensures fault { IfErr result (IsWriteFaultOf which) }
+    ensures count { W.failed output.new ≡ W.failed output.old + failed_writings which result }
 {
-    if let Err(fault) = write_capture(to_outside, &outputs.to_outside) {
-        return Err(Fault::Write(Which::Outside, fault));
-    }
-    if let Err(fault) = write_capture(to_inside, &outputs.to_inside) {
-        return Err(Fault::Write(Which::Inside, fault));
-    }
-    if let Err(fault) = write_text(report, outputs.report.as_bytes()) {
-        return Err(Fault::Write(Which::Report, fault));
-    }
-    Ok(())
-}
-
-/// Runs over captures that were read, and writes what comes of it.
-fn run_between<
-    T: Threads + Wait + Copy + Send + 'static,
-    W: Sink,
-    V: Sink,
-    U: Sink,
-    G: Gate + Send + Sync + Drop + 'static,
->(
-    rt: &T,
-    alloc: Global,
-    config: &Config,
-    captures: Captures,
-    to_outside: &mut W,
-    to_inside: &mut V,
-    report: &mut U,
-    gate: Arc<G>,
-) -> Result<(), Fault>
-    requires inside { All IsWritable captures.inside.records }
-    requires outside { All IsWritable captures.outside.records }
-    requires to_outside { W.failed to_outside.old < 2 ^ 64 - 1 }
-    requires to_inside { V.failed to_inside.old < 2 ^ 64 - 1 }
-    requires report { U.failed report.old < 2 ^ 64 - 1 }
-    ensures to_outside { GetsOf config.now captures Which.Outside (share_of Which.Outside result) (W.contents to_outside.old) (W.contents to_outside.new) }
-    ensures to_inside { GetsOf config.now captures Which.Inside (share_of Which.Inside result) (V.contents to_inside.old) (V.contents to_inside.new) }
-    ensures report { GetsOf config.now captures Which.Report (share_of Which.Report result) (U.contents report.old) (U.contents report.new) }
-    ensures fault { IfErr result (IsRefusedRun captures) }
-    ensures gate { G.is_open ≡ true → IfErr result (λ fault. tells_shut_gate fault ≡ false) }
-    ensures outside_writings { W.failed to_outside.new ≡ W.failed to_outside.old + failed_writings Which.Outside result }
-    ensures inside_writings { V.failed to_inside.new ≡ V.failed to_inside.old + failed_writings Which.Inside result }
-    ensures report_writings { U.failed report.new ≡ U.failed report.old + failed_writings Which.Report result }
-{
-    match make_outputs(rt, alloc, config, captures, gate) {
-        Ok(outputs) => write_outputs(&outputs, to_outside, to_inside, report),
-        Err(fault) => Err(Fault::Run(fault)),
+    match write_capture(output, records) {
+        Ok(()) => Ok(()),
+        Err(fault) => Err(Fault::Write(which, fault)),
     }
 }
 
-/// Reads both captures, runs over them, and writes.
-fn run_both<
-    T: Threads + Wait + Copy + Send + 'static,
-    R: Source,
-    Q: Source,
-    W: Sink,
-    V: Sink,
-    U: Sink,
-    G: Gate + Send + Sync + Drop + 'static,
->(
-    rt: &T,
-    alloc: Global,
-    config: &Config,
-    inside: &mut R,
-    outside: &mut Q,
-    to_outside: &mut W,
-    to_inside: &mut V,
-    report: &mut U,
-    gate: Arc<G>,
-) -> Result<(), Fault>
-    requires inside { R.failed inside.old < 2 ^ 64 - 1 }
-    requires outside { Q.failed outside.old < 2 ^ 64 - 1 }
-    requires to_outside { W.failed to_outside.old < 2 ^ 64 - 1 }
-    requires to_inside { V.failed to_inside.old < 2 ^ 64 - 1 }
-    requires report { U.failed report.old < 2 ^ 64 - 1 }
-    ensures to_outside { Gets config.now Which.Outside (share_of Which.Outside result) (R.remaining inside.old) (option_map some_bytes (Q.remaining outside.old)) (W.contents to_outside.old) (W.contents to_outside.new) }
-    ensures to_inside { Gets config.now Which.Inside (share_of Which.Inside result) (R.remaining inside.old) (option_map some_bytes (Q.remaining outside.old)) (V.contents to_inside.old) (V.contents to_inside.new) }
-    ensures report { Gets config.now Which.Report (share_of Which.Report result) (R.remaining inside.old) (option_map some_bytes (Q.remaining outside.old)) (U.contents report.old) (U.contents report.new) }
-    ensures fault { IfErr result (Explains (R.remaining inside.old) (option_map some_bytes (Q.remaining outside.old))) }
-    ensures gate { G.is_open ≡ true → IfErr result (λ fault. tells_shut_gate fault ≡ false) }
-    ensures inside_readings { R.failed inside.new ≡ R.failed inside.old + failed_readings Side.Inside result }
-    ensures outside_readings { Q.failed outside.new ≡ Q.failed outside.old + failed_readings Side.Outside result }
-    ensures outside_writings { W.failed to_outside.new ≡ W.failed to_outside.old + failed_writings Which.Outside result }
-    ensures inside_writings { V.failed to_inside.new ≡ V.failed to_inside.old + failed_writings Which.Inside result }
-    ensures report_writings { U.failed report.new ≡ U.failed report.old + failed_writings Which.Report result }
+/// Writes the report, and flushes it.
+fn write_report<W: Sink>(output: &mut W, report: &str) -> Result<(), Fault>
+    requires { W.failed output.old < 2 ^ 64 - 1 }
+    ensures bytes { Receives (share_of Which.Report result) report.now
+        (W.contents output.old) (W.contents output.new) }
+    ensures flushed { OnOk result (W.is_flushed output.new) }
+    ensures fault { IfErr result (IsWriteFaultOf Which.Report) }
+    ensures count { W.failed output.new ≡ W.failed output.old + failed_writings Which.Report result }
 {
-    let inside = match read_capture(alloc, inside) {
-        Ok(capture) => capture,
-        Err(fault) => return Err(Fault::Capture(Side::Inside, fault)),
-    };
-    let outside = match read_capture(alloc, outside) {
-        Ok(capture) => capture,
-        Err(fault) => return Err(Fault::Capture(Side::Outside, fault)),
-    };
-    let captures = Captures { inside, outside };
-    run_between(
-        rt, alloc, config, captures, to_outside, to_inside, report, gate,
-    )
-}
-
-/// Reads the inside capture, runs over it alone, and writes.
-fn run_inside<
-    T: Threads + Wait + Copy + Send + 'static,
-    R: Source,
-    W: Sink,
-    V: Sink,
-    U: Sink,
-    G: Gate + Send + Sync + Drop + 'static,
->(
-    rt: &T,
-    alloc: Global,
-    config: &Config,
-    inside: &mut R,
-    to_outside: &mut W,
-    to_inside: &mut V,
-    report: &mut U,
-    gate: Arc<G>,
-) -> Result<(), Fault>
-    requires inside { R.failed inside.old < 2 ^ 64 - 1 }
-    requires to_outside { W.failed to_outside.old < 2 ^ 64 - 1 }
-    requires to_inside { V.failed to_inside.old < 2 ^ 64 - 1 }
-    requires report { U.failed report.old < 2 ^ 64 - 1 }
-    ensures to_outside { Gets config.now Which.Outside (share_of Which.Outside result) (R.remaining inside.old) (Some None) (W.contents to_outside.old) (W.contents to_outside.new) }
-    ensures to_inside { Gets config.now Which.Inside (share_of Which.Inside result) (R.remaining inside.old) (Some None) (V.contents to_inside.old) (V.contents to_inside.new) }
-    ensures report { Gets config.now Which.Report (share_of Which.Report result) (R.remaining inside.old) (Some None) (U.contents report.old) (U.contents report.new) }
-    ensures fault { IfErr result (Explains (R.remaining inside.old) (Some None)) }
-    ensures gate { G.is_open ≡ true → IfErr result (λ fault. tells_shut_gate fault ≡ false) }
-    ensures inside_readings { R.failed inside.new ≡ R.failed inside.old + failed_readings Side.Inside result }
-    ensures outside_readings { failed_readings Side.Outside result ≡ 0 }
-    ensures outside_writings { W.failed to_outside.new ≡ W.failed to_outside.old + failed_writings Which.Outside result }
-    ensures inside_writings { V.failed to_inside.new ≡ V.failed to_inside.old + failed_writings Which.Inside result }
-    ensures report_writings { U.failed report.new ≡ U.failed report.old + failed_writings Which.Report result }
-{
-    let inside = match read_capture(alloc, inside) {
-        Ok(capture) => capture,
-        Err(fault) => return Err(Fault::Capture(Side::Inside, fault)),
-    };
-    let outside = no_capture(alloc);
-    let captures = Captures { inside, outside };
-    run_between(
-        rt, alloc, config, captures, to_outside, to_inside, report, gate,
-    )
+    match write_text(output, report.as_bytes()) {
+        Ok(()) => Ok(()),
+        Err(fault) => Err(Fault::Write(Which::Report, fault)),
+    }
 }
 
 /// Translates the inside capture and, where there is one, the outside capture, and writes what leaves to each side and a
@@ -282,119 +156,49 @@ pub fn run_captures<
     requires to_outside { W.failed to_outside.old < 2 ^ 64 - 1 }
     requires to_inside { IfSome to_inside (λ w. V.failed w.now < 2 ^ 64 - 1) }
     requires report { IfSome report (λ w. U.failed w.now < 2 ^ 64 - 1) }
-    ensures to_outside { Gets config.now Which.Outside (share_of Which.Outside result) (R.remaining inside.old) (bytes_in Q.remaining outside.entry) (W.contents to_outside.old) (W.contents to_outside.new) }
+    ensures to_outside { Gets config.now Which.Outside (share_of Which.Outside result)
+        (R.remaining inside.old) (bytes_in Q.remaining outside.entry)
+        (W.contents to_outside.old) (W.contents to_outside.new) }
     ensures to_inside { IfGiven to_inside.entry to_inside.exit (λ old new.
-        Gets config.now Which.Inside (share_of Which.Inside result) (R.remaining inside.old) (bytes_in Q.remaining outside.entry) (V.contents old) (V.contents new)) }
+        Gets config.now Which.Inside (share_of Which.Inside result)
+        (R.remaining inside.old) (bytes_in Q.remaining outside.entry)
+        (V.contents old) (V.contents new)) }
     ensures report { IfGiven report.entry report.exit (λ old new.
-        Gets config.now Which.Report (share_of Which.Report result) (R.remaining inside.old) (bytes_in Q.remaining outside.entry) (U.contents old) (U.contents new)) }
-    ensures fault { IfErr result (Explains (R.remaining inside.old) (bytes_in Q.remaining outside.entry)) }
+        Gets config.now Which.Report (share_of Which.Report result)
+        (R.remaining inside.old) (bytes_in Q.remaining outside.entry)
+        (U.contents old) (U.contents new)) }
+    ensures fault { IfErr result
+        (Explains (R.remaining inside.old) (bytes_in Q.remaining outside.entry)) }
     ensures gate { G.is_open ≡ true → IfErr result (λ fault. tells_shut_gate fault ≡ false) }
-    ensures inside_readings { R.failed inside.new ≡ R.failed inside.old + failed_readings Side.Inside result }
-    ensures outside_readings { GrowsBy Q.failed outside.entry outside.exit (failed_readings Side.Outside result) }
-    ensures outside_writings { W.failed to_outside.new ≡ W.failed to_outside.old + failed_writings Which.Outside result }
-    ensures inside_writings { GrowsBy V.failed to_inside.entry to_inside.exit (failed_writings Which.Inside result) }
-    ensures report_writings { GrowsBy U.failed report.entry report.exit (failed_writings Which.Report result) }
+    ensures inside_readings { R.failed inside.new
+        ≡ R.failed inside.old + failed_readings Side.Inside result }
+    ensures outside_readings { GrowsBy Q.failed outside.entry outside.exit
+        (failed_readings Side.Outside result) }
+    ensures outside_writings { W.failed to_outside.new
+        ≡ W.failed to_outside.old + failed_writings Which.Outside result }
+    ensures inside_writings { GrowsBy V.failed to_inside.entry to_inside.exit
+        (failed_writings Which.Inside result) }
+    ensures report_writings { GrowsBy U.failed report.entry report.exit
+        (failed_writings Which.Report result) }
+    ensures outside_flushed { OnOk result (W.is_flushed to_outside.new) }
+    ensures inside_flushed { OnOk result
+        (IfGiven to_inside.entry to_inside.exit (λ _ new. V.is_flushed new)) }
+    ensures report_flushed { OnOk result
+        (IfGiven report.entry report.exit (λ _ new. U.is_flushed new)) }
 {
-    match outside {
-        Some(outside) => match to_inside {
-            Some(to_inside) => match report {
-                Some(report) => {
-                    return run_both(
-                        rt, alloc, config, inside, outside, to_outside, to_inside, report, gate,
-                    );
-                }
-                None => {
-                    return run_both(
-                        rt,
-                        alloc,
-                        config,
-                        inside,
-                        outside,
-                        to_outside,
-                        to_inside,
-                        &mut Nowhere,
-                        gate,
-                    );
-                }
-            },
-            None => match report {
-                Some(report) => {
-                    return run_both(
-                        rt,
-                        alloc,
-                        config,
-                        inside,
-                        outside,
-                        to_outside,
-                        &mut Nowhere,
-                        report,
-                        gate,
-                    );
-                }
-                None => {
-                    return run_both(
-                        rt,
-                        alloc,
-                        config,
-                        inside,
-                        outside,
-                        to_outside,
-                        &mut Nowhere,
-                        &mut Nowhere,
-                        gate,
-                    );
-                }
-            },
-        },
-        None => match to_inside {
-            Some(to_inside) => match report {
-                Some(report) => {
-                    return run_inside(
-                        rt, alloc, config, inside, to_outside, to_inside, report, gate,
-                    );
-                }
-                None => {
-                    return run_inside(
-                        rt,
-                        alloc,
-                        config,
-                        inside,
-                        to_outside,
-                        to_inside,
-                        &mut Nowhere,
-                        gate,
-                    );
-                }
-            },
-            None => match report {
-                Some(report) => {
-                    return run_inside(
-                        rt,
-                        alloc,
-                        config,
-                        inside,
-                        to_outside,
-                        &mut Nowhere,
-                        report,
-                        gate,
-                    );
-                }
-                None => {
-                    return run_inside(
-                        rt,
-                        alloc,
-                        config,
-                        inside,
-                        to_outside,
-                        &mut Nowhere,
-                        &mut Nowhere,
-                        gate,
-                    );
-                }
-            },
-        },
+    let inside = read_side(alloc, Side::Inside, inside)?;
+    let outside = match outside {
+        Some(outside) => read_side(alloc, Side::Outside, outside)?,
+        None => no_capture(alloc),
+    };
+    let captures = Captures { inside, outside };
+    let outputs = make_outputs(rt, alloc, config, captures, gate)?;
+    write_records(Which::Outside, to_outside, &outputs.to_outside)?;
+    if let Some(to_inside) = to_inside {
+        write_records(Which::Inside, to_inside, &outputs.to_inside)?;
     }
+    if let Some(report) = report {
+        write_report(report, &outputs.report)?;
+    }
+    Ok(())
 }
-
-#[cfg(test)]
-mod tests;

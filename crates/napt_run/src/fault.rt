@@ -1,8 +1,13 @@
 //! Why a run ends early.
 
+ghost use Rattle.std.specs.Prelude.{◌≡◌};
+ghost use Rattle.napt_run.specs.declared.fault.Fault.TheVariants.{Run};
+ghost use Rattle.napt_run.specs.declared.fault.RunFault.TheVariants.{Memory, Pool};
+
 use napt_capture::{CaptureFault, WriteFault};
 use napt_pool::PoolFault;
 use napt_wire::Side;
+use std::alloc::AllocError;
 
 /// Why a run over inputs gives no outcomes.
 #[derive(Clone, Copy, Debug, PartialEq, Eq)]
@@ -13,6 +18,22 @@ pub enum RunFault {
     TooMany,
     /// A worker stopped early, or the workers could not be started.
     Pool(PoolFault),
+}
+
+impl From<AllocError> for RunFault {
+    ghost from_gives = { λ _ fault. fault ≡ Memory };
+
+    fn from(_error: AllocError) -> RunFault {
+        RunFault::Memory
+    }
+}
+
+impl From<PoolFault> for RunFault {
+    ghost from_gives = { λ refused fault. fault ≡ Pool refused };
+
+    fn from(refused: PoolFault) -> RunFault {
+        RunFault::Pool(refused)
+    }
 }
 
 /// What a run over captures writes, in the order in which it does.
@@ -35,4 +56,12 @@ pub enum Fault {
     Run(RunFault),
     /// Writing this output failed: those before it are whole, and those after it have nothing.
     Write(Which, WriteFault),
+}
+
+impl From<RunFault> for Fault {
+    ghost from_gives = { λ refused fault. fault ≡ Run refused };
+
+    fn from(refused: RunFault) -> Fault {
+        Fault::Run(refused)
+    }
 }

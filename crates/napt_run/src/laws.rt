@@ -2,6 +2,7 @@
 
 ghost use Rattle.napt_run.specs.Dispatching.{RightAnswersAreTheRuns, RunsGrow, AnswersTellOutcomes, OnwardIsForetold};
 ghost use Rattle.napt_run.specs.Laws.{LegsAnswerAlone, LegsLeaveTheirOwn, TranslatorsAnswerAlone, TranslatorsKeepTheirOwn};
+ghost use Rattle.napt_run.specs.Places.{AnswersFillPlaces, PlacesStandForLegs};
 ghost use Rattle.napt_run.specs.Sound.{RunsAreSound, RunsStayApart};
 
 use napt_table::{opening_is_sound, steps_stay_sound};
@@ -37,4 +38,13 @@ pub fn right_answers()
     ensures foretold { OnwardIsForetold }
 {
     packets_keep_their_way();
+}
+
+/// An input from inside may have a second leg: a place stands for it until the end of the first leg tells it
+/// (RFC 4787, REQ-9).
+pub fn places_stand_for_legs()
+    ensures fill { AnswersFillPlaces }
+    ensures stand { PlacesStandForLegs }
+{
+    right_answers();
 }

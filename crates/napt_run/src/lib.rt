@@ -6,7 +6,6 @@
 //! what leaves to each side, with a report.
 #![tactic(auto)]
 
-mod books;
 mod captures;
 mod dispatcher;
 mod fault;
@@ -14,7 +13,6 @@ mod input;
 mod laws;
 mod merge_laws;
 mod merging;
-mod nowhere;
 mod outcome;
 mod output;
 mod report;
@@ -28,7 +26,9 @@ pub use captures::run_captures;
 pub use dispatcher::dispatch;
 pub use fault::{Fault, RunFault, Which};
 pub use input::Input;
-pub use laws::{legs_are_local, right_answers, runs_are_sound, translators_are_local};
+pub use laws::{
+    legs_are_local, places_stand_for_legs, right_answers, runs_are_sound, translators_are_local,
+};
 pub use merge_laws::{merge_is_one, outputs_are_one};
 pub use merging::merge;
 pub use outcome::{Outcome, Run};

@@ -78,6 +78,3 @@ pub fn merge(
     }
     Ok(inputs)
 }
-
-#[cfg(test)]
-mod tests;

@@ -250,6 +250,3 @@ pub fn report_text(
     push_rows(alloc, &mut report, &run.bindings)?;
     Ok(report)
 }
-
-#[cfg(test)]
-mod tests;

@@ -178,7 +178,11 @@ fn bindings(alloc: Global, seats: &[Seat], now: u64) -> Result<Vec<Row>, AllocEr
 fn legs(alloc: Global, seats: &[Seat]) -> Result<Vec<u64>, AllocError>
     ensures { IfOk result (λ made. made.items ≡ map (λ seat. seat.legs) seats.now) }
 {
-    seats.iter().map(|seat| seat.legs).collect(alloc)
+    let mut made = Vec::new(alloc);
+    for seat in seats {
+        made.push(seat.legs)?;
+    }
+    Ok(made)
 }
 
 /// The run over so many inputs as their numbers can count.
@@ -222,6 +226,3 @@ pub fn run_plain(alloc: Global, config: &Config, inputs: &[Input]) -> Result<Run
         Err(_) => Err(RunFault::Memory),
     }
 }
-
-#[cfg(test)]
-mod tests;

@@ -18,11 +18,7 @@ const MANY: u32 = 1000;
 const MILLISECOND: u64 = 1_000_000;
 
 /// A UDP packet without payload, with the lifetime 64, the identification 1 and right checksums (RFC 791, RFC 768).
-pub(crate) fn udp(
-    alloc: Global,
-    source: Endpoint,
-    destination: Endpoint,
-) -> Result<Vec<u8>, AllocError>
+fn udp(alloc: Global, source: Endpoint, destination: Endpoint) -> Result<Vec<u8>, AllocError>
     ensures { IfOk result (λ bytes. length bytes.items ≡ 28) }
 {
     let [a, b] = halves(source.address);
@@ -76,7 +72,7 @@ pub fn thousand_inputs(alloc: Global) -> Result<Vec<Input>, AllocError>
 }
 
 /// The one's complement of the one's complement sum of some words (RFC 1071).
-pub(crate) fn checksum(words: &[u16]) -> u16 {
+fn checksum(words: &[u16]) -> u16 {
     let mut sum = 0u16;
     for word in words {
         let (low, carries) = sum.overflowing_add(*word);
@@ -86,6 +82,6 @@ pub(crate) fn checksum(words: &[u16]) -> u16 {
 }
 
 /// The two words of an address.
-pub(crate) fn halves(address: u32) -> [u16; 2] {
+fn halves(address: u32) -> [u16; 2] {
     [(address >> 16) as u16, (address & 0xFFFF) as u16]
 }

@@ -114,6 +114,3 @@ fn run_on_pool<R: Threads + Wait + Copy + Send + 'static, G: Gate + Send + Sync 
         legs,
     })
 }
-
-#[cfg(test)]
-mod tests;

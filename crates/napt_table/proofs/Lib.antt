@@ -8,3 +8,4 @@ pub mod Named
 pub mod Tables
 pub mod Opened
 pub mod Orders
+pub mod Classes

@@ -3,6 +3,7 @@ pub mod Marks
 pub mod Bindings
 pub mod Life
 pub mod Choice
+pub mod Classes
 pub mod Filtering
 pub mod Steps
 pub mod Endpoints

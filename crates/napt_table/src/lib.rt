@@ -7,6 +7,7 @@ ghost use Rattle.std.specs.Prelude.{◌≡◌, ℕ, List};
 ghost use Rattle.napt_table.specs.Local.{PurgeIsLocal, LaterPurgeCounts, OutIsLocal, OutLeavesOthers, InIsLocal, InLeavesOthers};
 ghost use Rattle.napt_table.specs.Endpoints.{PurgeStaysSound, OutStaysSound, InStaysSound, SoundIsApart};
 ghost use Rattle.napt_table.specs.Live.{OutLeavesLive, InLeavesLive};
+ghost use Rattle.napt_table.specs.Classes.{CandidatesBegin, CandidatesAreThose, CandidatesDiffer};
 ghost use Rattle.napt_table.specs.Opening.{OpeningIsSound};
 ghost use Rattle.napt_table.specs.Rows.{RowsAreInOrder};
 ghost use Rattle.napt_table.specs.Tables.{TablesShareNothing, TablesAreNumbered};
@@ -116,6 +117,14 @@ pub fn steps_stay_sound()
     ensures outbound { OutStaysSound }
     ensures inbound { InStaysSound }
     ensures apart { SoundIsApart }
+{}
+
+/// The candidates of a number are the numbers that may stand for it, each once, beginning with itself: a port is mapped on its
+/// side of 1024 and keeps its parity (RFC 4787, REQ-3 (a) and REQ-4), an identifier is mapped to any (RFC 5508, section 3.1).
+pub fn candidates_are_the_class()
+    ensures begin { CandidatesBegin }
+    ensures those { CandidatesAreThose }
+    ensures differ { CandidatesDiffer }
 {}
 
 /// No two redirects of a configuration share an endpoint.

@@ -1,6 +1,6 @@
 -- What every leg keeps to, whatever the bindings.
-use Rattle.std.specs.Prelude.{◌≡◌, ℕ, Bool, true, false, Some, None}
-use Rattle.napt_wire.specs.declared.Way.TheVariants.{Incoming}
+use Rattle.std.specs.Prelude.{◌≡◌, ℕ, Bool, true, false, List, Option, Some, None}
+use Rattle.napt_wire.specs.declared.Way.TheVariants.{Incoming, Outgoing}
 use Rattle.napt_wire.specs.Fields.{destination, kind, is_error}
 use Rattle.napt_config.specs.Rules.{Rules, place_of}
 use Rattle.napt_translate.specs.Legs.{Kept, kept_answer, kept_after}
@@ -8,7 +8,7 @@ use Rattle.napt_translate.specs.declared.translator.Leg.{Leg}
 use Rattle.napt_translate.specs.declared.translator.End.{End}
 use Rattle.napt_translate.specs.declared.translator.End.TheVariants.{ToOutside, ToInside, Onward, Dropped}
 
--- an ICMP error changes no binding and no time (RFC 4787, REQ-10; RFC 5508, REQ-6)
+-- an ICMP error changes no binding and no time (RFC 4787, REQ-12; RFC 5508, REQ-6)
 abbrev pub ErrorsChangeNothing : Type 0
 ErrorsChangeNothing = (rules : Rules) (address : ℕ) (leg : Leg) (kept : Kept) → is_error (kind leg.packet) ≡ true → kept_after rules address leg kept ≡ kept
 
@@ -31,3 +31,21 @@ is_in_or_dropped (Onward place packet) = false
 
 abbrev pub InStaysIn : Type 0
 InStaysIn = (rules : Rules) (address : ℕ) (leg : Leg) (kept : Kept) → leg.way ≡ Incoming → is_in_or_dropped (kept_answer rules address leg kept).end ≡ true
+
+-- HAIRPINS (RFC 4787, REQ-9)
+
+-- a packet whose destination has this place in the pool, or none: it goes onward there or is dropped, or never goes onward
+abbrev pub IsForeseen : Option ℕ → End → Type 0
+IsForeseen (Some place) (Onward to packet) = to ≡ place
+IsForeseen (Some place) (Dropped cause) = Unit {0}
+IsForeseen (Some place) (ToOutside packet) = ⊥
+IsForeseen (Some place) (ToInside packet) = ⊥
+IsForeseen None (Onward to packet) = ⊥
+IsForeseen None (Dropped cause) = Unit {0}
+IsForeseen None (ToOutside packet) = Unit {0}
+IsForeseen None (ToInside packet) = Unit {0}
+
+-- however a packet goes out, whatever the bindings
+abbrev pub Foresees : Rules → List ℕ → Option ℕ → Type 0
+Foresees rules packet found =
+    (address : ℕ) (leg : Leg) (kept : Kept) → leg.way ≡ Outgoing → leg.packet ≡ packet → IsForeseen found (kept_answer rules address leg kept).end

@@ -12,5 +12,5 @@ mod tests;
 mod translator;
 
 pub use laws::legs_keep_to_their_way;
-pub use sides::route;
+pub use sides::{onward, route};
 pub use translator::{Answer, End, Leg, Translator};

@@ -1,10 +1,13 @@
 //! Which packets may cross the translator, and where in the pool a packet is served.
 
 ghost use Rattle.std.specs.Prelude.{◌≡◌, IfOk, Some, slice_get};
+ghost use Rattle.napt_wire.specs.Fields.{destination};
+ghost use Rattle.napt_config.specs.Rules.{place_of};
+ghost use Rattle.napt_translate.specs.Ends.{Foresees};
 ghost use Rattle.napt_translate.specs.Sides as sides;
 
 use napt_config::Config;
-use napt_wire::{Cause, Kind, Packet, Protocol, Side, Way};
+use napt_wire::{Cause, Kind, Packet, Protocol, Side, Way, packets_keep_their_way};
 
 /// The place in the pool, from 0, of the external address at which a packet that arrived on a side is served: that of
 /// the pairing of its inside host, or the one that it came to. `Spoofed` where its source belongs to the other side,
@@ -20,6 +23,17 @@ pub fn route(config: &Config, side: Side, packet: &Packet) -> Result<u32, Cause>
     }
     let address = served_at(config, way_from(side), packet);
     config.pool_index(address).ok_or(Cause::NotOurs)
+}
+
+/// The place in the pool, from 0, of a packet's destination, where it has one. Where it has, a packet on its way out
+/// goes onward there or is dropped; where it has none, it never goes onward (RFC 4787, REQ-9). It takes no memory.
+pub fn onward(config: &Config, packet: &Packet) -> Option<u32>
+    ensures place { result ≡ place_of config.now (destination packet.now).address }
+    ensures foresees { Foresees config.now packet.now result }
+{
+    packets_keep_their_way();
+    let _bytes = packet.bytes();
+    config.pool_index(packet.destination().address)
 }
 
 /// The first cause that stands against a packet's crossing.

@@ -2,7 +2,7 @@
 
 mod packets;
 
-use crate::{Answer, End, Leg, Translator, route};
+use crate::{Answer, End, Leg, Translator, onward, route};
 use napt_config::Config;
 use napt_table::Row;
 use napt_wire::{Cause, Endpoint, Packet, Protocol, Side, Way};
@@ -527,6 +527,23 @@ fn changed_packets(rt: HostRuntime) -> Result<(), Fail> {
             routed(alloc, Side::Inside, bytes)?,
             Err(Cause::Unsupported)
         );
+    }
+    Ok(())
+}
+
+#[test]
+fn destinations_in_the_pool(rt: HostRuntime) -> Result<(), Fail> {
+    let alloc = rt.alloc();
+    let config = Config::read(alloc, TWO.as_bytes())?;
+    let rows: [(&[u8], Option<u32>); 4] = [
+        (&wire::HAIRPIN, Some(1)),
+        (&wire::OWN_HAIRPIN, Some(0)),
+        (&wire::HAIRPIN_ERROR, Some(0)),
+        (&wire::UDP_QUERY, None),
+    ];
+    for (bytes, place) in rows {
+        let packet = read(alloc, Side::Inside, bytes)?;
+        assert_eq!(rt; onward(&config, &packet), place);
     }
     Ok(())
 }

@@ -1,5 +1,5 @@
 -- A packet that goes out keeps the address that it goes to.
-use Rattle.std.proofs.Common.{◌≡◌, ℕ, ◌+◌, ◌≤◌, inl, true, List, [], ◌∷◌, ◌++◌, length, Ok, arith, ◌∙◌, ap}
+use Rattle.std.proofs.Common.{◌≡◌, ℕ, ◌+◌, inl, true, List, [], ◌∷◌, ◌++◌, length, Ok, arith, ◌∙◌, ap}
 use Rattle.napt_wire.proofs.Changes.{AreWithin, changed-append}
 use Rattle.napt_wire.proofs.Ends.{number-there, within-append, within-wider}
 use Rattle.napt_wire.proofs.Readings.{passes_of_read, room_of}

@@ -10,13 +10,12 @@ use Rattle.napt_wire.proofs.Readings.{Passes, three_passed, room_of, passes_of_r
 use Rattle.napt_wire.proofs.WithEnd.{Carries, KeepsBody, KeepsHeader, keeps_before, header_keeps, end_keeps_header, end_keeps_body, form_kept, message_passes, passes_kept, residue_zero, zero_residue}
 use Rattle.napt_wire.specs.Bytes.{byte_at, word_at, long_at, put_word, words}
 use Rattle.napt_wire.specs.Checksum.{canon, is_right}
-use Rattle.napt_wire.specs.Fields.{address, header_length, fragment_offset, protocol_number, version, transport, form_at, inner_at, number_place, end_at, inner, inner_of, kind, kind_of, is_error, CanCarry, CanQuote, protocol_of}
+use Rattle.napt_wire.specs.Fields.{address, header_length, fragment_offset, protocol_number, version, transport, form_at, inner_at, number_place, end_at, inner, kind, kind_of, is_error, CanCarry, CanQuote, protocol_of}
 use Rattle.napt_wire.specs.Reading.{reading, refusal, message_checks, error_checks, has_bad_inner, header, is_known, is_quoted, has_zero_port}
 use Rattle.napt_wire.specs.declared.Cause.TheVariants.{BadChecksum, BadInner, BadPort}
 use Rattle.napt_wire.specs.Rewriting.{change, changed, olds, news, address_words, address_changes, number_changes, end_changes, reverted_changes, inner_end, outer_end}
 use Rattle.napt_wire.specs.Packet.{IsFound, body_of, quoted_of}
 use Rattle.napt_wire.specs.Room.{HasRoom, AreThere}
-use Rattle.napt_wire.specs.declared.Inner.{Inner}
 use Rattle.napt_wire.specs.declared.packet.Body.{Body}
 use Rattle.napt_wire.specs.declared.packet.Body.TheVariants as bodies
 use Rattle.napt_wire.specs.declared.packet.Quoted.{Quoted}
@@ -544,13 +543,13 @@ quoted_form bytes start body quoted found h = body_error (form_at 0 bytes) bytes
 pub not_error : (bytes : List ℕ) (start : ℕ) (body : Body) → IsFound bytes start body → form_at 0 bytes ≡ Error → ((quoted : Quoted) → body ≡ bodies.Error quoted → ⊥) → ⊥
 not_error bytes start body found e h = h (quoted_of bytes) (found.body_is ∙ ap (λ (f : Form). body_of f bytes) e)
 
-pub error_found : (side : Side) (start : ℕ) (body : Body) (old new : List ℕ) (quoted : Quoted) (read : Inner) → IsFound old start body → form_at 0 old ≡ Error → quoted ≡ quoted_of old → KeepsError side old new →
-    read ≡ inner_of (inner_at old) new → IsFound new start (bodies.Error (record { form = quoted.form; start = quoted.start; inner = read }))
-unfolding inner
-error_found side start body old new quoted read found form_is quoted_is keeps read_is =
+pub error_found : (side : Side) (start : ℕ) (body : Body) (old new : List ℕ) →
+    IsFound old start body → form_at 0 old ≡ Error → KeepsError side old new → IsFound new start body
+error_found side start body old new found form_is keeps =
     record {
       start_is = found.start_is ∙ sym keeps.same_start;
-      body_is = rw (keeps.same_form, form_is, quoted_is, read_is, keeps.same_start, keeps.inner_form, keeps.inner_start) refl;
+      body_is = found.body_is
+          ∙ rw (keeps.same_form, form_is, keeps.same_start, keeps.inner_form, keeps.inner_start) refl;
     }
 
 -- all of that for a packet that the caller knows to be an error

@@ -1,6 +1,6 @@
 -- What a packet keeps of its bytes.
 use Rattle.std.specs.Prelude.{◌≡◌, ℕ, List, Ok}
-use Rattle.napt_wire.specs.Fields.{transport, form_at, flags, inner, inner_at}
+use Rattle.napt_wire.specs.Fields.{transport, form_at, flags, inner_at}
 use Rattle.napt_wire.specs.Reading.{reading}
 use Rattle.napt_wire.specs.declared.Side.{Side}
 use Rattle.napt_wire.specs.declared.form.Form.{Form}
@@ -18,7 +18,6 @@ abbrev pub quoted_of : List ℕ → Quoted
 quoted_of bytes = record {
   form = form_at (inner_at bytes) bytes;
   start = transport (inner_at bytes) bytes;
-  inner = inner bytes;
 }
 
 -- the body of a packet whose transport header is of a form

@@ -15,8 +15,6 @@ mod laws;
 mod packet;
 mod reading;
 mod rewrite;
-#[cfg(test)]
-mod tests;
 
 pub use checksum::{fix_check, fix_check_udp};
 pub use laws::{packets_carry_numbers, packets_keep_their_way};

@@ -1,7 +1,7 @@
 //! A packet that was read.
 
 ghost use Rattle.std.specs.Prelude.{◌≡◌, List, ℕ, false, true, Ok, Err, IfOk, IfErr, ◌<◌, ◌^◌, length};
-ghost use Rattle.napt_wire.specs.Fields.{source, destination, inner_at, kind, local_end, remote_end, is_error, CanCarry};
+ghost use Rattle.napt_wire.specs.Fields.{source, destination, end_at, inner_at, kind, local_end, remote_end, is_error, CanCarry};
 ghost use Rattle.napt_wire.specs.Reading.{reading};
 ghost use Rattle.napt_wire.specs.Rewriting.{changed, end_changes, with_source, with_destination, reverted};
 ghost use Rattle.napt_wire.specs.Packet.{IsPacket, form_of};
@@ -11,7 +11,7 @@ ghost use Rattle.napt_wire.specs.declared.Side.{Side};
 use crate::form::{End, Form, read_end, read_ends};
 use crate::reading::read_datagram;
 use crate::rewrite::{ErrorRewrite, Rewrite};
-use crate::{Cause, Endpoint, Flags, Inner, Kind, Side, Way};
+use crate::{Cause, Endpoint, Flags, Kind, Side, Way};
 use std::marker::Model;
 
 /// What a packet carries, as reading found it.
@@ -24,12 +24,11 @@ pub(crate) enum Body {
     Error(Quoted),
 }
 
-/// The datagram that an ICMP error quotes, and where its transport header begins.
+/// The transport header of the datagram that an ICMP error quotes: what it is, and where in the error it begins.
 #[derive(Clone, Copy)]
 pub(crate) struct Quoted {
     pub(crate) form: Form,
-    pub(crate) start: usize,
-    pub(crate) inner: Inner,
+    pub(crate) start: u16,
 }
 
 /// An IPv4 datagram that was read, with the bytes that it owns. Contracts see it as its bytes, and these
@@ -37,8 +36,8 @@ pub(crate) struct Quoted {
 #[derive(Drop)]
 pub struct Packet {
     bytes: Vec<u8>,
-    /// Where the transport header begins.
-    start: usize,
+    /// Where the transport header begins: at 60 at most.
+    start: u8,
     body: Body,
 }
 
@@ -99,7 +98,7 @@ impl Packet {
         ensures value { result ≡ source self.now }
         ensures carried { is_error (kind self.now) ≡ false → CanCarry (kind self.now) result.number }
     {
-        read_end(&self.bytes, 0, self.start, self.body.form(), End::Source)
+        self.end(End::Source)
     }
 
     /// Where the packet goes. An echo request and an ICMP error have the number 0.
@@ -107,13 +106,7 @@ impl Packet {
     pub fn destination(&self) -> Endpoint
         ensures { result ≡ destination self.now }
     {
-        read_end(
-            &self.bytes,
-            0,
-            self.start,
-            self.body.form(),
-            End::Destination,
-        )
+        self.end(End::Destination)
     }
 
     /// What the packet is.
@@ -125,7 +118,10 @@ impl Packet {
             Body::Udp => Kind::Udp,
             Body::Tcp(flags) => Kind::Tcp(flags),
             Body::Request | Body::Reply => Kind::Echo,
-            Body::Error(quoted) => Kind::ErrorOf(quoted.inner),
+            Body::Error(Quoted { form, start }) => {
+                let at = usize::from(self.start) + 8;
+                Kind::ErrorOf(read_ends(&self.bytes, at, start.into(), form))
+            }
         }
     }
 
@@ -202,18 +198,22 @@ impl Packet {
         };
         let rewrite = ErrorRewrite::of(
             &self.bytes,
-            self.start,
-            quoted.start,
+            self.start.into(),
+            quoted.start.into(),
             quoted.form,
             way,
             end,
         );
         rewrite.write(&mut self.bytes);
-        self.body = Body::Error(Quoted {
-            form: quoted.form,
-            start: quoted.start,
-            inner: read_ends(&self.bytes, self.start + 8, quoted.start, quoted.form),
-        });
+    }
+
+    /// An end of the packet.
+    fn end(&self, end: End) -> Endpoint
+        ensures value { result ≡ end_at 0 end self.now }
+        ensures reads { IsPacket self.now }
+    {
+        let form = self.body.form();
+        read_end(&self.bytes, 0, self.start.into(), form, end)
     }
 
     /// Replaces an end, and each checksum that covers it.
@@ -225,7 +225,7 @@ impl Packet {
         ensures right { transport_right 0 self.new ≡ transport_right 0 self.old }
     {
         let form = self.body.form();
-        let rewrite = Rewrite::of_end(&self.bytes, 0, self.start, form, end, new);
+        let rewrite = Rewrite::of_end(&self.bytes, 0, self.start.into(), form, end, new);
         rewrite.write(&mut self.bytes);
     }
 }

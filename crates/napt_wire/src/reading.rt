@@ -11,7 +11,7 @@ ghost use Rattle.napt_wire.specs.Room.{HasRoom};
 
 use crate::bytes::{read_long, read_word};
 use crate::checksum::is_right;
-use crate::form::{Form, read_ends};
+use crate::form::Form;
 use crate::packet::{Body, Quoted};
 use crate::{Cause, Flags, Side};
 
@@ -21,7 +21,7 @@ pub(crate) struct Found {
     /// How long the datagram is.
     pub(crate) length: usize,
     /// Where its transport header begins.
-    pub(crate) start: usize,
+    pub(crate) start: u8,
     pub(crate) body: Body,
 }
 
@@ -35,7 +35,7 @@ pub(crate) fn read_datagram(side: Side, bytes: &[u8]) -> Result<Found, Cause>
     let length = read_length(bytes)?;
     let datagram = &bytes[..length];
     let start = read_header(datagram)?;
-    let body = read_body(side, datagram, start)?;
+    let body = read_body(side, datagram, start.into())?;
     Ok(Found {
         length,
         start,
@@ -56,7 +56,7 @@ fn read_length(bytes: &[u8]) -> Result<usize, Cause>
     if bytes[0] >> 4 != 4 {
         return Err(Cause::NotIpv4);
     }
-    let header = read_header_length(bytes, 0);
+    let header = usize::from(read_header_length(bytes, 0));
     let total = usize::from(read_word(bytes, 2));
     if header < 20 || total < header {
         return Err(Cause::BadHeader);
@@ -68,24 +68,24 @@ fn read_length(bytes: &[u8]) -> Result<usize, Cause>
 }
 
 /// The length of the header at a place, in bytes.
-fn read_header_length(bytes: &[u8], at: usize) -> usize
+fn read_header_length(bytes: &[u8], at: usize) -> u8
     requires { at + 1 ≤ length bytes.now }
     ensures value { result ≡ header_length at bytes.now }
     ensures small { result ≤ 60 }
 {
-    4 * usize::from(bytes[at] & 0x0f)
+    4 * (bytes[at] & 0x0f)
 }
 
 /// Where the transport header of a datagram begins, where its own header is right, and it is whole and
 /// of a protocol that is translated.
-fn read_header(bytes: &[u8]) -> Result<usize, Cause>
+fn read_header(bytes: &[u8]) -> Result<u8, Cause>
     requires long { 20 ≤ header_length 0 bytes.now }
     requires there { header_length 0 bytes.now ≤ length bytes.now }
     ensures checks { result_err result ≡ refusal (header_checks bytes.now) }
     ensures start { IfOk result (λ start. start ≡ transport 0 bytes.now) }
 {
     let start = read_header_length(bytes, 0);
-    if !is_right(&bytes[..start]) {
+    if !is_right(&bytes[..usize::from(start)]) {
         return Err(Cause::BadChecksum);
     }
     if is_fragment(bytes) {
@@ -205,7 +205,6 @@ fn read_flags(bits: u8) -> Flags
 }
 
 /// What an ICMP error quotes, whose message begins at `start`.
-#[tactic(auto, unfolding(crate::specs::Fields::inner))]
 fn read_quoted(side: Side, bytes: &[u8], start: usize) -> Result<Quoted, Cause>
     requires long { 20 ≤ start }
     requires there { start + 8 ≤ length bytes.now }
@@ -226,8 +225,7 @@ fn read_quoted(side: Side, bytes: &[u8], start: usize) -> Result<Quoted, Cause>
     }
     Ok(Quoted {
         form,
-        start: inner,
-        inner: read_ends(bytes, at, inner, form),
+        start: inner as u16,
     })
 }
 
@@ -246,7 +244,7 @@ fn read_inner(side: Side, bytes: &[u8], at: usize) -> Option<(usize, Form)>
     if bytes.len() < at + 20 || bytes[at] >> 4 != 4 {
         return None;
     }
-    let header = read_header_length(bytes, at);
+    let header = usize::from(read_header_length(bytes, at));
     let start = at + header;
     if header < 20 || bytes.len() < start + 8 || !is_right(&bytes[at..start]) {
         return None;

@@ -1,7 +1,8 @@
 // How often and with what a gate is asked.
 use super::machines::Keeper;
 use super::take_soon;
-use crate::{Gate, Pool, PoolFault};
+use crate::{Gate, Machine, Pool, PoolFault};
+use std::alloc::{AllocError, Global};
 use std::sync::Arc;
 use std::sync::atomic::{AtomicU64, Ordering};
 use std::test::Fail;
@@ -88,6 +89,74 @@ fn gate_is_asked_by_turns(rt: HostRuntime) -> Result<(), Fail> {
     assert_eq!(rt; ended.len(), 1);
     assert_eq!(rt; ended[0].machine.items.as_slice(), [7, 8, 9].as_slice());
     assert_eq!(rt; gate.asks.load(Ordering::SeqCst), 6);
+    assert_eq!(rt; gate.strange.load(Ordering::SeqCst), 0);
+    Ok(())
+}
+
+/// Counts its steps.
+#[derive(Drop)]
+struct Stepper {
+    steps: Arc<AtomicU64>,
+}
+
+impl Machine for Stepper {
+    type Item = ();
+
+    type Answer = ();
+
+    ghost stepped = { λ stepper _. stepper };
+
+    ghost reply = { λ _ item. item };
+
+    fn step(&mut self, _alloc: Global, item: ()) -> Result<(), AllocError> {
+        self.steps.fetch_add(1, Ordering::SeqCst);
+        Ok(item)
+    }
+}
+
+/// Always says yes, and counts the asks before which its worker did not make as many steps as it tells.
+#[derive(Drop)]
+struct Watching {
+    steps: Arc<AtomicU64>,
+    strange: AtomicU64,
+}
+
+impl Gate for Watching {
+    ghost use Rattle.std.specs.Prelude.{true};
+
+    ghost is_open = { true };
+
+    fn enter(&self, _worker: u32, turn: u64) -> bool {
+        if self.steps.load(Ordering::SeqCst) != turn {
+            self.strange.fetch_add(1, Ordering::SeqCst);
+        }
+        true
+    }
+}
+
+#[test]
+fn gate_is_asked_before_the_step(rt: HostRuntime) -> Result<(), Fail> {
+    let alloc = rt.alloc();
+    let steps = Arc::new(alloc, AtomicU64::new(0))?;
+    let gate = Arc::new(
+        alloc,
+        Watching {
+            steps: Arc::try_clone(&steps)?,
+            strange: AtomicU64::new(0),
+        },
+    )?;
+    let mut machines = Vec::new(alloc);
+    machines.push(Stepper {
+        steps: Arc::try_clone(&steps)?,
+    })?;
+    let mut pool = Pool::start(&rt, alloc, machines, 4, Arc::try_clone(&gate)?)
+        .ok()
+        .expect(&rt, "start");
+    assert!(rt; pool.offer(alloc, 0, ()).is_ok());
+    assert!(rt; pool.offer(alloc, 0, ()).is_ok());
+    assert!(rt; pool.offer(alloc, 0, ()).is_ok());
+    assert!(rt; pool.close(&rt, alloc).is_ok());
+    assert_eq!(rt; steps.load(Ordering::SeqCst), 3);
     assert_eq!(rt; gate.strange.load(Ordering::SeqCst), 0);
     Ok(())
 }

@@ -158,3 +158,35 @@ fn ring_rounds(rt: HostRuntime) -> Result<(), Fail> {
     }
     Ok(())
 }
+
+/// Fills a pool of one worker and closes it at once: its item ring has room for Close beside all items.
+fn close_full<R: Threads + Wait + Abort + Copy + Send + 'static>(
+    rt: &R,
+    alloc: Global,
+    capacity: u16,
+) -> Result<(), Fail>
+    requires { (1 ≤ capacity) × (capacity ≤ 4096) }
+{
+    let gate = Arc::new(alloc, OpenGate)?;
+    let machines = Keeper::several(alloc, 1)?;
+    let mut pool = Pool::start(rt, alloc, machines, usize::from(capacity), gate)
+        .ok()
+        .expect(rt, "start");
+    assert_eq!(rt; fill(alloc, &mut pool, 0), Some(u64::from(capacity)));
+    let ended = pool.close(rt, alloc).ok().expect(rt, "close");
+    assert_eq!(rt; ended.len(), 1);
+    assert_eq!(rt; ended[0].answers.len(), usize::from(capacity));
+    Ok(())
+}
+
+/// Most often the worker has not begun when it is closed, so all items are in the ring.
+#[test]
+fn full_pool_closes(rt: HostRuntime) -> Result<(), Fail> {
+    let alloc = rt.alloc();
+    for capacity in [1, 2, 64] {
+        for _ in 0..50 {
+            close_full(&rt, alloc, capacity)?;
+        }
+    }
+    Ok(())
+}

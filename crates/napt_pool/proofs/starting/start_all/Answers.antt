@@ -1,6 +1,6 @@
 use Rattle.std.proofs.Common.{rules, arith, ◌≡◌, ◌++◌, ◌∷◌, [], vec_items, vec_len, ◌+◌, below_more, ap, ◌∙◌}
 use Rattle.std.specs.Prelude.{slice_index_or}
-use Rattle.napt_pool.specs.Workers.{machine_of, accepted_of, taken_of}
+use Rattle.napt_pool.specs.Workers.{machine_of, accepted_of, taken_of, heard_of}
 use Rattle.napt_pool.proofs.Joins.{all-push, map-split-step}
 use Rattle.napt_pool.proofs.starting.start_all.Goals as goal
 
@@ -17,6 +17,7 @@ loop-machine-preserved g c =
       machines = map-split-step machine_of _ _ _ _ _ _ _ pushed begun.machine (search rules) was.machines;
       accepted = all-push accepted_of _ _ _ _ _ _ pushed grown begun.empty.0 was.accepted;
       taken = all-push taken_of _ _ _ _ _ _ pushed grown begun.empty.1 was.taken;
+      heard = all-push heard_of _ _ _ _ _ _ pushed grown begun.empty.2 was.heard;
       capacity = λ k d low. below_more (λ i. (slice_index_or (vec_items c.push.new.self) i d).capacity ≡ c.args.capacity) (vec_len c.loop-machine.workers)
           (λ i less. ap (λ w. w.capacity) (c.push.ensures.by_index.0 i d less) ∙ was.capacity i d less)
           (ap (λ w. w.capacity) (c.push.ensures.by_index.1 d (search rules)) ∙ begun.capacity) k (omega arith);

@@ -1,7 +1,7 @@
 use Rattle.std.proofs.Common.{◌≡◌, ℕ, ◌+◌, ◌≤◌, ◌<◌, ◌++◌, [], map, vec_items, vec_len, slice_index_or}
 use Rattle.std.specs.Prelude.{vec_capacity, replicate}
 use Rattle.std.specs.Vec.Iter.{into_iter_items, into_iter_len}
-use Rattle.napt_pool.specs.Workers.{machine_of, accepted_of, taken_of}
+use Rattle.napt_pool.specs.Workers.{machine_of, accepted_of, taken_of, heard_of}
 use Rattle.napt_pool.proofs.starting.start_all.Given as goal
 
 abbrev pub invariant-loop-machine : goal.invariant-loop-machine
@@ -14,5 +14,6 @@ invariant-loop-machine g l =
       machines : map machine_of done ++ rest ≡ all;
       accepted : map accepted_of done ≡ replicate (vec_len l.workers) [];
       taken : map taken_of done ≡ replicate (vec_len l.workers) [];
+      heard : map heard_of done ≡ replicate (vec_len l.workers) [];
       capacity : (k : ℕ) (d : _) → k < vec_len l.workers → (slice_index_or done k d).capacity ≡ l.capacity;
     }

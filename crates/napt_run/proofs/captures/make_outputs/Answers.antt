@@ -6,6 +6,6 @@ use Rattle.napt_run.proofs.captures.make_outputs.Goals as goal
 
 pub records_sent-requires : goal.records_sent-requires
 records_sent-requires g c =
-    rw c.deref-2.ensures.value (c.in-Ok.ensures.timely
+    rw c.deref-2.ensures.value (c.in_ok-inputs.ensures.timely
     (subst (λ (capture : Contents). All IsWritable capture.records) (sym c.inside.view_is) c.requires.inside)
     (subst (λ (capture : Contents). All IsWritable capture.records) (sym c.outside.view_is) c.requires.outside))

@@ -1,220 +1,296 @@
-use Rattle.napt_run.specs.declared.fault.Which.TheVariants.{Inside, Report}
-use Rattle.napt_run.specs.Captures.{failed_writings}
-use Rattle.napt_run.proofs.Devices.{none_failed}
+use Rattle.std.proofs.Common.{rules, inl, inr, ap, Err}
+use Rattle.std.proofs.lemmas.Result.{err_from_is_err_and}
+use Rattle.napt_capture.specs.Text.{text}
+use Rattle.napt_run.specs.Devices.{bytes_in}
+use Rattle.napt_run.specs.declared.captures.Captures.{Captures}
+use Rattle.napt_run.specs.declared.fault.Which.TheVariants.{Outside, Inside, Report}
+use Rattle.napt_run.specs.Captures.{IsReadAsOutside, share_of, whole}
+use Rattle.napt_run.proofs.Devices.{before_inside, before_report, none_or_some, outside_read, received, refused}
 use Rattle.napt_run.proofs.captures.run_captures.Goals as goal
-
-pub returns-in-Some-report-clause-to_outside : goal.returns-in-Some-report-clause-to_outside
-returns-in-Some-report-clause-to_outside g c = rw c.in-Some.is c.run_both.ensures.to_outside
-
-pub returns-in-Some-report-clause-to_inside : goal.returns-in-Some-report-clause-to_inside
-returns-in-Some-report-clause-to_inside g c = rw (c.in-Some-to_inside.is, c.in-Some.is) c.run_both.ensures.to_inside
-
-pub returns-in-Some-report-clause-report : goal.returns-in-Some-report-clause-report
-returns-in-Some-report-clause-report g c = rw (c.in-Some-report.is, c.in-Some.is) c.run_both.ensures.report
-
-pub returns-in-Some-report-clause-fault : goal.returns-in-Some-report-clause-fault
-returns-in-Some-report-clause-fault g c = rw c.in-Some.is c.run_both.ensures.fault
-
-pub returns-in-Some-report-clause-inside_readings : goal.returns-in-Some-report-clause-inside_readings
-returns-in-Some-report-clause-inside_readings g c = c.run_both.ensures.inside_readings
-
-pub returns-in-Some-report-clause-outside_readings : goal.returns-in-Some-report-clause-outside_readings
-returns-in-Some-report-clause-outside_readings g c = rw c.in-Some.is c.run_both.ensures.outside_readings
-
-pub returns-in-Some-report-clause-outside_writings : goal.returns-in-Some-report-clause-outside_writings
-returns-in-Some-report-clause-outside_writings g c = c.run_both.ensures.outside_writings
-
-pub returns-in-Some-report-clause-inside_writings : goal.returns-in-Some-report-clause-inside_writings
-returns-in-Some-report-clause-inside_writings g c = rw c.in-Some-to_inside.is c.run_both.ensures.inside_writings
-
-pub returns-in-Some-report-clause-report_writings : goal.returns-in-Some-report-clause-report_writings
-returns-in-Some-report-clause-report_writings g c = rw c.in-Some-report.is c.run_both.ensures.report_writings
-
-pub returns-in-None-report-clause-to_outside : goal.returns-in-None-report-clause-to_outside
-returns-in-None-report-clause-to_outside g c = rw c.in-Some.is c.run_both-in-None-report.ensures.to_outside
-
-pub returns-in-None-report-clause-to_inside : goal.returns-in-None-report-clause-to_inside
-returns-in-None-report-clause-to_inside g c = rw (c.in-Some-to_inside.is, c.in-Some.is) c.run_both-in-None-report.ensures.to_inside
-
-pub returns-in-None-report-clause-report : goal.returns-in-None-report-clause-report
-returns-in-None-report-clause-report g c = rw c.in-None-report.is tt
-
-pub returns-in-None-report-clause-fault : goal.returns-in-None-report-clause-fault
-returns-in-None-report-clause-fault g c = rw c.in-Some.is c.run_both-in-None-report.ensures.fault
-
-pub returns-in-None-report-clause-inside_readings : goal.returns-in-None-report-clause-inside_readings
-returns-in-None-report-clause-inside_readings g c = c.run_both-in-None-report.ensures.inside_readings
-
-pub returns-in-None-report-clause-outside_readings : goal.returns-in-None-report-clause-outside_readings
-returns-in-None-report-clause-outside_readings g c = rw c.in-Some.is c.run_both-in-None-report.ensures.outside_readings
-
-pub returns-in-None-report-clause-outside_writings : goal.returns-in-None-report-clause-outside_writings
-returns-in-None-report-clause-outside_writings g c = c.run_both-in-None-report.ensures.outside_writings
-
-pub returns-in-None-report-clause-inside_writings : goal.returns-in-None-report-clause-inside_writings
-returns-in-None-report-clause-inside_writings g c = rw c.in-Some-to_inside.is c.run_both-in-None-report.ensures.inside_writings
-
-pub returns-in-None-report-clause-report_writings : goal.returns-in-None-report-clause-report_writings
-returns-in-None-report-clause-report_writings g c = rw c.in-None-report.is (none_failed (failed_writings Report c.run_both-in-None-report.result) c.run_both-in-None-report.ensures.report_writings)
-
-pub returns-in-Some-report-2-clause-to_outside : goal.returns-in-Some-report-2-clause-to_outside
-returns-in-Some-report-2-clause-to_outside g c = rw c.in-Some.is c.run_both-in-Some-report-2.ensures.to_outside
-
-pub returns-in-Some-report-2-clause-to_inside : goal.returns-in-Some-report-2-clause-to_inside
-returns-in-Some-report-2-clause-to_inside g c = rw c.in-None-to_inside.is tt
-
-pub returns-in-Some-report-2-clause-report : goal.returns-in-Some-report-2-clause-report
-returns-in-Some-report-2-clause-report g c = rw (c.in-Some-report-2.is, c.in-Some.is) c.run_both-in-Some-report-2.ensures.report
-
-pub returns-in-Some-report-2-clause-fault : goal.returns-in-Some-report-2-clause-fault
-returns-in-Some-report-2-clause-fault g c = rw c.in-Some.is c.run_both-in-Some-report-2.ensures.fault
-
-pub returns-in-Some-report-2-clause-inside_readings : goal.returns-in-Some-report-2-clause-inside_readings
-returns-in-Some-report-2-clause-inside_readings g c = c.run_both-in-Some-report-2.ensures.inside_readings
-
-pub returns-in-Some-report-2-clause-outside_readings : goal.returns-in-Some-report-2-clause-outside_readings
-returns-in-Some-report-2-clause-outside_readings g c = rw c.in-Some.is c.run_both-in-Some-report-2.ensures.outside_readings
-
-pub returns-in-Some-report-2-clause-outside_writings : goal.returns-in-Some-report-2-clause-outside_writings
-returns-in-Some-report-2-clause-outside_writings g c = c.run_both-in-Some-report-2.ensures.outside_writings
-
-pub returns-in-Some-report-2-clause-inside_writings : goal.returns-in-Some-report-2-clause-inside_writings
-returns-in-Some-report-2-clause-inside_writings g c = rw c.in-None-to_inside.is (none_failed (failed_writings Inside c.run_both-in-Some-report-2.result) c.run_both-in-Some-report-2.ensures.inside_writings)
-
-pub returns-in-Some-report-2-clause-report_writings : goal.returns-in-Some-report-2-clause-report_writings
-returns-in-Some-report-2-clause-report_writings g c = rw c.in-Some-report-2.is c.run_both-in-Some-report-2.ensures.report_writings
-
-pub returns-in-None-report-2-clause-to_outside : goal.returns-in-None-report-2-clause-to_outside
-returns-in-None-report-2-clause-to_outside g c = rw c.in-Some.is c.run_both-in-None-report-2.ensures.to_outside
-
-pub returns-in-None-report-2-clause-to_inside : goal.returns-in-None-report-2-clause-to_inside
-returns-in-None-report-2-clause-to_inside g c = rw c.in-None-to_inside.is tt
-
-pub returns-in-None-report-2-clause-report : goal.returns-in-None-report-2-clause-report
-returns-in-None-report-2-clause-report g c = rw c.in-None-report-2.is tt
-
-pub returns-in-None-report-2-clause-fault : goal.returns-in-None-report-2-clause-fault
-returns-in-None-report-2-clause-fault g c = rw c.in-Some.is c.run_both-in-None-report-2.ensures.fault
-
-pub returns-in-None-report-2-clause-inside_readings : goal.returns-in-None-report-2-clause-inside_readings
-returns-in-None-report-2-clause-inside_readings g c = c.run_both-in-None-report-2.ensures.inside_readings
-
-pub returns-in-None-report-2-clause-outside_readings : goal.returns-in-None-report-2-clause-outside_readings
-returns-in-None-report-2-clause-outside_readings g c = rw c.in-Some.is c.run_both-in-None-report-2.ensures.outside_readings
-
-pub returns-in-None-report-2-clause-outside_writings : goal.returns-in-None-report-2-clause-outside_writings
-returns-in-None-report-2-clause-outside_writings g c = c.run_both-in-None-report-2.ensures.outside_writings
-
-pub returns-in-None-report-2-clause-inside_writings : goal.returns-in-None-report-2-clause-inside_writings
-returns-in-None-report-2-clause-inside_writings g c = rw c.in-None-to_inside.is (none_failed (failed_writings Inside c.run_both-in-None-report-2.result) c.run_both-in-None-report-2.ensures.inside_writings)
-
-pub returns-in-None-report-2-clause-report_writings : goal.returns-in-None-report-2-clause-report_writings
-returns-in-None-report-2-clause-report_writings g c = rw c.in-None-report-2.is (none_failed (failed_writings Report c.run_both-in-None-report-2.result) c.run_both-in-None-report-2.ensures.report_writings)
-
-pub returns-in-Some-report-3-clause-to_outside : goal.returns-in-Some-report-3-clause-to_outside
-returns-in-Some-report-3-clause-to_outside g c = rw c.in-None.is c.run_inside.ensures.to_outside
-
-pub returns-in-Some-report-3-clause-to_inside : goal.returns-in-Some-report-3-clause-to_inside
-returns-in-Some-report-3-clause-to_inside g c = rw (c.in-Some-to_inside-2.is, c.in-None.is) c.run_inside.ensures.to_inside
-
-pub returns-in-Some-report-3-clause-report : goal.returns-in-Some-report-3-clause-report
-returns-in-Some-report-3-clause-report g c = rw (c.in-Some-report-3.is, c.in-None.is) c.run_inside.ensures.report
-
-pub returns-in-Some-report-3-clause-fault : goal.returns-in-Some-report-3-clause-fault
-returns-in-Some-report-3-clause-fault g c = rw c.in-None.is c.run_inside.ensures.fault
-
-pub returns-in-Some-report-3-clause-inside_readings : goal.returns-in-Some-report-3-clause-inside_readings
-returns-in-Some-report-3-clause-inside_readings g c = c.run_inside.ensures.inside_readings
-
-pub returns-in-Some-report-3-clause-outside_readings : goal.returns-in-Some-report-3-clause-outside_readings
-returns-in-Some-report-3-clause-outside_readings g c = rw c.in-None.is c.run_inside.ensures.outside_readings
-
-pub returns-in-Some-report-3-clause-outside_writings : goal.returns-in-Some-report-3-clause-outside_writings
-returns-in-Some-report-3-clause-outside_writings g c = c.run_inside.ensures.outside_writings
-
-pub returns-in-Some-report-3-clause-inside_writings : goal.returns-in-Some-report-3-clause-inside_writings
-returns-in-Some-report-3-clause-inside_writings g c = rw c.in-Some-to_inside-2.is c.run_inside.ensures.inside_writings
-
-pub returns-in-Some-report-3-clause-report_writings : goal.returns-in-Some-report-3-clause-report_writings
-returns-in-Some-report-3-clause-report_writings g c = rw c.in-Some-report-3.is c.run_inside.ensures.report_writings
-
-pub returns-in-None-report-3-clause-to_outside : goal.returns-in-None-report-3-clause-to_outside
-returns-in-None-report-3-clause-to_outside g c = rw c.in-None.is c.run_inside-in-None-report-3.ensures.to_outside
-
-pub returns-in-None-report-3-clause-to_inside : goal.returns-in-None-report-3-clause-to_inside
-returns-in-None-report-3-clause-to_inside g c = rw (c.in-Some-to_inside-2.is, c.in-None.is) c.run_inside-in-None-report-3.ensures.to_inside
-
-pub returns-in-None-report-3-clause-report : goal.returns-in-None-report-3-clause-report
-returns-in-None-report-3-clause-report g c = rw c.in-None-report-3.is tt
-
-pub returns-in-None-report-3-clause-fault : goal.returns-in-None-report-3-clause-fault
-returns-in-None-report-3-clause-fault g c = rw c.in-None.is c.run_inside-in-None-report-3.ensures.fault
-
-pub returns-in-None-report-3-clause-inside_readings : goal.returns-in-None-report-3-clause-inside_readings
-returns-in-None-report-3-clause-inside_readings g c = c.run_inside-in-None-report-3.ensures.inside_readings
-
-pub returns-in-None-report-3-clause-outside_readings : goal.returns-in-None-report-3-clause-outside_readings
-returns-in-None-report-3-clause-outside_readings g c = rw c.in-None.is c.run_inside-in-None-report-3.ensures.outside_readings
-
-pub returns-in-None-report-3-clause-outside_writings : goal.returns-in-None-report-3-clause-outside_writings
-returns-in-None-report-3-clause-outside_writings g c = c.run_inside-in-None-report-3.ensures.outside_writings
-
-pub returns-in-None-report-3-clause-inside_writings : goal.returns-in-None-report-3-clause-inside_writings
-returns-in-None-report-3-clause-inside_writings g c = rw c.in-Some-to_inside-2.is c.run_inside-in-None-report-3.ensures.inside_writings
-
-pub returns-in-None-report-3-clause-report_writings : goal.returns-in-None-report-3-clause-report_writings
-returns-in-None-report-3-clause-report_writings g c = rw c.in-None-report-3.is (none_failed (failed_writings Report c.run_inside-in-None-report-3.result) c.run_inside-in-None-report-3.ensures.report_writings)
-
-pub returns-in-Some-report-4-clause-to_outside : goal.returns-in-Some-report-4-clause-to_outside
-returns-in-Some-report-4-clause-to_outside g c = rw c.in-None.is c.run_inside-in-Some-report-4.ensures.to_outside
-
-pub returns-in-Some-report-4-clause-to_inside : goal.returns-in-Some-report-4-clause-to_inside
-returns-in-Some-report-4-clause-to_inside g c = rw c.in-None-to_inside-2.is tt
-
-pub returns-in-Some-report-4-clause-report : goal.returns-in-Some-report-4-clause-report
-returns-in-Some-report-4-clause-report g c = rw (c.in-Some-report-4.is, c.in-None.is) c.run_inside-in-Some-report-4.ensures.report
-
-pub returns-in-Some-report-4-clause-fault : goal.returns-in-Some-report-4-clause-fault
-returns-in-Some-report-4-clause-fault g c = rw c.in-None.is c.run_inside-in-Some-report-4.ensures.fault
-
-pub returns-in-Some-report-4-clause-inside_readings : goal.returns-in-Some-report-4-clause-inside_readings
-returns-in-Some-report-4-clause-inside_readings g c = c.run_inside-in-Some-report-4.ensures.inside_readings
-
-pub returns-in-Some-report-4-clause-outside_readings : goal.returns-in-Some-report-4-clause-outside_readings
-returns-in-Some-report-4-clause-outside_readings g c = rw c.in-None.is c.run_inside-in-Some-report-4.ensures.outside_readings
-
-pub returns-in-Some-report-4-clause-outside_writings : goal.returns-in-Some-report-4-clause-outside_writings
-returns-in-Some-report-4-clause-outside_writings g c = c.run_inside-in-Some-report-4.ensures.outside_writings
-
-pub returns-in-Some-report-4-clause-inside_writings : goal.returns-in-Some-report-4-clause-inside_writings
-returns-in-Some-report-4-clause-inside_writings g c = rw c.in-None-to_inside-2.is (none_failed (failed_writings Inside c.run_inside-in-Some-report-4.result) c.run_inside-in-Some-report-4.ensures.inside_writings)
-
-pub returns-in-Some-report-4-clause-report_writings : goal.returns-in-Some-report-4-clause-report_writings
-returns-in-Some-report-4-clause-report_writings g c = rw c.in-Some-report-4.is c.run_inside-in-Some-report-4.ensures.report_writings
-
-pub returns-in-None-report-4-clause-to_outside : goal.returns-in-None-report-4-clause-to_outside
-returns-in-None-report-4-clause-to_outside g c = rw c.in-None.is c.run_inside-in-None-report-4.ensures.to_outside
-
-pub returns-in-None-report-4-clause-to_inside : goal.returns-in-None-report-4-clause-to_inside
-returns-in-None-report-4-clause-to_inside g c = rw c.in-None-to_inside-2.is tt
-
-pub returns-in-None-report-4-clause-report : goal.returns-in-None-report-4-clause-report
-returns-in-None-report-4-clause-report g c = rw c.in-None-report-4.is tt
-
-pub returns-in-None-report-4-clause-fault : goal.returns-in-None-report-4-clause-fault
-returns-in-None-report-4-clause-fault g c = rw c.in-None.is c.run_inside-in-None-report-4.ensures.fault
-
-pub returns-in-None-report-4-clause-inside_readings : goal.returns-in-None-report-4-clause-inside_readings
-returns-in-None-report-4-clause-inside_readings g c = c.run_inside-in-None-report-4.ensures.inside_readings
-
-pub returns-in-None-report-4-clause-outside_readings : goal.returns-in-None-report-4-clause-outside_readings
-returns-in-None-report-4-clause-outside_readings g c = rw c.in-None.is c.run_inside-in-None-report-4.ensures.outside_readings
-
-pub returns-in-None-report-4-clause-outside_writings : goal.returns-in-None-report-4-clause-outside_writings
-returns-in-None-report-4-clause-outside_writings g c = c.run_inside-in-None-report-4.ensures.outside_writings
-
-pub returns-in-None-report-4-clause-inside_writings : goal.returns-in-None-report-4-clause-inside_writings
-returns-in-None-report-4-clause-inside_writings g c = rw c.in-None-to_inside-2.is (none_failed (failed_writings Inside c.run_inside-in-None-report-4.result) c.run_inside-in-None-report-4.ensures.inside_writings)
-
-pub returns-in-None-report-4-clause-report_writings : goal.returns-in-None-report-4-clause-report_writings
-returns-in-None-report-4-clause-report_writings g c = rw c.in-None-report-4.is (none_failed (failed_writings Report c.run_inside-in-None-report-4.result) c.run_inside-in-None-report-4.ensures.report_writings)
+use Rattle.napt_run.proofs.captures.run_captures.Goals.{in-Some+in_ok-outside-in-Some, in-None, in-Some-to_inside+in_ok-write_records-2, in_default, in-Some-report+in_ok-write_report, in_default-report}
+
+pub returns-in_err-inside-clause-to_inside : goal.returns-in_err-inside-clause-to_inside
+returns-in_err-inside-clause-to_inside g c =
+    elim (none_or_some c.args.to_inside) [ inl none ↦ rw none tt | inr some ↦ rw some.1 (search rules) ]
+
+pub returns-in_err-inside-clause-report : goal.returns-in_err-inside-clause-report
+returns-in_err-inside-clause-report g c =
+    elim (none_or_some c.args.report) [ inl none ↦ rw none tt | inr some ↦ rw some.1 (search rules) ]
+
+pub returns-in_err-inside-clause-outside_readings : goal.returns-in_err-inside-clause-outside_readings
+returns-in_err-inside-clause-outside_readings g c =
+    elim (none_or_some c.args.outside) [ inl none ↦ rw none (search rules) | inr some ↦ rw some.1 (search rules) ]
+
+pub returns-in_err-inside-clause-inside_writings : goal.returns-in_err-inside-clause-inside_writings
+returns-in_err-inside-clause-inside_writings g c =
+    elim (none_or_some c.args.to_inside) [ inl none ↦ rw none (search rules) | inr some ↦ rw some.1 (search rules) ]
+
+pub returns-in_err-inside-clause-report_writings : goal.returns-in_err-inside-clause-report_writings
+returns-in_err-inside-clause-report_writings g c =
+    elim (none_or_some c.args.report) [ inl none ↦ rw none (search rules) | inr some ↦ rw some.1 (search rules) ]
+
+pub returns-in_err-outside-in-Some-clause-to_inside : goal.returns-in_err-outside-in-Some-clause-to_inside
+returns-in_err-outside-in-Some-clause-to_inside g c =
+    elim (none_or_some c.args.to_inside) [ inl none ↦ rw none tt | inr some ↦ rw some.1 (search rules) ]
+
+pub returns-in_err-outside-in-Some-clause-report : goal.returns-in_err-outside-in-Some-clause-report
+returns-in_err-outside-in-Some-clause-report g c =
+    elim (none_or_some c.args.report) [ inl none ↦ rw none tt | inr some ↦ rw some.1 (search rules) ]
+
+pub returns-in_err-outside-in-Some-clause-outside_readings : goal.returns-in_err-outside-in-Some-clause-outside_readings
+returns-in_err-outside-in-Some-clause-outside_readings g c =
+    let p = err_from_is_err_and c.from_residual-in_err-outside-in-Some.result c.from_residual-in_err-outside-in-Some.ensures.1 in
+    rw (p.1, p.2, c.in-Some.is) c.in_err-outside-in-Some.ensures.count
+
+pub returns-in_err-outside-in-Some-clause-inside_writings : goal.returns-in_err-outside-in-Some-clause-inside_writings
+returns-in_err-outside-in-Some-clause-inside_writings g c =
+    elim (none_or_some c.args.to_inside) [ inl none ↦ rw none (search rules) | inr some ↦ rw some.1 (search rules) ]
+
+pub returns-in_err-outside-in-Some-clause-report_writings : goal.returns-in_err-outside-in-Some-clause-report_writings
+returns-in_err-outside-in-Some-clause-report_writings g c =
+    elim (none_or_some c.args.report) [ inl none ↦ rw none (search rules) | inr some ↦ rw some.1 (search rules) ]
+
+pub returns-in_err-outputs-clause-to_inside : goal.returns-in_err-outputs-clause-to_inside
+returns-in_err-outputs-clause-to_inside g c =
+    elim (none_or_some c.args.to_inside) [ inl none ↦ rw none tt | inr some ↦ rw some.1 (search rules) ]
+
+pub returns-in_err-outputs-clause-report : goal.returns-in_err-outputs-clause-report
+returns-in_err-outputs-clause-report g c =
+    elim (none_or_some c.args.report) [ inl none ↦ rw none tt | inr some ↦ rw some.1 (search rules) ]
+
+pub returns-in_err-outputs-clause-fault : goal.returns-in_err-outputs-clause-fault
+returns-in_err-outputs-clause-fault g c =
+    let p = err_from_is_err_and c.from_residual-in_err-outputs.result c.from_residual-in_err-outputs.ensures.1 in
+    let captures : Captures = record { inside = c.in_ok-inside.inside; outside = c.match-outside.outside2 } in
+    let second : IsReadAsOutside (bytes_in g.Q.Source.remaining c.args.outside) captures.outside =
+    elim c.match-outside.branch [
+      | in-Some+in_ok-outside-in-Some w ↦ rw (w.in-Some.is, w.outside2-is) (outside_read _ _ w.in_ok-outside-in-Some.ensures.ok)
+      | in-None w ↦ rw (w.in-None.is, w.outside2-is) w.no_capture-outside.ensures
+    ] in
+    rw (p.1, p.2) (refused (g.R.Source.remaining c.args.inside.now) (bytes_in g.Q.Source.remaining c.args.outside) captures _ c.in_ok-inside.ensures.ok second c.in_err-outputs.ensures.err)
+
+pub returns-in_err-outputs-clause-outside_readings : goal.returns-in_err-outputs-clause-outside_readings
+returns-in_err-outputs-clause-outside_readings g c =
+    elim c.match-outside.branch [
+      | in-Some+in_ok-outside-in-Some w ↦ rw (w.outside-is, w.in-Some.is) (search rules)
+      | in-None w ↦ rw (w.outside-is, w.in-None.is) (search rules)
+    ]
+
+pub returns-in_err-outputs-clause-inside_writings : goal.returns-in_err-outputs-clause-inside_writings
+returns-in_err-outputs-clause-inside_writings g c =
+    elim (none_or_some c.args.to_inside) [ inl none ↦ rw none (search rules) | inr some ↦ rw some.1 (search rules) ]
+
+pub returns-in_err-outputs-clause-report_writings : goal.returns-in_err-outputs-clause-report_writings
+returns-in_err-outputs-clause-report_writings g c =
+    elim (none_or_some c.args.report) [ inl none ↦ rw none (search rules) | inr some ↦ rw some.1 (search rules) ]
+
+pub returns-in_err-write_records-clause-to_outside : goal.returns-in_err-write_records-clause-to_outside
+returns-in_err-write_records-clause-to_outside g c =
+    let p = err_from_is_err_and c.from_residual-in_err-write_records.result c.from_residual-in_err-write_records.ensures.1 in
+    let captures : Captures = record { inside = c.in_ok-inside.inside; outside = c.match-outside.outside2 } in
+    let second : IsReadAsOutside (bytes_in g.Q.Source.remaining c.args.outside) captures.outside =
+    elim c.match-outside.branch [
+      | in-Some+in_ok-outside-in-Some w ↦ rw (w.in-Some.is, w.outside2-is) (outside_read _ _ w.in_ok-outside-in-Some.ensures.ok)
+      | in-None w ↦ rw (w.in-None.is, w.outside2-is) w.no_capture-outside.ensures
+    ] in
+    rw (p.1, p.2) (received Outside (share_of Outside (Err c.in_err-write_records.field-0.0)) c.args.config.now (g.R.Source.remaining c.args.inside.now) (bytes_in g.Q.Source.remaining c.args.outside) captures _
+    (text c.deref.result.now) (g.W.Sink.contents c.args.to_outside.now) (g.W.Sink.contents c.write_records.new.output) c.in_ok-inside.ensures.ok second c.in_ok-outputs.ensures.ok (ap text c.deref.ensures.value) c.in_err-write_records.ensures.bytes)
+
+pub returns-in_err-write_records-clause-to_inside : goal.returns-in_err-write_records-clause-to_inside
+returns-in_err-write_records-clause-to_inside g c =
+    elim (none_or_some c.args.to_inside) [ inl none ↦ rw none tt | inr some ↦ rw some.1 (search rules) ]
+
+pub returns-in_err-write_records-clause-report : goal.returns-in_err-write_records-clause-report
+returns-in_err-write_records-clause-report g c =
+    elim (none_or_some c.args.report) [ inl none ↦ rw none tt | inr some ↦ rw some.1 (search rules) ]
+
+pub returns-in_err-write_records-clause-outside_readings : goal.returns-in_err-write_records-clause-outside_readings
+returns-in_err-write_records-clause-outside_readings g c =
+    elim c.match-outside.branch [
+      | in-Some+in_ok-outside-in-Some w ↦ rw (w.outside-is, w.in-Some.is) (search rules)
+      | in-None w ↦ rw (w.outside-is, w.in-None.is) (search rules)
+    ]
+
+pub returns-in_err-write_records-clause-inside_writings : goal.returns-in_err-write_records-clause-inside_writings
+returns-in_err-write_records-clause-inside_writings g c =
+    elim (none_or_some c.args.to_inside) [ inl none ↦ rw none (search rules) | inr some ↦ rw some.1 (search rules) ]
+
+pub returns-in_err-write_records-clause-report_writings : goal.returns-in_err-write_records-clause-report_writings
+returns-in_err-write_records-clause-report_writings g c =
+    elim (none_or_some c.args.report) [ inl none ↦ rw none (search rules) | inr some ↦ rw some.1 (search rules) ]
+
+pub returns-in_err-write_records-2-clause-to_outside : goal.returns-in_err-write_records-2-clause-to_outside
+returns-in_err-write_records-2-clause-to_outside g c =
+    let p = err_from_is_err_and c.from_residual-in_err-write_records-2.result c.from_residual-in_err-write_records-2.ensures.1 in
+    let captures : Captures = record { inside = c.in_ok-inside.inside; outside = c.match-outside.outside2 } in
+    let second : IsReadAsOutside (bytes_in g.Q.Source.remaining c.args.outside) captures.outside =
+    elim c.match-outside.branch [
+      | in-Some+in_ok-outside-in-Some w ↦ rw (w.in-Some.is, w.outside2-is) (outside_read _ _ w.in_ok-outside-in-Some.ensures.ok)
+      | in-None w ↦ rw (w.in-None.is, w.outside2-is) w.no_capture-outside.ensures
+    ] in
+    rw (p.1, p.2, before_inside c.in_err-write_records-2.field-0.0 c.in_err-write_records-2.ensures.fault) (received Outside whole c.args.config.now (g.R.Source.remaining c.args.inside.now) (bytes_in g.Q.Source.remaining c.args.outside) captures _
+    (text c.deref.result.now) (g.W.Sink.contents c.args.to_outside.now) (g.W.Sink.contents c.write_records.new.output) c.in_ok-inside.ensures.ok second c.in_ok-outputs.ensures.ok (ap text c.deref.ensures.value) c.in_ok-write_records.ensures.bytes)
+
+pub returns-in_err-write_records-2-clause-to_inside : goal.returns-in_err-write_records-2-clause-to_inside
+returns-in_err-write_records-2-clause-to_inside g c =
+    let p = err_from_is_err_and c.from_residual-in_err-write_records-2.result c.from_residual-in_err-write_records-2.ensures.1 in
+    let captures : Captures = record { inside = c.in_ok-inside.inside; outside = c.match-outside.outside2 } in
+    let second : IsReadAsOutside (bytes_in g.Q.Source.remaining c.args.outside) captures.outside =
+    elim c.match-outside.branch [
+      | in-Some+in_ok-outside-in-Some w ↦ rw (w.in-Some.is, w.outside2-is) (outside_read _ _ w.in_ok-outside-in-Some.ensures.ok)
+      | in-None w ↦ rw (w.in-None.is, w.outside2-is) w.no_capture-outside.ensures
+    ] in
+    rw (p.1, p.2, c.in-Some-to_inside.is) (received Inside (share_of Inside (Err c.in_err-write_records-2.field-0.0)) c.args.config.now (g.R.Source.remaining c.args.inside.now) (bytes_in g.Q.Source.remaining c.args.outside) captures _
+    (text c.deref-in-Some-to_inside.result.now) (g.V.Sink.contents c.in-Some-to_inside.to_inside.now) (g.V.Sink.contents c.write_records-in-Some-to_inside.new.output) c.in_ok-inside.ensures.ok second c.in_ok-outputs.ensures.ok (ap text c.deref-in-Some-to_inside.ensures.value) c.in_err-write_records-2.ensures.bytes)
+
+pub returns-in_err-write_records-2-clause-report : goal.returns-in_err-write_records-2-clause-report
+returns-in_err-write_records-2-clause-report g c =
+    elim (none_or_some c.args.report) [ inl none ↦ rw none tt | inr some ↦ rw some.1 (search rules) ]
+
+pub returns-in_err-write_records-2-clause-outside_readings : goal.returns-in_err-write_records-2-clause-outside_readings
+returns-in_err-write_records-2-clause-outside_readings g c =
+    elim c.match-outside.branch [
+      | in-Some+in_ok-outside-in-Some w ↦ rw (w.outside-is, w.in-Some.is) (search rules)
+      | in-None w ↦ rw (w.outside-is, w.in-None.is) (search rules)
+    ]
+
+pub returns-in_err-write_records-2-clause-inside_writings : goal.returns-in_err-write_records-2-clause-inside_writings
+returns-in_err-write_records-2-clause-inside_writings g c =
+    let p = err_from_is_err_and c.from_residual-in_err-write_records-2.result c.from_residual-in_err-write_records-2.ensures.1 in
+    rw (p.1, p.2, c.in-Some-to_inside.is) c.in_err-write_records-2.ensures.count
+
+pub returns-in_err-write_records-2-clause-report_writings : goal.returns-in_err-write_records-2-clause-report_writings
+returns-in_err-write_records-2-clause-report_writings g c =
+    elim (none_or_some c.args.report) [ inl none ↦ rw none (search rules) | inr some ↦ rw some.1 (search rules) ]
+
+pub returns-in_err-write_report-clause-to_outside : goal.returns-in_err-write_report-clause-to_outside
+returns-in_err-write_report-clause-to_outside g c =
+    let p = err_from_is_err_and c.from_residual-in_err-write_report.result c.from_residual-in_err-write_report.ensures.1 in
+    let captures : Captures = record { inside = c.in_ok-inside.inside; outside = c.match-outside.outside2 } in
+    let second : IsReadAsOutside (bytes_in g.Q.Source.remaining c.args.outside) captures.outside =
+    elim c.match-outside.branch [
+      | in-Some+in_ok-outside-in-Some w ↦ rw (w.in-Some.is, w.outside2-is) (outside_read _ _ w.in_ok-outside-in-Some.ensures.ok)
+      | in-None w ↦ rw (w.in-None.is, w.outside2-is) w.no_capture-outside.ensures
+    ] in
+    rw (p.1, p.2, (before_report c.in_err-write_report.field-0.0 c.in_err-write_report.ensures.fault).0) (received Outside whole c.args.config.now (g.R.Source.remaining c.args.inside.now) (bytes_in g.Q.Source.remaining c.args.outside) captures _
+    (text c.deref.result.now) (g.W.Sink.contents c.args.to_outside.now) (g.W.Sink.contents c.write_records.new.output) c.in_ok-inside.ensures.ok second c.in_ok-outputs.ensures.ok (ap text c.deref.ensures.value) c.in_ok-write_records.ensures.bytes)
+
+pub returns-in_err-write_report-clause-to_inside : goal.returns-in_err-write_report-clause-to_inside
+returns-in_err-write_report-clause-to_inside g c =
+    let p = err_from_is_err_and c.from_residual-in_err-write_report.result c.from_residual-in_err-write_report.ensures.1 in
+    let captures : Captures = record { inside = c.in_ok-inside.inside; outside = c.match-outside.outside2 } in
+    let second : IsReadAsOutside (bytes_in g.Q.Source.remaining c.args.outside) captures.outside =
+    elim c.match-outside.branch [
+      | in-Some+in_ok-outside-in-Some w ↦ rw (w.in-Some.is, w.outside2-is) (outside_read _ _ w.in_ok-outside-in-Some.ensures.ok)
+      | in-None w ↦ rw (w.in-None.is, w.outside2-is) w.no_capture-outside.ensures
+    ] in
+    elim c.match-to_inside.branch [
+      | in-Some-to_inside+in_ok-write_records-2 w ↦ rw (p.1, p.2, (before_report c.in_err-write_report.field-0.0 c.in_err-write_report.ensures.fault).1, w.to_inside-is, w.in-Some-to_inside.is) (received Inside whole c.args.config.now (g.R.Source.remaining c.args.inside.now) (bytes_in g.Q.Source.remaining c.args.outside) captures _
+          (text w.deref-in-Some-to_inside.result.now) (g.V.Sink.contents w.in-Some-to_inside.to_inside.now) (g.V.Sink.contents w.write_records-in-Some-to_inside.new.output) c.in_ok-inside.ensures.ok second c.in_ok-outputs.ensures.ok (ap text w.deref-in-Some-to_inside.ensures.value) w.in_ok-write_records-2.ensures.bytes)
+      | in_default w ↦ rw (w.to_inside-is, w.in_default.is) tt
+    ]
+
+pub returns-in_err-write_report-clause-report : goal.returns-in_err-write_report-clause-report
+returns-in_err-write_report-clause-report g c =
+    let p = err_from_is_err_and c.from_residual-in_err-write_report.result c.from_residual-in_err-write_report.ensures.1 in
+    let captures : Captures = record { inside = c.in_ok-inside.inside; outside = c.match-outside.outside2 } in
+    let second : IsReadAsOutside (bytes_in g.Q.Source.remaining c.args.outside) captures.outside =
+    elim c.match-outside.branch [
+      | in-Some+in_ok-outside-in-Some w ↦ rw (w.in-Some.is, w.outside2-is) (outside_read _ _ w.in_ok-outside-in-Some.ensures.ok)
+      | in-None w ↦ rw (w.in-None.is, w.outside2-is) w.no_capture-outside.ensures
+    ] in
+    rw (p.1, p.2, c.in-Some-report.is) (received Report (share_of Report (Err c.in_err-write_report.field-0.0)) c.args.config.now (g.R.Source.remaining c.args.inside.now) (bytes_in g.Q.Source.remaining c.args.outside) captures _
+    c.deref-in-Some-report.result.now (g.U.Sink.contents c.in-Some-report.report.now) (g.U.Sink.contents c.write_report.new.output) c.in_ok-inside.ensures.ok second c.in_ok-outputs.ensures.ok c.deref-in-Some-report.ensures c.in_err-write_report.ensures.bytes)
+
+pub returns-in_err-write_report-clause-outside_readings : goal.returns-in_err-write_report-clause-outside_readings
+returns-in_err-write_report-clause-outside_readings g c =
+    elim c.match-outside.branch [
+      | in-Some+in_ok-outside-in-Some w ↦ rw (w.outside-is, w.in-Some.is) (search rules)
+      | in-None w ↦ rw (w.outside-is, w.in-None.is) (search rules)
+    ]
+
+pub returns-in_err-write_report-clause-inside_writings : goal.returns-in_err-write_report-clause-inside_writings
+returns-in_err-write_report-clause-inside_writings g c =
+    elim c.match-to_inside.branch [
+      | in-Some-to_inside+in_ok-write_records-2 w ↦ rw (w.to_inside-is, w.in-Some-to_inside.is) (search rules)
+      | in_default w ↦ rw (w.to_inside-is, w.in_default.is) (search rules)
+    ]
+
+pub returns-in_err-write_report-clause-report_writings : goal.returns-in_err-write_report-clause-report_writings
+returns-in_err-write_report-clause-report_writings g c =
+    let p = err_from_is_err_and c.from_residual-in_err-write_report.result c.from_residual-in_err-write_report.ensures.1 in
+    rw (p.1, p.2, c.in-Some-report.is) c.in_err-write_report.ensures.count
+
+pub returns-clause-to_outside : goal.returns-clause-to_outside
+returns-clause-to_outside g c =
+    let captures : Captures = record { inside = c.in_ok-inside.inside; outside = c.match-outside.outside2 } in
+    let second : IsReadAsOutside (bytes_in g.Q.Source.remaining c.args.outside) captures.outside =
+    elim c.match-outside.branch [
+      | in-Some+in_ok-outside-in-Some w ↦ rw (w.in-Some.is, w.outside2-is) (outside_read _ _ w.in_ok-outside-in-Some.ensures.ok)
+      | in-None w ↦ rw (w.in-None.is, w.outside2-is) w.no_capture-outside.ensures
+    ] in
+    received Outside whole c.args.config.now (g.R.Source.remaining c.args.inside.now) (bytes_in g.Q.Source.remaining c.args.outside) captures _
+    (text c.deref.result.now) (g.W.Sink.contents c.args.to_outside.now) (g.W.Sink.contents c.write_records.new.output) c.in_ok-inside.ensures.ok second c.in_ok-outputs.ensures.ok (ap text c.deref.ensures.value) c.in_ok-write_records.ensures.bytes
+
+pub returns-clause-to_inside : goal.returns-clause-to_inside
+returns-clause-to_inside g c =
+    let captures : Captures = record { inside = c.in_ok-inside.inside; outside = c.match-outside.outside2 } in
+    let second : IsReadAsOutside (bytes_in g.Q.Source.remaining c.args.outside) captures.outside =
+    elim c.match-outside.branch [
+      | in-Some+in_ok-outside-in-Some w ↦ rw (w.in-Some.is, w.outside2-is) (outside_read _ _ w.in_ok-outside-in-Some.ensures.ok)
+      | in-None w ↦ rw (w.in-None.is, w.outside2-is) w.no_capture-outside.ensures
+    ] in
+    elim c.match-to_inside.branch [
+      | in-Some-to_inside+in_ok-write_records-2 w ↦ rw (w.to_inside-is, w.in-Some-to_inside.is) (received Inside whole c.args.config.now (g.R.Source.remaining c.args.inside.now) (bytes_in g.Q.Source.remaining c.args.outside) captures _
+          (text w.deref-in-Some-to_inside.result.now) (g.V.Sink.contents w.in-Some-to_inside.to_inside.now) (g.V.Sink.contents w.write_records-in-Some-to_inside.new.output) c.in_ok-inside.ensures.ok second c.in_ok-outputs.ensures.ok (ap text w.deref-in-Some-to_inside.ensures.value) w.in_ok-write_records-2.ensures.bytes)
+      | in_default w ↦ rw (w.to_inside-is, w.in_default.is) tt
+    ]
+
+pub returns-clause-report : goal.returns-clause-report
+returns-clause-report g c =
+    let captures : Captures = record { inside = c.in_ok-inside.inside; outside = c.match-outside.outside2 } in
+    let second : IsReadAsOutside (bytes_in g.Q.Source.remaining c.args.outside) captures.outside =
+    elim c.match-outside.branch [
+      | in-Some+in_ok-outside-in-Some w ↦ rw (w.in-Some.is, w.outside2-is) (outside_read _ _ w.in_ok-outside-in-Some.ensures.ok)
+      | in-None w ↦ rw (w.in-None.is, w.outside2-is) w.no_capture-outside.ensures
+    ] in
+    elim c.match-report.branch [
+      | in-Some-report+in_ok-write_report w ↦ rw (w.report-is, w.in-Some-report.is) (received Report whole c.args.config.now (g.R.Source.remaining c.args.inside.now) (bytes_in g.Q.Source.remaining c.args.outside) captures _
+          w.deref-in-Some-report.result.now (g.U.Sink.contents w.in-Some-report.report.now) (g.U.Sink.contents w.write_report.new.output) c.in_ok-inside.ensures.ok second c.in_ok-outputs.ensures.ok w.deref-in-Some-report.ensures w.in_ok-write_report.ensures.bytes)
+      | in_default-report w ↦ rw (w.report-is, w.in_default-report.is) tt
+    ]
+
+pub returns-clause-outside_readings : goal.returns-clause-outside_readings
+returns-clause-outside_readings g c =
+    elim c.match-outside.branch [
+      | in-Some+in_ok-outside-in-Some w ↦ rw (w.outside-is, w.in-Some.is) (search rules)
+      | in-None w ↦ rw (w.outside-is, w.in-None.is) (search rules)
+    ]
+
+pub returns-clause-inside_writings : goal.returns-clause-inside_writings
+returns-clause-inside_writings g c =
+    elim c.match-to_inside.branch [
+      | in-Some-to_inside+in_ok-write_records-2 w ↦ rw (w.to_inside-is, w.in-Some-to_inside.is) (search rules)
+      | in_default w ↦ rw (w.to_inside-is, w.in_default.is) (search rules)
+    ]
+
+pub returns-clause-report_writings : goal.returns-clause-report_writings
+returns-clause-report_writings g c =
+    elim c.match-report.branch [
+      | in-Some-report+in_ok-write_report w ↦ rw (w.report-is, w.in-Some-report.is) (search rules)
+      | in_default-report w ↦ rw (w.report-is, w.in_default-report.is) (search rules)
+    ]
+
+pub returns-clause-inside_flushed : goal.returns-clause-inside_flushed
+returns-clause-inside_flushed g c =
+    elim c.match-to_inside.branch [
+      | in-Some-to_inside+in_ok-write_records-2 w ↦ rw (w.to_inside-is, w.in-Some-to_inside.is) (search rules)
+      | in_default w ↦ rw (w.to_inside-is, w.in_default.is) (search rules)
+    ]
+
+pub returns-clause-report_flushed : goal.returns-clause-report_flushed
+returns-clause-report_flushed g c =
+    elim c.match-report.branch [
+      | in-Some-report+in_ok-write_report w ↦ rw (w.report-is, w.in-Some-report.is) (search rules)
+      | in_default-report w ↦ rw (w.report-is, w.in_default-report.is) (search rules)
+    ]

@@ -1,5 +1,5 @@
 use Rattle.std.proofs.Common.{vec_items}
-use Rattle.napt_pool.proofs.Joins.{machines_if_ok, least_if_err, answers_if_ok, settled_at, fault_if_err, gate_if_err}
+use Rattle.napt_pool.proofs.Joins.{machines_if_ok, least_if_err, answers_if_ok, settled_at, fault_if_err, gate_if_err, told_is, received_on_ok}
 use Rattle.napt_pool.proofs.pool.Pool.close.Goals as goal
 
 pub returns-clause-machines : goal.returns-clause-machines
@@ -20,7 +20,7 @@ returns-clause-settled g c = λ same.
 pub returns-clause-least : goal.returns-clause-least
 returns-clause-least g c =
     least_if_err g.M.Machine g.G.Gate.is_open _ _ _ c.close_all-closing.ensures.machines c.close_all-closing.ensures.accepted c.close_all-closing.ensures.taken
-    c.join_all-ends.ensures.ends c.all_ended.result c.all_ended.ensures.least
+    c.close_all-closing.ensures.heard c.close_all-closing.ensures.benches c.join_all-ends.ensures.ends c.all_ended.result c.all_ended.ensures.least
 
 pub returns-clause-fault : goal.returns-clause-fault
 returns-clause-fault g c =
@@ -29,3 +29,13 @@ returns-clause-fault g c =
 pub returns-clause-gate : goal.returns-clause-gate
 returns-clause-gate g c = λ is_open.
     gate_if_err g.M.Machine g.G.Gate.is_open _ _ c.all_ended.result c.join_all-ends.ensures.ends is_open c.all_ended.ensures.least
+
+pub returns-clause-told : goal.returns-clause-told
+returns-clause-told g c = λ w fault told.
+    told_is g.M.Machine g.G.Gate.is_open c.args.self vec_items _ _ c.join_all-ends.ensures.ends c.close_all-closing.ensures.heard
+    c.all_ended.result c.all_ended.ensures.ended c.all_ended.ensures.least w fault told
+
+pub returns-clause-received : goal.returns-clause-received
+returns-clause-received g c =
+    received_on_ok g.M.Machine g.G.Gate.is_open vec_items _ _ _ _ c.join_all-ends.ensures.ends
+    c.close_all-closing.ensures.benches c.close_all-closing.ensures.accepted c.all_ended.result c.all_ended.ensures.ended

@@ -1,7 +1,7 @@
 use Rattle.std.proofs.Common.{arith, ◌≡◌, ◌<◌, length}
 use Rattle.std.proofs.lemmas.Grind.{common_steps}
 use Rattle.napt_pool.specs.Faults.{item_back}
-use Rattle.napt_pool.specs.Workers.{machine_of, accepted_of, taken_of}
+use Rattle.napt_pool.specs.Workers.{machine_of, accepted_of, taken_of, heard_of}
 use Rattle.napt_pool.proofs.Lists.{map-kept, grown_on_ok, kept_if_err}
 use Rattle.napt_pool.proofs.pool.Pool.offer.Goals as goal
 
@@ -10,6 +10,9 @@ returns-clause-starts g c = map-kept machine_of _ _ _ _ c.index_mut-worker.ensur
 
 pub returns-clause-takes : goal.returns-clause-takes
 returns-clause-takes g c = map-kept taken_of _ _ _ _ c.index_mut-worker.ensures.value c.offer.ensures.taken
+
+pub returns-clause-heard : goal.returns-clause-heard
+returns-clause-heard g c = map-kept heard_of _ _ _ _ c.index_mut-worker.ensures.value c.offer.ensures.heard
 
 pub returns-clause-accepted : goal.returns-clause-accepted
 returns-clause-accepted g c =

@@ -2,13 +2,12 @@ use Rattle.std.proofs.Common.{◌≡◌, Ok, sym, ◌∙◌, ap, refl, take, dro
 use Rattle.napt_wire.proofs.Changes.{vec-changed}
 use Rattle.napt_wire.proofs.Readings.{room_of_packet, passes_of_read, reads_of_passes}
 use Rattle.napt_wire.proofs.RightKept.{error_right}
-use Rattle.napt_wire.proofs.WithInner.{PassesError, passes_error, KeepsError, error_kept_of, inner_room, error_there, error_of, carries_inner, quoted_form, not_error, error_found}
-use Rattle.napt_wire.specs.Fields.{inner_at, inner_of}
-use Rattle.napt_wire.specs.Packet.{quoted_of}
+use Rattle.napt_wire.proofs.WithInner.{PassesError, passes_error, KeepsError, error_kept_of, inner_room, error_there, error_of, carries_inner, not_error, error_found}
 use Rattle.napt_wire.specs.Reading.{reading}
 use Rattle.napt_wire.specs.Rewriting.{changed, reverted, reverted_changes}
 use Rattle.napt_wire.specs.declared.Side.{Side}
 use Rattle.napt_wire.proofs.packet.Packet.revert_inner.Goals as goal
+use Rattle.napt_wire.proofs.packet.Packet.revert_inner.Goals.{After-into-2, After-self-1}
 
 pub unreachable-requires : goal.unreachable-requires
 unreachable-requires c =
@@ -19,7 +18,7 @@ pub of-rewrite-requires-clause-room : goal.of-rewrite-requires-clause-room
 of-rewrite-requires-clause-room c = rw c.deref.ensures.value (room_of_packet _ c.self.invariant.reads)
 
 -- the packet passes as an error, before and after
-passes : (c : goal.After-deref) (side : Side) → reading side c.self.inside.bytes.items ≡ Ok c.self.inside.bytes.items → PassesError side c.self.inside.bytes.items
+passes : (c : After-into-2) (side : Side) → reading side c.self.inside.bytes.items ≡ Ok c.self.inside.bytes.items → PassesError side c.self.inside.bytes.items
 passes c side h =
     passes_error side c.self.inside.bytes.items (passes_of_read side c.self.inside.bytes.items c.self.inside.bytes.items h)
     (error_of c.self.inside.bytes.items (rw c.self.view_is c.requires.error))
@@ -35,54 +34,29 @@ write-requires c =
     rw (c.of-rewrite.ensures, c.deref_mut.ensures.value, c.deref.ensures.value)
     (error_there c.self.invariant.reads.0 c.args.way c.args.end c.self.inside.bytes.items passed)
 
--- what the vector holds once the words are written, and what was kept then
-written : (c : goal.After-deref-2) → c.deref-2.result.now ≡ changed (reverted_changes c.args.way c.args.end c.self.inside.bytes.items) c.self.inside.bytes.items
-written c =
-    c.deref-2.ensures.value
-    ∙ vec-changed c.self.inside.bytes.items c.write.new.bytes c.self.inside.bytes.len (reverted_changes c.args.way c.args.end c.self.inside.bytes.items)
-    (sym (ap length c.deref.ensures.value) ∙ c.deref.ensures.len)
-    (rw (c.write.ensures, c.of-rewrite.ensures, c.deref_mut.ensures.value, c.deref.ensures.value) refl)
-
-kept : (c : goal.After-deref-2) → KeepsError c.self.invariant.reads.0 c.self.inside.bytes.items (changed (reverted_changes c.args.way c.args.end c.self.inside.bytes.items) c.self.inside.bytes.items)
-kept c =
-    error_kept_of c.self.invariant.reads.0 c.args.way c.args.end c.self.inside.bytes.items (rw c.self.view_is c.requires.error) (rw c.self.view_is c.requires.number) c.self.invariant.reads.1
-
-quoted_is : (c : goal.After-deref-2) → c.in-Error.quoted ≡ quoted_of c.self.inside.bytes.items
-quoted_is c = (quoted_form c.self.inside.bytes.items c.self.inside.start c.self.inside.body c.in-Error.quoted c.self.invariant.found c.in-Error.is).1
-
-pub read_ends-requires-clause-room : goal.read_ends-requires-clause-room
-read_ends-requires-clause-room c = rw (written c, c.self.invariant.found.start_is) (kept c).inner_room
-
-pub read_ends-requires-clause-start : goal.read_ends-requires-clause-start
-read_ends-requires-clause-start c = rw (written c, c.self.invariant.found.start_is, quoted_is c) (sym (kept c).inner_start)
-
-pub read_ends-requires-clause-form : goal.read_ends-requires-clause-form
-read_ends-requires-clause-form c = rw (written c, c.self.invariant.found.start_is, quoted_is c) (sym (kept c).inner_form)
-
--- the same at the end
-held : (c : goal.After-self-2-1) → take c.self.inside.bytes.len (c.write.new.bytes ++ drop (length c.write.new.bytes) c.self.inside.bytes.items)
+-- what the vector holds at the end
+held : (c : After-self-1) → take c.self.inside.bytes.len (c.write.new.bytes ++ drop (length c.write.new.bytes) c.self.inside.bytes.items)
     ≡ changed (reverted_changes c.args.way c.args.end c.self.inside.bytes.items) c.self.inside.bytes.items
 held c =
     vec-changed c.self.inside.bytes.items c.write.new.bytes c.self.inside.bytes.len (reverted_changes c.args.way c.args.end c.self.inside.bytes.items)
     (sym (ap length c.deref.ensures.value) ∙ c.deref.ensures.len)
     (rw (c.write.ensures, c.of-rewrite.ensures, c.deref_mut.ensures.value, c.deref.ensures.value) refl)
 
-kept_for : (c : goal.After-self-2-1) (side : Side) → reading side c.self.inside.bytes.items ≡ Ok c.self.inside.bytes.items →
+kept_for : (c : After-self-1) (side : Side) → reading side c.self.inside.bytes.items ≡ Ok c.self.inside.bytes.items →
     KeepsError side c.self.inside.bytes.items (changed (reverted_changes c.args.way c.args.end c.self.inside.bytes.items) c.self.inside.bytes.items)
 kept_for c side h = error_kept_of side c.args.way c.args.end c.self.inside.bytes.items (rw c.self.view_is c.requires.error) (rw c.self.view_is c.requires.number) h
 
-read_is : (c : goal.After-self-2-1) → c.read_ends.result ≡ inner_of (inner_at c.self.inside.bytes.items) (changed (reverted_changes c.args.way c.args.end c.self.inside.bytes.items) c.self.inside.bytes.items)
-read_is c = rw (c.read_ends.ensures, c.deref-2.ensures.value, held c, c.self.invariant.found.start_is) refl
-
 pub invariant_of-self : goal.invariant_of-self
 invariant_of-self c =
-    let side = c.self.invariant.reads.0 in
-    let keeps = kept_for c side c.self.invariant.reads.1 in
-    let quoted = quoted_form c.self.inside.bytes.items c.self.inside.start c.self.inside.body c.in-Error.quoted c.self.invariant.found c.in-Error.is in
+    let (side, reads) = c.self.invariant.reads in
+    let bytes : List ℕ = c.self.inside.bytes.items in
+    let new : List ℕ = changed (reverted_changes c.args.way c.args.end bytes) bytes in
+    let keeps = kept_for c side reads in
     rw (held c)
     record {
-      reads = (side, reads_of_passes side (changed (reverted_changes c.args.way c.args.end c.self.inside.bytes.items) c.self.inside.bytes.items) keeps.passes);
-      found = error_found side c.self.inside.start c.self.inside.body c.self.inside.bytes.items _ c.in-Error.quoted c.read_ends.result c.self.invariant.found quoted.0 quoted.1 keeps (read_is c);
+      reads = (side, reads_of_passes side new keeps.passes);
+      found = error_found side c.self.inside.start c.self.inside.body bytes new c.self.invariant.found
+          (error_of bytes (rw c.self.view_is c.requires.error)) keeps;
     }
 
 pub returns-clause-value : goal.returns-clause-value

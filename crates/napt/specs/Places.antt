@@ -1,0 +1,56 @@
+-- Which output is a file that an option before it names.
+use Rattle.std.specs.Prelude.{◌≡◌, ◌==◌, ◌&&◌, ◌||◌, Bool, false, Option, Some, None, bytes_eq, is_some, if◌then◌else◌}
+use Rattle.napt.specs.declared.options.Options.{Options}
+use Rattle.napt.specs.declared.place.Node.{Node}
+use Rattle.napt.specs.declared.place.Place.{Place}
+use Rattle.napt.specs.declared.place.Place.TheVariants.{There, New, Words}
+use Rattle.napt.specs.declared.places.Places.{Places}
+use Rattle.napt.specs.declared.stop.Role.{Role}
+use Rattle.napt.specs.declared.stop.Role.TheVariants as role
+
+abbrev pub is_same_node : Node → Node → Bool
+is_same_node a b = a.device == b.device && a.number == b.number
+
+-- both are one file: the same node; not there yet, the same name in the same folder; else the same path
+abbrev pub is_same : Place → Place → Bool
+is_same (There a) (There b) = is_same_node a b
+is_same (New a a_name) (New b b_name) = is_same_node a b && bytes_eq a_name.now b_name.now
+is_same (Words a) (Words b) = bytes_eq a.now b.now
+is_same _ _ = false
+
+-- the place, if there is one, is this file
+abbrev pub is_there : Place → Option Place → Bool
+is_there file None = false
+is_there file (Some place) = is_same file place
+
+-- it is an input or a standard stream
+abbrev pub is_input : Places → Place → Bool
+is_input p file =
+    is_there file p.standard_input || is_there file p.standard_output
+    || is_there file p.config || is_there file p.inside || is_there file p.outside
+
+-- there is a file, and it is an input, a standard stream or one of two other outputs
+abbrev pub is_again : Places → Option Place → Option Place → Option Place → Bool
+is_again p None first second = false
+is_again p (Some file) first second = is_input p file || is_there file first || is_there file second
+
+-- the first output that is a file which stands before it in the order of the options
+abbrev pub output_named_again : Places → Option Role
+output_named_again p =
+    if is_again p p.to_outside None None then Some role.ToOutside
+    else (if is_again p p.to_inside p.to_outside None then Some role.ToInside
+    else (if is_again p p.report p.to_outside p.to_inside then Some role.Report
+    else None))
+
+-- an output that has a place
+abbrev pub is_placed : Places → Role → Bool
+is_placed p role.ToOutside = is_some p.to_outside
+is_placed p role.ToInside = is_some p.to_inside
+is_placed p role.Report = is_some p.report
+is_placed p other = false
+
+-- the outputs that have places are those that the words name
+pub record ArePlacesOf (options : Options) (places : Places) : Type 0 where
+  pub to_outside : is_some places.to_outside ≡ is_some options.to_outside
+  pub to_inside : is_some places.to_inside ≡ is_some options.to_inside
+  pub report : is_some places.report ≡ is_some options.report

@@ -1,0 +1,124 @@
+//! The places of all files of a run, and the output that would destroy one of them.
+ghost use Rattle.std.specs.Prelude.{◌≡◌, IfErr, IfSome, is_some, true};
+ghost use Rattle.napt.specs.Places.{ArePlacesOf, is_again, is_input, is_placed, is_there, output_named_again};
+ghost use Rattle.napt.specs.Program.{IsStopOf};
+
+use crate::options::Options;
+use crate::place::{Place, is_same, place_of};
+use crate::stop::{Role, Stop};
+use std::rt::Files;
+
+/// The place of the file that each option names, and of the standard streams that stand for absent ones.
+#[derive(Clone, Copy, Debug)]
+pub struct Places<'a> {
+    pub config: Option<Place<'a>>,
+    pub standard_input: Option<Place<'a>>,
+    pub inside: Option<Place<'a>>,
+    pub outside: Option<Place<'a>>,
+    pub standard_output: Option<Place<'a>>,
+    pub to_outside: Option<Place<'a>>,
+    pub to_inside: Option<Place<'a>>,
+    pub report: Option<Place<'a>>,
+}
+
+/// Refuses, by its role, the first output in the order of the options that is a file which an earlier one names.
+pub fn refuse_lost_file<R: Files>(rt: &R, options: &Options) -> Result<(), Stop>
+    ensures { IfErr result (IsStopOf options.now) }
+{
+    let places = places_of(rt, options);
+    match output_named_again(&places) {
+        Some(role) => Err(Stop::File(role)),
+        None => Ok(()),
+    }
+}
+
+fn places_of<'a, R: Files>(rt: &R, options: &'a Options) -> Places<'a>
+    ensures { ArePlacesOf options.now result }
+{
+    Places {
+        config: place_at(rt, options.config.as_ref()),
+        standard_input: place_of_stream(rt, options.inside.as_ref(), "/dev/stdin"),
+        inside: place_at(rt, options.inside.as_ref()),
+        outside: place_at(rt, options.outside.as_ref()),
+        standard_output: place_of_stream(rt, options.to_outside.as_ref(), "/dev/stdout"),
+        to_outside: place_at(rt, options.to_outside.as_ref()),
+        to_inside: place_at(rt, options.to_inside.as_ref()),
+        report: place_at(rt, options.report.as_ref()),
+    }
+}
+
+fn place_at<'a, R: Files>(rt: &R, path: Option<&'a String>) -> Option<Place<'a>>
+    ensures { is_some result ≡ is_some path.entry }
+{
+    match path {
+        Some(path) => Some(place_of(rt, path)),
+        None => None,
+    }
+}
+
+/// The place of the standard stream that stands for an absent option.
+fn place_of_stream<'a, R: Files>(
+    rt: &R,
+    path: Option<&'a String>,
+    stream: &'a str,
+) -> Option<Place<'a>> {
+    match path {
+        Some(_) => None,
+        None => Some(place_of(rt, stream)),
+    }
+}
+
+/// The first output that is a file which stands before it in the order of the options.
+pub fn output_named_again(places: &Places<'_>) -> Option<Role>
+    ensures first { result ≡ output_named_again places.now }
+    ensures named { IfSome result (λ role. is_placed places.now role ≡ true) }
+{
+    let (to_outside, to_inside) = (places.to_outside, places.to_inside);
+    if is_again(places, to_outside, None, None) {
+        Some(Role::ToOutside)
+    } else if is_again(places, to_inside, to_outside, None) {
+        Some(Role::ToInside)
+    } else if is_again(places, places.report, to_outside, to_inside) {
+        Some(Role::Report)
+    } else {
+        None
+    }
+}
+
+/// Whether there is a file, and it is an input, a standard stream or one of two other outputs.
+fn is_again(
+    places: &Places<'_>,
+    file: Option<Place<'_>>,
+    first: Option<Place<'_>>,
+    second: Option<Place<'_>>,
+) -> bool
+    ensures { result ≡ is_again places.now file.entry first.entry second.entry }
+{
+    match file {
+        Some(file) => is_input(places, file) || is_there(file, first) || is_there(file, second),
+        None => false,
+    }
+}
+
+fn is_input(places: &Places<'_>, file: Place<'_>) -> bool
+    ensures { result ≡ is_input places.now file.entry }
+{
+    is_there(file, places.standard_input)
+        || is_there(file, places.standard_output)
+        || is_there(file, places.config)
+        || is_there(file, places.inside)
+        || is_there(file, places.outside)
+}
+
+/// Whether the place, if there is one, is this file.
+fn is_there(file: Place<'_>, place: Option<Place<'_>>) -> bool
+    ensures { result ≡ is_there file.entry place.entry }
+{
+    match place {
+        Some(place) => is_same(file, place),
+        None => false,
+    }
+}
+
+#[cfg(test)]
+mod tests;

@@ -1,0 +1,83 @@
+// How a thread waits for what another thread does.
+ghost use Rattle.std.specs.Prelude.{◌≡◌, ◌≤◌, ◌<◌};
+ghost use Rattle.napt_pool.specs.declared.backoff.Pause.TheVariants.{Spin, Yield, Park};
+
+use std::sync::Wait;
+use std::thread::Parker;
+use std::time::Duration;
+use std::{hint, thread};
+
+/// How often a thread looks again at once.
+const SPINS: u32 = 32;
+
+/// How many looks come before the first at which the thread sleeps: 16 follow a yield.
+const LOOKS: u32 = 48;
+
+/// The shortest sleep, in ns. How long it is in truth the system says (on Linux some 50 microseconds).
+const NAP: u64 = 1;
+
+/// What a thread does before it looks again.
+#[derive(Debug, Clone, Copy, PartialEq, Eq)]
+enum Pause {
+    Spin,
+    Yield,
+    Park,
+}
+
+impl Pause {
+    /// The pause after so many looks.
+    const fn after(looks: u32) -> Pause
+        ensures spin { looks < 32 → result ≡ Spin }
+        ensures yields { 32 ≤ looks → looks < 48 → result ≡ Yield }
+        ensures park { 48 ≤ looks → result ≡ Park }
+    {
+        if looks < SPINS {
+            Pause::Spin
+        } else if looks < LOOKS {
+            Pause::Yield
+        } else {
+            Pause::Park
+        }
+    }
+}
+
+/// One wait for what another thread does: each wait has a `Backoff` of its own.
+///
+/// The first looks follow one another at once, those after them let other threads run between, and from then on the
+/// thread sleeps between looks. So a short wait costs little, and a long one leaves the processor to others.
+#[derive(Drop)]
+pub struct Backoff {
+    looks: u32,
+    parker: Parker,
+}
+
+impl Backoff {
+    /// A wait that begins.
+    pub const fn new() -> Backoff
+        ensures { result.looks ≡ 0 }
+    {
+        Backoff {
+            looks: 0,
+            parker: Parker::new(),
+        }
+    }
+
+    /// Pauses before the next look: 32 times for an instant, 16 times until other threads had their turn, and then each
+    /// time for the shortest time that the system sleeps.
+    pub fn pause<R: Wait>(&mut self, rt: &R) {
+        match Pause::after(self.looks) {
+            Pause::Spin => hint::spin_loop(),
+            Pause::Yield => thread::yield_now(),
+            Pause::Park => self.parker.park_timeout(rt, Duration::from_nanos(NAP)),
+        }
+        if self.looks < LOOKS {
+            self.looks += 1;
+        }
+    }
+}
+
+impl Default for Backoff {
+    fn default() -> Backoff {
+        Backoff::new()
+    }
+}

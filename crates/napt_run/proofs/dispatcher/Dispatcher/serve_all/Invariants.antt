@@ -1,0 +1,13 @@
+use Rattle.std.proofs.Common.{◌≡◌, [], length, take}
+use Rattle.napt_pool.specs.Pools.{starts}
+use Rattle.napt_run.specs.Sequential.{last_clock}
+use Rattle.napt_run.specs.Standing.{parts_of, ledger_of, IsSized, Stands}
+use Rattle.napt_run.proofs.dispatcher.Dispatcher.serve_all.Given as goal
+
+abbrev pub invariant-loop-number : goal.invariant-loop-number
+invariant-loop-number g l = record {
+  same : starts l.pool ≡ starts l.initial.pool;
+  sized : IsSized (length (starts l.pool)) (parts_of l.self);
+  clock : last_clock 0 (take l.number l.inputs) ≡ l.clock;
+  served : Stands l.config [] l.inputs (ledger_of l.initial.pool l.initial.self) → Stands l.config (take l.number l.inputs) l.inputs (ledger_of l.pool l.self);
+}

@@ -1,0 +1,50 @@
+//! Packets with right checksums.
+
+use napt_wire::Endpoint;
+use std::alloc::{AllocError, Global};
+
+/// The bytes of some words, in network order.
+pub(crate) fn bytes_of(alloc: Global, words: &[u16]) -> Result<Vec<u8>, AllocError> {
+    let mut bytes = Vec::new(alloc);
+    for word in words {
+        bytes.extend_from_slice(&word.to_be_bytes())?;
+    }
+    Ok(bytes)
+}
+
+/// A UDP packet without payload, with the lifetime 64, the identification 1 and right checksums (RFC 791, RFC 768).
+pub(crate) fn udp(
+    alloc: Global,
+    source: Endpoint,
+    destination: Endpoint,
+) -> Result<Vec<u8>, AllocError> {
+    let [a, b] = halves(source.address);
+    let [c, d] = halves(destination.address);
+    let header = checksum(&[0x4500, 28, 1, 0, 0x4011, a, b, c, d]);
+    let (from, to) = (source.number, destination.number);
+    let transport = match checksum(&[a, b, c, d, 17, 8, from, to, 8]) {
+        0 => 0xFFFF,
+        sum => sum,
+    };
+    bytes_of(
+        alloc,
+        &[
+            0x4500, 28, 1, 0, 0x4011, header, a, b, c, d, from, to, 8, transport,
+        ],
+    )
+}
+
+/// The one's complement of the one's complement sum of some words (RFC 1071).
+pub(crate) fn checksum(words: &[u16]) -> u16 {
+    let mut sum = 0u16;
+    for word in words {
+        let (low, carries) = sum.overflowing_add(*word);
+        sum = low.wrapping_add(u16::from(carries));
+    }
+    !sum
+}
+
+/// The two words of an address.
+pub(crate) fn halves(address: u32) -> [u16; 2] {
+    [(address >> 16) as u16, (address & 0xFFFF) as u16]
+}

@@ -1,0 +1,172 @@
+"""What a configuration's text gets, by the rules of docs/FORMATS.md: the fault of the first rule that it breaks."""
+
+import re
+import tomllib
+
+NUMBER = "(?:0|[1-9][0-9]{0,9})"
+ADDRESS = re.compile(rf"({NUMBER})\.({NUMBER})\.({NUMBER})\.({NUMBER})", re.ASCII)
+PREFIX = re.compile(rf"(.*)/({NUMBER})", re.ASCII | re.DOTALL)
+ENDPOINT = re.compile("(.*):([1-9][0-9]{0,9})", re.ASCII | re.DOTALL)
+MOST_ADDRESSES = MOST_PREFIXES = 16
+MOST_ENTRIES = 256
+MOST_DEPTH = 80
+MOST_SECONDS = 1_000_000_000
+LEAST_SECONDS = {"udp": 120, "tcp-established": 7440, "tcp-transitory": 240, "icmp": 60}
+DEFAULT_SECONDS = LEAST_SECONDS | {"udp": 300}
+KEYS = {"pool", "inside", "filter", "timers", "ring", "pair", "redirect"}
+KEYS_OF_ENTRIES = {"pair": {"host", "external"}, "redirect": {"protocol", "inside", "external"}}
+
+
+class Refused(Exception):
+    """The fault of a rule that is broken."""
+
+
+class Unread(Exception):
+    """Python's reader refuses the text. The program's may take it: it knows a later TOML."""
+
+
+def want(holds, fault):
+    if not holds:
+        raise Refused(fault)
+
+
+def address_of(text):
+    parts = ADDRESS.fullmatch(text)
+    want(parts and all(int(part) <= 255 for part in parts.groups()), "bad-address")
+    return sum(int(part) << shift for part, shift in zip(parts.groups(), (24, 16, 8, 0)))
+
+
+def prefix_of(text):
+    """The prefix's address and the count of its bits that are free."""
+    parts = PREFIX.fullmatch(text)
+    want(parts and int(parts[2]) <= 32, "bad-prefix")
+    free = 32 - int(parts[2])
+    try:
+        address = address_of(parts[1])
+    except Refused:
+        raise Refused("bad-prefix") from None
+    want(address % 2**free == 0, "bad-prefix")
+    return address, free
+
+
+def endpoint_of(text):
+    parts = ENDPOINT.fullmatch(text)
+    want(parts and int(parts[2]) <= 65535, "bad-address")
+    return address_of(parts[1]), int(parts[2])
+
+
+def entries_of(table, key, most, is_required):
+    """The list that a key names; none is a list of none, where it is not required."""
+    if key not in table:
+        want(not is_required, "missing")
+        return []
+    entries = table[key]
+    want(isinstance(entries, list), "bad-shape")
+    want(entries or not is_required, "missing")
+    want(len(entries) <= most, "too-many")
+    return entries
+
+
+def text_in(value):
+    want(isinstance(value, str), "bad-shape")
+    return value
+
+
+def number_in(value):
+    want(isinstance(value, int) and not isinstance(value, bool), "bad-shape")
+    return value
+
+
+def field_of(entry, key):
+    want(key in entry, "missing")
+    return entry[key]
+
+
+class Configured:
+    """Reads a table rule by rule."""
+
+    def __init__(self, table):
+        self.judge_keys(table)
+        self.pool = []
+        for entry in entries_of(table, "pool", MOST_ADDRESSES, is_required=True):
+            address = address_of(text_in(entry))
+            want(address not in self.pool, "double-address")
+            self.pool.append(address)
+        entries = entries_of(table, "inside", MOST_PREFIXES, is_required=True)
+        self.prefixes = [prefix_of(text_in(entry)) for entry in entries]
+        want(not any(self.is_inside(address) for address in self.pool), "pool-inside")
+        self.filter = text_in(table.get("filter", "independent"))
+        want(self.filter in ("independent", "address", "address-port"), "bad-word")
+        self.timers = self.timers_of(table.get("timers", {}))
+        want(1 <= number_in(table.get("ring", 64)) <= 4096, "bad-number")
+        self.pairs, self.redirects = {}, []
+        for entry in entries_of(table, "pair", MOST_ENTRIES, is_required=False):
+            self.add_pair(entry)
+        for entry in entries_of(table, "redirect", MOST_ENTRIES, is_required=False):
+            self.add_redirect(entry)
+
+    def judge_keys(self, table):
+        want(table.keys() <= KEYS, "unknown-key")
+        timers = table.get("timers")
+        want(not isinstance(timers, dict) or timers.keys() <= LEAST_SECONDS.keys(), "unknown-key")
+        for key, known in KEYS_OF_ENTRIES.items():
+            entries = table.get(key)
+            for entry in entries if isinstance(entries, list) else ():
+                want(not isinstance(entry, dict) or entry.keys() <= known, "unknown-key")
+
+    def timers_of(self, timers):
+        want(isinstance(timers, dict), "bad-shape")
+        for name, least in LEAST_SECONDS.items():
+            seconds = number_in(timers.get(name, least))
+            want(0 <= seconds <= MOST_SECONDS, "bad-number")
+            want(seconds >= least, "timer-too-short")
+        return DEFAULT_SECONDS | timers
+
+    def is_inside(self, address):
+        return any(address >> free == prefix >> free for prefix, free in self.prefixes)
+
+    def pair(self, host):
+        """The external address of a host."""
+        return self.pairs.get(host, self.pool[host % len(self.pool)])
+
+    def add_pair(self, entry):
+        want(isinstance(entry, dict), "bad-shape")
+        host = address_of(text_in(field_of(entry, "host")))
+        want(self.is_inside(host), "not-inside")
+        external = address_of(text_in(field_of(entry, "external")))
+        want(external in self.pool, "not-in-pool")
+        want(host not in self.pairs, "double-pair")
+        self.pairs[host] = external
+
+    def add_redirect(self, entry):
+        want(isinstance(entry, dict), "bad-shape")
+        protocol = text_in(field_of(entry, "protocol"))
+        want(protocol in ("udp", "tcp"), "bad-word")
+        inside = endpoint_of(text_in(field_of(entry, "inside")))
+        want(self.is_inside(inside[0]), "not-inside")
+        number = number_in(field_of(entry, "external"))
+        want(1 <= number <= 65535, "bad-number")
+        external = (self.pair(inside[0]), number)
+        for other in self.redirects:
+            want(other[0] != protocol or (other[1] != inside and other[2] != external), "double-redirect")
+        self.redirects.append((protocol, inside, external))
+
+
+def is_refused(value, depth=0):
+    """Nested deeper than is read here, or with a whole number of more than 64 bits."""
+    if isinstance(value, (dict, list)):
+        inner = value.values() if isinstance(value, dict) else value
+        return depth == MOST_DEPTH or any(is_refused(each, depth + 1) for each in inner)
+    return isinstance(value, int) and not -(2**63) <= value < 2**63
+
+
+def configured(text):
+    """What a text configures. Raises the fault of the first rule that it breaks."""
+    try:
+        table = tomllib.loads(text.decode())
+    except UnicodeDecodeError:
+        raise Refused("not-toml") from None
+    except (ValueError, RecursionError):
+        raise Unread from None
+    want(not is_refused(table), "not-toml")
+    return Configured(table)
