@@ -1,7 +1,7 @@
 -- What the workers are left with shows what a run gives.
-use Rattle.std.proofs.Common.{◌≡◌, ◌≢◌, ℕ, zero, suc, ◌+◌, ◌<◌, ◌≤◌, max, Bool, true, false, List, [], ◌∷◌, ◌++◌, length, map, Result, Ok, Err, refl, sym, ◌∙◌, ap, arith}
+use Rattle.std.proofs.Common.{◌≡◌, ◌≢◌, ℕ, zero, suc, ◌+◌, ◌<◌, ◌≤◌, max, Bool, true, false, List, [], ◌∷◌, ◌++◌, length, map, Result, Ok, Err, refl, sym, ◌∙◌, ap, subst, arith}
 use Rattle.std.proofs.lemmas.List.{length-map}
-use Rattle.std.specs.Prelude.{slice_index, slice_index_or, flat_map, IfErr}
+use Rattle.std.specs.Prelude.{slice_index, slice_index_or, flat_map, IfErr, OnOk}
 use Rattle.napt_config.specs.Rules.{Rules}
 use Rattle.napt_table.specs.declared.Row.{Row}
 use Rattle.napt_table.specs.Bindings.{of}
@@ -20,7 +20,8 @@ use Rattle.napt_run.specs.declared.fault.RunFault.TheVariants as faults
 use Rattle.napt_run.specs.Inputs.{Arrival}
 use Rattle.napt_run.specs.Seats.{IsAtOnce}
 use Rattle.napt_run.specs.Sequential.{Course, run, last_clock, legs_at, Ran, ran}
-use Rattle.napt_run.specs.Dispatch.{started, of_worker, fresh, rows_after, IsFaultUnder, is_gate_fault, IsDispatched}
+use Rattle.napt_run.specs.Dispatch.{started, of_worker, fresh, rows_after, IsFaultUnder, is_gate_fault, IsDispatched, first_fault}
+use Rattle.napt_pool.specs.declared.fault.PoolFault.{PoolFault}
 use Rattle.napt_run.proofs.RunsLocal.{seen}
 use Rattle.napt_run.proofs.Ended.{zip_index, length_started, started_at}
 
@@ -101,3 +102,21 @@ not_shut gate (Ok x) h e = tt
 not_shut gate (Err faults.Memory) h e = refl
 not_shut gate (Err faults.TooMany) h e = refl
 not_shut gate (Err (faults.Pool fault)) h e = h e
+
+abbrev IsOkay : {T E : Type 0} → Result T E → Type 0
+IsOkay (Ok done) = Unit {0}
+IsOkay (Err fault) = ⊥
+
+abbrev AreBoth : {D C : Type 0} → D → C → Result (D × C) RunFault → Type 0
+AreBoth {D} {C} made left (Ok both) = (◌≡◌ {A = Result D RunFault} (Ok made) (Ok both.0)) × (◌≡◌ {A = Result C PoolFault} (Ok left) (Ok both.1))
+AreBoth made left (Err fault) = ⊥
+
+pub on_ok_at : {T E P : Type 0} (result : Result T E) (value : T) → result ≡ Ok value → OnOk result P → P
+on_ok_at {P = P} result value is holds = subst (λ (r : Result _ _). OnOk r P) is holds
+
+-- where no fault is told there was none
+pub both_ended : {D C : Type 0} (dispatched : Result D RunFault) (closed : Result C PoolFault) (done : D) (ended : C)
+    → Ok (done, ended) ≡ first_fault dispatched closed → (dispatched ≡ Ok done) × (closed ≡ Ok ended)
+both_ended (Ok made) (Ok left) done ended is = subst (AreBoth made left) (sym is) (refl, refl)
+both_ended (Ok made) (Err fault) done ended is = absurd (subst IsOkay is tt)
+both_ended (Err fault) closed done ended is = absurd (subst IsOkay is tt)

@@ -19,7 +19,7 @@ use Rattle.napt_run.specs.declared.fault.Which.TheVariants.{Outside, Inside, Rep
 use Rattle.napt_run.specs.declared.captures.Captures.{Captures}
 use Rattle.napt_run.specs.declared.captures.Outputs.{Outputs}
 use Rattle.napt_run.specs.Devices.{some_bytes}
-use Rattle.napt_run.specs.Captures.{AreOutputs, AreRead, Explains, Gets, GetsOf, IfKnown, IsReadAsOutside, IsReadFrom, IsRefused, IsUnread, IsWriteFaultOf, Receives, Share, whole, front, nothing, WasRead, failed_readings, failed_writings, share_of, text_of}
+use Rattle.napt_run.specs.Captures.{AreOutputs, AreRead, Explains, Gets, GetsOf, IfKnown, IsReadAsOutside, IsReadFrom, AreTooMany, IsUnread, IsWriteFaultOf, Receives, Share, whole, front, nothing, WasRead, failed_readings, failed_writings, share_of, text_of}
 
 IfKnown-more : {P Q : List ℕ → Option (List ℕ) → Type 0} (inside : Option (List ℕ)) (outside : Option (Option (List ℕ)))
     → ((bytes : List ℕ) (others : Option (List ℕ)) → P bytes others → Q bytes others) → IfKnown inside outside P → IfKnown inside outside Q
@@ -64,12 +64,12 @@ own_readings sides.Outside fault old new more = more
 -- THE RUN'S FAULT
 
 pub refused : (inside : Option (List ℕ)) (outside : Option (Option (List ℕ))) (captures : Captures) (fault : RunFault)
-    → IsReadFrom inside captures.inside → IsReadAsOutside outside captures.outside → IsRefused captures fault
+    → IsReadFrom inside captures.inside → IsReadAsOutside outside captures.outside → (fault ≡ TooMany → AreTooMany captures)
     → Explains inside outside (Run fault)
-refused inside outside captures TooMany first second is =
-    (((captures.inside, first), (captures.outside, second)), IfKnown-more inside outside (λ bytes others are. (captures, are, is)) (both_read inside outside captures first second))
-refused inside outside captures Memory first second is = ((captures.inside, first), (captures.outside, second))
-refused inside outside captures (Pool fault) first second is = ((captures.inside, first), (captures.outside, second))
+refused inside outside captures TooMany first second are =
+    (((captures.inside, first), (captures.outside, second)), IfKnown-more inside outside (λ bytes others read. (captures, read, are refl)) (both_read inside outside captures first second))
+refused inside outside captures Memory first second are = ((captures.inside, first), (captures.outside, second))
+refused inside outside captures (Pool fault) first second are = ((captures.inside, first), (captures.outside, second))
 
 -- the outputs before one that could not be written are whole
 pub before_inside : (fault : Fault) → IsWriteFaultOf Inside fault → share_of Outside (Err fault) ≡ whole

@@ -25,3 +25,4 @@ pub mod Closed
 pub mod Places
 pub mod Queues
 pub mod Standing
+pub mod TooMany

@@ -14,7 +14,7 @@ use Rattle.napt_run.specs.MergeLaws.{OutputsAreOne}
 use Rattle.napt_run.proofs.MergesAreOne.{merge_one}
 
 -- a text has one answer
-abbrev HaveOneAnswer : Type 0
+abbrev pub HaveOneAnswer : Type 0
 HaveOneAnswer = (bytes : List ℕ) (a b : Result Contents CaptureFault) → IsCapture bytes a → IsCapture bytes b → a ≡ b
 
 ok-is : {X E : Type 0} {x y : X} → ◌≡◌ {A = Result X E} (Ok x) (Ok y) → x ≡ y
@@ -29,7 +29,7 @@ outside-one : HaveOneAnswer → (outside : Option (List ℕ)) (a b : Contents) �
 outside-one unique None a b is also = is ∙ sym also
 outside-one unique (Some bytes) a b is also = contents-one unique bytes a b is also
 
-captures-one : HaveOneAnswer → (inside : List ℕ) (outside : Option (List ℕ)) (a b : Captures) → AreRead inside outside a → AreRead inside outside b → a ≡ b
+pub captures-one : HaveOneAnswer → (inside : List ℕ) (outside : Option (List ℕ)) (a b : Captures) → AreRead inside outside a → AreRead inside outside b → a ≡ b
 captures-one unique inside outside a b read also =
     let first : a.inside ≡ b.inside = contents-one unique inside a.inside b.inside read.inside_capture also.inside_capture in
     let second : a.outside ≡ b.outside = outside-one unique outside a.outside b.outside read.outside_capture also.outside_capture in

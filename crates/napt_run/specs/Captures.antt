@@ -1,5 +1,5 @@
 -- What a run over captures leaves on its devices. Where the bytes of a reader or a writer are not known, nothing is claimed of them.
-use Rattle.std.specs.Prelude.{◌≡◌, ℕ, ◌≤◌, ◌^◌, List, [], length, take, Bool, false, IfSome, string_bytes, Option, Some, None, Result, Ok, Err}
+use Rattle.std.specs.Prelude.{◌≡◌, ℕ, ◌+◌, ◌≤◌, ◌^◌, List, [], length, take, Bool, false, IfSome, string_bytes, Option, Some, None, Result, Ok, Err}
 use Rattle.std.specs.Io.KnownBytes.{Appends}
 use Rattle.napt_wire.specs.declared.Side.{Side}
 use Rattle.napt_wire.specs.declared.Side.TheVariants as sides
@@ -103,7 +103,7 @@ IsOutsideFault (Some bytes) fault = let answer : Result Contents CaptureFault = 
 
 -- the captures have too many records for a run
 abbrev pub AreTooMany : Captures → Type 0
-AreTooMany captures = (arrivals : List Arrival) × IsMerged captures.inside.records captures.outside.records arrivals × (2 ^ 32 ≤ length arrivals)
+AreTooMany captures = 2 ^ 32 ≤ length captures.inside.records + length captures.outside.records
 
 -- a capture was read, and both were
 abbrev pub WasRead : Option (List ℕ) → Type 0
@@ -121,6 +121,17 @@ Explains inside outside (Run TooMany) =
 Explains inside outside (Run Memory) = WereRead inside outside
 Explains inside outside (Run (Pool fault)) = WereRead inside outside
 Explains inside outside (Write which fault) = WereRead inside outside
+
+-- a refused capture, or that there are too many records
+abbrev pub TellsTooMany : Result (Unit {0}) Fault → Type 0
+TellsTooMany (Err (Capture side fault)) = Unit {0}
+TellsTooMany (Err (Run TooMany)) = Unit {0}
+TellsTooMany other = ⊥
+
+-- once both captures are read, too many records are told before anything else
+abbrev pub TooManyAreTold : Option (List ℕ) → Option (Option (List ℕ)) → Result (Unit {0}) Fault → Type 0
+TooManyAreTold inside outside result =
+    IfKnown inside outside (λ bytes others. (captures : Captures) → AreRead bytes others captures → AreTooMany captures → TellsTooMany result)
 
 -- whether a fault says that the gate was shut
 abbrev pub tells_shut_gate : Fault → Bool
@@ -157,12 +168,6 @@ pub record AreOutputs (rules : Rules) (captures : Captures) (outputs : Outputs) 
   pub to_outside : outputs.to_outside.items ≡ records_to sides.Outside arrivals (ran rules arrivals).outcomes
   pub to_inside : outputs.to_inside.items ≡ records_to sides.Inside arrivals (ran rules arrivals).outcomes
   pub report : string_bytes outputs.report ≡ report_text captures.inside.cut captures.outside.cut (ran rules arrivals)
-
--- what a fault says once the captures are read
-abbrev pub IsRefused : Captures → RunFault → Type 0
-IsRefused captures TooMany = AreTooMany captures
-IsRefused captures Memory = Unit {0}
-IsRefused captures (Pool fault) = Unit {0}
 
 -- writing this output failed
 abbrev pub IsWriteFaultOf : Which → Fault → Type 0

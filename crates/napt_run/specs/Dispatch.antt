@@ -18,6 +18,7 @@ use Rattle.napt_translate.specs.Sides.{refusal}
 use Rattle.napt_translate.specs.Legs.{act, Kept, kept_replies}
 use Rattle.napt_translate.specs.Translators.{TranslatorState, begun}
 use Rattle.napt_pool.specs.Faults.{is_shut}
+use Rattle.napt_pool.specs.declared.fault.PoolFault.{PoolFault}
 use Rattle.napt_run.specs.declared.outcome.Outcome.{Outcome}
 use Rattle.napt_run.specs.declared.fault.RunFault.{RunFault}
 use Rattle.napt_run.specs.declared.fault.RunFault.TheVariants as faults
@@ -99,6 +100,12 @@ abbrev pub admission : Rules → Arrival → Result (List ℕ) Cause
 admission rules input = admission_as rules input.side (reading input.side input.bytes)
 
 -- THE END
+
+-- a fault of dispatching is told before one of the pool
+abbrev pub first_fault : {D C : Type 0} → Result D RunFault → Result C PoolFault → Result (D × C) RunFault
+first_fault (Err fault) closed = Err fault
+first_fault (Ok dispatched) (Err fault) = Err (faults.Pool fault)
+first_fault (Ok dispatched) (Ok ended) = Ok (dispatched, ended)
 
 -- what a run over the inputs gives, told by a dispatcher
 pub record IsDispatched (rules : Rules) (inputs : List Arrival) (offered : List (List Leg)) (outcomes : List Outcome) (numbers : List ℕ) : Type 0 where

@@ -1,8 +1,8 @@
 //! A run over captures: both are read, workers run in memory, and only then anything is written.
-ghost use Rattle.std.specs.Prelude.{◌≡◌, ◌+◌, ◌-◌, ◌^◌, ◌<◌, length, All, OnOk, IfOk, IfErr, IfSome, true, false};
+ghost use Rattle.std.specs.Prelude.{◌≡◌, ◌↔◌, ◌+◌, ◌-◌, ◌^◌, ◌<◌, length, All, OnOk, IfOk, IfErr, IfSome, Err, true, false};
 ghost use Rattle.napt_capture.specs.Text.{IsWritable, text};
 ghost use Rattle.napt_run.specs.Devices.{IfGiven, GrowsBy, bytes_in};
-ghost use Rattle.napt_run.specs.Captures.{AreOutputs, Explains, Gets, IsReadFrom, IsRefused, IsUnread, IsWriteFaultOf, Receives, failed_readings, failed_writings, no_contents, share_of, tells_shut_gate};
+ghost use Rattle.napt_run.specs.Captures.{AreOutputs, AreTooMany, Explains, Gets, IsReadFrom, IsUnread, IsWriteFaultOf, Receives, TooManyAreTold, failed_readings, failed_writings, no_contents, share_of, tells_shut_gate};
 ghost use Rattle.napt_run.specs.Dispatch.{is_gate_fault};
 
 use crate::fault::{Fault, RunFault, Which};
@@ -10,7 +10,9 @@ use crate::merging::merge;
 use crate::output::records_sent;
 use crate::report::report_text;
 use crate::workers::run_workers;
-use napt_capture::{Capture, Record, Sink, Source, read_capture, write_capture, write_text};
+use napt_capture::{
+    Capture, Record, Sink, Source, one_answer, read_capture, write_capture, write_text,
+};
 use napt_config::Config;
 use napt_pool::Gate;
 use napt_wire::Side;
@@ -57,6 +59,15 @@ fn read_side<R: Source>(alloc: Global, side: Side, source: &mut R) -> Result<Cap
     }
 }
 
+impl Captures {
+    /// Whether there are more records than a run can count.
+    fn are_too_many(&self) -> bool
+        ensures { (result ≡ true) ↔ AreTooMany self.now }
+    {
+        self.inside.records.len() as u64 + self.outside.records.len() as u64 > 4_294_967_295
+    }
+}
+
 /// Runs over the captures, and makes all that is to be written.
 fn make_outputs<T: Threads + Wait + Copy + Send + 'static, G: Gate + Send + Sync + Drop + 'static>(
     rt: &T,
@@ -68,13 +79,16 @@ fn make_outputs<T: Threads + Wait + Copy + Send + 'static, G: Gate + Send + Sync
     requires inside { All IsWritable captures.inside.records }
     requires outside { All IsWritable captures.outside.records }
     ensures ok { IfOk result (λ outputs. AreOutputs config.now captures outputs) }
-    ensures err { IfErr result (IsRefused captures) }
+    ensures too_many { (result ≡ Err RunFault.TooMany) ↔ AreTooMany captures }
     ensures gate { G.is_open ≡ true → IfErr result (λ fault. is_gate_fault fault ≡ false) }
     ensures outside_writable { IfOk result (λ outputs. All IsWritable outputs.to_outside.items) }
     ensures inside_writable { IfOk result (λ outputs. All IsWritable outputs.to_inside.items) }
     ensures outside_few { IfOk result (λ outputs. length outputs.to_outside.items < 2 ^ 32) }
     ensures inside_few { IfOk result (λ outputs. length outputs.to_inside.items < 2 ^ 32) }
 {
+    if captures.are_too_many() {
+        return Err(RunFault::TooMany);
+    }
     let Captures { inside, outside } = captures;
     let inputs = merge(alloc, inside.records, outside.records)?;
     let run = run_workers(rt, alloc, config, &inputs, gate)?;
@@ -128,7 +142,7 @@ fn write_report<W: Sink>(output: &mut W, report: &str) -> Result<(), Fault>
 /// inside, the report.
 ///
 /// `Fault::Capture` comes where the capture of that side is refused or reading it failed, the inside first.
-/// `Fault::Run` comes with `TooMany` only where the captures have more than 4,294,967,295 records, with `Memory` where
+/// `Fault::Run` comes with `TooMany` exactly where the captures have more than 4,294,967,295 records, with `Memory` where
 /// memory is refused, and with `Pool` where a worker could not be started or stopped early; `GateShut` never comes under
 /// a gate that promises yes. After these nothing is written. `Fault::Write` comes where writing that output failed: those
 /// before it are whole, it has the first `written` bytes of its text, and those after it have nothing.
@@ -169,6 +183,8 @@ pub fn run_captures<
         (U.contents old) (U.contents new)) }
     ensures fault { IfErr result
         (Explains (R.remaining inside.old) (bytes_in Q.remaining outside.entry)) }
+    ensures too_many { TooManyAreTold
+        (R.remaining inside.old) (bytes_in Q.remaining outside.entry) result }
     ensures gate { G.is_open ≡ true → IfErr result (λ fault. tells_shut_gate fault ≡ false) }
     ensures inside_readings { R.failed inside.new
         ≡ R.failed inside.old + failed_readings Side.Inside result }
@@ -186,6 +202,7 @@ pub fn run_captures<
     ensures report_flushed { OnOk result
         (IfGiven report.entry report.exit (λ _ new. U.is_flushed new)) }
 {
+    one_answer();
     let inside = read_side(alloc, Side::Inside, inside)?;
     let outside = match outside {
         Some(outside) => read_side(alloc, Side::Outside, outside)?,

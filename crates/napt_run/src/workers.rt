@@ -3,14 +3,14 @@
 ghost use Rattle.std.specs.Prelude.{◌≡◌, ◌↔◌, ◌^◌, ◌≤◌, ◌<◌, length, flat_map, vec_len, AllPairs, IfOk, IfErr, Err, true, false};
 ghost use Rattle.napt_config.specs.Rules.{KeepsRules};
 ghost use Rattle.napt_run.specs.Sequential as model;
-ghost use Rattle.napt_run.specs.Dispatch.{started, rows_after, IsFaultUnder, is_gate_fault};
+ghost use Rattle.napt_run.specs.Dispatch.{first_fault, started, rows_after, IsFaultUnder, is_gate_fault};
 ghost use Rattle.napt_run.specs.Sound.{AreRowsApart};
 
 use crate::dispatcher::dispatch;
 use crate::laws::runs_are_sound;
-use crate::{Input, Run, RunFault, Worker};
+use crate::{Input, Outcome, Run, RunFault, Worker};
 use napt_config::Config;
-use napt_pool::{Ended, Gate, Pool};
+use napt_pool::{Ended, Gate, Pool, PoolFault};
 use napt_table::Row;
 use napt_translate::Translator;
 use std::alloc::{AllocError, Global};
@@ -79,6 +79,17 @@ pub fn run_workers<
     run_on_pool(rt, alloc, config, inputs, gate)
 }
 
+/// What dispatching and closing come to: a fault of dispatching is told before one of the pool.
+fn first_fault(
+    dispatched: Result<(Vec<Outcome>, Vec<u64>), RunFault>,
+    closed: Result<Vec<Ended<Worker>>, PoolFault>,
+) -> Result<((Vec<Outcome>, Vec<u64>), Vec<Ended<Worker>>), RunFault>
+    ensures { result ≡ first_fault dispatched closed }
+{
+    let dispatched = dispatched?;
+    Ok((dispatched, closed?))
+}
+
 /// The run over so many inputs as their numbers can count.
 fn run_on_pool<R: Threads + Wait + Copy + Send + 'static, G: Gate + Send + Sync + Drop + 'static>(
     rt: &R,
@@ -100,11 +111,7 @@ fn run_on_pool<R: Threads + Wait + Copy + Send + 'static, G: Gate + Send + Sync 
     };
     let dispatched = dispatch(rt, alloc, &mut pool, config, inputs);
     let closed = pool.close(rt, alloc);
-    let (outcomes, legs) = dispatched?;
-    let ended = match closed {
-        Ok(ended) => ended,
-        Err(fault) => return Err(RunFault::Pool(fault)),
-    };
+    let ((outcomes, legs), ended) = first_fault(dispatched, closed)?;
     let Ok(bindings) = bindings(alloc, &ended, last_clock(inputs)) else {
         return Err(RunFault::Memory);
     };

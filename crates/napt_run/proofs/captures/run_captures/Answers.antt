@@ -1,11 +1,13 @@
-use Rattle.std.proofs.Common.{rules, inl, inr, ap, Err}
+use Rattle.std.proofs.Common.{rules, inl, inr, ap, Ok, Err}
 use Rattle.std.proofs.lemmas.Result.{err_from_is_err_and}
 use Rattle.napt_capture.specs.Text.{text}
 use Rattle.napt_run.specs.Devices.{bytes_in}
 use Rattle.napt_run.specs.declared.captures.Captures.{Captures}
+use Rattle.napt_run.specs.declared.fault.Fault.TheVariants.{Run}
 use Rattle.napt_run.specs.declared.fault.Which.TheVariants.{Outside, Inside, Report}
 use Rattle.napt_run.specs.Captures.{IsReadAsOutside, share_of, whole}
 use Rattle.napt_run.proofs.Devices.{before_inside, before_report, none_or_some, outside_read, received, refused}
+use Rattle.napt_run.proofs.TooMany.{err_is, fault_told, not_too_many, too_many_told}
 use Rattle.napt_run.proofs.captures.run_captures.Goals as goal
 use Rattle.napt_run.proofs.captures.run_captures.Goals.{in-Some+in_ok-outside-in-Some, in-None, in-Some-to_inside+in_ok-write_records-2, in_default, in-Some-report+in_ok-write_report, in_default-report}
 
@@ -67,7 +69,7 @@ returns-in_err-outputs-clause-fault g c =
       | in-Some+in_ok-outside-in-Some w ↦ rw (w.in-Some.is, w.outside2-is) (outside_read _ _ w.in_ok-outside-in-Some.ensures.ok)
       | in-None w ↦ rw (w.in-None.is, w.outside2-is) w.no_capture-outside.ensures
     ] in
-    rw (p.1, p.2) (refused (g.R.Source.remaining c.args.inside.now) (bytes_in g.Q.Source.remaining c.args.outside) captures _ c.in_ok-inside.ensures.ok second c.in_err-outputs.ensures.err)
+    rw (p.1, p.2) (refused (g.R.Source.remaining c.args.inside.now) (bytes_in g.Q.Source.remaining c.args.outside) captures _ c.in_ok-inside.ensures.ok second (λ is. c.in_err-outputs.ensures.too_many.0 (ap Err is)))
 
 pub returns-in_err-outputs-clause-outside_readings : goal.returns-in_err-outputs-clause-outside_readings
 returns-in_err-outputs-clause-outside_readings g c =
@@ -294,3 +296,62 @@ returns-clause-report_flushed g c =
       | in-Some-report+in_ok-write_report w ↦ rw (w.report-is, w.in-Some-report.is) (search rules)
       | in_default-report w ↦ rw (w.report-is, w.in_default-report.is) (search rules)
     ]
+
+pub returns-in_err-outputs-clause-too_many : goal.returns-in_err-outputs-clause-too_many
+returns-in_err-outputs-clause-too_many g c =
+    let p = err_from_is_err_and c.from_residual-in_err-outputs.result c.from_residual-in_err-outputs.ensures.1 in
+    let captures : Captures = record { inside = c.in_ok-inside.inside; outside = c.match-outside.outside2 } in
+    let second : IsReadAsOutside (bytes_in g.Q.Source.remaining c.args.outside) captures.outside =
+    elim c.match-outside.branch [
+      | in-Some+in_ok-outside-in-Some w ↦ rw (w.in-Some.is, w.outside2-is) (outside_read _ _ w.in_ok-outside-in-Some.ensures.ok)
+      | in-None w ↦ rw (w.in-None.is, w.outside2-is) w.no_capture-outside.ensures
+    ] in
+    rw (p.1, p.2) (too_many_told c.one_answer.ensures.unique (g.R.Source.remaining c.args.inside.now) (bytes_in g.Q.Source.remaining c.args.outside) captures (Err (Run c.in_err-outputs.field-0.0)) c.in_ok-inside.ensures.ok second
+    (λ many. fault_told _ (err_is _ _ (c.in_err-outputs.ensures.too_many.1 many))))
+
+pub returns-in_err-write_records-clause-too_many : goal.returns-in_err-write_records-clause-too_many
+returns-in_err-write_records-clause-too_many g c =
+    let p = err_from_is_err_and c.from_residual-in_err-write_records.result c.from_residual-in_err-write_records.ensures.1 in
+    let captures : Captures = record { inside = c.in_ok-inside.inside; outside = c.match-outside.outside2 } in
+    let second : IsReadAsOutside (bytes_in g.Q.Source.remaining c.args.outside) captures.outside =
+    elim c.match-outside.branch [
+      | in-Some+in_ok-outside-in-Some w ↦ rw (w.in-Some.is, w.outside2-is) (outside_read _ _ w.in_ok-outside-in-Some.ensures.ok)
+      | in-None w ↦ rw (w.in-None.is, w.outside2-is) w.no_capture-outside.ensures
+    ] in
+    rw (p.1, p.2) (too_many_told c.one_answer.ensures.unique (g.R.Source.remaining c.args.inside.now) (bytes_in g.Q.Source.remaining c.args.outside) captures (Err c.in_err-write_records.field-0.0) c.in_ok-inside.ensures.ok second
+    (λ many. absurd (not_too_many c.in_ok-outputs.outputs (c.in_ok-outputs.ensures.too_many.1 many))))
+
+pub returns-in_err-write_records-2-clause-too_many : goal.returns-in_err-write_records-2-clause-too_many
+returns-in_err-write_records-2-clause-too_many g c =
+    let p = err_from_is_err_and c.from_residual-in_err-write_records-2.result c.from_residual-in_err-write_records-2.ensures.1 in
+    let captures : Captures = record { inside = c.in_ok-inside.inside; outside = c.match-outside.outside2 } in
+    let second : IsReadAsOutside (bytes_in g.Q.Source.remaining c.args.outside) captures.outside =
+    elim c.match-outside.branch [
+      | in-Some+in_ok-outside-in-Some w ↦ rw (w.in-Some.is, w.outside2-is) (outside_read _ _ w.in_ok-outside-in-Some.ensures.ok)
+      | in-None w ↦ rw (w.in-None.is, w.outside2-is) w.no_capture-outside.ensures
+    ] in
+    rw (p.1, p.2) (too_many_told c.one_answer.ensures.unique (g.R.Source.remaining c.args.inside.now) (bytes_in g.Q.Source.remaining c.args.outside) captures (Err c.in_err-write_records-2.field-0.0) c.in_ok-inside.ensures.ok second
+    (λ many. absurd (not_too_many c.in_ok-outputs.outputs (c.in_ok-outputs.ensures.too_many.1 many))))
+
+pub returns-in_err-write_report-clause-too_many : goal.returns-in_err-write_report-clause-too_many
+returns-in_err-write_report-clause-too_many g c =
+    let p = err_from_is_err_and c.from_residual-in_err-write_report.result c.from_residual-in_err-write_report.ensures.1 in
+    let captures : Captures = record { inside = c.in_ok-inside.inside; outside = c.match-outside.outside2 } in
+    let second : IsReadAsOutside (bytes_in g.Q.Source.remaining c.args.outside) captures.outside =
+    elim c.match-outside.branch [
+      | in-Some+in_ok-outside-in-Some w ↦ rw (w.in-Some.is, w.outside2-is) (outside_read _ _ w.in_ok-outside-in-Some.ensures.ok)
+      | in-None w ↦ rw (w.in-None.is, w.outside2-is) w.no_capture-outside.ensures
+    ] in
+    rw (p.1, p.2) (too_many_told c.one_answer.ensures.unique (g.R.Source.remaining c.args.inside.now) (bytes_in g.Q.Source.remaining c.args.outside) captures (Err c.in_err-write_report.field-0.0) c.in_ok-inside.ensures.ok second
+    (λ many. absurd (not_too_many c.in_ok-outputs.outputs (c.in_ok-outputs.ensures.too_many.1 many))))
+
+pub returns-clause-too_many : goal.returns-clause-too_many
+returns-clause-too_many g c =
+    let captures : Captures = record { inside = c.in_ok-inside.inside; outside = c.match-outside.outside2 } in
+    let second : IsReadAsOutside (bytes_in g.Q.Source.remaining c.args.outside) captures.outside =
+    elim c.match-outside.branch [
+      | in-Some+in_ok-outside-in-Some w ↦ rw (w.in-Some.is, w.outside2-is) (outside_read _ _ w.in_ok-outside-in-Some.ensures.ok)
+      | in-None w ↦ rw (w.in-None.is, w.outside2-is) w.no_capture-outside.ensures
+    ] in
+    too_many_told c.one_answer.ensures.unique (g.R.Source.remaining c.args.inside.now) (bytes_in g.Q.Source.remaining c.args.outside) captures (Ok tt) c.in_ok-inside.ensures.ok second
+    (λ many. absurd (not_too_many c.in_ok-outputs.outputs (c.in_ok-outputs.ensures.too_many.1 many)))

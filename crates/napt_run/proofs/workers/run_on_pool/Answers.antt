@@ -1,6 +1,7 @@
 use Rattle.std.proofs.Common.{◌≡◌, ℕ, List, length, map, refl, sym, ap, ◌∙◌}
 use Rattle.std.specs.Prelude.{flat_map}
 use Rattle.std.proofs.lemmas.List.Folds.{flat_map-map}
+use Rattle.std.proofs.lemmas.Result.{IfOk-at_ok}
 use Rattle.napt_config.specs.Rules.{Rules}
 use Rattle.napt_translate.specs.declared.translator.Leg.{Leg}
 use Rattle.napt_translate.specs.declared.translator.Answer.{Answer}
@@ -9,7 +10,7 @@ use Rattle.napt_pool.specs.declared.closing.Ended.{Ended}
 use Rattle.napt_pool.specs.Pools.{starts, accepts}
 use Rattle.napt_run.specs.Dispatch.{started, rows_after, IsDispatched}
 use Rattle.napt_run.specs.contracts.worker.WorkerMachine.TheImpl.{ghosts}
-use Rattle.napt_run.proofs.Closed.{workers_shown}
+use Rattle.napt_run.proofs.Closed.{both_ended, on_ok_at, workers_shown}
 use Rattle.napt_run.proofs.workers.run_on_pool.Goals as goal
 
 pub returns-clause-run : goal.returns-clause-run
@@ -17,11 +18,14 @@ returns-clause-run g c =
     let config : Rules = c.args.config.now in
     let last : ℕ = c.last_clock.result in
     let machine : Ended TranslatorState Leg Answer → TranslatorState = λ e. e.machine in
-    let machines : List TranslatorState = map machine c.in-Ok-closed.ended.items in
-    let began : starts c.dispatch-dispatched.new.pool ≡ started config (length config.pool) = c.in_ok-outcomes.ensures.starts ∙ (c.in-Ok-start.ensures.starts ∙ c.in-Ok.ensures.made) in
+    let machines : List TranslatorState = map machine c.in_ok-outcomes.ended.items in
+    let both = both_ended c.dispatch-dispatched.result c.close-closed.result _ _ c.in_ok-outcomes.ensures in
+    let began : starts c.dispatch-dispatched.new.pool ≡ started config (length config.pool) = c.dispatch-dispatched.ensures.starts ∙ (c.in-Ok-start.ensures.starts ∙ c.in-Ok.ensures.made) in
+    let settled = on_ok_at _ _ both.0 c.dispatch-dispatched.ensures.settled in
+    let answered = on_ok_at _ _ both.1 (c.close-closed.ensures.settled settled) in
     let done : IsDispatched config c.args.inputs.now (accepts c.dispatch-dispatched.new.pool) c.in_ok-outcomes.outcomes.items c.in_ok-outcomes.legs.items =
-    c.in_ok-outcomes.ensures.run (c.in-Ok-closed.ensures.settled c.in_ok-outcomes.ensures.settled) in
+    IfOk-at_ok _ both.0 c.dispatch-dispatched.ensures.run answered in
     let shown : c.in-Ok-bindings.bindings.items ≡ flat_map (rows_after last) machines =
-    c.in-Ok-bindings.ensures ∙ (ap (flat_map (λ (e : Ended TranslatorState Leg Answer). rows_after last e.machine)) c.deref.ensures.value ∙ sym (flat_map-map (rows_after last) machine c.in-Ok-closed.ended.items)) in
+    c.in-Ok-bindings.ensures ∙ (ap (flat_map (λ (e : Ended TranslatorState Leg Answer). rows_after last e.machine)) c.deref.ensures.value ∙ sym (flat_map-map (rows_after last) machine c.in_ok-outcomes.ended.items)) in
     workers_shown ghosts (λ s leg. refl) config c.args.inputs.now (starts c.dispatch-dispatched.new.pool) (accepts c.dispatch-dispatched.new.pool) machines c.in_ok-outcomes.outcomes.items c.in_ok-outcomes.legs.items last c.in-Ok-bindings.bindings.items
-    began c.in-Ok-closed.ensures.machines done c.last_clock.ensures shown
+    began (IfOk-at_ok _ both.1 c.close-closed.ensures.machines) done c.last_clock.ensures shown
