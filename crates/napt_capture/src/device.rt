@@ -1,6 +1,6 @@
 //! The devices that captures are read from and written to. They answer as the readers and writers of std
 //! do, and count their failed calls in a number that contracts see.
-ghost use Rattle.std.specs.Prelude.{◌≡◌, ℕ, ◌+◌, ◌-◌, ◌^◌, ◌<◌, List, Option, OnOk};
+ghost use Rattle.std.specs.Prelude.{◌≡◌, ℕ, ◌+◌, ◌-◌, ◌^◌, ◌<◌, List, Option, IfOk, OnOk};
 ghost use Rattle.std.specs.Io.{ReadsAtMost, WritesAtMost};
 ghost use Rattle.std.specs.Io.KnownBytes.{Keeps, ReadConsumes, WriteAppends};
 ghost use Rattle.napt_capture.specs.Device.{failed_calls, failed_writes};
@@ -41,12 +41,13 @@ pub trait Sink {
     // Nothing was written since the last good flush.
     ghost is_flushed: { Self → Type 0 };
 
-    /// Writes some bytes of the front, and answers how many. A write that fails writes none. It is
-    /// counted, and so is a write of some bytes that answers 0.
+    /// Writes some bytes of the front, and answers how many: where there are any, they are not flushed yet.
+    /// A write that fails writes none. It is counted, and so is a write of some bytes that answers 0.
     fn write(&mut self, bytes: &[u8]) -> Result<usize, DeviceFault>
         requires { failed self.old < 2 ^ 64 - 1 }
         ensures bound { WritesAtMost result bytes.now }
         ensures bytes { WriteAppends (contents self.old) (contents self.new) result bytes.now }
+        ensures unflushed { IfOk result (λ count. 0 < count → ¬ is_flushed self.new) }
         ensures count { failed self.new ≡ failed self.old + failed_writes result bytes.now };
 
     /// Passes on what was written and is still held back.

@@ -5,6 +5,7 @@ use super::*;
 use std::alloc::{AllocError, Global};
 use std::io;
 use std::io::{Read, Write};
+use std::process::Abort;
 use std::test::*;
 
 /// A capture of one packet of 30 bytes at 1.5 s, in microseconds and little-endian order.
@@ -310,6 +311,76 @@ fn each_write_fails_in_turn(rt: HostRuntime) -> Result<(), Fail> {
         }
     }
     Ok(())
+}
+
+/// Counts the calls that reach it. Each is good, and moves a byte where it has room, or each is refused.
+#[derive(Drop)]
+struct Counted {
+    is_good: bool,
+    reads: u8,
+    writes: u8,
+    flushes: u8,
+}
+
+impl Counted {
+    fn answer(&self) -> io::Result<()> {
+        if self.is_good {
+            Ok(())
+        } else {
+            Err(io::Error::from(io::ErrorKind::BrokenPipe))
+        }
+    }
+}
+
+impl Read for Counted {
+    fn read(&mut self, buffer: &mut [u8]) -> io::Result<usize> {
+        self.reads = self.reads.saturating_add(1);
+        self.answer()?;
+        Ok(buffer.len().min(1))
+    }
+}
+
+impl Write for Counted {
+    fn write(&mut self, bytes: &[u8]) -> io::Result<usize> {
+        self.writes = self.writes.saturating_add(1);
+        self.answer()?;
+        Ok(bytes.len().min(1))
+    }
+
+    fn flush(&mut self) -> io::Result<()> {
+        self.flushes = self.flushes.saturating_add(1);
+        self.answer()
+    }
+}
+
+/// Which calls have reached the device, and no more of them.
+fn assert_calls(rt: &impl Abort, watched: Watched<Counted>, calls: (u8, u8, u8)) {
+    let device = watched.into_inner();
+    assert_eq!(rt; (device.reads, device.writes, device.flushes), calls);
+}
+
+/// Each call goes to the device once, and answers what that answers.
+#[test]
+fn calls_are_handed_on_once(rt: HostRuntime) {
+    for is_good in [true, false] {
+        let counted = || Counted {
+            is_good,
+            reads: 0,
+            writes: 0,
+            flushes: 0,
+        };
+        let mut read = Watched::new(counted());
+        assert_eq!(rt; read.read(&mut [0; 2]).is_ok(), is_good);
+        assert_calls(&rt, read, (1, 0, 0));
+
+        let mut written = Watched::new(counted());
+        assert_eq!(rt; written.write(&[7; 2]).is_ok(), is_good);
+        assert_calls(&rt, written, (0, 1, 0));
+
+        let mut flushed = Watched::new(counted());
+        assert_eq!(rt; flushed.flush().is_ok(), is_good);
+        assert_calls(&rt, flushed, (0, 0, 1));
+    }
 }
 
 #[test]
