@@ -5,12 +5,24 @@ ghost use Rattle.std.specs.Io.{ReadsAtMost, WritesAtMost};
 ghost use Rattle.std.specs.Io.KnownBytes.{Keeps, ReadConsumes, WriteAppends};
 ghost use Rattle.napt_capture.specs.Device.{failed_calls, failed_writes};
 
-use thiserror::Error;
+use std::error::Error;
+use std::fmt;
 
 /// A device refused a call. What it said is not kept.
-#[derive(Clone, Copy, Debug, PartialEq, Eq, Error)]
-#[error("the device failed")]
+#[derive(Clone, Copy, Debug, PartialEq, Eq)]
 pub struct DeviceFault;
+
+impl fmt::Display for DeviceFault {
+    ghost use Rattle.std.specs.Prelude.{Some, codes};
+
+    ghost output = { λ _. Some (codes "the device failed") };
+
+    fn fmt<W: fmt::Write>(&self, f: &mut fmt::Formatter<W>) -> fmt::Result {
+        f.write_str("the device failed")
+    }
+}
+
+impl Error for DeviceFault {}
 
 /// What captures are read from.
 pub trait Source {

@@ -207,7 +207,7 @@ fn each_read_fails_in_turn(rt: HostRuntime) -> Result<(), Fail> {
 
 /// What a disk does once so many calls were good.
 #[derive(Clone, Copy, PartialEq, Eq, Debug)]
-enum Trouble {
+enum DiskTrouble {
     WriteFails,
     WriteTakesNone,
     FlushFails,
@@ -219,14 +219,14 @@ struct Disk {
     held: Vec<u8>,
     most: usize,
     good_writes: usize,
-    trouble: Trouble,
+    trouble: DiskTrouble,
     flushes: usize,
 }
 
 impl Write for Disk {
     fn write(&mut self, bytes: &[u8]) -> io::Result<usize> {
         match self.good_writes.checked_sub(1) {
-            None if self.trouble == Trouble::WriteTakesNone => Ok(0),
+            None if self.trouble == DiskTrouble::WriteTakesNone => Ok(0),
             None => Err(io::Error::from(io::ErrorKind::Interrupted)),
             Some(left) => {
                 self.good_writes = left;
@@ -240,13 +240,13 @@ impl Write for Disk {
     fn flush(&mut self) -> io::Result<()> {
         self.flushes = self.flushes.saturating_add(1);
         match self.trouble {
-            Trouble::FlushFails => Err(io::Error::from(io::ErrorKind::BrokenPipe)),
+            DiskTrouble::FlushFails => Err(io::Error::from(io::ErrorKind::BrokenPipe)),
             _ => Ok(()),
         }
     }
 }
 
-fn make_disk(alloc: Global, most: usize, good_writes: usize, trouble: Trouble) -> Disk {
+fn make_disk(alloc: Global, most: usize, good_writes: usize, trouble: DiskTrouble) -> Disk {
     Disk {
         held: Vec::new(alloc),
         most,
@@ -273,7 +273,7 @@ fn packet(alloc: Global, time: u64) -> Result<Record, AllocError>
 #[test]
 fn one_packet_is_written(rt: HostRuntime) -> Result<(), Fail> {
     let records = [packet(rt.alloc(), HALF_PAST_ONE)?];
-    let mut writer = Watched::new(make_disk(rt.alloc(), 100, 100, Trouble::WriteFails));
+    let mut writer = Watched::new(make_disk(rt.alloc(), 100, 100, DiskTrouble::WriteFails));
     assert_eq!(rt; write_capture(&mut writer, &records), Ok(()));
     let disk = writer.into_inner();
     assert_eq!(rt; disk.held.as_slice(), WRITTEN.as_slice());
@@ -285,16 +285,16 @@ fn one_packet_is_written(rt: HostRuntime) -> Result<(), Fail> {
 fn each_write_fails_in_turn(rt: HostRuntime) -> Result<(), Fail> {
     let records = [packet(rt.alloc(), HALF_PAST_ONE)?];
     for trouble in [
-        Trouble::WriteFails,
-        Trouble::WriteTakesNone,
-        Trouble::FlushFails,
+        DiskTrouble::WriteFails,
+        DiskTrouble::WriteTakesNone,
+        DiskTrouble::FlushFails,
     ] {
         for good_writes in 0..=70u8 {
             let mut writer = Watched::new(make_disk(rt.alloc(), 1, good_writes as usize, trouble));
             let result = write_capture(&mut writer, &records);
             let disk = writer.into_inner();
             let written = good_writes as u64;
-            if good_writes == 70 && trouble != Trouble::FlushFails {
+            if good_writes == 70 && trouble != DiskTrouble::FlushFails {
                 assert_eq!(rt; result, Ok(()));
             } else {
                 assert_eq!(rt; result, Err(WriteFault { written }));
