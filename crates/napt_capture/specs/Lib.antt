@@ -4,5 +4,7 @@ pub mod Spelling
 pub mod Capture
 pub mod Text
 pub mod Watched
+pub mod Faulty
+pub mod Messages
 pub mod Reading
 pub mod Writing

@@ -1,16 +1,28 @@
 //! The devices that captures are read from and written to. They answer as the readers and writers of std
 //! do, and count their failed calls in a number that contracts see.
-ghost use Rattle.std.specs.Prelude.{◌≡◌, ℕ, ◌+◌, ◌-◌, ◌^◌, ◌<◌, List, Option, OnOk};
+ghost use Rattle.std.specs.Prelude.{◌≡◌, ℕ, ◌+◌, ◌-◌, ◌^◌, ◌<◌, List, Option, IfOk, OnOk, OnErr};
 ghost use Rattle.std.specs.Io.{ReadsAtMost, WritesAtMost};
 ghost use Rattle.std.specs.Io.KnownBytes.{Keeps, ReadConsumes, WriteAppends};
 ghost use Rattle.napt_capture.specs.Device.{failed_calls, failed_writes};
 
-use thiserror::Error;
+use std::error::Error;
+use std::fmt;
 
 /// A device refused a call. What it said is not kept.
-#[derive(Clone, Copy, Debug, PartialEq, Eq, Error)]
-#[error("the device failed")]
+#[derive(Clone, Copy, Debug, PartialEq, Eq)]
 pub struct DeviceFault;
+
+impl fmt::Display for DeviceFault {
+    ghost use Rattle.std.specs.Prelude.{Some, codes};
+
+    ghost output = { λ _. Some (codes "the device failed") };
+
+    fn fmt<W: fmt::Write>(&self, f: &mut fmt::Formatter<W>) -> fmt::Result {
+        f.write_str("the device failed")
+    }
+}
+
+impl Error for DeviceFault {}
 
 /// What captures are read from.
 pub trait Source {
@@ -38,21 +50,24 @@ pub trait Sink {
     // How many writes and flushes failed.
     ghost failed: { Self → ℕ };
 
-    // Nothing was written since the last good flush.
+    // There was a good flush, and nothing was written since.
     ghost is_flushed: { Self → Type 0 };
 
-    /// Writes some bytes of the front, and answers how many. A write that fails writes none. It is
-    /// counted, and so is a write of some bytes that answers 0.
+    /// Writes some bytes of the front, and answers how many: where there are any, they are not flushed yet.
+    /// A write that fails writes none. It is counted, and so is a write of some bytes that answers 0.
     fn write(&mut self, bytes: &[u8]) -> Result<usize, DeviceFault>
         requires { failed self.old < 2 ^ 64 - 1 }
         ensures bound { WritesAtMost result bytes.now }
         ensures bytes { WriteAppends (contents self.old) (contents self.new) result bytes.now }
+        ensures unflushed { IfOk result (λ count. 0 < count → ¬ is_flushed self.new) }
+        ensures held { is_flushed self.new → is_flushed self.old }
         ensures count { failed self.new ≡ failed self.old + failed_writes result bytes.now };
 
-    /// Passes on what was written and is still held back.
+    /// Passes on what was written and is still held back. One that fails makes nothing flushed.
     fn flush(&mut self) -> Result<(), DeviceFault>
         requires { failed self.old < 2 ^ 64 - 1 }
         ensures bytes { Keeps (contents self.old) (contents self.new) }
         ensures flushed { OnOk result (is_flushed self.new) }
+        ensures held { OnErr result (is_flushed self.new → is_flushed self.old) }
         ensures count { failed self.new ≡ failed self.old + failed_calls result };
 }

@@ -10,6 +10,7 @@
 mod contents;
 mod device;
 mod fault;
+mod faulty;
 mod laws;
 mod reading;
 mod spelling;
@@ -19,6 +20,7 @@ mod writing;
 pub use contents::{Capture, Record};
 pub use device::{DeviceFault, Sink, Source};
 pub use fault::{CaptureFault, WriteFault};
+pub use faulty::{Faulty, Plan, Trouble};
 pub use laws::{one_answer, reads_back};
 pub use reading::read_capture;
 pub use watched::Watched;

@@ -5,6 +5,7 @@ use super::*;
 use std::alloc::{AllocError, Global};
 use std::io;
 use std::io::{Read, Write};
+use std::process::Abort;
 use std::test::*;
 
 /// A capture of one packet of 30 bytes at 1.5 s, in microseconds and little-endian order.
@@ -206,7 +207,7 @@ fn each_read_fails_in_turn(rt: HostRuntime) -> Result<(), Fail> {
 
 /// What a disk does once so many calls were good.
 #[derive(Clone, Copy, PartialEq, Eq, Debug)]
-enum Trouble {
+enum DiskTrouble {
     WriteFails,
     WriteTakesNone,
     FlushFails,
@@ -218,14 +219,14 @@ struct Disk {
     held: Vec<u8>,
     most: usize,
     good_writes: usize,
-    trouble: Trouble,
+    trouble: DiskTrouble,
     flushes: usize,
 }
 
 impl Write for Disk {
     fn write(&mut self, bytes: &[u8]) -> io::Result<usize> {
         match self.good_writes.checked_sub(1) {
-            None if self.trouble == Trouble::WriteTakesNone => Ok(0),
+            None if self.trouble == DiskTrouble::WriteTakesNone => Ok(0),
             None => Err(io::Error::from(io::ErrorKind::Interrupted)),
             Some(left) => {
                 self.good_writes = left;
@@ -239,13 +240,13 @@ impl Write for Disk {
     fn flush(&mut self) -> io::Result<()> {
         self.flushes = self.flushes.saturating_add(1);
         match self.trouble {
-            Trouble::FlushFails => Err(io::Error::from(io::ErrorKind::BrokenPipe)),
+            DiskTrouble::FlushFails => Err(io::Error::from(io::ErrorKind::BrokenPipe)),
             _ => Ok(()),
         }
     }
 }
 
-fn make_disk(alloc: Global, most: usize, good_writes: usize, trouble: Trouble) -> Disk {
+fn make_disk(alloc: Global, most: usize, good_writes: usize, trouble: DiskTrouble) -> Disk {
     Disk {
         held: Vec::new(alloc),
         most,
@@ -272,7 +273,7 @@ fn packet(alloc: Global, time: u64) -> Result<Record, AllocError>
 #[test]
 fn one_packet_is_written(rt: HostRuntime) -> Result<(), Fail> {
     let records = [packet(rt.alloc(), HALF_PAST_ONE)?];
-    let mut writer = Watched::new(make_disk(rt.alloc(), 100, 100, Trouble::WriteFails));
+    let mut writer = Watched::new(make_disk(rt.alloc(), 100, 100, DiskTrouble::WriteFails));
     assert_eq!(rt; write_capture(&mut writer, &records), Ok(()));
     let disk = writer.into_inner();
     assert_eq!(rt; disk.held.as_slice(), WRITTEN.as_slice());
@@ -284,16 +285,16 @@ fn one_packet_is_written(rt: HostRuntime) -> Result<(), Fail> {
 fn each_write_fails_in_turn(rt: HostRuntime) -> Result<(), Fail> {
     let records = [packet(rt.alloc(), HALF_PAST_ONE)?];
     for trouble in [
-        Trouble::WriteFails,
-        Trouble::WriteTakesNone,
-        Trouble::FlushFails,
+        DiskTrouble::WriteFails,
+        DiskTrouble::WriteTakesNone,
+        DiskTrouble::FlushFails,
     ] {
         for good_writes in 0..=70u8 {
             let mut writer = Watched::new(make_disk(rt.alloc(), 1, good_writes as usize, trouble));
             let result = write_capture(&mut writer, &records);
             let disk = writer.into_inner();
             let written = good_writes as u64;
-            if good_writes == 70 && trouble != Trouble::FlushFails {
+            if good_writes == 70 && trouble != DiskTrouble::FlushFails {
                 assert_eq!(rt; result, Ok(()));
             } else {
                 assert_eq!(rt; result, Err(WriteFault { written }));
@@ -310,6 +311,76 @@ fn each_write_fails_in_turn(rt: HostRuntime) -> Result<(), Fail> {
         }
     }
     Ok(())
+}
+
+/// Counts the calls that reach it. Each is good, and moves a byte where it has room, or each is refused.
+#[derive(Drop)]
+struct Counted {
+    is_good: bool,
+    reads: u8,
+    writes: u8,
+    flushes: u8,
+}
+
+impl Counted {
+    fn answer(&self) -> io::Result<()> {
+        if self.is_good {
+            Ok(())
+        } else {
+            Err(io::Error::from(io::ErrorKind::BrokenPipe))
+        }
+    }
+}
+
+impl Read for Counted {
+    fn read(&mut self, buffer: &mut [u8]) -> io::Result<usize> {
+        self.reads = self.reads.saturating_add(1);
+        self.answer()?;
+        Ok(buffer.len().min(1))
+    }
+}
+
+impl Write for Counted {
+    fn write(&mut self, bytes: &[u8]) -> io::Result<usize> {
+        self.writes = self.writes.saturating_add(1);
+        self.answer()?;
+        Ok(bytes.len().min(1))
+    }
+
+    fn flush(&mut self) -> io::Result<()> {
+        self.flushes = self.flushes.saturating_add(1);
+        self.answer()
+    }
+}
+
+/// Which calls have reached the device, and no more of them.
+fn assert_calls(rt: &impl Abort, watched: Watched<Counted>, calls: (u8, u8, u8)) {
+    let device = watched.into_inner();
+    assert_eq!(rt; (device.reads, device.writes, device.flushes), calls);
+}
+
+/// Each call goes to the device once, and answers what that answers.
+#[test]
+fn calls_are_handed_on_once(rt: HostRuntime) {
+    for is_good in [true, false] {
+        let counted = || Counted {
+            is_good,
+            reads: 0,
+            writes: 0,
+            flushes: 0,
+        };
+        let mut read = Watched::new(counted());
+        assert_eq!(rt; read.read(&mut [0; 2]).is_ok(), is_good);
+        assert_calls(&rt, read, (1, 0, 0));
+
+        let mut written = Watched::new(counted());
+        assert_eq!(rt; written.write(&[7; 2]).is_ok(), is_good);
+        assert_calls(&rt, written, (0, 1, 0));
+
+        let mut flushed = Watched::new(counted());
+        assert_eq!(rt; flushed.flush().is_ok(), is_good);
+        assert_calls(&rt, flushed, (0, 0, 1));
+    }
 }
 
 #[test]

@@ -1,5 +1,5 @@
 //! Any reader or writer of std as a source or a sink.
-ghost use Rattle.std.specs.Prelude.{◌≡◌};
+ghost use Rattle.std.specs.Prelude.{◌≡◌, false};
 
 use crate::device::{DeviceFault, Sink, Source};
 use std::io::{Read, Write};
@@ -14,12 +14,13 @@ pub struct Watched<D> {
 }
 
 impl<D> Watched<D> {
-    ghost use Rattle.napt_capture.specs.Watched.{device_of, failed_of};
+    ghost use Rattle.napt_capture.specs.Watched.{device_of, failed_of, flushed_of};
 
-    /// Watches the device from here on.
+    /// Watches the device from here on. What it holds back already may need a flush.
     pub fn new(device: D) -> Self
         ensures device { device_of result ≡ device }
         ensures count { failed_of result ≡ 0 }
+        ensures unflushed { flushed_of result ≡ false }
     {
         Watched {
             device,
@@ -61,13 +62,13 @@ impl<D: Read> Source for Watched<D> {
 
 impl<D: Write> Sink for Watched<D> {
     ghost use Rattle.std.specs.Prelude.{IsTrue};
-    ghost use Rattle.napt_capture.specs.Watched.{device_of, failed_of};
+    ghost use Rattle.napt_capture.specs.Watched.{device_of, failed_of, flushed_of};
 
     ghost contents = { λ w. D.contents (device_of w) };
 
     ghost failed = { λ w. failed_of w };
 
-    ghost is_flushed = { λ w. IsTrue w.flushed };
+    ghost is_flushed = { λ w. IsTrue (flushed_of w) };
 
     fn write(&mut self, bytes: &[u8]) -> Result<usize, DeviceFault> {
         self.flushed = false;

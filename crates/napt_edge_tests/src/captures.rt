@@ -16,7 +16,7 @@ const HEADERS: [u8; 40] = [
     30, 0, 0, 0, 30, 0, 0, 0, // captured and original length
 ];
 
-fn one_packet(alloc: Global) -> Result<Vec<u8>, AllocError> {
+pub(crate) fn one_packet(alloc: Global) -> Result<Vec<u8>, AllocError> {
     let mut bytes = Vec::from_slice(alloc, &HEADERS)?;
     bytes.extend_from_slice(&UDP_QUERY)?;
     Ok(bytes)
@@ -28,19 +28,27 @@ fn read(alloc: Global, bytes: &[u8]) -> Result<(usize, bool), CaptureFault> {
     Ok((capture.records.len(), capture.cut))
 }
 
+/// What a capture comes to that ends after so many of those bytes.
+pub(crate) fn answer_of_front(length: usize) -> Result<(usize, bool), CaptureFault> {
+    match length {
+        0..=23 => Err(CaptureFault::NoHeader),
+        24 => Ok((0, false)),
+        25..=69 => Ok((0, true)),
+        _ => Ok((1, false)),
+    }
+}
+
 #[test]
 fn fronts_of_a_capture(rt: HostRuntime) -> Result<(), Fail> {
     let whole = one_packet(rt.alloc())?;
     assert_eq!(rt; whole.len(), 70);
     for length in 0..=70 {
-        let wanted = match length {
-            0..=23 => Err(CaptureFault::NoHeader),
-            24 => Ok((0, false)),
-            25..=69 => Ok((0, true)),
-            _ => Ok((1, false)),
-        };
         let front = whole.get(..length).ok_or("a front")?;
-        assert_eq!(rt; read(rt.alloc(), front), wanted, "{length} bytes");
+        assert_eq!(rt;
+            read(rt.alloc(), front),
+            answer_of_front(length),
+            "{length} bytes"
+        );
     }
     Ok(())
 }

@@ -4,6 +4,8 @@
 #[cfg(test)]
 mod captures;
 #[cfg(test)]
+mod devices;
+#[cfg(test)]
 mod gates;
 #[cfg(test)]
 mod numbers;

@@ -1,0 +1,31 @@
+-- What contracts see of a device one of whose calls goes wrong.
+use Rattle.std.specs.Prelude.{ℕ, ◌-◌, ◌==◌, List, Option, Some, None, if◌then◌else◌}
+use Rattle.napt_capture.specs.declared.faulty.Faulty.{Faulty}
+use Rattle.napt_capture.specs.declared.faulty.Plan.{Plan}
+use Rattle.napt_capture.specs.declared.faulty.Trouble.{Trouble}
+use Rattle.napt_capture.specs.declared.faulty.Trouble.TheVariants.{Fails, TakesNone}
+
+-- the device itself
+abbrev pub device_of : {D : Type 0} → Faulty D → D
+device_of f = f.device
+
+-- what is ahead
+abbrev pub plan_of : {D : Type 0} → Faulty D → Plan
+plan_of f = f.plan
+
+-- how many of its own calls failed, beside those that failed in the device
+abbrev pub own_failed : {D : Type 0} → Faulty D → ℕ
+own_failed f = f.failed
+
+-- what goes wrong at the next call
+abbrev pub trouble_of : Plan → Option Trouble
+trouble_of plan = if plan.call == 1 then Some plan.trouble else None
+
+-- the plan behind it
+abbrev pub after_a_call : Plan → Plan
+after_a_call plan = record plan { call = plan.call - 1 }
+
+-- Where a read is to answer 0 before the end, it is not known what reads give.
+abbrev pub told : Trouble → Option (List ℕ) → Option (List ℕ)
+told Fails known = known
+told TakesNone known = None

@@ -1,0 +1,138 @@
+//! A device for tests.
+ghost use Rattle.std.specs.Prelude.{◌≡◌, ◌<◌};
+
+use crate::device::{DeviceFault, Sink, Source};
+
+/// What goes wrong at a call.
+#[derive(Clone, Copy, Debug, PartialEq, Eq)]
+pub enum Trouble {
+    /// The call fails.
+    Fails,
+    /// The call answers 0: a read as at the end, a write as where there is no room. A flush, which
+    /// answers no number, is good.
+    TakesNone,
+}
+
+/// What a faulty device does from here on.
+#[derive(Clone, Copy, Debug, PartialEq, Eq)]
+pub struct Plan {
+    /// The most bytes that a read or a write moves, not 0.
+    pub most: usize,
+    /// Which call goes wrong, counted from 1 over reads, writes and flushes; none where it is 0.
+    pub call: u64,
+    /// What goes wrong at that call.
+    pub trouble: Trouble,
+}
+
+/// A source or a sink for tests: it hands on calls to its device, but for the one call of its plan, which
+/// goes wrong.
+#[derive(Drop)]
+pub struct Faulty<D> {
+    device: D,
+    plan: Plan,
+    failed: u64,
+    ghost moves_bytes: { 0 < plan.most },
+}
+
+impl<D> Faulty<D> {
+    ghost use Rattle.napt_capture.specs.Faulty.{device_of, plan_of, own_failed, trouble_of, after_a_call};
+
+    /// Goes by the plan from here on.
+    pub fn new(device: D, plan: Plan) -> Self
+        requires { 0 < plan.most }
+        ensures device { device_of result ≡ device }
+        ensures plan { plan_of result ≡ plan }
+        ensures count { own_failed result ≡ 0 }
+    {
+        Faulty {
+            device,
+            plan,
+            failed: 0,
+        }
+    }
+
+    /// The device again.
+    pub fn into_inner(self) -> D
+        ensures { result ≡ device_of self }
+    {
+        let Faulty {
+            device,
+            plan: _,
+            failed: _,
+        } = self;
+        device
+    }
+
+    /// Counts a call, and answers what goes wrong at it.
+    fn next_trouble(&mut self) -> Option<Trouble>
+        ensures answer { result ≡ trouble_of self.old.plan }
+        ensures left { self.new ≡ record self.old { plan = after_a_call self.old.plan } }
+    {
+        let goes_wrong = self.plan.call == 1;
+        self.plan.call = self.plan.call.saturating_sub(1);
+        goes_wrong.then_some(self.plan.trouble)
+    }
+}
+
+impl<D: Source> Source for Faulty<D> {
+    ghost use Rattle.std.specs.Prelude.{◌+◌};
+    ghost use Rattle.napt_capture.specs.Faulty.{device_of, plan_of, own_failed, told};
+
+    ghost remaining = { λ f. told (plan_of f).trouble (D.remaining (device_of f)) };
+
+    ghost failed = { λ f. own_failed f + D.failed (device_of f) };
+
+    fn read(&mut self, buffer: &mut [u8]) -> Result<usize, DeviceFault> {
+        match self.next_trouble() {
+            None => {
+                let most = self.plan.most.min(buffer.len());
+                self.device.read(&mut buffer[..most])
+            }
+            Some(Trouble::Fails) => {
+                self.failed += 1;
+                Err(DeviceFault)
+            }
+            Some(Trouble::TakesNone) => Ok(0),
+        }
+    }
+}
+
+impl<D: Sink> Sink for Faulty<D> {
+    ghost use Rattle.std.specs.Prelude.{◌+◌};
+    ghost use Rattle.napt_capture.specs.Faulty.{device_of, own_failed};
+
+    ghost contents = { λ f. D.contents (device_of f) };
+
+    ghost failed = { λ f. own_failed f + D.failed (device_of f) };
+
+    ghost is_flushed = { λ f. D.is_flushed (device_of f) };
+
+    fn write(&mut self, bytes: &[u8]) -> Result<usize, DeviceFault> {
+        match self.next_trouble() {
+            None => {
+                let most = self.plan.most.min(bytes.len());
+                self.device.write(&bytes[..most])
+            }
+            Some(Trouble::Fails) => {
+                self.failed += 1;
+                Err(DeviceFault)
+            }
+            Some(Trouble::TakesNone) => {
+                if !bytes.is_empty() {
+                    self.failed += 1;
+                }
+                Ok(0)
+            }
+        }
+    }
+
+    fn flush(&mut self) -> Result<(), DeviceFault> {
+        match self.next_trouble() {
+            None | Some(Trouble::TakesNone) => self.device.flush(),
+            Some(Trouble::Fails) => {
+                self.failed += 1;
+                Err(DeviceFault)
+            }
+        }
+    }
+}
