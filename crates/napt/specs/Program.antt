@@ -1,5 +1,8 @@
 -- What stops the program once its words are read.
-use Rattle.std.specs.Prelude.{◌≡◌, Bool, true, false, is_some}
+use Rattle.std.specs.Prelude.{◌≡◌, ◌≢◌, ℕ, List, Bool, true, false, is_some, Result, Ok, Err}
+use Rattle.napt_config.specs.Configured.{configuration_of}
+use Rattle.napt_config.specs.Rules.{Rules}
+use Rattle.napt_config.specs.declared.fault.ConfigFault.TheVariants.{Memory}
 use Rattle.napt_run.specs.Captures.{tells_shut_gate}
 use Rattle.napt.specs.declared.options.Options.{Options}
 use Rattle.napt.specs.declared.stop.Role.{Role}
@@ -21,6 +24,18 @@ abbrev pub IsConfigStop : Bool → Stop → Type 0
 IsConfigStop named (stop.Config fault) = Unit {0}
 IsConfigStop named (stop.File role.Config) = named ≡ true
 IsConfigStop named other = ⊥
+
+-- the file of the configuration was not read: memory ran out, or the file failed
+abbrev pub IsUnread : Stop → Type 0
+IsUnread (stop.Config Memory) = Unit {0}
+IsUnread (stop.File role.Config) = Unit {0}
+IsUnread other = ⊥
+
+-- what a configuration's text comes to: its configuration or its own fault, unless it was not read or memory ran out
+abbrev pub IsReadingOf : List ℕ → Result Rules Stop → Type 0
+IsReadingOf text (Ok config) = configuration_of text ≡ Ok config
+IsReadingOf text (Err (stop.Config fault)) = fault ≢ Memory → configuration_of text ≡ Err fault
+IsReadingOf text (Err other) = Unit {0}
 
 -- a fault of the configuration, of a file that the words name, or of the run, whose gate is open
 abbrev pub IsStopOf : Options → Stop → Type 0

@@ -1,6 +1,7 @@
 //! The program `napt`.
 #![tactic(auto)]
 
+mod config_file;
 mod files;
 mod options;
 mod place;

@@ -4,6 +4,7 @@ ghost use Rattle.std.specs.Prelude.{◌≡◌, ◌⊎◌, None, IfErr, IfOk, is_
 ghost use Rattle.napt_config.specs.Configured.{built_in};
 ghost use Rattle.napt.specs.Program.{IsConfigStop, IsStopOf};
 
+use crate::config_file::{config_from, unread_config};
 use crate::files::{MEMORY, created, created_at, opened, sink, sink_over, source, source_over};
 use crate::options::{LineFault, Options, parse_words};
 use crate::places::refuse_lost_file;
@@ -12,11 +13,12 @@ use napt_config::{Config, ConfigFault};
 use napt_pool::OpenGate;
 use napt_run::run_captures;
 use std::env::Env;
+use std::fs::File;
 use std::io::{ErrorKind, Read, Write};
 use std::rt::Files;
 use std::sync::{Arc, Wait};
 use std::thread::Threads;
-use std::{env, fs, io};
+use std::{env, io};
 
 /// Runs over the files that the words name, with a worker thread for each external address. Help goes to standard output.
 ///
@@ -55,12 +57,9 @@ fn configuration<R: Files + AllocGlobal>(rt: &R, path: Option<&String>) -> Resul
     let Some(path) = path else {
         return Config::built_in(rt.alloc()).map_err(|_| Stop::Config(ConfigFault::Memory));
     };
-    match fs::read(rt, path.as_str()) {
-        Ok(text) => Config::read(rt.alloc(), &text).map_err(Stop::Config),
-        Err(error) if error.kind() == ErrorKind::OutOfMemory => {
-            Err(Stop::Config(ConfigFault::Memory))
-        }
-        Err(_) => Err(Stop::File(Role::Config)),
+    match File::open(rt, path.as_str()) {
+        Ok(file) => config_from(rt.alloc(), file),
+        Err(error) => Err(unread_config(&error)),
     }
 }
 

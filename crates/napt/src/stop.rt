@@ -58,6 +58,16 @@ pub enum Stop {
     Run(Fault),
 }
 
+impl From<ConfigFault> for Stop {
+    ghost use Rattle.napt.specs.declared.stop.Stop.TheVariants.{Config};
+
+    ghost from_gives = { λ fault stop. stop ≡ Config fault };
+
+    fn from(fault: ConfigFault) -> Stop {
+        Stop::Config(fault)
+    }
+}
+
 /// The exit status: 2 for the command line, 3 for the configuration, 4 for a capture, 5 for a run
 /// that fails, and 6 for a file.
 pub fn stop_status(stop: &Stop) -> u8
