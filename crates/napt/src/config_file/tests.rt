@@ -22,13 +22,19 @@ fn reads_the_settings(rt: HostRuntime) -> Result<(), Fail> {
 
 #[test]
 fn ends_at_the_limit(rt: HostRuntime) -> Result<(), Fail> {
-    assert_eq!(rt; ring_of(rt.alloc(), u64::MAX), Err(Stop::File(Role::Config)));
+    assert_eq!(rt;
+        ring_of(rt.alloc(), u64::MAX),
+        Err(Stop::File(Role::Config))
+    );
     Ok(())
 }
 
 #[test]
 fn tells_the_fault_of_the_text(rt: HostRuntime) -> Result<(), Fail> {
     let read = config_from(rt.alloc(), b"ring = 7".as_slice());
-    assert_eq!(rt; read.map(|config| config.ring()), Err(Stop::Config(ConfigFault::Missing)));
+    assert_eq!(rt;
+        read.map(|config| config.ring()),
+        Err(Stop::Config(ConfigFault::Missing))
+    );
     Ok(())
 }
