@@ -10,7 +10,9 @@ short_is_whole bytes text most short is =
     let fits : length bytes ≤ most + 1 = omega arith in
     is ∙ take_all (most + 1) bytes fits
 
-pub all_is_told : (told : Option (List ℕ)) (text before : List ℕ) (most limit : ℕ) → before ≡ [] → limit ≡ most + 1 → length text ≤ most
+pub all_is_told : (told : Option (List ℕ)) (text before : List ℕ) (most limit : ℕ)
+    → before ≡ [] → limit ≡ most + 1 → length text ≤ most
     → IfSome (option_map (take limit) told) (λ bytes. text ≡ before ++ bytes) → IfSome told (λ bytes. text ≡ bytes)
 all_is_told None text before most limit none one_more short is = tt
-all_is_told (Some bytes) text before most limit none one_more short is = short_is_whole bytes text most short (is ∙ rw (none, one_more) refl)
+all_is_told (Some bytes) text before most limit none one_more short is =
+    short_is_whole bytes text most short (is ∙ rw (none, one_more) refl)

@@ -15,8 +15,8 @@ pub const MOST_BYTES: u64 = 67_108_864;
 
 /// The configuration that the reader tells to its end.
 ///
-/// Fails as the text does, by `Stop::Config`; where memory runs out, by `ConfigFault::Memory`; and where the reader fails
-/// or tells more than `MOST_BYTES`, by the file's role.
+/// Fails as the text does, by `Stop::Config`; where memory runs out, by `ConfigFault::Memory`; and where the reader
+/// fails or tells more than `MOST_BYTES`, by the file's role.
 pub fn config_from<D: Read + Drop>(alloc: Global, device: D) -> Result<Config, Stop>
     ensures read { IfSome (D.remaining device) (λ text. IsReadingOf text result) }
     ensures bounded { OnOk result (IfSome (D.remaining device) (λ text. length text ≤ MOST_BYTES)) }
@@ -42,7 +42,8 @@ fn text_of<D: Read + Drop>(alloc: Global, device: D) -> Result<Vec<u8>, Stop>
 
 /// Why a configuration was not read: memory ran out, or its file failed.
 pub fn unread_config(error: &io::Error) -> Stop
-    ensures memory { error_kind error.now ≡ ErrorKind.OutOfMemory → result ≡ Stop.Config ConfigFault.Memory }
+    ensures memory { error_kind error.now ≡ ErrorKind.OutOfMemory
+        → result ≡ Stop.Config ConfigFault.Memory }
     ensures file { error_kind error.now ≢ ErrorKind.OutOfMemory → result ≡ Stop.File Role.Config }
     ensures unread { IsUnread result }
 {

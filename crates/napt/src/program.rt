@@ -22,12 +22,12 @@ use std::sync::{Arc, Wait};
 use std::thread::Threads;
 use std::{env, io};
 
-/// Does what the words of the command line ask for: runs over the files that they name, with a worker thread for each external
-/// address, or writes help to standard output.
+/// Does what the words of the command line ask for: runs over the files that they name, with a worker thread for each
+/// external address, or writes help to standard output.
 ///
-/// Fails, before any capture is opened, where the words are not understood, where memory runs out for them, where a standard
-/// stream that stands for a file is closed, or where the configuration is refused; else where a file cannot be opened or created,
-/// or the run fails. A shut gate is never told.
+/// Fails, before any capture is opened, where the words are not understood, where memory runs out for them, where a
+/// standard stream that stands for a file is closed, or where the configuration is refused; else where a file cannot
+/// be opened or created, or the run fails. A shut gate is never told.
 pub fn serve<R: Env + Files + Input + Print + AllocGlobal + Threads + Wait + Copy + Send + 'static>(
     rt: &R,
     streams: Streams,
@@ -37,14 +37,16 @@ pub fn serve<R: Env + Files + Input + Print + AllocGlobal + Threads + Wait + Cop
     serve_words(rt, streams, words(rt)?)
 }
 
-/// The same for these words, the program's name first: where it ends well they are understood, and it stops by what they name.
+/// The same for these words, the program's name first: where it ends well they are understood, and it stops only by
+/// what they name.
 pub fn serve_words<R: Files + Input + Print + AllocGlobal + Threads + Wait + Copy + Send + 'static>(
     rt: &R,
     streams: Streams,
     words: Vec<String>,
 ) -> Result<(), Stop>
     ensures taken { OnOk result (IsTaken (line_of_words (map string_bytes words.items))) }
-    ensures stop { IfErr result (IsLineStop streams (line_of_words (map string_bytes words.items))) }
+    ensures stop { IfErr result
+        (IsLineStop streams (line_of_words (map string_bytes words.items))) }
 {
     match parse_words(rt.alloc(), words) {
         Ok(options) => run_named(rt, streams, &options),
@@ -54,7 +56,8 @@ pub fn serve_words<R: Files + Input + Print + AllocGlobal + Threads + Wait + Cop
     }
 }
 
-/// Runs over the files of the options and the standard streams that stand for absent ones. No stream that is wanted may be closed.
+/// Runs over the files of the options, and the standard streams that stand for absent ones. Refuses such a stream, by
+/// its role, where it is closed.
 fn run_named<R: Files + Input + Print + AllocGlobal + Threads + Wait + Copy + Send + 'static>(
     rt: &R,
     streams: Streams,

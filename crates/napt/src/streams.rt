@@ -10,8 +10,8 @@ use std::os::fd::AsFd;
 /// The error of the system for a number that is no open file, EBADF of errno(3).
 const NOT_OPEN: i32 = 9;
 
-/// Which standard streams the program has. The number of one that is closed goes to the next file that is opened, so that stream is
-/// neither read nor written.
+/// Which standard streams are open. The system gives the number of a closed one to the next file that is opened, so
+/// that a closed stream is neither read nor written.
 #[derive(Clone, Copy, Debug, PartialEq, Eq)]
 pub struct Streams {
     pub input: bool,
@@ -38,7 +38,7 @@ fn is_open(stream: &impl AsFd) -> bool {
     }
 }
 
-/// The first standard stream, by the role that it has where no file is named for it, that is wanted and closed.
+/// The first standard stream that is wanted, since no file is named for its role, and is closed: the role.
 pub fn closed_stream(streams: Streams, options: &Options) -> Option<Role>
     ensures { result ≡ closed_stream streams options.now }
 {
