@@ -1,6 +1,6 @@
 /* Stands before the C library's allocator and refuses one growth: the one whose number, from 1, is in the environment
-   variable REFUSED_GROWTH. The growths of all threads are counted together, in one atomic count. Where that growth is
-   met, the file that REFUSED_MARK names is made.
+   variable REFUSED_GROWTH; where REFUSED_ON is set too, each later one as well. The growths of all threads are counted
+   together, in one atomic count. Where a growth is refused, the file that REFUSED_MARK names is made.
    It is built by the toolchain's clang alone, so it declares what it uses of the C library itself. */
 typedef unsigned long size;
 
@@ -18,7 +18,11 @@ static unsigned long growths;
 
 static int is_refused(void) {
     const char *number = getenv("REFUSED_GROWTH");
-    if (number == 0 || __atomic_add_fetch(&growths, 1, __ATOMIC_SEQ_CST) != strtoul(number, 0, 10)) {
+    if (number == 0) {
+        return 0;
+    }
+    unsigned long first = strtoul(number, 0, 10), growth = __atomic_add_fetch(&growths, 1, __ATOMIC_SEQ_CST);
+    if (growth != first && (growth < first || getenv("REFUSED_ON") == 0)) {
         return 0;
     }
     const char *mark = getenv("REFUSED_MARK");

@@ -1,5 +1,5 @@
 -- The fault line and the exit status of a program that stops early.
-use Rattle.std.specs.Prelude.{ℕ, List, ◌++◌, codes, decimal}
+use Rattle.std.specs.Prelude.{ℕ, List, ◌++◌, Bool, true, false, Option, Some, None, Result, Ok, Err, codes, decimal}
 use Rattle.napt.specs.declared.stop.Role.{Role}
 use Rattle.napt.specs.declared.stop.Role.TheVariants as role
 use Rattle.napt.specs.declared.stop.Stop.{Stop}
@@ -30,6 +30,7 @@ status_of_fault (run.Write which fault) = 6
 abbrev pub status_of : Stop → ℕ
 status_of stop.Usage = 2
 status_of stop.LineMemory = 5
+status_of stop.Help = 6
 status_of (stop.Config fault) = 3
 status_of (stop.File role) = 6
 status_of (stop.Run fault) = status_of_fault fault
@@ -102,6 +103,7 @@ fault_text (run.Write which fault) = codes "write " ++ role_name (output_role wh
 abbrev pub stop_text : Stop → Text
 stop_text stop.Usage = codes "usage"
 stop_text stop.LineMemory = codes "run memory"
+stop_text stop.Help = codes "write " ++ role_name role.ToOutside
 stop_text (stop.Config fault) = codes "config " ++ config_name fault
 stop_text (stop.File role) = codes "file " ++ role_name role
 stop_text (stop.Run fault) = fault_text fault
@@ -109,3 +111,14 @@ stop_text (stop.Run fault) = fault_text fault
 -- the fault line, without its line feed
 abbrev pub line_of : Stop → Text
 line_of s = codes "napt: " ++ stop_text s
+
+-- the exit status of a run that was done or stopped
+abbrev pub status_at_end : {A : Type 0} → Result A Stop → ℕ
+status_at_end (Ok done) = 0
+status_at_end (Err s) = status_of s
+
+-- its line on standard error, if that is open
+abbrev pub line_at_end : {A : Type 0} → Bool → Result A Stop → Option Text
+line_at_end true (Err s) = Some (line_of s)
+line_at_end true (Ok done) = None
+line_at_end false answer = None

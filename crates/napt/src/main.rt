@@ -1,29 +1,35 @@
 //! The program `napt`.
 #![tactic(auto)]
 
+mod config_file;
 mod files;
 mod options;
 mod place;
 mod places;
 mod program;
 mod stop;
+mod streams;
 
-use crate::stop::{Stop, stop_line, stop_status};
+ghost use Rattle.std.specs.Prelude.{◌≡◌};
+ghost use Rattle.std.specs.Process.{exit_status};
+ghost use Rattle.napt.specs.Stop.{status_at_end};
+
+use crate::stop::{Stop, line_at_end, status_at_end};
+use crate::streams::Streams;
 use std::process::ExitCode;
 
 fn main(rt: HostRuntime) -> ExitCode {
-    match program::serve(&rt) {
-        Ok(()) => ExitCode::SUCCESS,
-        Err(stop) => {
-            tell(&rt, &stop);
-            ExitCode::from(stop_status(&stop))
-        }
-    }
+    let streams = Streams::open_now(&rt);
+    let answer = program::serve(&rt, streams);
+    ended(&rt, streams, &answer)
 }
 
-/// Writes the fault line; without memory for it, or where standard error is closed, there is none.
-fn tell(rt: &(impl Eprint + AllocGlobal), stop: &Stop) {
-    if let Ok(line) = stop_line(rt.alloc(), stop) {
+/// Writes the fault line, if there is one, for which no memory is taken, and answers the exit status.
+fn ended(rt: &impl Eprint, streams: Streams, answer: &Result<(), Stop>) -> ExitCode
+    ensures { exit_status result ≡ status_at_end answer.now }
+{
+    if let Some(line) = line_at_end(streams.error, answer) {
         let _ = rt.eprintln(line);
     }
+    ExitCode::from(status_at_end(answer))
 }

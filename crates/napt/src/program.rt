@@ -1,38 +1,73 @@
 //! What the program does: it reads its words and its configuration, opens the files in a fixed order, and runs over them.
 
-ghost use Rattle.std.specs.Prelude.{◌≡◌, ◌⊎◌, None, IfErr, IfOk, is_some};
+ghost use Rattle.std.specs.Prelude.{◌≡◌, ◌⊎◌, None, IfErr, IfOk, OnOk, is_some, map, string_bytes};
 ghost use Rattle.napt_config.specs.Configured.{built_in};
-ghost use Rattle.napt.specs.Program.{IsConfigStop, IsStopOf};
+ghost use Rattle.napt.specs.CommandLine.{files_of, line_of_words};
+ghost use Rattle.napt.specs.Program.{IsConfigStop, IsLineStop, IsRunStop, IsStopOf, IsTaken, IsUnderOpenGate};
 
+use crate::config_file::{config_from, unread_config};
 use crate::files::{MEMORY, created, created_at, opened, sink, sink_over, source, source_over};
 use crate::options::{LineFault, Options, parse_words};
 use crate::places::refuse_lost_file;
 use crate::stop::{Role, Stop};
+use crate::streams::{Streams, closed_stream};
 use napt_config::{Config, ConfigFault};
 use napt_pool::OpenGate;
 use napt_run::run_captures;
 use std::env::Env;
+use std::fs::File;
 use std::io::{ErrorKind, Read, Write};
 use std::rt::Files;
 use std::sync::{Arc, Wait};
 use std::thread::Threads;
-use std::{env, fs, io};
+use std::{env, io};
 
-/// Runs over the files that the words name, with a worker thread for each external address. Help goes to standard output.
+/// Does what the words of the command line ask for: runs over the files that they name, with a worker thread for each
+/// external address, or writes help to standard output.
 ///
-/// Fails, before any capture is opened, where the words are not understood, where memory runs out for them, or where the
-/// configuration is refused; else where a file cannot be opened or created, or the run fails.
+/// Fails, before any capture is opened, where the words are not understood, where memory runs out for them, where a
+/// standard stream that stands for a file is closed, or where the configuration is refused; else where a file cannot
+/// be opened or created, or the run fails. A shut gate is never told.
 pub fn serve<R: Env + Files + Input + Print + AllocGlobal + Threads + Wait + Copy + Send + 'static>(
     rt: &R,
-) -> Result<(), Stop> {
-    match parse_words(rt.alloc(), words(rt)?) {
-        Ok(options) => run_over(rt, &options),
-        Err(LineFault::Help(text)) => match rt.print(text) {
-            Ok(()) => Ok(()),
-            Err(_) => Err(Stop::File(Role::ToOutside)),
-        },
+    streams: Streams,
+) -> Result<(), Stop>
+    ensures { IfErr result IsUnderOpenGate }
+{
+    serve_words(rt, streams, words(rt)?)
+}
+
+/// The same for these words, the program's name first: where it ends well they are understood, and it stops only by
+/// what they name.
+pub fn serve_words<R: Files + Input + Print + AllocGlobal + Threads + Wait + Copy + Send + 'static>(
+    rt: &R,
+    streams: Streams,
+    words: Vec<String>,
+) -> Result<(), Stop>
+    ensures taken { OnOk result (IsTaken (line_of_words (map string_bytes words.items))) }
+    ensures stop { IfErr result
+        (IsLineStop streams (line_of_words (map string_bytes words.items))) }
+{
+    match parse_words(rt.alloc(), words) {
+        Ok(options) => run_named(rt, streams, &options),
+        Err(LineFault::Help(text)) => rt.print(text).map_err(|_| Stop::Help),
         Err(LineFault::Usage) => Err(Stop::Usage),
         Err(LineFault::Memory) => Err(Stop::LineMemory),
+    }
+}
+
+/// Runs over the files of the options, and the standard streams that stand for absent ones. Refuses such a stream, by
+/// its role, where it is closed.
+fn run_named<R: Files + Input + Print + AllocGlobal + Threads + Wait + Copy + Send + 'static>(
+    rt: &R,
+    streams: Streams,
+    options: &Options,
+) -> Result<(), Stop>
+    ensures { IfErr result (IsRunStop streams (files_of options.now)) }
+{
+    match closed_stream(streams, options) {
+        Some(role) => Err(Stop::File(role)),
+        None => run_over(rt, options),
     }
 }
 
@@ -55,12 +90,9 @@ fn configuration<R: Files + AllocGlobal>(rt: &R, path: Option<&String>) -> Resul
     let Some(path) = path else {
         return Config::built_in(rt.alloc()).map_err(|_| Stop::Config(ConfigFault::Memory));
     };
-    match fs::read(rt, path.as_str()) {
-        Ok(text) => Config::read(rt.alloc(), &text).map_err(Stop::Config),
-        Err(error) if error.kind() == ErrorKind::OutOfMemory => {
-            Err(Stop::Config(ConfigFault::Memory))
-        }
-        Err(_) => Err(Stop::File(Role::Config)),
+    match File::open(rt, path.as_str()) {
+        Ok(file) => config_from(rt.alloc(), file),
+        Err(error) => Err(unread_config(&error)),
     }
 }
 

@@ -1,6 +1,6 @@
 //! Why the program stops before it is done: the fault line for standard error and the exit status.
-ghost use Rattle.std.specs.Prelude.{◌≡◌, IfOk, Some, string_bytes};
-ghost use Rattle.napt.specs.Stop.{capture_name, config_name, fault_text, line_of, output_role, role_name, run_name, side_name, status_of, status_of_fault, stop_text};
+ghost use Rattle.std.specs.Prelude.{◌≡◌, IfOk, Some, option_map, string_bytes};
+ghost use Rattle.napt.specs.Stop.{capture_name, config_name, fault_text, line_at_end, line_of, output_role, role_name, run_name, side_name, status_at_end, status_of, status_of_fault, stop_text};
 
 use napt_capture::CaptureFault;
 use napt_config::ConfigFault;
@@ -50,12 +50,24 @@ pub enum Stop {
     Usage,
     /// Memory ran out while the command line was read.
     LineMemory,
+    /// The help text could not be written to standard output.
+    Help,
     /// The configuration is refused.
     Config(ConfigFault),
     /// The file cannot be opened or created, or the configuration cannot be read.
     File(Role),
     /// The run failed.
     Run(Fault),
+}
+
+impl From<ConfigFault> for Stop {
+    ghost use Rattle.napt.specs.declared.stop.Stop.TheVariants.{Config};
+
+    ghost from_gives = { λ fault stop. stop ≡ Config fault };
+
+    fn from(fault: ConfigFault) -> Stop {
+        Stop::Config(fault)
+    }
 }
 
 /// The exit status: 2 for the command line, 3 for the configuration, 4 for a capture, 5 for a run
@@ -66,9 +78,30 @@ pub fn stop_status(stop: &Stop) -> u8
     match stop {
         Stop::Usage => 2,
         Stop::LineMemory => 5,
+        Stop::Help => 6,
         Stop::Config(_) => 3,
         Stop::File(_) => 6,
         Stop::Run(fault) => status_of_run(*fault),
+    }
+}
+
+/// The exit status of a run that was done or stopped: 0, or the stop's.
+pub fn status_at_end(answer: &Result<(), Stop>) -> u8
+    ensures { result ≡ status_at_end answer.now }
+{
+    match answer {
+        Ok(()) => 0,
+        Err(stop) => stop_status(stop),
+    }
+}
+
+/// The line that a run leaves on standard error, if that is open: none where it was done, else the stop's.
+pub fn line_at_end(is_open: bool, answer: &Result<(), Stop>) -> Option<StopLine>
+    ensures { option_map (λ line. line_of line.0) result ≡ line_at_end is_open answer.now }
+{
+    match answer {
+        Err(stop) if is_open => Some(StopLine(*stop)),
+        _ => None,
     }
 }
 
@@ -82,11 +115,24 @@ fn status_of_run(fault: Fault) -> u8
     }
 }
 
-/// The fault line, without its line feed. Fails only where memory runs out.
+/// The fault line of a stop, without its line feed. Showing it takes no memory, so that a want of memory can be told.
+#[derive(Clone, Copy, Debug)]
+pub struct StopLine(pub Stop);
+
+impl fmt::Display for StopLine {
+    ghost output = { λ line. Some (line_of line.0) };
+
+    fn fmt<W: fmt::Write>(&self, f: &mut fmt::Formatter<W>) -> fmt::Result {
+        let stop = self.0;
+        write!(f, "napt: {stop}")
+    }
+}
+
+/// The fault line as a text. Fails only where memory runs out.
 pub fn stop_line(alloc: Global, stop: &Stop) -> Result<String, AllocError>
     ensures { IfOk result (λ line. string_bytes line ≡ line_of stop.now) }
 {
-    format!(in alloc; "napt: {stop}")
+    StopLine(*stop).to_string(alloc)
 }
 
 /// The fault line after the program's name, as `config timer-too-short`.
@@ -97,6 +143,7 @@ impl fmt::Display for Stop {
         match self {
             Stop::Usage => f.write_str("usage"),
             Stop::LineMemory => f.write_str("run memory"),
+            Stop::Help => f.write_str("write to-outside"),
             Stop::Config(fault) => {
                 f.write_str("config ")?;
                 f.write_str(name_of_config_fault(*fault))

@@ -1,4 +1,4 @@
-use super::{Role, Stop, stop_line, stop_status};
+use super::{Role, Stop, StopLine, line_at_end, status_at_end, stop_line, stop_status};
 use napt_capture::{CaptureFault, WriteFault};
 use napt_config::ConfigFault;
 use napt_pool::PoolFault;
@@ -12,6 +12,7 @@ fn names_lines_files_and_runs(rt: HostRuntime) -> Result<(), Fail> {
     let stops = [
         (Stop::Usage, 2, "napt: usage"),
         (Stop::LineMemory, 5, "napt: run memory"),
+        (Stop::Help, 6, "napt: write to-outside"),
         (Stop::File(Role::Config), 6, "napt: file config"),
         (Stop::File(Role::Inside), 6, "napt: file inside"),
         (Stop::File(Role::Outside), 6, "napt: file outside"),
@@ -68,6 +69,18 @@ fn names_lines_files_and_runs(rt: HostRuntime) -> Result<(), Fail> {
         assert_eq!(rt; stop_status(&stop), status, "at {stop}");
         assert_eq!(rt; stop_line(rt.alloc(), &stop)?.as_str(), line);
     }
+    Ok(())
+}
+
+#[test]
+fn ends_with_status_and_line(rt: HostRuntime) -> Result<(), Fail> {
+    let stopped = Err(Stop::File(Role::Report));
+    let line = format!(in rt.alloc(); "{}", StopLine(Stop::File(Role::Report)))?;
+    assert_eq!(rt; line.as_str(), "napt: file report");
+    assert_eq!(rt; (status_at_end(&Ok(())), status_at_end(&stopped)), (0, 6));
+    assert!(rt; line_at_end(true, &Ok(())).is_none());
+    assert!(rt; line_at_end(true, &stopped).is_some());
+    assert!(rt; line_at_end(false, &stopped).is_none());
     Ok(())
 }
 
