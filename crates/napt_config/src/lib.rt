@@ -24,5 +24,3 @@ pub use fault::ConfigFault;
 pub use prefix::Prefix;
 pub use settings::{Filter, Redirect, Timers};
 
-#[cfg(test)]
-mod tests;

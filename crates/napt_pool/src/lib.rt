@@ -19,8 +19,6 @@ mod pool;
 mod room;
 mod serve;
 mod starting;
-#[cfg(test)]
-mod tests;
 mod worker;
 
 pub use backoff::Backoff;

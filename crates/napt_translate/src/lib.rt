@@ -7,8 +7,6 @@
 
 mod laws;
 mod sides;
-#[cfg(test)]
-mod tests;
 mod translator;
 
 pub use laws::legs_keep_to_their_way;

@@ -1,0 +1,90 @@
+// Which fault is told, and that all machines are dropped.
+use super::machines::Echo;
+use super::take_soon;
+use napt_pool::{Gate, OpenGate, Pool, PoolFault};
+use std::sync::Arc;
+use std::sync::atomic::{AtomicU64, Ordering};
+use std::test::Fail;
+
+/// Says no to one worker.
+#[derive(Drop)]
+struct ShutTo {
+    worker: u32,
+}
+
+impl Gate for ShutTo {
+    ghost use Rattle.std.specs.Prelude.{false};
+
+    ghost is_open = { false };
+
+    fn enter(&self, worker: u32, _turn: u64) -> bool {
+        worker != self.worker
+    }
+}
+
+#[test]
+fn least_fault_is_told(rt: HostRuntime) -> Result<(), Fail> {
+    let alloc = rt.alloc();
+    let all = [
+        (1, [false, false, true], PoolFault::GateShut(1)),
+        (2, [false, true, false], PoolFault::Memory),
+        (0, [false, true, true], PoolFault::GateShut(0)),
+    ];
+    for (worker, refuse, fault) in all {
+        let drops = Arc::new(alloc, AtomicU64::new(0))?;
+        let machines = Echo::three(alloc, &drops, refuse)?;
+        let gate = Arc::new(alloc, ShutTo { worker })?;
+        let mut pool = Pool::start(&rt, alloc, machines, 2, gate)
+            .ok()
+            .expect(&rt, "start");
+        assert!(rt; pool.offer(alloc, 2, 5).is_ok());
+        assert!(rt; pool.offer(alloc, 1, 5).is_ok());
+        assert!(rt; pool.offer(alloc, 0, 5).is_ok());
+        assert_eq!(rt; pool.close(&rt, alloc).err(), Some(fault));
+        assert_eq!(rt; drops.load(Ordering::SeqCst), 3);
+    }
+    Ok(())
+}
+
+#[test]
+fn refused_memory_is_told(rt: HostRuntime) -> Result<(), Fail> {
+    let alloc = rt.alloc();
+    let drops = Arc::new(alloc, AtomicU64::new(0))?;
+    let machines = Echo::three(alloc, &drops, [true, false, false])?;
+    let gate = Arc::new(alloc, OpenGate)?;
+    let mut pool = Pool::start(&rt, alloc, machines, 2, gate)
+        .ok()
+        .expect(&rt, "start");
+    assert!(rt; pool.offer(alloc, 0, 5).is_ok());
+    assert!(rt; pool.offer(alloc, 1, 6).is_ok());
+    assert_eq!(rt; take_soon(&rt, alloc, &mut pool, 1), Ok(Some(6)));
+    assert_eq!(rt; take_soon(&rt, alloc, &mut pool, 0), Err(PoolFault::Memory));
+    assert_eq!(rt; pool.close(&rt, alloc).err(), Some(PoolFault::Memory));
+    Ok(())
+}
+
+/// Where `start` is refused memory or a thread, it has dropped each machine when it returns. `close` is refused nothing.
+/// The sweep over refused growths runs this test.
+#[test]
+fn machines_are_dropped(rt: HostRuntime) -> Result<(), Fail> {
+    let alloc = rt.alloc();
+    let drops = Arc::new(alloc, AtomicU64::new(0))?;
+    let machines = Echo::three(alloc, &drops, [false, false, false])?;
+    let gate = Arc::new(alloc, OpenGate)?;
+    let mut pool = match Pool::start(&rt, alloc, machines, 2, gate) {
+        Ok(pool) => pool,
+        Err(fault) => {
+            assert!(rt; matches!(fault, PoolFault::Memory | PoolFault::NoThread));
+            assert_eq!(rt; drops.load(Ordering::SeqCst), 3);
+            return Ok(());
+        }
+    };
+    assert!(rt; pool.offer(alloc, 0, 5).is_ok());
+    let ended = pool.close(&rt, alloc).ok().expect(&rt, "close");
+    assert_eq!(rt; drops.load(Ordering::SeqCst), 0);
+    assert_eq!(rt; ended.len(), 3);
+    assert_eq!(rt; ended[0].answers.as_slice(), [5].as_slice());
+    drop(ended);
+    assert_eq!(rt; drops.load(Ordering::SeqCst), 3);
+    Ok(())
+}

@@ -1,0 +1,133 @@
+// Workers step at the same time.
+ghost use Rattle.std.specs.Prelude.{◌≡◌, ◌≤◌, ◌<◌, IfOk, length, vec_len};
+ghost use Rattle.napt_pool.specs.Pools.{starts};
+
+use super::MOST_LOOKS;
+use napt_pool::{Gate, Machine, OpenGate, Pool};
+use std::alloc::{AllocError, Global};
+use std::process::Abort;
+use std::sync::atomic::{AtomicU64, Ordering};
+use std::sync::{Arc, Wait};
+use std::test::Fail;
+use std::thread;
+use std::thread::Threads;
+
+/// Words that all machines of a pool see.
+#[derive(Drop)]
+struct Meeting {
+    /// How many steps each machine has begun.
+    steps: Vec<AtomicU64>,
+    /// How many steps saw that all machines had come as far.
+    met: AtomicU64,
+}
+
+impl Meeting {
+    fn new(alloc: Global, count: u32) -> Result<Meeting, AllocError> {
+        let mut steps = Vec::new(alloc);
+        for _ in 0..count {
+            steps.push(AtomicU64::new(0))?;
+        }
+        Ok(Meeting {
+            steps,
+            met: AtomicU64::new(0),
+        })
+    }
+
+    /// Whether each machine has begun this many steps.
+    fn have_come(&self, count: u64) -> bool {
+        for steps in &self.steps {
+            if steps.load(Ordering::SeqCst) < count {
+                return false;
+            }
+        }
+        true
+    }
+
+    /// Waits a while until each machine has begun this many steps.
+    fn wait_for_all(&self, count: u64) {
+        for _ in 0..MOST_LOOKS {
+            if self.have_come(count) {
+                self.met.fetch_add(1, Ordering::SeqCst);
+                return;
+            }
+            thread::yield_now();
+        }
+    }
+}
+
+/// Waits at each step for all other machines.
+#[derive(Drop)]
+struct Member {
+    place: usize,
+    meeting: Arc<Meeting>,
+}
+
+impl Machine for Member {
+    type Item = ();
+
+    type Answer = ();
+
+    ghost stepped = { λ member _. member };
+
+    ghost reply = { λ _ item. item };
+
+    fn step(&mut self, _alloc: Global, item: ()) -> Result<(), AllocError> {
+        if let Some(steps) = self.meeting.steps.get(self.place) {
+            let before = steps.fetch_add(1, Ordering::SeqCst);
+            self.meeting.wait_for_all(before.saturating_add(1));
+        }
+        Ok(item)
+    }
+}
+
+fn members(alloc: Global, meeting: &Arc<Meeting>, count: u32) -> Result<Vec<Member>, AllocError>
+    ensures { IfOk result (λ v. vec_len v ≡ count) }
+{
+    let mut all = Vec::new(alloc);
+    for place in 0..count {
+        all.push(Member {
+            place: place as usize,
+            meeting: Arc::try_clone(meeting)?,
+        })?;
+    }
+    Ok(all)
+}
+
+/// Offers an item to each worker.
+fn offer_each<R: Abort, G: Gate>(rt: &R, alloc: Global, pool: &mut Pool<Member, G>, count: u32)
+    requires { count ≤ length (starts pool.old) }
+    ensures { length (starts pool.new) ≡ length (starts pool.old) }
+{
+    for w in 0..count {
+        assert!(rt; pool.offer(alloc, w, ()).is_ok());
+    }
+}
+
+/// Three items for each worker: each of the steps saw all other workers in a step of the same number.
+fn meet<R: Threads + Wait + Abort + Copy + Send + 'static>(
+    rt: &R,
+    alloc: Global,
+    count: u32,
+) -> Result<(), Fail>
+    requires { (1 ≤ count) × (count ≤ 16) }
+{
+    let meeting = Arc::new(alloc, Meeting::new(alloc, count)?)?;
+    let machines = members(alloc, &meeting, count)?;
+    let gate = Arc::new(alloc, OpenGate)?;
+    let mut pool = Pool::start(rt, alloc, machines, 64, gate)
+        .ok()
+        .expect(rt, "start");
+    offer_each(rt, alloc, &mut pool, count);
+    offer_each(rt, alloc, &mut pool, count);
+    offer_each(rt, alloc, &mut pool, count);
+    assert!(rt; pool.close(rt, alloc).is_ok());
+    assert_eq!(rt; meeting.met.load(Ordering::SeqCst), 3 * u64::from(count));
+    Ok(())
+}
+
+#[test]
+fn steps_meet(rt: HostRuntime) -> Result<(), Fail> {
+    let alloc = rt.alloc();
+    meet(&rt, alloc, 2)?;
+    meet(&rt, alloc, 16)
+}
