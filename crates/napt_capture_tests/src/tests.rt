@@ -1,7 +1,9 @@
 ghost use Rattle.std.specs.Prelude.{◌<◌, ◌*◌, ◌^◌, IfOk};
 ghost use Rattle.napt_capture.specs.Text.{IsWritable};
 
-use super::*;
+use napt_capture::{
+    Capture, CaptureFault, Record, Watched, WriteFault, read_capture, write_capture, write_text,
+};
 use std::alloc::{AllocError, Global};
 use std::io;
 use std::io::{Read, Write};
