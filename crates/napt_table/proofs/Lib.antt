@@ -9,3 +9,11 @@ pub mod Tables
 pub mod Opened
 pub mod Orders
 pub mod Classes
+pub mod Finds
+pub mod Seen
+pub mod Choices
+pub mod Queues
+pub mod Sends
+pub mod Enters
+pub mod Kept
+pub mod MapTables

@@ -13,3 +13,10 @@ pub mod Opening
 pub mod Tables
 pub mod Shown
 pub mod Rows
+pub mod Places
+pub mod Ends
+pub mod Held
+pub mod Parts
+pub mod Kept
+pub mod Events
+pub mod MapTables

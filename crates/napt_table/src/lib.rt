@@ -13,8 +13,13 @@ ghost use Rattle.napt_table.specs.Rows.{RowsAreInOrder};
 ghost use Rattle.napt_table.specs.Tables.{TablesShareNothing, TablesAreNumbered};
 
 mod choice;
+mod event;
 mod life;
 mod list;
+mod map_table;
+mod numbers;
+mod part;
+mod parts;
 mod rows;
 mod search;
 mod session;
