@@ -1,5 +1,5 @@
 -- Words in a row.
-use Rattle.std.proofs.Common.{◌≡◌, ◌≢◌, ℕ, ◌+◌, ◌-◌, ◌*◌, ◌/◌, ◌%◌, ◌^◌, ◌<◌, ◌≤◌, Bool, true, false, not, ◌&&◌, ◌||◌, cond, List, length, get_or, set, Option, Some, None, refl, sym, ◌∙◌, ap, subst, arith, eqb, ltb, eqb-true, w64, replicate, zero, suc}
+use Rattle.std.proofs.Common.{◌≡◌, ◌≢◌, ℕ, ◌+◌, ◌-◌, ◌*◌, ◌/◌, ◌%◌, ◌^◌, ◌<◌, ◌≤◌, Bool, true, false, List, length, get_or, set, Some, None, refl, sym, ◌∙◌, ap, arith, eqb, ltb, eqb-true, w64, replicate, zero, suc}
 use Rattle.std.specs.Prelude.{◌==◌}
 use Rattle.std.specs.Int.{bit_at, trailing_ones}
 use Rattle.std.proofs.lemmas.Bool.{eq-eqb, true≢false}
@@ -26,13 +26,15 @@ module _ (words : List ℕ) (i d lo from : ℕ) (lt : i < length words) (within 
   -- the first clear bit of a word, after which none was clear
   pub first_here : (k : ℕ) → IsFirstAbsent (has_bit (get_or words i d)) lo 64 (Some k) → IsFirstAbsent (has words) from (64 * length words) (Some (64 * i + k))
   first_here k h =
-      let e : 64 * i + k - 64 * i ≡ k = omega arith in
-      (omega arith, omega arith,
-      word_bit words i d (64 * i + k) lt (omega arith) (omega arith) ∙ (ap (has_bit (get_or words i d)) e ∙ h.2),
-      λ j le less. elim (ltb j (64 * i + lo)) as (λ v. ltb j (64 * i + lo) ≡ v → has words j ≡ true) [
-        | true ↦ λ t. before j le (grind (arith, nat_tests))
-        | false ↦ λ t. let past : 64 * i + lo ≤ j = grind (arith, nat_tests) in word_bit words i d j lt (omega arith) (omega arith) ∙ h.3 (j - 64 * i) (omega arith) (omega arith)
-      ] refl)
+      let e : 64 * i + k - 64 * i ≡ k = omega arith in (
+        omega arith,
+        omega arith,
+        word_bit words i d (64 * i + k) lt (omega arith) (omega arith) ∙ (ap (has_bit (get_or words i d)) e ∙ h.2),
+        λ j le less. elim (ltb j (64 * i + lo)) as (λ v. ltb j (64 * i + lo) ≡ v → has words j ≡ true) [
+          | true ↦ λ t. before j le (grind (arith, nat_tests))
+          | false ↦ λ t. let past : 64 * i + lo ≤ j = grind (arith, nat_tests) in word_bit words i d j lt (omega arith) (omega arith) ∙ h.3 (j - 64 * i) (omega arith) (omega arith)
+        ] refl,
+      )
 
   pub none_here : IsFirstAbsent (has_bit (get_or words i d)) lo 64 None → (j : ℕ) → from ≤ j → j < 64 * (i + 1) → has words j ≡ true
   none_here h j le less = elim (ltb j (64 * i + lo)) as (λ v. ltb j (64 * i + lo) ≡ v → has words j ≡ true) [
@@ -77,25 +79,25 @@ marked words full place w f d lt m here others = record {
   few = grind (arith, common_steps, m.few);
   marks = λ i within. elim (eqb i place) as (λ v. eqb i place ≡ v → has (set full (place / 64) f) i ≡ (get_or (set words place w) i 0 == full_word)) [
     | true ↦ λ t.
-      let e : i ≡ place = eqb-true i place t in
-      let a : get_or (set words place w) place 0 ≡ w = grind (arith, common_steps, m.many) in
-      let b : get_or (set full (place / 64) f) (place / 64) 0 ≡ f = grind (arith, common_steps, m.few) in
-      ap (has (set full (place / 64) f)) e ∙ (ap (λ (x : ℕ). has_bit x (place % 64)) b ∙ (here ∙ (sym (ap (λ (x : ℕ). x == full_word) a) ∙ sym (ap (λ (n : ℕ). get_or (set words place w) n 0 == full_word) e))))
+        let e : i ≡ place = eqb-true i place t in
+        let a : get_or (set words place w) place 0 ≡ w = grind (arith, common_steps, m.many) in
+        let b : get_or (set full (place / 64) f) (place / 64) 0 ≡ f = grind (arith, common_steps, m.few) in
+        ap (has (set full (place / 64) f)) e ∙ (ap (λ (x : ℕ). has_bit x (place % 64)) b ∙ (here ∙ (sym (ap (λ (x : ℕ). x == full_word) a) ∙ sym (ap (λ (n : ℕ). get_or (set words place w) n 0 == full_word) e))))
     | false ↦ λ t.
-      let differs : i ≢ place = λ e. true≢false (sym (eq-eqb i place e) ∙ t) in
-      let a : get_or (set words place w) i 0 ≡ get_or words i 0 = grind (arith, common_steps) in
-      elim (eqb (i / 64) (place / 64)) as (λ v. eqb (i / 64) (place / 64) ≡ v → has (set full (place / 64) f) i ≡ (get_or (set words place w) i 0 == full_word)) [
-        | true ↦ λ s.
-          let q : i / 64 ≡ place / 64 = eqb-true (i / 64) (place / 64) s in
-          let b : get_or (set full (place / 64) f) (place / 64) 0 ≡ f = grind (arith, common_steps, m.few) in
-          let n : i % 64 ≢ place % 64 = λ r. differs (omega arith) in
-          ap (λ (x : ℕ). has_bit (get_or (set full (place / 64) f) x 0) (i % 64)) q
-          ∙ (ap (λ (x : ℕ). has_bit x (i % 64)) b ∙ (others (i % 64) (omega arith) n ∙ (ap (λ (x : ℕ). has_bit x (i % 64)) (same_default full (place / 64) d 0 (omega (arith, m.few))) ∙ ap (λ (x : ℕ). has_bit (get_or full x 0) (i % 64)) (sym q) ∙ (m.marks i within ∙ sym (ap (λ (x : ℕ). x == full_word) a)))))
-        | false ↦ λ s.
-          let n : i / 64 ≢ place / 64 = λ q. true≢false (sym (eq-eqb (i / 64) (place / 64) q) ∙ s) in
-          let b : get_or (set full (place / 64) f) (i / 64) 0 ≡ get_or full (i / 64) 0 = grind (arith, common_steps) in
-          ap (λ (x : ℕ). has_bit x (i % 64)) b ∙ (m.marks i within ∙ sym (ap (λ (x : ℕ). x == full_word) a))
-      ] refl
+        let differs : i ≢ place = λ e. true≢false (sym (eq-eqb i place e) ∙ t) in
+        let a : get_or (set words place w) i 0 ≡ get_or words i 0 = grind (arith, common_steps) in
+        elim (eqb (i / 64) (place / 64)) as (λ v. eqb (i / 64) (place / 64) ≡ v → has (set full (place / 64) f) i ≡ (get_or (set words place w) i 0 == full_word)) [
+          | true ↦ λ s.
+              let q : i / 64 ≡ place / 64 = eqb-true (i / 64) (place / 64) s in
+              let b : get_or (set full (place / 64) f) (place / 64) 0 ≡ f = grind (arith, common_steps, m.few) in
+              let n : i % 64 ≢ place % 64 = λ r. differs (omega arith) in
+              ap (λ (x : ℕ). has_bit (get_or (set full (place / 64) f) x 0) (i % 64)) q
+              ∙ (ap (λ (x : ℕ). has_bit x (i % 64)) b ∙ (others (i % 64) (omega arith) n ∙ (ap (λ (x : ℕ). has_bit x (i % 64)) (same_default full (place / 64) d 0 (omega (arith, m.few))) ∙ ap (λ (x : ℕ). has_bit (get_or full x 0) (i % 64)) (sym q) ∙ (m.marks i within ∙ sym (ap (λ (x : ℕ). x == full_word) a)))))
+          | false ↦ λ s.
+              let n : i / 64 ≢ place / 64 = λ q. true≢false (sym (eq-eqb (i / 64) (place / 64) q) ∙ s) in
+              let b : get_or (set full (place / 64) f) (i / 64) 0 ≡ get_or full (i / 64) 0 = grind (arith, common_steps) in
+              ap (λ (x : ℕ). has_bit x (i % 64)) b ∙ (m.marks i within ∙ sym (ap (λ (x : ℕ). x == full_word) a))
+        ] refl
   ] refl;
 }
 

@@ -1,18 +1,26 @@
 -- Bits of one word, and the first clear one.
-use Rattle.std.proofs.Common.{◌≡◌, ◌≢◌, ℕ, ◌+◌, ◌-◌, ◌*◌, ◌%◌, ◌^◌, ◌<◌, ◌≤◌, max, Bool, true, false, cond, refl, sym, ◌∙◌, ap, w64, arith, zero}
+use Rattle.std.proofs.Common.{◌≡◌, ◌≢◌, ℕ, ◌+◌, ◌-◌, ◌*◌, ◌%◌, ◌^◌, ◌<◌, ◌≤◌, max, Bool, true, false, cond, refl, sym, ◌∙◌, ap, w64, arith, zero, eqb, eqb-true}
 use Rattle.std.specs.Prelude.{◌==◌}
-use Rattle.std.specs.Int.{bit_at, bit_not, trailing_ones}
+use Rattle.std.specs.Int.{bit_at, trailing_ones}
 use Rattle.std.specs.Int.RustNames.{bit_or}
 use Rattle.std.proofs.lemmas.Bool.Decides.{nat_tests}
 use Rattle.std.proofs.lemmas.Nat.{one_shl, or_lt}
 use Rattle.std.proofs.lemmas.Nat.Bits.{bit_at_or, bit_at_ones, bit_at_ones_above, bit_at-lt, bit_at-trailing_ones}
-use Rattle.napt_bits.specs.Sets.{has_bit}
+use Rattle.std.proofs.lemmas.Bool.{true≢false}
+use Rattle.napt_bits.specs.Sets.{has_bit, full_word}
 
 pub is_set : (word i : ℕ) → bit_at word i ≡ 1 → has_bit word i ≡ true
 is_set word i h = grind (arith, nat_tests)
 
 pub is_clear : (word i : ℕ) → bit_at word i ≡ 0 → has_bit word i ≡ false
 is_clear word i h = grind (arith, nat_tests)
+
+-- a word with a clear bit is not full
+pub open_word : (word i : ℕ) → i < 64 → has_bit word i ≡ false → (word == full_word) ≡ false
+open_word word i lt clear = elim (eqb word full_word) as (λ v. eqb word full_word ≡ v → (word == full_word) ≡ false) [
+  | true ↦ λ e. absurd (true≢false (sym (is_set full_word i (bit_at_ones 64 i lt)) ∙ (ap (λ (w : ℕ). has_bit w i) (sym (eqb-true word full_word e)) ∙ clear)))
+  | false ↦ λ e. e
+] refl
 
 pub bit_from_set : (word i : ℕ) → has_bit word i ≡ true → bit_at word i ≡ 1
 bit_from_set word i h = grind (arith, nat_tests)
@@ -54,9 +62,9 @@ module _ (word from : ℕ) (within : from < 64) where
 
     pub first_from : from ≤ k
     first_from = elim (Rattle.std.proofs.Common.ltb k from) as (λ v. Rattle.std.proofs.Common.ltb k from ≡ v → from ≤ k) [
-        | true ↦ λ e. let lt : k < from = grind (arith, nat_tests) in let a = filled_below k lt in let b = found.1 in absurd (omega arith)
-        | false ↦ λ e. grind (arith, nat_tests)
-      ] refl
+      | true ↦ λ e. let lt : k < from = grind (arith, nat_tests) in let a = filled_below k lt in let b = found.1 in absurd (omega arith)
+      | false ↦ λ e. grind (arith, nat_tests)
+    ] refl
 
     pub first_is : (from ≤ k) × (k < 64) × (has_bit word k ≡ false) × ((j : ℕ) → from ≤ j → j < k → has_bit word j ≡ true)
     first_is = (first_from, found.0, is_clear word k (sym (filled_from k first_from) ∙ found.1), λ j le lt. is_set word j (sym (filled_from j le) ∙ found.2 j lt))

@@ -3,7 +3,7 @@
 ghost use Rattle.std.specs.Prelude.{◌≡◌, ◌≢◌, ℕ, true, false, ◌*◌, ◌^◌, ◌<◌, ◌≤◌, length};
 ghost use Rattle.napt_bits.specs.Sets.{has_bit, has, IsFirstAbsent, IsMarked};
 
-/// The first clear bit from `from` on.
+/// The first clear bit of the word from `from` on.
 pub(crate) fn first_clear(word: u64, from: u32) -> Option<u32>
     requires { from < 64 }
     ensures { IsFirstAbsent (has_bit word) from 64 result }
@@ -50,6 +50,15 @@ pub(crate) fn first_clear_over(words: &[u64], full: &[u64], from: usize) -> Opti
     Some(64 * next + words[next].trailing_ones() as usize)
 }
 
+/// Whether the bit is set.
+pub(crate) fn has_bit(word: u64, k: u32) -> bool
+    requires { k < 64 }
+    ensures { result ≡ has_bit word k }
+{
+    (word >> k) & 1 == 1
+}
+
+/// The word with the bit set.
 pub(crate) fn with_bit(word: u64, k: u32) -> u64
     requires { k < 64 }
     ensures set { has_bit result k ≡ true }
@@ -58,6 +67,7 @@ pub(crate) fn with_bit(word: u64, k: u32) -> u64
     word | (1 << k)
 }
 
+/// The word with the bit clear.
 pub(crate) fn without_bit(word: u64, k: u32) -> u64
     requires { k < 64 }
     ensures clear { has_bit result k ≡ false }
@@ -66,11 +76,15 @@ pub(crate) fn without_bit(word: u64, k: u32) -> u64
     word & !(1 << k)
 }
 
-/// The bit is set where `is_set` says so, else clear.
+/// The word with the bit set where `is_set` says so, else clear.
 pub(crate) fn with_mark(word: u64, k: u32, is_set: bool) -> u64
     requires { k < 64 }
     ensures here { has_bit result k ≡ is_set }
     ensures others { (i : ℕ) → i < 64 → i ≢ k → has_bit result i ≡ has_bit word i }
 {
-    if is_set { with_bit(word, k) } else { without_bit(word, k) }
+    if is_set {
+        with_bit(word, k)
+    } else {
+        without_bit(word, k)
+    }
 }

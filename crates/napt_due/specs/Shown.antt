@@ -1,5 +1,5 @@
 -- How a queue is kept: as a heap whose greatest element has the least time.
-use Rattle.std.specs.Prelude.{ℕ, ◌-◌, map}
+use Rattle.std.specs.Prelude.{◌-◌, map}
 use Rattle.std.specs.Ordering.{nat_cmp, ordering_then}
 use Rattle.std.specs.BinaryHeap.{heap_items, heap_len, heap_capacity, IsHeap}
 use Rattle.napt_due.specs.Queue.{Queue}
