@@ -233,6 +233,24 @@ impl Part {
         ensures held { (n : ℕ) → held self.new n ≡ cond (number == n) (Some binding) (held self.old n) }
     {
         let until = binding.until(self.timers, self.at);
+        self.hold(number, binding);
+        let due = &mut self.due;
+        due.put(until, number);
+    }
+
+    /// A new binding, where there is room and neither of its ends is taken. The queue stays as it is.
+    fn hold(&mut self, number: u16, binding: Binding)
+        requires room { HasRoom self.old }
+        requires part { IsPart self.old }
+        requires protocol { binding.protocol ≡ self.old.numbers.protocol }
+        requires external { binding.external ≡ record { address = self.old.address; number = number } }
+        requires free { held self.old number ≡ None }
+        requires absent { number_at self.old binding.inside ≡ None }
+        ensures part { IsPart self.new }
+        ensures place { IsSamePlace self.old self.new }
+        ensures due { self.new.due ≡ self.old.due }
+        ensures held { (n : ℕ) → held self.new n ≡ cond (number == n) (Some binding) (held self.old n) }
+    {
         let inside = binding.inside;
         match self.by_inside.insert((inside.address, inside.number), number) {
             Ok(_) => {}
@@ -244,8 +262,6 @@ impl Part {
         }
         let numbers = &mut self.numbers;
         numbers.put(number);
-        let due = &mut self.due;
-        due.put(until, number);
     }
 }
 
@@ -259,7 +275,8 @@ impl Part {
     ghost use Rattle.napt_table.specs.Steps.{sent, out_purged};
     ghost use Rattle.napt_table.specs.Parts.{held, number_at, IsPart, AreDue, IsSamePlace};
 
-    /// A redirect, neither of whose ends is taken. Where memory is refused nothing that is held is changed.
+    /// A redirect, neither of whose ends is taken. It never expires, so it has no entry in the queue. Where memory is
+    /// refused nothing that is held is changed.
     pub(crate) fn open(&mut self, alloc: Global, inside: Endpoint, number: u16) -> Result<(), AllocError>
         requires part { IsPart self.old }
         requires due { AreDue self.old }
@@ -285,7 +302,7 @@ impl Part {
                 items: Vec::new(alloc),
             },
         };
-        self.insert(number, binding);
+        self.hold(number, binding);
         Ok(())
     }
 
