@@ -6,6 +6,7 @@ ghost use Rattle.napt_table.specs.Endpoints.{IsNumber};
 ghost use Rattle.napt_table.specs.Steps as steps;
 ghost use Rattle.napt_table.specs.Tables.{IsTable};
 
+use crate::Row;
 use crate::event::Event;
 use crate::list::protocol_of;
 use crate::parts::Parts;
@@ -146,5 +147,20 @@ impl MapTable {
             past,
             parts,
         })
+    }
+}
+
+impl MapTable {
+    ghost use Rattle.napt_table.specs.Rows.{rows};
+
+    /// The bindings that are live at `now` (ns, at least each earlier one), by protocol (ICMP, TCP, UDP), then by
+    /// external number. The contract is that of `Table::bindings`, word for word.
+    pub(crate) fn bindings(&self, alloc: Global, now: u64) -> Result<Vec<Row>, AllocError>
+        requires later { self.now.at ≤ now }
+        ensures { IfOk result (λ made. made.items ≡ rows self.now.timers now self.now.list) }
+    {
+        let mut made = self.parts.rows(alloc, now)?;
+        made.sort_by_key(|row| row.rank())?;
+        Ok(made)
     }
 }

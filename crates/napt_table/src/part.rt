@@ -6,7 +6,7 @@ ghost use Rattle.std.specs.Option.{option_map};
 ghost use Rattle.napt_wire.specs.declared.Cause.TheVariants.{NoBinding};
 ghost use Rattle.napt_table.specs.Held.{seen, entered, left_by, HeldIsPurgedLater};
 
-use crate::{Binding, Flows};
+use crate::{Binding, Flows, Row};
 use crate::numbers::Numbers;
 use napt_due::Due;
 use napt_config::{Filter, Timers};
@@ -410,6 +410,26 @@ impl Part {
             Shows self.old.timers now self.old.address self.old.numbers.protocol (held self.new) (in_purged filter self.old.address now self.old.numbers.protocol number remote flags list).list }
     {
         self.receive(filter, now, number, remote, flags)
+    }
+}
+
+impl Part {
+    ghost use Rattle.std.specs.Prelude.{◌++◌};
+    ghost use Rattle.napt_config.specs.Rules.{AreTimers};
+    ghost use Rattle.napt_table.specs.Listing.{part_rows, AreRead};
+
+    /// Adds the rows of the bindings that are live at `now` (ns), in no order.
+    pub(crate) fn push_rows(&self, now: u64, made: &mut Vec<Row>) -> Result<(), AllocError>
+        requires { AreTimers self.now.timers }
+        ensures rows { OnOk result (made.new.items ≡ made.old.items ++ part_rows now self.now) }
+        ensures read { OnOk result (AreRead now self.now) }
+    {
+        for binding in self.by_number.values() {
+            if binding.is_live(self.timers, now) {
+                made.push(Row::of(binding))?;
+            }
+        }
+        Ok(())
     }
 }
 
