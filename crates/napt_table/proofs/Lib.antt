@@ -17,3 +17,4 @@ pub mod Sends
 pub mod Enters
 pub mod Kept
 pub mod MapTables
+pub mod Opening

@@ -20,3 +20,4 @@ pub mod Parts
 pub mod Kept
 pub mod Events
 pub mod MapTables
+pub mod Listing

@@ -6,10 +6,12 @@ ghost use Rattle.napt_table.specs.Endpoints.{IsNumber};
 ghost use Rattle.napt_table.specs.Steps as steps;
 ghost use Rattle.napt_table.specs.Tables.{IsTable};
 
+use crate::Row;
 use crate::event::Event;
+use crate::list::protocol_of;
 use crate::parts::Parts;
 use http_server::Log;
-use napt_config::{Filter, Timers};
+use napt_config::{Config, Filter, Timers};
 use napt_wire::{Cause, Endpoint, Flags, Protocol};
 use std::alloc::{AllocError, Global};
 use std::marker::Model;
@@ -105,5 +107,60 @@ impl MapTable {
         ensures kept { IsTable self.now }
     {
         self.parts.number_of(protocol, now, inside)
+    }
+}
+
+impl MapTable {
+    ghost use Rattle.napt_table.specs.Tables.{opened};
+
+    /// The table of the address as a translator of the configuration begins: with its redirects. The contract is that of
+    /// `Table::new`, word for word.
+    pub(crate) fn new(
+        alloc: Global,
+        address: u32,
+        config: &Config,
+    ) -> Result<MapTable, AllocError>
+        ensures shown { IfOk result (λ table. table ≡ opened config.now address) }
+        ensures kept { IfOk result IsTable }
+    {
+        let mut parts = Parts::new(alloc, address, config.timers())?;
+        let mut past = Log::new();
+        for redirect in config.redirects() {
+            if config.pair(redirect.address) == address {
+                let protocol = protocol_of(redirect.tcp);
+                let inside = Endpoint {
+                    address: redirect.address,
+                    number: redirect.port,
+                };
+                parts.open(alloc, protocol, inside, redirect.external)?;
+                past = past.and(
+                    &0,
+                    &Event::Redirected(protocol, inside, redirect.external),
+                );
+            }
+        }
+        Ok(MapTable {
+            address,
+            timers: config.timers(),
+            filter: config.filter(),
+            at: 0,
+            past,
+            parts,
+        })
+    }
+}
+
+impl MapTable {
+    ghost use Rattle.napt_table.specs.Rows.{rows};
+
+    /// The bindings that are live at `now` (ns, at least each earlier one), by protocol (ICMP, TCP, UDP), then by
+    /// external number. The contract is that of `Table::bindings`, word for word.
+    pub(crate) fn bindings(&self, alloc: Global, now: u64) -> Result<Vec<Row>, AllocError>
+        requires later { self.now.at ≤ now }
+        ensures { IfOk result (λ made. made.items ≡ rows self.now.timers now self.now.list) }
+    {
+        let mut made = self.parts.rows(alloc, now)?;
+        made.sort_by_key(|row| row.rank())?;
+        Ok(made)
     }
 }

@@ -6,7 +6,7 @@ ghost use Rattle.std.specs.Option.{option_map};
 ghost use Rattle.napt_wire.specs.declared.Cause.TheVariants.{NoBinding};
 ghost use Rattle.napt_table.specs.Held.{seen, entered, left_by, HeldIsPurgedLater};
 
-use crate::{Binding, Flows};
+use crate::{Binding, Flows, Row};
 use crate::numbers::Numbers;
 use napt_due::Due;
 use napt_config::{Filter, Timers};
@@ -233,6 +233,24 @@ impl Part {
         ensures held { (n : ℕ) → held self.new n ≡ cond (number == n) (Some binding) (held self.old n) }
     {
         let until = binding.until(self.timers, self.at);
+        self.hold(number, binding);
+        let due = &mut self.due;
+        due.put(until, number);
+    }
+
+    /// A new binding, where there is room and neither of its ends is taken. The queue stays as it is.
+    fn hold(&mut self, number: u16, binding: Binding)
+        requires room { HasRoom self.old }
+        requires part { IsPart self.old }
+        requires protocol { binding.protocol ≡ self.old.numbers.protocol }
+        requires external { binding.external ≡ record { address = self.old.address; number = number } }
+        requires free { held self.old number ≡ None }
+        requires absent { number_at self.old binding.inside ≡ None }
+        ensures part { IsPart self.new }
+        ensures place { IsSamePlace self.old self.new }
+        ensures due { self.new.due ≡ self.old.due }
+        ensures held { (n : ℕ) → held self.new n ≡ cond (number == n) (Some binding) (held self.old n) }
+    {
         let inside = binding.inside;
         match self.by_inside.insert((inside.address, inside.number), number) {
             Ok(_) => {}
@@ -244,8 +262,6 @@ impl Part {
         }
         let numbers = &mut self.numbers;
         numbers.put(number);
-        let due = &mut self.due;
-        due.put(until, number);
     }
 }
 
@@ -259,7 +275,8 @@ impl Part {
     ghost use Rattle.napt_table.specs.Steps.{sent, out_purged};
     ghost use Rattle.napt_table.specs.Parts.{held, number_at, IsPart, AreDue, IsSamePlace};
 
-    /// A redirect, neither of whose ends is taken. Where memory is refused nothing that is held is changed.
+    /// A redirect, neither of whose ends is taken. It never expires, so it has no entry in the queue. Where memory is
+    /// refused nothing that is held is changed.
     pub(crate) fn open(&mut self, alloc: Global, inside: Endpoint, number: u16) -> Result<(), AllocError>
         requires part { IsPart self.old }
         requires due { AreDue self.old }
@@ -285,7 +302,7 @@ impl Part {
                 items: Vec::new(alloc),
             },
         };
-        self.insert(number, binding);
+        self.hold(number, binding);
         Ok(())
     }
 
@@ -393,6 +410,26 @@ impl Part {
             Shows self.old.timers now self.old.address self.old.numbers.protocol (held self.new) (in_purged filter self.old.address now self.old.numbers.protocol number remote flags list).list }
     {
         self.receive(filter, now, number, remote, flags)
+    }
+}
+
+impl Part {
+    ghost use Rattle.std.specs.Prelude.{◌++◌};
+    ghost use Rattle.napt_config.specs.Rules.{AreTimers};
+    ghost use Rattle.napt_table.specs.Listing.{part_rows, AreRead};
+
+    /// Adds the rows of the bindings that are live at `now` (ns), in no order.
+    pub(crate) fn push_rows(&self, now: u64, made: &mut Vec<Row>) -> Result<(), AllocError>
+        requires { AreTimers self.now.timers }
+        ensures rows { OnOk result (made.new.items ≡ made.old.items ++ part_rows now self.now) }
+        ensures read { OnOk result (AreRead now self.now) }
+    {
+        for binding in self.by_number.values() {
+            if binding.is_live(self.timers, now) {
+                made.push(Row::of(binding))?;
+            }
+        }
+        Ok(())
     }
 }
 
