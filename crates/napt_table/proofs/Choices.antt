@@ -117,9 +117,9 @@ module _ (used : ℕ → Bool) (place : ℕ → ℕ) (class : Class) (p : ℕ) (
       (λ i less. elim (ltb (k + i) class.many) as (λ v. ltb (k + i) class.many ≡ v → not (used (place (candidate class p i))) ≡ false) [
         | true ↦ λ t. let l : k + i < class.many = grind (arith, nat_tests) in near i l ∙ ap not (none (place class.least + (k + i)) (omega arith) (omega arith))
         | false ↦ λ t.
-          let l : class.many ≤ k + i = grind (arith, nat_tests) in
-          let r : ℕ = k + i - class.many in
-          far i r (omega arith) (omega arith) ∙ ap not (h.3 (place class.least + r) (omega arith) (omega arith))
+            let l : class.many ≤ k + i = grind (arith, nat_tests) in
+            let r : ℕ = k + i - class.many in
+            far i r (omega arith) (omega arith) ∙ ap not (h.3 (place class.least + r) (omega arith) (omega arith))
       ] refl)
       ∙ ap (λ (n : ℕ). Some (class.least + class.apart * n)) (ap (λ (n : ℕ). n % class.many) e ∙ s.wraps q lt)
 
@@ -130,9 +130,9 @@ module _ (used : ℕ → Bool) (place : ℕ → ℕ) (class : Class) (p : ℕ) (
       (λ i less. elim (ltb (k + i) class.many) as (λ v. ltb (k + i) class.many ≡ v → not (used (place (candidate class p i))) ≡ false) [
         | true ↦ λ t. let l : k + i < class.many = grind (arith, nat_tests) in near i l ∙ ap not (none (place class.least + (k + i)) (omega arith) (omega arith))
         | false ↦ λ t.
-          let l : class.many ≤ k + i = grind (arith, nat_tests) in
-          let r : ℕ = k + i - class.many in
-          far i r (omega arith) (omega arith) ∙ ap not (before (place class.least + r) (omega arith) (omega arith))
+            let l : class.many ≤ k + i = grind (arith, nat_tests) in
+            let r : ℕ = k + i - class.many in
+            far i r (omega arith) (omega arith) ∙ ap not (before (place class.least + r) (omega arith) (omega arith))
       ] refl)
 
 -- by a start that is the place of the class's least number, and how far the number is from that

@@ -15,6 +15,6 @@ pub mod Choices
 pub mod Queues
 pub mod Sends
 pub mod Enters
-pub mod Kept
-pub mod MapTables
+pub mod PartSteps
+pub mod TableSteps
 pub mod Opening

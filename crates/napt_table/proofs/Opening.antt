@@ -18,17 +18,17 @@ use Rattle.napt_table.specs.declared.parts.Parts.{Parts as AllParts}
 use Rattle.napt_table.specs.Bindings.{same_protocol, is_at, of, has_number, is_of_inside}
 use Rattle.napt_table.specs.Endpoints.{key, Apart}
 use Rattle.napt_table.specs.Held.{redirect_of, seen}
-use Rattle.napt_table.specs.Kept.{part_of, IsOf, AreOf, AllShow}
+use Rattle.napt_table.specs.Parts.{part_of, IsOf, AreOf, AllShow}
 use Rattle.napt_table.specs.declared.event.Event.{Event}
 use Rattle.napt_table.specs.declared.event.Event.TheVariants.{Redirected}
 use Rattle.napt_table.specs.Events.{played_all}
 use Rattle.napt_table.specs.Opening.{protocol_of, redirected, opening}
-use Rattle.napt_table.specs.Parts.{held, number_at, IsDue, IsPart, AreDue, IsSamePlace}
-use Rattle.napt_table.specs.MapTables.{list_of, shown_by, IsMapTable}
+use Rattle.napt_table.specs.Part.{held, number_at, IsDue, IsPart, AreDue, IsSamePlace}
+use Rattle.napt_table.specs.Shown.{list_of, shown, KeepsItsList}
 use Rattle.napt_table.specs.Tables.{TableState, IsTable, opened}
-use Rattle.napt_table.specs.declared.map_table.MapTable.TheInside.{Inside}
+use Rattle.napt_table.specs.declared.table.Table.TheInside.{Inside}
 use Rattle.napt_table.proofs.Finds.{Once, find_pushed, find_passed_over, any_found, none_passes}
-use Rattle.napt_table.proofs.Kept.{played_more}
+use Rattle.napt_table.proofs.PartSteps.{played_more}
 use Rattle.napt_table.proofs.Opened.{apart_redirects, opened_is_table}
 use Rattle.napt_table.proofs.Seen.{protocol_is, same_itself, has_it, inside_it, not_has, number_of_it, once_number, once_inside, found_seen}
 use Rattle.napt_table.proofs.Sound.{apart_kept}
@@ -126,14 +126,14 @@ module _ (address : ℕ) (protocol : Protocol) (inside : Endpoint) (number : ℕ
       absent = elim (number_at (part_of old protocol) inside) as (λ o. number_at (part_of old protocol) inside ≡ o → o ≡ None) [
         | None ↦ λ e. refl
         | Some m ↦ λ e.
-          let of_it = all protocol in
-          let h = of_it.is.number_is inside m e in
-          let b : Binding = h.0 in
-          let there : find (has_number address protocol m) list ≡ Some b = sym (are protocol m) ∙ h.1 in
-          let same : protocol ≡ b.protocol = sym (of_it.is.protocol_is m b h.1 ∙ of_it.protocol_is) in
-          let at : b.external.address ≡ address = ap (λ (x : Endpoint). x.address) (of_it.is.external_is m b h.1) ∙ of_it.address_is in
-          let passes : is_of_inside address protocol inside b ≡ true = inside_it address protocol inside b same at (sym h.2) in
-          absurd (true≢false (sym (any_found (has_number address protocol m) (is_of_inside address protocol inside) list b there passes) ∙ none_passes (is_of_inside address protocol inside) list absent_inside))
+            let of_it = all protocol in
+            let h = of_it.is.number_is inside m e in
+            let b : Binding = h.0 in
+            let there : find (has_number address protocol m) list ≡ Some b = sym (are protocol m) ∙ h.1 in
+            let same : protocol ≡ b.protocol = sym (of_it.is.protocol_is m b h.1 ∙ of_it.protocol_is) in
+            let at : b.external.address ≡ address = ap (λ (x : Endpoint). x.address) (of_it.is.external_is m b h.1) ∙ of_it.address_is in
+            let passes : is_of_inside address protocol inside b ≡ true = inside_it address protocol inside b same at (sym h.2) in
+            absurd (true≢false (sym (any_found (has_number address protocol m) (is_of_inside address protocol inside) list b there passes) ∙ none_passes (is_of_inside address protocol inside) list absent_inside))
       ] refl
 
       -- it is held as the others are
@@ -142,16 +142,16 @@ module _ (address : ℕ) (protocol : Protocol) (inside : Endpoint) (number : ℕ
       held_more new others holds q n = elim (same_protocol q protocol) as (λ v. same_protocol q protocol ≡ v → held (part_of new q) n ≡ find (has_number address q n) (list ++ fresh ∷ [])) [
         | true ↦ λ p. rw (protocol_is q protocol p) (elim (eqb number n) as (λ v. eqb number n ≡ v → held (part_of new protocol) n ≡ find (has_number address protocol n) (list ++ fresh ∷ [])) [
           | true ↦ λ e.
-            let here : number ≡ n = eqb-true number n e in
-            let has : has_number address protocol n fresh ≡ true = has_it address protocol n fresh refl refl here in
-            let none : find (has_number address protocol n) list ≡ None = ap (λ (m : ℕ). find (has_number address protocol m) list) (sym here) ∙ free_number in
-            holds n ∙ (ap (λ v. cond v (Some fresh) (held (part_of old protocol) n)) e
-            ∙ sym (find_pushed (has_number address protocol n) list fresh none ∙ ap (λ v. cond v (Some fresh) None) has))
+              let here : number ≡ n = eqb-true number n e in
+              let has : has_number address protocol n fresh ≡ true = has_it address protocol n fresh refl refl here in
+              let none : find (has_number address protocol n) list ≡ None = ap (λ (m : ℕ). find (has_number address protocol m) list) (sym here) ∙ free_number in
+              holds n ∙ (ap (λ v. cond v (Some fresh) (held (part_of old protocol) n)) e
+              ∙ sym (find_pushed (has_number address protocol n) list fresh none ∙ ap (λ v. cond v (Some fresh) None) has))
           | false ↦ λ e. holds n ∙ (ap (λ v. cond v (Some fresh) (held (part_of old protocol) n)) e ∙ (are protocol n ∙ sym (find_passed_over (has_number address protocol n) list fresh (lacks n e))))
         ] refl)
         | false ↦ λ p.
-          let differs : q ≢ protocol = λ s. true≢false (sym (ap (same_protocol q) (sym s) ∙ same_itself q) ∙ p) in
-          ap (λ (part : Part). held part n) (others q differs) ∙ (are q n ∙ sym (find_passed_over (has_number address q n) list fresh (not_has address q n fresh differs)))
+            let differs : q ≢ protocol = λ s. true≢false (sym (ap (same_protocol q) (sym s) ∙ same_itself q) ∙ p) in
+            ap (λ (part : Part). held part n) (others q differs) ∙ (are q n ∙ sym (find_passed_over (has_number address q n) list fresh (not_has address q n fresh differs)))
       ] refl
 
 -- THE QUEUE
@@ -169,8 +169,8 @@ pub fixed_due : (old new : Part) (number : ℕ) (binding : Binding) → AreDue o
     ((n : ℕ) → held new n ≡ cond (eqb number n) (Some binding) (held old n)) → AreDue new
 fixed_due old new number binding due fixed place entries holds n b h loose = elim (eqb number n) as (λ v. eqb number n ≡ v → IsDue new.timers new.at new.numbers.protocol new.due.entries b n) [
   | true ↦ λ e.
-    let same : binding ≡ b = same_Some binding b (sym (holds n ∙ ap (λ v. cond v (Some binding) (held old n)) e) ∙ h) in
-    absurd (true≢false (sym fixed ∙ (ap (λ (x : Binding). x.fixed) same ∙ loose)))
+      let same : binding ≡ b = same_Some binding b (sym (holds n ∙ ap (λ v. cond v (Some binding) (held old n)) e) ∙ h) in
+      absurd (true≢false (sym fixed ∙ (ap (λ (x : Binding). x.fixed) same ∙ loose)))
   | false ↦ λ e. rw (place.timers_is, place.at_is, place.protocol_same, entries) (due n b (sym (holds n ∙ ap (λ v. cond v (Some binding) (held old n)) e) ∙ h) loose)
 ] refl
 
@@ -231,14 +231,16 @@ module _ (rules : Rules) (keeps : KeepsRules rules) (address k : ℕ) (redirect 
 
 -- THE END OF THE LOOP
 
-pub opened_is_map_table : (rules : Rules) → KeepsRules rules → (address k : ℕ) (table : Inside) → length rules.redirects ≤ k → table.address ≡ address → table.timers ≡ rules.timers → table.filter ≡ rules.filter → table.at ≡ 0 →
+pub opened_keeps_its_list : (rules : Rules) → KeepsRules rules → (address k : ℕ) (table : Inside) → length rules.redirects ≤ k → table.address ≡ address → table.timers ≡ rules.timers → table.filter ≡ rules.filter → table.at ≡ 0 →
     played_all rules.timers rules.filter address table.past.items [] ≡ begun rules address k → AreOf address rules.timers 0 table.parts → AreHeld address table.parts (begun rules address k) →
-    (shown_by table ≡ opened rules address) × IsMapTable table
-opened_is_map_table rules keeps address k table end a t f z played all are =
+    (shown table ≡ opened rules address) × KeepsItsList table
+opened_keeps_its_list rules keeps address k table end a t f z played all are =
     let list : list_of table ≡ of address (opening rules) = rw (t, f, a) (played ∙ all_begun rules address k end) in
-    let shown : shown_by table ≡ opened rules address = λ i. record { address = a i; timers = t i; filter = f i; list = list i; at = z i } in
-    (shown, record {
-      state = subst IsTable (sym shown) (opened_is_table rules keeps address);
-      parts_are = subst (λ (s : TableState). AreOf s.address s.timers s.at table.parts) (sym shown) all;
-      parts_show = subst (λ (s : TableState). AllShow s.address s.timers s.at table.parts s.list) (sym shown) (opened_show rules keeps address table.parts (subst (AreHeld address table.parts) (all_begun rules address k end) are));
-    })
+    let shown : shown table ≡ opened rules address = λ i. record { address = a i; timers = t i; filter = f i; list = list i; at = z i } in (
+      shown,
+      record {
+        state = subst IsTable (sym shown) (opened_is_table rules keeps address);
+        parts_are = subst (λ (s : TableState). AreOf s.address s.timers s.at table.parts) (sym shown) all;
+        parts_show = subst (λ (s : TableState). AllShow s.address s.timers s.at table.parts s.list) (sym shown) (opened_show rules keeps address table.parts (subst (AreHeld address table.parts) (all_begun rules address k end) are));
+      },
+    )

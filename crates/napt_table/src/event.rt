@@ -1,4 +1,4 @@
-//! What happens to a table.
+//! What happens to a table: of this only proofs speak.
 
 use napt_wire::{Endpoint, Flags, Protocol};
 

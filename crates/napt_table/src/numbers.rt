@@ -1,16 +1,20 @@
-//! Which numbers are in use, and the choice of a free one.
+//! Which external numbers of a protocol are in use, and the choice of a free one (RFC 4787, REQ-3 and REQ-4; RFC 5508,
+//! section 3.1).
 
 ghost use Rattle.std.specs.Prelude.{◌≡◌, ℕ, ◌+◌, ◌-◌, ◌*◌, ◌^◌, ◌<◌, ◌≤◌, ◌==◌, false, not, ◌&&◌, ◌||◌, find, IfOk, Bool};
 ghost use Rattle.napt_table.specs.Choice as choice;
 ghost use Rattle.napt_table.specs.Places.{place_of, is_used};
 
 use crate::Class;
-use napt_wire::Protocol;
 use napt_bits::Bits;
+use napt_wire::Protocol;
 use std::alloc::{AllocError, Global};
 use std::marker::Model;
 
-/// The numbers of one protocol that are in use; contracts see the protocol, and which they are.
+/// The external numbers of one protocol that are in use: ports of UDP and TCP, identifiers of ICMP; contracts see the protocol,
+/// and which they are.
+///
+/// Each class of numbers is a run of bits, so that a choice looks at a few words, however many numbers are in use.
 #[derive(Drop)]
 pub struct Numbers {
     protocol: Protocol,
@@ -25,7 +29,7 @@ impl Model for Numbers {
     ghost view = { λ numbers. record { protocol = numbers.protocol; places = numbers.places } };
 }
 
-/// Where a number stands among the bits.
+/// The place of a number among the bits: those of even ports, and then those of odd ones.
 fn place_of(protocol: Protocol, number: u16) -> u16
     ensures { result ≡ place_of protocol number }
 {
@@ -36,8 +40,8 @@ fn place_of(protocol: Protocol, number: u16) -> u16
 }
 
 impl Class {
-    /// The class in which the number of an inside endpoint is mapped, with its places.
-    fn with_places(protocol: Protocol, number: u16) -> Class
+    /// The class in which the number of an inside endpoint is mapped: a port keeps its parity and its side of 1024.
+    fn of(protocol: Protocol, number: u16) -> Class
         ensures value { result ≡ choice.class_of protocol number }
         ensures some { (0 < result.many) × (0 < result.apart) }
         ensures fits { result.least + result.apart * (result.many - 1) < 2 ^ 16 }
@@ -57,7 +61,8 @@ impl Class {
 }
 
 impl Numbers {
-    /// None in use.
+    /// No number of the protocol is in use. It takes about 8 KiB, and no other call takes any; `AllocError` where they are
+    /// refused.
     pub fn new(alloc: Global, protocol: Protocol) -> Result<Numbers, AllocError>
         ensures protocol { IfOk result (λ numbers. numbers.protocol ≡ protocol) }
         ensures none { IfOk result (λ numbers. (n : ℕ) → is_used numbers n ≡ false) }
@@ -68,18 +73,19 @@ impl Numbers {
         })
     }
 
-    /// The protocol.
+    /// The protocol whose numbers these are.
     pub fn protocol(&self) -> Protocol
         ensures { result ≡ self.now.protocol }
     {
         self.protocol
     }
 
-    /// The first candidate for the number that is not in use.
+    /// The number that an inside endpoint with this number gets: itself where it is not in use, else the next one of its class
+    /// that is not, which goes on at the beginning of the class (RFC 4787, REQ-3 and REQ-4); `None` where the class is full.
     pub fn choose(&self, number: u16) -> Option<u16>
         ensures { result ≡ find (λ n. not (is_used self.now n)) (choice.candidates self.now.protocol number) }
     {
-        let class = Class::with_places(self.protocol, number);
+        let class = Class::of(self.protocol, number);
         let start = u32::from(place_of(self.protocol, class.least as u16));
         let first = start + u32::from(number).saturating_sub(class.least) / class.apart;
         let end = start + class.many;
@@ -90,7 +96,7 @@ impl Numbers {
         Some((class.least + class.apart * (place - start)) as u16)
     }
 
-    /// The number is in use from now on.
+    /// The number is in use from now on. One that is in use stays so.
     pub fn put(&mut self, number: u16)
         ensures protocol { self.new.protocol ≡ self.old.protocol }
         ensures used { (n : ℕ) → n < 2 ^ 16 → is_used self.new n ≡ ((n == number) || is_used self.old n) }
@@ -100,7 +106,7 @@ impl Numbers {
         places.put(place);
     }
 
-    /// The number is free from now on.
+    /// The number is free from now on. One that is free stays so.
     pub fn take(&mut self, number: u16)
         ensures protocol { self.new.protocol ≡ self.old.protocol }
         ensures used { (n : ℕ) → n < 2 ^ 16 → is_used self.new n ≡ (not (n == number) && is_used self.old n) }

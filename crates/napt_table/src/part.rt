@@ -1,28 +1,37 @@
-//! What a table holds under one protocol: its bindings by external number, their numbers by inside endpoint, which numbers are in use, and
-//! when to look at each binding again.
+//! What a table holds under one protocol: its bindings by external number, their numbers by inside endpoint, which numbers are
+//! in use, and when to look at each binding again.
+//!
+//! A binding that has ended may still be held: no look-up finds it, and it goes before the next new binding gets a number. Its
+//! entry in the queue has a time up to which it lives for sure, which is kept lazily: a packet that keeps the binding alive does
+//! not move the entry, and where its time has come the binding is looked at again.
 
 ghost use Rattle.std.specs.Prelude.{◌≡◌, ◌≢◌, ℕ, ◌+◌, ◌≤◌, ◌<◌, ◌^◌, true, false, not, Some, None, Ok, Err, OnOk, IfSome, cond, ◌==◌, ◌&&◌};
 ghost use Rattle.std.specs.Option.{option_map};
 ghost use Rattle.napt_wire.specs.declared.Cause.TheVariants.{NoBinding};
 ghost use Rattle.napt_table.specs.Held.{seen, entered, left_by, HeldIsPurgedLater};
 
-use crate::{Binding, Flows, Row};
 use crate::numbers::Numbers;
-use napt_due::Due;
+use crate::{Binding, Flows, Row};
 use napt_config::{Filter, Timers};
+use napt_due::Due;
 use napt_wire::{Cause, Endpoint, Flags, Protocol};
 use std::alloc::{AllocError, Global};
 use std::collections::HashMap;
 
+/// The bindings of one protocol.
 #[derive(Drop)]
 pub(crate) struct Part {
+    /// The external address.
     address: u32,
     timers: Timers,
-    /// The time of its last packet that went out.
+    /// The time of its last packet that went out and had no binding, in ns: what had ended by then is gone.
     at: u64,
     by_number: HashMap<u16, Binding>,
+    /// The external number of an inside address and number.
     by_inside: HashMap<(u32, u16), u16>,
+    /// One entry for each binding that is not fixed, with a time up to which it lives for sure.
     due: Due,
+    /// Those that have a binding.
     numbers: Numbers,
 }
 
@@ -32,7 +41,7 @@ impl Part {
     ghost use Rattle.napt_config.specs.Rules.{AreTimers};
     ghost use Rattle.napt_table.specs.Life.{is_live};
     ghost use Rattle.napt_table.specs.Places.{is_used};
-    ghost use Rattle.napt_table.specs.Parts.{held, number_at, pair_eq, IsPart, AreDue, AreDueBut, IsSamePlace, HasRoom, come_up};
+    ghost use Rattle.napt_table.specs.Part.{held, number_at, pair_eq, IsPart, AreDue, AreDueBut, IsSamePlace, HasRoom, come_up};
     ghost use Rattle.napt_table.specs.declared.Binding.{Binding};
 
     /// Nothing is held.
@@ -252,7 +261,10 @@ impl Part {
         ensures held { (n : ℕ) → held self.new n ≡ cond (number == n) (Some binding) (held self.old n) }
     {
         let inside = binding.inside;
-        match self.by_inside.insert((inside.address, inside.number), number) {
+        match self
+            .by_inside
+            .insert((inside.address, inside.number), number)
+        {
             Ok(_) => {}
             Err(_) => unreachable!(),
         }
@@ -273,11 +285,16 @@ impl Part {
     ghost use Rattle.napt_table.specs.Held.{Shows, redirect_of};
     ghost use Rattle.napt_table.specs.Life.{with_live_flows};
     ghost use Rattle.napt_table.specs.Steps.{sent, out_purged};
-    ghost use Rattle.napt_table.specs.Parts.{held, number_at, IsPart, AreDue, IsSamePlace};
+    ghost use Rattle.napt_table.specs.Part.{held, number_at, IsPart, AreDue, IsSamePlace};
 
     /// A redirect, neither of whose ends is taken. It never expires, so it has no entry in the queue. Where memory is
     /// refused nothing that is held is changed.
-    pub(crate) fn open(&mut self, alloc: Global, inside: Endpoint, number: u16) -> Result<(), AllocError>
+    pub(crate) fn open(
+        &mut self,
+        alloc: Global,
+        inside: Endpoint,
+        number: u16,
+    ) -> Result<(), AllocError>
         requires part { IsPart self.old }
         requires due { AreDue self.old }
         requires free { held self.old number ≡ None }
@@ -387,7 +404,7 @@ impl Part {
     ghost use Rattle.napt_table.specs.Endpoints.{key, Apart};
     ghost use Rattle.napt_table.specs.Held.{Shows};
     ghost use Rattle.napt_table.specs.Steps.{in_purged};
-    ghost use Rattle.napt_table.specs.Parts.{held, number_at, IsPart, AreDue, IsSamePlace};
+    ghost use Rattle.napt_table.specs.Part.{held, number_at, IsPart, AreDue, IsSamePlace};
 
     /// A packet comes in to the number: answers the inside endpoint, `NoBinding` or `Filtered`. It takes no memory.
     pub(crate) fn enter(

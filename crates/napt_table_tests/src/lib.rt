@@ -7,6 +7,8 @@ mod bench;
 #[cfg(test)]
 mod bindings;
 #[cfg(test)]
+mod numbers;
+#[cfg(test)]
 mod plain;
 #[cfg(test)]
 mod times;

@@ -151,11 +151,11 @@ fn is_of_class(protocol: Protocol, number: u16, candidate: u16) -> bool {
     }
 }
 
-fn rank(protocol: Protocol) -> u32 {
+fn rank(protocol: Protocol) -> u8 {
     match protocol {
         Protocol::Icmp => 0,
-        Protocol::Tcp => 65_536,
-        Protocol::Udp => 131_072,
+        Protocol::Tcp => 1,
+        Protocol::Udp => 2,
     }
 }
 
@@ -316,7 +316,7 @@ impl PlainTable {
                 })?;
             }
         }
-        rows.sort_by_key(|row| rank(row.protocol) + u32::from(row.external.number))?;
+        rows.sort_by_key(|row| (rank(row.protocol), row.external.number))?;
         Ok(rows)
     }
 }

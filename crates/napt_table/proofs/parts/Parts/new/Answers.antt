@@ -1,5 +1,5 @@
 use Rattle.napt_wire.specs.declared.Protocol.TheVariants.{Icmp, Tcp, Udp}
-use Rattle.napt_table.specs.Kept.{part_of, IsOf}
+use Rattle.napt_table.specs.Parts.{part_of, IsOf}
 use Rattle.napt_table.proofs.Opening.{new_of}
 use Rattle.napt_table.proofs.parts.Parts.new.Goals as goal
 

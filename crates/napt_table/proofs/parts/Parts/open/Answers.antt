@@ -1,6 +1,6 @@
 use Rattle.napt_wire.specs.declared.Protocol.TheVariants.{Icmp, Tcp, Udp}
-use Rattle.napt_table.specs.Kept.{part_of, IsOf}
-use Rattle.napt_table.proofs.Kept.{kept_of}
+use Rattle.napt_table.specs.Parts.{part_of, IsOf}
+use Rattle.napt_table.proofs.PartSteps.{kept_of}
 use Rattle.napt_table.proofs.parts.Parts.open.Goals as goal
 
 pub returns-in-Icmp-clause-of : goal.returns-in-Icmp-clause-of

@@ -25,8 +25,8 @@ use Rattle.std.specs.declared.alloc.AllocError.{AllocError}
 use Rattle.napt_wire.specs.declared.Cause.{Cause}
 use Rattle.napt_table.specs.Endpoints.{Apart}
 use Rattle.napt_table.specs.Held.{Shows}
-use Rattle.napt_table.specs.Parts.{held, IsPart, AreDue, IsSamePlace}
-use Rattle.napt_table.specs.Kept.{IsOf}
+use Rattle.napt_table.specs.Part.{held, IsPart, AreDue, IsSamePlace}
+use Rattle.napt_table.specs.Parts.{IsOf}
 use Rattle.napt_table.specs.Events.{played, played_all}
 use Rattle.napt_table.proofs.Sound.{received_key}
 use Rattle.napt_table.proofs.Seen.{changed_other, inside_protocol, not_has}
@@ -66,8 +66,8 @@ out_others timers address now protocol inside remote flags list q differs n =
         | Some m ↦ find_passed_over (has_number address q n) list (sent remote flags now (fresh protocol inside address m now)) (not_has address q n (sent remote flags now (fresh protocol inside address m now)) differs)
       ]
       | Some b ↦ find_other (is_of_inside address protocol inside) (sent remote flags now) (has_number address q n)
-        (λ x. ap (λ (k : Key). eqb k.external.address address && (same_protocol q k.protocol && eqb k.external.number n)) (sent_key remote flags now x))
-        (λ x h. not_has address q n x (λ p. differs (p ∙ sym (inside_protocol address protocol inside x h)))) list
+          (λ x. ap (λ (k : Key). eqb k.external.address address && (same_protocol q k.protocol && eqb k.external.number n)) (sent_key remote flags now x))
+          (λ x h. not_has address q n x (λ p. differs (p ∙ sym (inside_protocol address protocol inside x h)))) list
     ]
 
 -- a part after a step of its own time

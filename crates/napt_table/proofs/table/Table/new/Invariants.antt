@@ -1,8 +1,8 @@
 use Rattle.std.proofs.Common.{◌≡◌, []}
 use Rattle.napt_table.specs.Events.{played_all}
-use Rattle.napt_table.specs.Kept.{AreOf}
+use Rattle.napt_table.specs.Parts.{AreOf}
 use Rattle.napt_table.proofs.Opening.{begun, AreHeld}
-use Rattle.napt_table.proofs.map_table.MapTable.new.Given as goal
+use Rattle.napt_table.proofs.table.Table.new.Given as goal
 
 -- the redirects so far have happened, and are held
 abbrev pub invariant-loop-redirect : goal.invariant-loop-redirect
