@@ -18,3 +18,4 @@ pub mod Enters
 pub mod Kept
 pub mod MapTables
 pub mod Opening
+pub mod Listed
