@@ -18,3 +18,4 @@ pub mod Enters
 pub mod PartSteps
 pub mod TableSteps
 pub mod Opening
+pub mod Listed
