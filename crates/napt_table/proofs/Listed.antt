@@ -1,12 +1,11 @@
 -- What is held, sorted, are the rows of the list.
-use Rattle.std.proofs.Common.{◌≡◌, ◌≢◌, ℕ, zero, suc, ◌+◌, ◌-◌, ◌*◌, ◌<◌, ◌≤◌, ◌^◌, Bool, true, false, not, ◌&&◌, ◌||◌, cond, All, List, [], ◌∷◌, ◌++◌, length, map, filter, Option, Some, None, refl, sym, ◌∙◌, ap, subst, arith, eqb, eqb-true, nat_eq}
+use Rattle.std.proofs.Common.{◌≡◌, ℕ, ◌+◌, ◌-◌, ◌*◌, ◌<◌, ◌≤◌, Bool, true, false, not, ◌&&◌, cond, All, List, [], ◌∷◌, ◌++◌, map, filter, Option, Some, None, refl, sym, ◌∙◌, ap, arith, eqb, eqb-true, nat_eq}
 use Rattle.std.specs.Prelude.{find, nat_lt}
 use Rattle.std.specs.Cmp.{nat_eq_equiv}
-use Rattle.std.specs.HashMap.{IsUnique, values}
-use Rattle.std.specs.List.{list_any, AllByRecursion, IsDistinct}
+use Rattle.std.specs.List.{IsDistinct}
 use Rattle.std.specs.Map.{lookup, keys_of, values_of}
 use Rattle.std.specs.Option.{option_map}
-use Rattle.std.proofs.lemmas.Bool.{and_parts, eq-eqb, or_parts, true≢false}
+use Rattle.std.proofs.lemmas.Bool.{eq-eqb}
 use Rattle.std.proofs.lemmas.Bool.Decides.{nat_tests}
 use Rattle.std.proofs.lemmas.Map.{lookup-none}
 use Rattle.std.proofs.lemmas.Map.Entries.{lookup_head, lookup_tail, none_past_head}
@@ -22,18 +21,18 @@ use Rattle.napt_table.specs.declared.Row.{Row}
 use Rattle.napt_table.specs.declared.part.Part.{Part}
 use Rattle.napt_table.specs.Lists.{Each}
 use Rattle.napt_table.specs.Bindings.{same_protocol, has_number}
-use Rattle.napt_table.specs.Endpoints.{Key, key, IsPaired}
-use Rattle.napt_table.specs.Held.{Shows, seen}
+use Rattle.napt_table.specs.Endpoints.{key, IsPaired}
+use Rattle.napt_table.specs.Held.{seen}
 use Rattle.napt_table.specs.Life.{is_live, with_live_flows}
 use Rattle.napt_table.specs.Listing.{part_rows, IsSmall, AreRead}
-use Rattle.napt_table.specs.Parts.{held, IsPart}
-use Rattle.napt_table.specs.Kept.{part_of}
-use Rattle.napt_table.specs.MapTables.{list_of, IsMapTable}
+use Rattle.napt_table.specs.Part.{held, IsPart}
+use Rattle.napt_table.specs.Parts.{part_of}
+use Rattle.napt_table.specs.Shown.{list_of, KeepsItsList}
 use Rattle.napt_table.specs.Rows.{row, protocol_rank, rank, in_order, rows}
-use Rattle.napt_table.specs.declared.map_table.MapTable.TheInside.{Inside}
-use Rattle.napt_table.proofs.MapTables.{live, live_sound, show_now}
+use Rattle.napt_table.specs.declared.table.Table.TheInside.{Inside}
+use Rattle.napt_table.proofs.TableSteps.{live, live_sound, show_now}
 use Rattle.napt_table.proofs.Seen.{once_number}
-use Rattle.napt_table.proofs.Finds.{Once, none_passes}
+use Rattle.napt_table.proofs.Finds.{Once}
 use Rattle.napt_table.proofs.Lists.{find_nowhere}
 use Rattle.napt_table.proofs.Orders.{same_rank, same_rank_is, in_order_alike}
 
@@ -53,29 +52,14 @@ module _ {X : Type 0} where
   few None = []
   few (Some x) = x ∷ []
 
-  module _ (t : X → Bool) where
-    filter_none : (xs : List X) → list_any t xs ≡ false → filter t xs ≡ []
-    filter_none [] h = refl
-    filter_none (x ∷ xs) h =
-        let parts : (t x ≡ false) × (list_any t xs ≡ false) = or_parts _ _ h in
-        ap (λ v. cond v (x ∷ filter t xs) (filter t xs)) parts.0 ∙ filter_none xs parts.1
-
-    -- where one at most passes
-    filter_once : (xs : List X) → Once t xs → filter t xs ≡ few (find t xs)
-    filter_once [] once = refl
-    filter_once (x ∷ xs) once = elim (t x) as (λ v. t x ≡ v → cond v (x ∷ filter t xs) (filter t xs) ≡ few (cond v (Some x) (find t xs))) [
-      | true ↦ λ e. ap (λ (l : List X). x ∷ l) (filter_none xs (once.0 e))
-      | false ↦ λ e. filter_once xs once.1
-    ] refl
-
   -- where no element is big, tests that agree on the others pass the same
   filter_small : (big s t : X → Bool) → ((x : X) → big x ≡ false → s x ≡ t x) → (xs : List X) → filter big xs ≡ [] → filter s xs ≡ filter t xs
   filter_small big s t agree [] none = refl
   filter_small big s t agree (x ∷ xs) none = elim (big x) as (λ v. big x ≡ v → cond v (x ∷ filter big xs) (filter big xs) ≡ [] → filter s (x ∷ xs) ≡ filter t (x ∷ xs)) [
     | true ↦ λ e h. cc
     | false ↦ λ e h.
-      ap (λ v. cond v (x ∷ filter s xs) (filter s xs)) (agree x e)
-      ∙ ap (λ (l : List X). cond (t x) (x ∷ l) l) (filter_small big s t agree xs h)
+        ap (λ v. cond v (x ∷ filter s xs) (filter s xs)) (agree x e)
+        ∙ ap (λ (l : List X). cond (t x) (x ∷ l) l) (filter_small big s t agree xs h)
   ] refl none
 
   filter_swap : (s t : X → Bool) (xs : List X) → filter s (filter t xs) ≡ filter t (filter s xs)
@@ -138,12 +122,12 @@ module _ (xs ys : List Row) (alike : (p : Protocol) (n : ℕ) → filter (is_row
   none_big_alike none = elim (filter is_big xs) as (λ l. filter is_big xs ≡ l → l ≡ []) [
     | [] ↦ λ e. refl
     | r ∷ rest ↦ λ e.
-      let t : Row → Bool = is_row r.protocol r.external.number in
-      let empty : filter t (filter is_big xs) ≡ [] =
-      filter_swap t is_big xs ∙ (ap (filter is_big) (alike r.protocol r.external.number) ∙ (filter_swap is_big t ys ∙ ap (filter t) none)) in
-      let first : filter t (filter is_big xs) ≡ r ∷ filter t rest =
-      ap (filter t) e ∙ ap (λ v. cond v (r ∷ filter t rest) (filter t rest)) (is_row_itself r) in
-      cc
+        let t : Row → Bool = is_row r.protocol r.external.number in
+        let empty : filter t (filter is_big xs) ≡ [] =
+        filter_swap t is_big xs ∙ (ap (filter is_big) (alike r.protocol r.external.number) ∙ (filter_swap is_big t ys ∙ ap (filter t) none)) in
+        let first : filter t (filter is_big xs) ≡ r ∷ filter t rest =
+        ap (filter t) e ∙ ap (λ v. cond v (r ∷ filter t rest) (filter t rest)) (is_row_itself r) in
+        cc
   ] refl
 
   -- and at each rank, where no number is big
@@ -156,29 +140,29 @@ module _ (xs ys : List Row) (alike : (p : Protocol) (n : ℕ) → filter (is_row
     rank_alike : (n : ℕ) → filter (λ r. eqb n (rank r)) xs ≡ filter (λ r. eqb n (rank r)) ys
     rank_alike n = elim (nat_lt n 65536) as (λ v. nat_lt n 65536 ≡ v → filter (λ r. eqb n (rank r)) xs ≡ filter (λ r. eqb n (rank r)) ys) [
       | true ↦ λ e.
-        let lt : n < 65536 = grind (arith, nat_tests) in
-        at_rank (λ r. eqb n (rank r)) Icmp n (λ r small. rank_icmp n r.external.number r.protocol lt small)
+          let lt : n < 65536 = grind (arith, nat_tests) in
+          at_rank (λ r. eqb n (rank r)) Icmp n (λ r small. rank_icmp n r.external.number r.protocol lt small)
       | false ↦ λ e. elim (nat_lt n 131072) as (λ v. nat_lt n 131072 ≡ v → filter (λ r. eqb n (rank r)) xs ≡ filter (λ r. eqb n (rank r)) ys) [
         | true ↦ λ f.
-          let lt : n - 65536 < 65536 = grind (arith, nat_tests) in
-          let is : 65536 + (n - 65536) ≡ n = grind (arith, nat_tests) in
-          at_rank (λ r. eqb n (rank r)) Tcp (n - 65536) (λ r small. ap (λ (m : ℕ). eqb m (rank r)) (sym is) ∙ rank_tcp (n - 65536) r.external.number r.protocol lt small)
+            let lt : n - 65536 < 65536 = grind (arith, nat_tests) in
+            let is : 65536 + (n - 65536) ≡ n = grind (arith, nat_tests) in
+            at_rank (λ r. eqb n (rank r)) Tcp (n - 65536) (λ r small. ap (λ (m : ℕ). eqb m (rank r)) (sym is) ∙ rank_tcp (n - 65536) r.external.number r.protocol lt small)
         | false ↦ λ f. elim (nat_lt n 196608) as (λ v. nat_lt n 196608 ≡ v → filter (λ r. eqb n (rank r)) xs ≡ filter (λ r. eqb n (rank r)) ys) [
           | true ↦ λ g.
-            let lt : n - 131072 < 65536 = grind (arith, nat_tests) in
-            let is : 131072 + (n - 131072) ≡ n = grind (arith, nat_tests) in
-            at_rank (λ r. eqb n (rank r)) Udp (n - 131072) (λ r small. ap (λ (m : ℕ). eqb m (rank r)) (sym is) ∙ rank_udp (n - 131072) r.external.number r.protocol lt small)
+              let lt : n - 131072 < 65536 = grind (arith, nat_tests) in
+              let is : 131072 + (n - 131072) ≡ n = grind (arith, nat_tests) in
+              at_rank (λ r. eqb n (rank r)) Udp (n - 131072) (λ r small. ap (λ (m : ℕ). eqb m (rank r)) (sym is) ∙ rank_udp (n - 131072) r.external.number r.protocol lt small)
           | false ↦ λ g.
-            let le : 196608 ≤ n = grind (arith, nat_tests) in
-            at_rank (λ r. eqb n (rank r)) Icmp n (λ r small. rank_beyond n r.external.number r.protocol le small)
+              let le : 196608 ≤ n = grind (arith, nat_tests) in
+              at_rank (λ r. eqb n (rank r)) Icmp n (λ r small. rank_beyond n r.external.number r.protocol le small)
         ] refl
       ] refl
     ] refl
 
     in_order_same : in_order xs ≡ in_order ys
     in_order_same = in_order_alike xs ys (λ x.
-      filter_agree (same_rank x) (λ r. eqb (rank x) (rank r)) (same_rank_is x) xs
-      ∙ (rank_alike (rank x) ∙ sym (filter_agree (same_rank x) (λ r. eqb (rank x) (rank r)) (same_rank_is x) ys)))
+        filter_agree (same_rank x) (λ r. eqb (rank x) (rank r)) (same_rank_is x) xs
+        ∙ (rank_alike (rank x) ∙ sym (filter_agree (same_rank x) (λ r. eqb (rank x) (rank r)) (same_rank_is x) ys)))
 
 -- THE LIST
 
@@ -229,20 +213,20 @@ module _ (timers : Timers) (now : ℕ) (p q : Protocol) (n : ℕ) where
       ap (λ (x : Protocol). same_protocol p x && eqb e.1.external.number n) each.0.0 ∙ ap (λ (m : ℕ). same_protocol p q && eqb m n) each.0.1 in
       elim (nat_eq n e.0) as (λ v. nat_eq n e.0 ≡ v → filter (is_row p n) (map row (cond (is_live timers now e.1) (e.1 ∷ filter (is_live timers now) (values_of es)) (filter (is_live timers now) (values_of es)))) ≡ told (cond v (Some e.1) (lookup (nat_eq n) es))) [
         | true ↦ λ k.
-          let none : lookup (nat_eq n) es ≡ None = lookup-none (nat_eq n) es (none_past_head nat_eq_equiv n e es distinct k) in
-          let empty : rest ≡ [] = again ∙ (ap told none ∙ none_told) in
-          let passes : is_row p n (row e.1) ≡ same_protocol p q = tests ∙ ap (λ v. same_protocol p q && v) (eq-eqb e.0 n (sym (eqb-true n e.0 k))) ∙ and_true (same_protocol p q) in
-          elim (is_live timers now e.1) as (λ v. filter (is_row p n) (map row (cond v (e.1 ∷ filter (is_live timers now) (values_of es)) (filter (is_live timers now) (values_of es)))) ≡ cond (same_protocol p q) (few (option_map row (cond v (Some (with_live_flows timers now e.1)) None))) []) [
-            | true ↦ ap (λ v. cond v (row e.1 ∷ rest) rest) passes ∙ ap (λ (l : List Row). cond (same_protocol p q) (row e.1 ∷ l) l) empty
-            | false ↦ empty ∙ sym none_told
-          ]
+            let none : lookup (nat_eq n) es ≡ None = lookup-none (nat_eq n) es (none_past_head nat_eq_equiv n e es distinct k) in
+            let empty : rest ≡ [] = again ∙ (ap told none ∙ none_told) in
+            let passes : is_row p n (row e.1) ≡ same_protocol p q = tests ∙ ap (λ v. same_protocol p q && v) (eq-eqb e.0 n (sym (eqb-true n e.0 k))) ∙ and_true (same_protocol p q) in
+            elim (is_live timers now e.1) as (λ v. filter (is_row p n) (map row (cond v (e.1 ∷ filter (is_live timers now) (values_of es)) (filter (is_live timers now) (values_of es)))) ≡ cond (same_protocol p q) (few (option_map row (cond v (Some (with_live_flows timers now e.1)) None))) []) [
+              | true ↦ ap (λ v. cond v (row e.1 ∷ rest) rest) passes ∙ ap (λ (l : List Row). cond (same_protocol p q) (row e.1 ∷ l) l) empty
+              | false ↦ empty ∙ sym none_told
+            ]
         | false ↦ λ k.
-          let apart : eqb e.0 n ≡ false = grind (arith, nat_tests) in
-          let fails : is_row p n (row e.1) ≡ false = tests ∙ ap (λ v. same_protocol p q && v) apart ∙ and_false (same_protocol p q) in
-          elim (is_live timers now e.1) as (λ v. filter (is_row p n) (map row (cond v (e.1 ∷ filter (is_live timers now) (values_of es)) (filter (is_live timers now) (values_of es)))) ≡ told (lookup (nat_eq n) es)) [
-            | true ↦ ap (λ v. cond v (row e.1 ∷ rest) rest) fails ∙ again
-            | false ↦ again
-          ]
+            let apart : eqb e.0 n ≡ false = grind (arith, nat_tests) in
+            let fails : is_row p n (row e.1) ≡ false = tests ∙ ap (λ v. same_protocol p q && v) apart ∙ and_false (same_protocol p q) in
+            elim (is_live timers now e.1) as (λ v. filter (is_row p n) (map row (cond v (e.1 ∷ filter (is_live timers now) (values_of es)) (filter (is_live timers now) (values_of es)))) ≡ told (lookup (nat_eq n) es)) [
+              | true ↦ ap (λ v. cond v (row e.1 ∷ rest) rest) fails ∙ again
+              | false ↦ again
+            ]
       ] refl
 
 -- the rows of a part, at a number of a protocol
@@ -255,7 +239,7 @@ part_told part now is read p q n protocol =
 
 -- THE TABLE
 
-module _ (table : Inside) (is : IsMapTable table) (now : ℕ) (later : table.at ≤ now) (read : (q : Protocol) → AreRead now (part_of table.parts q)) where
+module _ (table : Inside) (is : KeepsItsList table) (now : ℕ) (later : table.at ≤ now) (read : (q : Protocol) → AreRead now (part_of table.parts q)) where
   abbrev pub made : List Row
   made = (part_rows now table.parts.icmp ++ part_rows now table.parts.tcp) ++ part_rows now table.parts.udp
 

@@ -1,5 +1,5 @@
 -- The table over maps as a translator begins: each redirect of its address is held.
-use Rattle.std.proofs.Common.{◌≡◌, ◌≢◌, ℕ, zero, suc, ◌+◌, ◌<◌, ◌≤◌, Bool, true, false, ◌||◌, cond, List, [], ◌∷◌, ◌++◌, length, get_or, take, map, filter, Option, Some, None, refl, sym, ◌∙◌, ap, subst, arith, eqb, eqb-true}
+use Rattle.std.proofs.Common.{◌≡◌, ◌≢◌, ℕ, zero, suc, ◌+◌, ◌<◌, ◌≤◌, Bool, true, false, ◌||◌, cond, List, [], ◌∷◌, ◌++◌, length, get_or, take, map, filter, Some, None, refl, sym, ◌∙◌, ap, subst, arith, eqb, eqb-true}
 use Rattle.std.specs.Prelude.{find}
 use Rattle.std.specs.List.{list_any}
 use Rattle.std.proofs.lemmas.Bool.{eq-eqb, or_parts, true≢false}
@@ -186,10 +186,6 @@ pub opened_show : (rules : Rules) → KeepsRules rules → (address : ℕ) (part
 opened_show rules keeps address parts are q n =
     let table = opened_is_table rules keeps address in
     found_seen rules.timers 0 address q n (of address (opening rules)) table.sound.apart table.live ∙ ap (seen rules.timers 0) (sym (are q n))
-
--- nothing is held, and no redirect is there
-pub none_begun : (rules : Rules) (address : ℕ) (parts : AllParts) → ((q : Protocol) (n : ℕ) → held (part_of parts q) n ≡ None) → AreHeld address parts (begun rules address 0)
-none_begun rules address parts none q n = none q n
 
 -- each is there
 pub all_begun : (rules : Rules) (address k : ℕ) → length rules.redirects ≤ k → begun rules address k ≡ of address (opening rules)

@@ -1,7 +1,6 @@
 -- The parts of a table, when one of them takes a step.
-use Rattle.std.proofs.Common.{◌≡◌, ◌≢◌, ℕ, ◌≤◌, Bool, true, false, ◌&&◌, cond, List, [], ◌∷◌, ◌++◌, map, Option, Some, None, Ok, Err, refl, sym, ◌∙◌, ap, subst, arith, eqb}
+use Rattle.std.proofs.Common.{◌≡◌, ◌≢◌, ℕ, ◌≤◌, true, false, ◌&&◌, cond, List, [], ◌∷◌, ◌++◌, map, Option, Some, None, Ok, Err, refl, sym, ◌∙◌, ap, subst, eqb}
 use Rattle.std.specs.Prelude.{find}
-use Rattle.std.proofs.lemmas.Bool.{true≢false}
 use Rattle.napt_wire.specs.declared.Protocol.{Protocol}
 use Rattle.napt_wire.specs.declared.Cause.TheVariants.{Filtered}
 use Rattle.napt_wire.specs.declared.Endpoint.{Endpoint}
@@ -41,9 +40,6 @@ kept_of address timers at q old new of is due same = record {
   timers_is = same.timers_is ∙ of.timers_is;
   protocol_is = same.protocol_same ∙ of.protocol_is;
 }
-
-pub of_later : (address : ℕ) (timers : Timers) (at now : ℕ) (q : Protocol) (part : Part) → at ≤ now → IsOf address timers at q part → IsOf address timers now q part
-of_later address timers at now q part le of = record { is = of.is; due = of.due; before = omega (arith, of.before); address_is = of.address_is; timers_is = of.timers_is; protocol_is = of.protocol_is }
 
 -- other protocols are as before
 pub in_others : (filtering : Filter) (timers : Timers) (address now : ℕ) (protocol : Protocol) (number : ℕ) (remote : Endpoint) (flags : Flags) (list : List Binding) (q : Protocol) → q ≢ protocol → (n : ℕ) →

@@ -1,5 +1,5 @@
 -- What happened to a table, and the list that it leaves.
-use Rattle.std.specs.Prelude.{ℕ, true, List, [], ◌∷◌, ◌++◌}
+use Rattle.std.specs.Prelude.{ℕ, List, [], ◌∷◌, ◌++◌}
 use Rattle.napt_config.specs.declared.settings.Filter.{Filter}
 use Rattle.napt_config.specs.declared.settings.Timers.{Timers}
 use Rattle.napt_table.specs.declared.Binding.{Binding}

@@ -1,10 +1,10 @@
-use Rattle.std.proofs.Common.{rules, ◌≡◌, ◌≤◌, sym, ap, ◌∙◌, subst}
+use Rattle.std.proofs.Common.{rules, ◌≤◌, sym, ap, ◌∙◌, subst}
 use Rattle.std.proofs.lemmas.List.Sorted.{answers_always, IsNonDecreasingBy-from_sort}
 use Rattle.napt_table.specs.Rows.{rank, in_order, rows}
 use Rattle.napt_table.specs.Tables.{TableState}
 use Rattle.napt_table.proofs.Listed.{made_in_order}
 use Rattle.napt_table.proofs.Orders.{in_order-from_sort}
-use Rattle.napt_table.proofs.map_table.MapTable.bindings.Goals as goal
+use Rattle.napt_table.proofs.table.Table.bindings.Goals as goal
 
 pub rows-requires : goal.rows-requires
 rows-requires c q = (c.self.invariant.parts_are q).is.timers_are
