@@ -51,17 +51,18 @@ pub(crate) fn settings_of(alloc: Global, settings: &str) -> Result<Config, Fail>
     Ok(Config::read(alloc, text.as_bytes())?)
 }
 
-/// A table whose caller keeps what it owes: no time is before an earlier one, no port is 0.
+/// A table whose caller keeps what it owes: no time is before an earlier one, no port is 0. It is behind a box: a function that
+/// owns a table as it stands takes minutes to prove.
 #[derive(Drop)]
 pub(crate) struct Bench {
     alloc: Global,
-    pub(crate) table: Table,
+    pub(crate) table: Box<Table>,
 }
 
 impl Bench {
     /// The table of the address under the configuration.
     pub(crate) fn of(alloc: Global, address: u32, config: &Config) -> Result<Bench, Fail> {
-        let table = Table::new(alloc, address, config)?;
+        let table = Box::new(alloc, Table::new(alloc, address, config)?)?;
         Ok(Bench { alloc, table })
     }
 

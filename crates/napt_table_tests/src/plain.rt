@@ -102,7 +102,9 @@ impl PlainBinding {
             || match filter {
                 Filter::Independent => true,
                 Filter::Address => {
-                    self.flows.iter().any(|flow| flow.remote.address == remote.address)
+                    self.flows
+                        .iter()
+                        .any(|flow| flow.remote.address == remote.address)
                 }
                 Filter::AddressPort => self.flows.iter().any(|flow| flow.remote == remote),
             }
@@ -125,7 +127,8 @@ impl PlainBinding {
             marks: NO_MARKS,
             last: now,
         };
-        self.flows.push(fresh.used(protocol, Way::Outgoing, flags, now))?;
+        self.flows
+            .push(fresh.used(protocol, Way::Outgoing, flags, now))?;
         Ok(())
     }
 
@@ -144,9 +147,7 @@ fn is_of_class(protocol: Protocol, number: u16, candidate: u16) -> bool {
     match protocol {
         Protocol::Icmp => true,
         Protocol::Tcp | Protocol::Udp => {
-            candidate != 0
-                && candidate % 2 == number % 2
-                && (candidate < 1024) == (number < 1024)
+            candidate != 0 && candidate % 2 == number % 2 && (candidate < 1024) == (number < 1024)
         }
     }
 }
@@ -170,12 +171,20 @@ pub(crate) struct PlainTable {
 
 impl PlainTable {
     /// With the redirects of the configuration at the address.
-    pub(crate) fn new(alloc: Global, address: u32, config: &Config) -> Result<PlainTable, AllocError> {
+    pub(crate) fn new(
+        alloc: Global,
+        address: u32,
+        config: &Config,
+    ) -> Result<PlainTable, AllocError> {
         let mut list = Vec::new(alloc);
         for redirect in config.redirects() {
             if config.pair(redirect.address) == address {
                 list.push(PlainBinding {
-                    protocol: if redirect.tcp { Protocol::Tcp } else { Protocol::Udp },
+                    protocol: if redirect.tcp {
+                        Protocol::Tcp
+                    } else {
+                        Protocol::Udp
+                    },
                     inside: Endpoint {
                         address: redirect.address,
                         number: redirect.port,
@@ -210,10 +219,8 @@ impl PlainTable {
         for k in 0..=u16::MAX {
             let candidate = number.wrapping_add(k);
             let is_free = is_of_class(protocol, number, candidate)
-                && !self
-                    .list
-                    .iter()
-                    .any(|binding| binding.protocol == protocol && binding.external == candidate);
+                && !self.list.iter().any(|binding| binding.protocol == protocol
+                    && binding.external == candidate);
             if is_free {
                 return Some(candidate);
             }
@@ -277,7 +284,12 @@ impl PlainTable {
         Err(Cause::NoBinding)
     }
 
-    pub(crate) fn by_external(&self, now: u64, protocol: Protocol, number: u16) -> Option<Endpoint> {
+    pub(crate) fn by_external(
+        &self,
+        now: u64,
+        protocol: Protocol,
+        number: u16,
+    ) -> Option<Endpoint> {
         for binding in &self.list {
             if binding.protocol == protocol
                 && binding.external == number

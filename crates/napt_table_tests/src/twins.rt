@@ -197,9 +197,16 @@ impl Twins {
     }
 
     fn send(&mut self, now: u64, sent: Sent) -> Result<bool, Fail> {
-        let Sent { protocol, inside, remote, flags } = sent;
+        let Sent {
+            protocol,
+            inside,
+            remote,
+            flags,
+        } = sent;
         let answer = self.bench.send(now, protocol, inside, remote, flags)?;
-        let plain = self.plain.outbound(self.alloc, now, protocol, inside, remote, flags)?;
+        let plain = self
+            .plain
+            .outbound(self.alloc, now, protocol, inside, remote, flags)?;
         self.counts.count(answer.err());
         Ok(answer == plain)
     }
@@ -219,8 +226,10 @@ impl Twins {
         let (number, inside) = (draws.number(protocol), draws.inside(protocol));
         let found = self.bench.inside_of(now, protocol, number)?;
         let given = self.bench.number_of(now, protocol, inside)?;
-        Ok(found == self.plain.by_external(now, protocol, number)
-            && given == self.plain.by_inside(now, protocol, inside))
+        Ok(
+            found == self.plain.by_external(now, protocol, number)
+                && given == self.plain.by_inside(now, protocol, inside),
+        )
     }
 
     fn list(&self, now: u64) -> Result<bool, Fail> {
