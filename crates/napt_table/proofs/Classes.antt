@@ -1,6 +1,6 @@
 -- The candidates of a number, place by place.
 use Rattle.std.proofs.Common.{◌≡◌, ◌≢◌, ℕ, zero, suc, ◌+◌, ◌-◌, ◌*◌, ◌/◌, ◌%◌, ◌<◌, ◌≤◌, ◌⊎◌, inl, inr, ◌==◌}
-use Rattle.std.proofs.Common.{Bool, true, false, cond, nat_lt, List, [], ◌∷◌, map, length, slice_index_or}
+use Rattle.std.proofs.Common.{Bool, true, false, cond, nat_lt, List, ◌∷◌, map, length, slice_index_or}
 use Rattle.std.proofs.Common.{refl, sym, ◌∙◌, ap, subst, arith, ◌↔◌}
 use Rattle.std.proofs.Math.Nat.{mod-eq_of_lt, add-mod_left, zero-add}
 use Rattle.std.proofs.lemmas.Nat.{mod_below}

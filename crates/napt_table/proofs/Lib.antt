@@ -9,3 +9,13 @@ pub mod Tables
 pub mod Opened
 pub mod Orders
 pub mod Classes
+pub mod Finds
+pub mod Seen
+pub mod Choices
+pub mod Queues
+pub mod Sends
+pub mod Enters
+pub mod PartSteps
+pub mod TableSteps
+pub mod Opening
+pub mod Listed

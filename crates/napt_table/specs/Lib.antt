@@ -11,5 +11,12 @@ pub mod Live
 pub mod Local
 pub mod Opening
 pub mod Tables
-pub mod Shown
 pub mod Rows
+pub mod Places
+pub mod Ends
+pub mod Held
+pub mod Part
+pub mod Parts
+pub mod Events
+pub mod Shown
+pub mod Listing

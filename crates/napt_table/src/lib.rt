@@ -12,19 +12,18 @@ ghost use Rattle.napt_table.specs.Opening.{OpeningIsSound};
 ghost use Rattle.napt_table.specs.Rows.{RowsAreInOrder};
 ghost use Rattle.napt_table.specs.Tables.{TablesShareNothing, TablesAreNumbered};
 
-mod choice;
+mod event;
 mod life;
-mod list;
+mod numbers;
+mod part;
+mod parts;
 mod rows;
-mod search;
 mod session;
 mod table;
-#[cfg(test)]
-mod tests;
 mod traffic;
 
-pub(crate) use list::Bindings;
 use napt_wire::{Endpoint, Protocol};
+pub use numbers::Numbers;
 use std::marker::Model;
 pub use table::Table;
 

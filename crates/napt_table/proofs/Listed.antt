@@ -1,0 +1,286 @@
+-- What is held, sorted, are the rows of the list.
+use Rattle.std.proofs.Common.{◌≡◌, ℕ, ◌+◌, ◌-◌, ◌*◌, ◌<◌, ◌≤◌, Bool, true, false, not, ◌&&◌, cond, All, List, [], ◌∷◌, ◌++◌, map, filter, Option, Some, None, refl, sym, ◌∙◌, ap, arith, eqb, eqb-true, nat_eq}
+use Rattle.std.specs.Prelude.{find, nat_lt}
+use Rattle.std.specs.Cmp.{nat_eq_equiv}
+use Rattle.std.specs.List.{IsDistinct}
+use Rattle.std.specs.Map.{lookup, keys_of, values_of}
+use Rattle.std.specs.Option.{option_map}
+use Rattle.std.proofs.lemmas.Bool.{eq-eqb}
+use Rattle.std.proofs.lemmas.Bool.Decides.{nat_tests}
+use Rattle.std.proofs.lemmas.Map.{lookup-none}
+use Rattle.std.proofs.lemmas.Map.Entries.{lookup_head, lookup_tail, none_past_head}
+use Rattle.std.proofs.lemmas.Map.Keys.{IsDistinct-tail}
+use Rattle.std.proofs.lemmas.List.{append-nil}
+use Rattle.std.proofs.lemmas.List.Elements.{filter-append, filter_agree, All-head, All-tail, All-append}
+use Rattle.napt_wire.specs.declared.Endpoint.{Endpoint}
+use Rattle.napt_wire.specs.declared.Protocol.{Protocol}
+use Rattle.napt_wire.specs.declared.Protocol.TheVariants.{Icmp, Tcp, Udp}
+use Rattle.napt_config.specs.declared.settings.Timers.{Timers}
+use Rattle.napt_table.specs.declared.Binding.{Binding}
+use Rattle.napt_table.specs.declared.Row.{Row}
+use Rattle.napt_table.specs.declared.part.Part.{Part}
+use Rattle.napt_table.specs.Lists.{Each}
+use Rattle.napt_table.specs.Bindings.{same_protocol, has_number}
+use Rattle.napt_table.specs.Endpoints.{key, IsPaired}
+use Rattle.napt_table.specs.Held.{seen}
+use Rattle.napt_table.specs.Life.{is_live, with_live_flows}
+use Rattle.napt_table.specs.Listing.{part_rows, IsSmall, AreRead}
+use Rattle.napt_table.specs.Part.{held, IsPart}
+use Rattle.napt_table.specs.Parts.{part_of}
+use Rattle.napt_table.specs.Shown.{list_of, KeepsItsList}
+use Rattle.napt_table.specs.Rows.{row, protocol_rank, rank, in_order, rows}
+use Rattle.napt_table.specs.declared.table.Table.TheInside.{Inside}
+use Rattle.napt_table.proofs.TableSteps.{live, live_sound, show_now}
+use Rattle.napt_table.proofs.Seen.{once_number}
+use Rattle.napt_table.proofs.Finds.{Once}
+use Rattle.napt_table.proofs.Lists.{find_nowhere}
+use Rattle.napt_table.proofs.Orders.{same_rank, same_rank_is, in_order_alike}
+
+-- FILTERS
+
+and_true : (v : Bool) → (v && true) ≡ v
+and_true true = refl
+and_true false = refl
+
+and_false : (v : Bool) → (v && false) ≡ false
+and_false true = refl
+and_false false = refl
+
+module _ {X : Type 0} where
+  -- an element or none, as a list
+  abbrev pub few : Option X → List X
+  few None = []
+  few (Some x) = x ∷ []
+
+  -- where no element is big, tests that agree on the others pass the same
+  filter_small : (big s t : X → Bool) → ((x : X) → big x ≡ false → s x ≡ t x) → (xs : List X) → filter big xs ≡ [] → filter s xs ≡ filter t xs
+  filter_small big s t agree [] none = refl
+  filter_small big s t agree (x ∷ xs) none = elim (big x) as (λ v. big x ≡ v → cond v (x ∷ filter big xs) (filter big xs) ≡ [] → filter s (x ∷ xs) ≡ filter t (x ∷ xs)) [
+    | true ↦ λ e h. cc
+    | false ↦ λ e h.
+        ap (λ v. cond v (x ∷ filter s xs) (filter s xs)) (agree x e)
+        ∙ ap (λ (l : List X). cond (t x) (x ∷ l) l) (filter_small big s t agree xs h)
+  ] refl none
+
+  filter_swap : (s t : X → Bool) (xs : List X) → filter s (filter t xs) ≡ filter t (filter s xs)
+  filter_swap s t [] = refl
+  filter_swap s t (x ∷ xs) = elim (s x) as (λ v. s x ≡ v → filter s (cond (t x) (x ∷ filter t xs) (filter t xs)) ≡ filter t (cond v (x ∷ filter s xs) (filter s xs))) [
+    | true ↦ λ e. elim (t x) as (λ w. t x ≡ w → filter s (cond w (x ∷ filter t xs) (filter t xs)) ≡ cond w (x ∷ filter t (filter s xs)) (filter t (filter s xs))) [
+      | true ↦ λ f. ap (λ v. cond v (x ∷ filter s (filter t xs)) (filter s (filter t xs))) e ∙ ap (λ (l : List X). x ∷ l) (filter_swap s t xs)
+      | false ↦ λ f. filter_swap s t xs
+    ] refl
+    | false ↦ λ e. elim (t x) as (λ w. filter s (cond w (x ∷ filter t xs) (filter t xs)) ≡ filter t (filter s xs)) [
+      | true ↦ ap (λ v. cond v (x ∷ filter s (filter t xs)) (filter s (filter t xs))) e ∙ filter_swap s t xs
+      | false ↦ filter_swap s t xs
+    ]
+  ] refl
+
+-- ROWS OF ONE END
+
+abbrev pub is_row : Protocol → ℕ → Row → Bool
+is_row protocol number row = same_protocol protocol row.protocol && eqb row.external.number number
+
+is_row_itself : (r : Row) → is_row r.protocol r.external.number r ≡ true
+is_row_itself r =
+    ap (λ v. v && eqb r.external.number r.external.number) (Rattle.napt_table.proofs.Seen.same_itself r.protocol) ∙ eq-eqb r.external.number r.external.number refl
+
+-- beyond 16 bits
+abbrev is_big : Row → Bool
+is_big r = not (nat_lt r.external.number 65536)
+
+none_big : (rows : List Row) → All IsSmall rows → filter is_big rows ≡ []
+none_big [] small = refl
+none_big (r ∷ rows) small =
+    let first : r.external.number < 65536 = All-head IsSmall r rows small in
+    let fits : is_big r ≡ false = grind (arith, nat_tests) in
+    ap (λ v. cond v (r ∷ filter is_big rows) (filter is_big rows)) fits ∙ none_big rows (All-tail IsSmall r rows small)
+
+-- ICMP at its number, TCP and UDP above it; what is beyond passes nowhere
+rank_icmp : (n m : ℕ) (q : Protocol) → n < 65536 → not (nat_lt m 65536) ≡ false → eqb n (protocol_rank q * 65536 + m) ≡ (same_protocol Icmp q && eqb m n)
+rank_icmp n m Icmp lt small = grind (arith, nat_tests)
+rank_icmp n m Tcp lt small = grind (arith, nat_tests)
+rank_icmp n m Udp lt small = grind (arith, nat_tests)
+
+rank_tcp : (n m : ℕ) (q : Protocol) → n < 65536 → not (nat_lt m 65536) ≡ false → eqb (65536 + n) (protocol_rank q * 65536 + m) ≡ (same_protocol Tcp q && eqb m n)
+rank_tcp n m Icmp lt small = grind (arith, nat_tests)
+rank_tcp n m Tcp lt small = grind (arith, nat_tests)
+rank_tcp n m Udp lt small = grind (arith, nat_tests)
+
+rank_udp : (n m : ℕ) (q : Protocol) → n < 65536 → not (nat_lt m 65536) ≡ false → eqb (131072 + n) (protocol_rank q * 65536 + m) ≡ (same_protocol Udp q && eqb m n)
+rank_udp n m Icmp lt small = grind (arith, nat_tests)
+rank_udp n m Tcp lt small = grind (arith, nat_tests)
+rank_udp n m Udp lt small = grind (arith, nat_tests)
+
+rank_beyond : (n m : ℕ) (q : Protocol) → 196608 ≤ n → not (nat_lt m 65536) ≡ false → eqb n (protocol_rank q * 65536 + m) ≡ (same_protocol Icmp q && eqb m n)
+rank_beyond n m Icmp le small = grind (arith, nat_tests)
+rank_beyond n m Tcp le small = grind (arith, nat_tests)
+rank_beyond n m Udp le small = grind (arith, nat_tests)
+
+module _ (xs ys : List Row) (alike : (p : Protocol) (n : ℕ) → filter (is_row p n) xs ≡ filter (is_row p n) ys) where
+  -- rows alike at each end are alike in what is big
+  none_big_alike : filter is_big ys ≡ [] → filter is_big xs ≡ []
+  none_big_alike none = elim (filter is_big xs) as (λ l. filter is_big xs ≡ l → l ≡ []) [
+    | [] ↦ λ e. refl
+    | r ∷ rest ↦ λ e.
+        let t : Row → Bool = is_row r.protocol r.external.number in
+        let empty : filter t (filter is_big xs) ≡ [] =
+        filter_swap t is_big xs ∙ (ap (filter is_big) (alike r.protocol r.external.number) ∙ (filter_swap is_big t ys ∙ ap (filter t) none)) in
+        let first : filter t (filter is_big xs) ≡ r ∷ filter t rest =
+        ap (filter t) e ∙ ap (λ v. cond v (r ∷ filter t rest) (filter t rest)) (is_row_itself r) in
+        cc
+  ] refl
+
+  -- and at each rank, where no number is big
+  module _ (none : filter is_big ys ≡ []) where
+    at_rank : (test : Row → Bool) (p : Protocol) (n : ℕ) → ((r : Row) → is_big r ≡ false → test r ≡ is_row p n r) → filter test xs ≡ filter test ys
+    at_rank test p n agree =
+        filter_small is_big test (is_row p n) agree xs (none_big_alike none)
+        ∙ (alike p n ∙ sym (filter_small is_big test (is_row p n) agree ys none))
+
+    rank_alike : (n : ℕ) → filter (λ r. eqb n (rank r)) xs ≡ filter (λ r. eqb n (rank r)) ys
+    rank_alike n = elim (nat_lt n 65536) as (λ v. nat_lt n 65536 ≡ v → filter (λ r. eqb n (rank r)) xs ≡ filter (λ r. eqb n (rank r)) ys) [
+      | true ↦ λ e.
+          let lt : n < 65536 = grind (arith, nat_tests) in
+          at_rank (λ r. eqb n (rank r)) Icmp n (λ r small. rank_icmp n r.external.number r.protocol lt small)
+      | false ↦ λ e. elim (nat_lt n 131072) as (λ v. nat_lt n 131072 ≡ v → filter (λ r. eqb n (rank r)) xs ≡ filter (λ r. eqb n (rank r)) ys) [
+        | true ↦ λ f.
+            let lt : n - 65536 < 65536 = grind (arith, nat_tests) in
+            let is : 65536 + (n - 65536) ≡ n = grind (arith, nat_tests) in
+            at_rank (λ r. eqb n (rank r)) Tcp (n - 65536) (λ r small. ap (λ (m : ℕ). eqb m (rank r)) (sym is) ∙ rank_tcp (n - 65536) r.external.number r.protocol lt small)
+        | false ↦ λ f. elim (nat_lt n 196608) as (λ v. nat_lt n 196608 ≡ v → filter (λ r. eqb n (rank r)) xs ≡ filter (λ r. eqb n (rank r)) ys) [
+          | true ↦ λ g.
+              let lt : n - 131072 < 65536 = grind (arith, nat_tests) in
+              let is : 131072 + (n - 131072) ≡ n = grind (arith, nat_tests) in
+              at_rank (λ r. eqb n (rank r)) Udp (n - 131072) (λ r small. ap (λ (m : ℕ). eqb m (rank r)) (sym is) ∙ rank_udp (n - 131072) r.external.number r.protocol lt small)
+          | false ↦ λ g.
+              let le : 196608 ≤ n = grind (arith, nat_tests) in
+              at_rank (λ r. eqb n (rank r)) Icmp n (λ r small. rank_beyond n r.external.number r.protocol le small)
+        ] refl
+      ] refl
+    ] refl
+
+    in_order_same : in_order xs ≡ in_order ys
+    in_order_same = in_order_alike xs ys (λ x.
+        filter_agree (same_rank x) (λ r. eqb (rank x) (rank r)) (same_rank_is x) xs
+        ∙ (rank_alike (rank x) ∙ sym (filter_agree (same_rank x) (λ r. eqb (rank x) (rank r)) (same_rank_is x) ys)))
+
+-- THE LIST
+
+module _ (timers : Timers) (now address : ℕ) (p : Protocol) (n : ℕ) where
+  list_rows : (list : List Binding) → Each (IsPaired (λ host. address)) (map key list) → Once (has_number address p n) list →
+      filter (is_row p n) (map row list) ≡ few (option_map row (find (has_number address p n) list))
+  list_rows [] each once = refl
+  list_rows (b ∷ list) each once =
+      let same : is_row p n (row b) ≡ has_number address p n b = sym (ap (λ v. v && is_row p n (row b)) (eq-eqb b.external.address address each.0.paired)) in
+      let rest : List Row = filter (is_row p n) (map row list) in
+      ap (λ v. cond v (row b ∷ rest) rest) same
+      ∙ elim (has_number address p n b) as (λ v. has_number address p n b ≡ v → cond v (row b ∷ rest) rest ≡ few (option_map row (cond v (Some b) (find (has_number address p n) list)))) [
+        | true ↦ λ e. ap (λ (l : List Row). row b ∷ l) (list_rows list each.1 once.1 ∙ ap (λ (o : Option Binding). few (option_map row o)) (find_nowhere (has_number address p n) list (once.0 e)))
+        | false ↦ λ e. list_rows list each.1 once.1
+      ] refl
+
+-- A PART
+
+each_entry : (P : ℕ × Binding → Type 0) (es : List (ℕ × Binding)) → IsDistinct nat_eq (keys_of es) → ((n : ℕ) (b : Binding) → lookup (nat_eq n) es ≡ Some b → P (n, b)) → Each P es
+each_entry P [] distinct holds = tt
+each_entry P (e ∷ es) distinct holds = (
+  holds e.0 e.1 (lookup_head (nat_eq e.0) e es (eq-eqb e.0 e.0 refl)),
+  each_entry P es (IsDistinct-tail nat_eq e.0 (keys_of es) distinct) (λ n b h. elim (nat_eq n e.0) as (λ v. nat_eq n e.0 ≡ v → P (n, b)) [
+    | true ↦ λ k. let none : lookup (nat_eq n) es ≡ None = lookup-none (nat_eq n) es (none_past_head nat_eq_equiv n e es distinct k) in let clash : None ≡ Some b = sym none ∙ h in cc
+    | false ↦ λ k. holds n b (lookup_tail (nat_eq n) e es k ∙ h)
+  ] refl),
+)
+
+-- a binding of the protocol, with its number
+abbrev IsEntry : Protocol → ℕ × Binding → Type 0
+IsEntry q e = (e.1.protocol ≡ q) × (e.1.external.number ≡ e.0)
+
+module _ (timers : Timers) (now : ℕ) (p q : Protocol) (n : ℕ) where
+  abbrev told : Option Binding → List Row
+  told o = cond (same_protocol p q) (few (option_map row (seen timers now o))) []
+
+  none_told : told None ≡ []
+  none_told = elim (same_protocol p q) as (λ v. cond v (few (option_map row (seen timers now None))) [] ≡ []) [ true ↦ refl | false ↦ refl ]
+
+  entry_rows : (es : List (ℕ × Binding)) → Each (IsEntry q) es → IsDistinct nat_eq (keys_of es) →
+      filter (is_row p n) (map row (filter (is_live timers now) (values_of es))) ≡ told (lookup (nat_eq n) es)
+  entry_rows [] each distinct = sym none_told
+  entry_rows (e ∷ es) each distinct =
+      let made : List Row = map row (filter (is_live timers now) (values_of es)) in
+      let rest : List Row = filter (is_row p n) made in
+      let again : rest ≡ told (lookup (nat_eq n) es) = entry_rows es each.1 (IsDistinct-tail nat_eq e.0 (keys_of es) distinct) in
+      let tests : is_row p n (row e.1) ≡ (same_protocol p q && eqb e.0 n) =
+      ap (λ (x : Protocol). same_protocol p x && eqb e.1.external.number n) each.0.0 ∙ ap (λ (m : ℕ). same_protocol p q && eqb m n) each.0.1 in
+      elim (nat_eq n e.0) as (λ v. nat_eq n e.0 ≡ v → filter (is_row p n) (map row (cond (is_live timers now e.1) (e.1 ∷ filter (is_live timers now) (values_of es)) (filter (is_live timers now) (values_of es)))) ≡ told (cond v (Some e.1) (lookup (nat_eq n) es))) [
+        | true ↦ λ k.
+            let none : lookup (nat_eq n) es ≡ None = lookup-none (nat_eq n) es (none_past_head nat_eq_equiv n e es distinct k) in
+            let empty : rest ≡ [] = again ∙ (ap told none ∙ none_told) in
+            let passes : is_row p n (row e.1) ≡ same_protocol p q = tests ∙ ap (λ v. same_protocol p q && v) (eq-eqb e.0 n (sym (eqb-true n e.0 k))) ∙ and_true (same_protocol p q) in
+            elim (is_live timers now e.1) as (λ v. filter (is_row p n) (map row (cond v (e.1 ∷ filter (is_live timers now) (values_of es)) (filter (is_live timers now) (values_of es)))) ≡ cond (same_protocol p q) (few (option_map row (cond v (Some (with_live_flows timers now e.1)) None))) []) [
+              | true ↦ ap (λ v. cond v (row e.1 ∷ rest) rest) passes ∙ ap (λ (l : List Row). cond (same_protocol p q) (row e.1 ∷ l) l) empty
+              | false ↦ empty ∙ sym none_told
+            ]
+        | false ↦ λ k.
+            let apart : eqb e.0 n ≡ false = grind (arith, nat_tests) in
+            let fails : is_row p n (row e.1) ≡ false = tests ∙ ap (λ v. same_protocol p q && v) apart ∙ and_false (same_protocol p q) in
+            elim (is_live timers now e.1) as (λ v. filter (is_row p n) (map row (cond v (e.1 ∷ filter (is_live timers now) (values_of es)) (filter (is_live timers now) (values_of es)))) ≡ told (lookup (nat_eq n) es)) [
+              | true ↦ ap (λ v. cond v (row e.1 ∷ rest) rest) fails ∙ again
+              | false ↦ again
+            ]
+      ] refl
+
+-- the rows of a part, at a number of a protocol
+part_told : (part : Part) (now : ℕ) → IsPart part → AreRead now part → (p q : Protocol) (n : ℕ) → part.numbers.protocol ≡ q →
+    filter (is_row p n) (part_rows now part) ≡ told part.timers now p q n (held part n)
+part_told part now is read p q n protocol =
+    entry_rows part.timers now p q n part.by_number.entries
+    (each_entry (IsEntry q) part.by_number.entries read.unique (λ m b h. (is.protocol_is m b h ∙ protocol, ap (λ (x : Endpoint). x.number) (is.external_is m b h))))
+    read.unique
+
+-- THE TABLE
+
+module _ (table : Inside) (is : KeepsItsList table) (now : ℕ) (later : table.at ≤ now) (read : (q : Protocol) → AreRead now (part_of table.parts q)) where
+  abbrev pub made : List Row
+  made = (part_rows now table.parts.icmp ++ part_rows now table.parts.tcp) ++ part_rows now table.parts.udp
+
+  -- what is told at a number of a protocol
+  abbrev seen_at : Protocol → ℕ → List Row
+  seen_at p n = few (option_map row (seen table.timers now (held (part_of table.parts p) n)))
+
+  of_part : (p q : Protocol) (n : ℕ) → filter (is_row p n) (part_rows now (part_of table.parts q)) ≡ cond (same_protocol p q) (few (option_map row (seen table.timers now (held (part_of table.parts q) n)))) []
+  of_part p q n =
+      let of = is.parts_are q in
+      part_told (part_of table.parts q) now of.is (read q) p q n of.protocol_is
+      ∙ ap (λ (t : Timers). told t now p q n (held (part_of table.parts q) n)) of.timers_is
+
+  one_of : (p : Protocol) (n : ℕ) → (told table.timers now p Icmp n (held table.parts.icmp n) ++ told table.timers now p Tcp n (held table.parts.tcp n)) ++ told table.timers now p Udp n (held table.parts.udp n) ≡ seen_at p n
+  one_of Icmp n = append-nil (seen_at Icmp n ++ []) ∙ append-nil (seen_at Icmp n)
+  one_of Tcp n = append-nil (seen_at Tcp n)
+  one_of Udp n = refl
+
+  made_told : (p : Protocol) (n : ℕ) → filter (is_row p n) made ≡ seen_at p n
+  made_told p n =
+      let t : Row → Bool = is_row p n in
+      let icmp : List Row = part_rows now table.parts.icmp in
+      let tcp : List Row = part_rows now table.parts.tcp in
+      let udp : List Row = part_rows now table.parts.udp in
+      filter-append t (icmp ++ tcp) udp
+      ∙ (ap (λ (l : List Row). l ++ filter t udp) (filter-append t icmp tcp)
+      ∙ (ap (λ (l : List Row). (l ++ filter t tcp) ++ filter t udp) (of_part p Icmp n)
+      ∙ (ap (λ (l : List Row). (told table.timers now p Icmp n (held table.parts.icmp n) ++ l) ++ filter t udp) (of_part p Tcp n)
+      ∙ (ap (λ (l : List Row). (told table.timers now p Icmp n (held table.parts.icmp n) ++ told table.timers now p Tcp n (held table.parts.tcp n)) ++ l) (of_part p Udp n)
+      ∙ one_of p n))))
+
+  list_told : (p : Protocol) (n : ℕ) → filter (is_row p n) (map row (live table is now later)) ≡ seen_at p n
+  list_told p n =
+      let sound = live_sound table is now later in
+      list_rows table.timers now table.address p n (live table is now later) sound.each (once_number table.address p n (live table is now later) sound.apart)
+      ∙ ap (λ (o : Option Binding). few (option_map row o)) (show_now table is now later p n)
+
+  all_small : All IsSmall made
+  all_small = All-append IsSmall (part_rows now table.parts.icmp ++ part_rows now table.parts.tcp) (part_rows now table.parts.udp)
+      (All-append IsSmall (part_rows now table.parts.icmp) (part_rows now table.parts.tcp) (read Icmp).small (read Tcp).small) (read Udp).small
+
+  -- sorted, they are the rows of the list
+  pub made_in_order : in_order made ≡ rows table.timers now (list_of table)
+  made_in_order = sym (in_order_same (map row (live table is now later)) made (λ p n. list_told p n ∙ sym (made_told p n)) (none_big made all_small))

@@ -1,0 +1,118 @@
+//! Which external numbers of a protocol are in use, and the choice of a free one (RFC 4787, REQ-3 and REQ-4; RFC 5508,
+//! section 3.1).
+
+ghost use Rattle.std.specs.Prelude.{◌≡◌, ℕ, ◌+◌, ◌-◌, ◌*◌, ◌^◌, ◌<◌, ◌≤◌, ◌==◌, false, not, ◌&&◌, ◌||◌, find, IfOk, Bool};
+ghost use Rattle.napt_table.specs.Choice as choice;
+ghost use Rattle.napt_table.specs.Places.{place_of, is_used};
+
+use crate::Class;
+use napt_bits::Bits;
+use napt_wire::Protocol;
+use std::alloc::{AllocError, Global};
+use std::marker::Model;
+
+/// The external numbers of one protocol that are in use: ports of UDP and TCP, identifiers of ICMP; contracts see the protocol,
+/// and which they are.
+///
+/// Each class of numbers is a run of bits, so that a choice looks at a few words, however many numbers are in use.
+#[derive(Drop)]
+pub struct Numbers {
+    protocol: Protocol,
+    places: Bits,
+}
+
+impl Model for Numbers {
+    ghost use Rattle.napt_table.specs.Places.{Used};
+
+    ghost Value = { Used };
+
+    ghost view = { λ numbers. record { protocol = numbers.protocol; places = numbers.places } };
+}
+
+/// The place of a number among the bits: those of even ports, and then those of odd ones.
+fn place_of(protocol: Protocol, number: u16) -> u16
+    ensures { result ≡ place_of protocol number }
+{
+    match protocol {
+        Protocol::Icmp => number,
+        Protocol::Tcp | Protocol::Udp => (number % 2) * 32_768 + number / 2,
+    }
+}
+
+impl Class {
+    /// The class in which the number of an inside endpoint is mapped: a port keeps its parity and its side of 1024.
+    fn of(protocol: Protocol, number: u16) -> Class
+        ensures value { result ≡ choice.class_of protocol number }
+        ensures some { (0 < result.many) × (0 < result.apart) }
+        ensures fits { result.least + result.apart * (result.many - 1) < 2 ^ 16 }
+        ensures places { place_of protocol result.least + result.many ≤ 2 ^ 16 }
+    {
+        let (least, many, apart) = match protocol {
+            Protocol::Icmp => (0, 65_536, 1),
+            Protocol::Tcp | Protocol::Udp => match (number < 1024, number % 2 == 1) {
+                (true, true) => (1, 512, 2),
+                (true, false) => (2, 511, 2),
+                (false, true) => (1025, 32_256, 2),
+                (false, false) => (1024, 32_256, 2),
+            },
+        };
+        Class { least, many, apart }
+    }
+}
+
+impl Numbers {
+    /// No number of the protocol is in use. It takes about 8 KiB, and no other call takes any; `AllocError` where they are
+    /// refused.
+    pub fn new(alloc: Global, protocol: Protocol) -> Result<Numbers, AllocError>
+        ensures protocol { IfOk result (λ numbers. numbers.protocol ≡ protocol) }
+        ensures none { IfOk result (λ numbers. (n : ℕ) → is_used numbers n ≡ false) }
+    {
+        Ok(Numbers {
+            protocol,
+            places: Bits::new(alloc)?,
+        })
+    }
+
+    /// The protocol whose numbers these are.
+    pub fn protocol(&self) -> Protocol
+        ensures { result ≡ self.now.protocol }
+    {
+        self.protocol
+    }
+
+    /// The number that an inside endpoint with this number gets: itself where it is not in use, else the next one of its class
+    /// that is not, which goes on at the beginning of the class (RFC 4787, REQ-3 and REQ-4); `None` where the class is full.
+    pub fn choose(&self, number: u16) -> Option<u16>
+        ensures { result ≡ find (λ n. not (is_used self.now n)) (choice.candidates self.now.protocol number) }
+    {
+        let class = Class::of(self.protocol, number);
+        let start = u32::from(place_of(self.protocol, class.least as u16));
+        let first = start + u32::from(number).saturating_sub(class.least) / class.apart;
+        let end = start + class.many;
+        if let Some(place) = self.places.first_absent(first, end) {
+            return Some((class.least + class.apart * (place - start)) as u16);
+        }
+        let place = self.places.first_absent(start, first)?;
+        Some((class.least + class.apart * (place - start)) as u16)
+    }
+
+    /// The number is in use from now on. One that is in use stays so.
+    pub fn put(&mut self, number: u16)
+        ensures protocol { self.new.protocol ≡ self.old.protocol }
+        ensures used { (n : ℕ) → n < 2 ^ 16 → is_used self.new n ≡ ((n == number) || is_used self.old n) }
+    {
+        let place = place_of(self.protocol, number);
+        let places = &mut self.places;
+        places.put(place);
+    }
+
+    /// The number is free from now on. One that is free stays so.
+    pub fn take(&mut self, number: u16)
+        ensures protocol { self.new.protocol ≡ self.old.protocol }
+        ensures used { (n : ℕ) → n < 2 ^ 16 → is_used self.new n ≡ (not (n == number) && is_used self.old n) }
+    {
+        let place = place_of(self.protocol, number);
+        let places = &mut self.places;
+        places.take(place);
+    }
+}

@@ -1,0 +1,456 @@
+//! What a table holds under one protocol: its bindings by external number, their numbers by inside endpoint, which numbers are
+//! in use, and when to look at each binding again.
+//!
+//! A binding that has ended may still be held: no look-up finds it, and it goes before the next new binding gets a number. Its
+//! entry in the queue has a time up to which it lives for sure, which is kept lazily: a packet that keeps the binding alive does
+//! not move the entry, and where its time has come the binding is looked at again.
+
+ghost use Rattle.std.specs.Prelude.{◌≡◌, ◌≢◌, ℕ, ◌+◌, ◌≤◌, ◌<◌, ◌^◌, true, false, not, Some, None, Ok, Err, OnOk, IfSome, cond, ◌==◌, ◌&&◌};
+ghost use Rattle.std.specs.Option.{option_map};
+ghost use Rattle.napt_wire.specs.declared.Cause.TheVariants.{NoBinding};
+ghost use Rattle.napt_table.specs.Held.{seen, entered, left_by, HeldIsPurgedLater};
+
+use crate::numbers::Numbers;
+use crate::{Binding, Flows, Row};
+use napt_config::{Filter, Timers};
+use napt_due::Due;
+use napt_wire::{Cause, Endpoint, Flags, Protocol};
+use std::alloc::{AllocError, Global};
+use std::collections::HashMap;
+
+/// The bindings of one protocol.
+#[derive(Drop)]
+pub(crate) struct Part {
+    /// The external address.
+    address: u32,
+    timers: Timers,
+    /// The time of its last packet that went out and had no binding, in ns: what had ended by then is gone.
+    at: u64,
+    by_number: HashMap<u16, Binding>,
+    /// The external number of an inside address and number.
+    by_inside: HashMap<(u32, u16), u16>,
+    /// One entry for each binding that is not fixed, with a time up to which it lives for sure.
+    due: Due,
+    /// Those that have a binding.
+    numbers: Numbers,
+}
+
+impl Part {
+    ghost use Rattle.std.specs.Prelude.{All, IfOk};
+    ghost use Rattle.std.specs.HashMap.{spare};
+    ghost use Rattle.napt_config.specs.Rules.{AreTimers};
+    ghost use Rattle.napt_table.specs.Life.{is_live};
+    ghost use Rattle.napt_table.specs.Places.{is_used};
+    ghost use Rattle.napt_table.specs.Part.{held, number_at, pair_eq, IsPart, AreDue, AreDueBut, IsSamePlace, HasRoom, come_up};
+    ghost use Rattle.napt_table.specs.declared.Binding.{Binding};
+
+    /// Nothing is held.
+    pub(crate) fn new(
+        alloc: Global,
+        address: u32,
+        timers: Timers,
+        protocol: Protocol,
+    ) -> Result<Part, AllocError>
+        requires { AreTimers timers }
+        ensures part { IfOk result IsPart }
+        ensures due { IfOk result AreDue }
+        ensures none { IfOk result (λ part. (n : ℕ) → held part n ≡ None) }
+        ensures address { IfOk result (λ part. part.address ≡ address) }
+        ensures timers { IfOk result (λ part. part.timers ≡ timers) }
+        ensures at { IfOk result (λ part. part.at ≡ 0) }
+        ensures protocol { IfOk result (λ part. part.numbers.protocol ≡ protocol) }
+    {
+        Ok(Part {
+            address,
+            timers,
+            at: 0,
+            by_number: HashMap::new(alloc),
+            by_inside: HashMap::new(alloc),
+            due: Due::new(alloc),
+            numbers: Numbers::new(alloc, protocol)?,
+        })
+    }
+
+    /// The inside endpoint of the live binding with the number.
+    pub(crate) fn inside_of(&self, now: u64, number: u16) -> Option<Endpoint>
+        requires { AreTimers self.now.timers }
+        ensures { result ≡ option_map (λ b. b.inside) (seen self.now.timers now (held self.now number)) }
+    {
+        match self.by_number.get(&number) {
+            Some(binding) if binding.is_live(self.timers, now) => Some(binding.inside),
+            _ => None,
+        }
+    }
+
+    /// The number of the live binding of the inside endpoint.
+    pub(crate) fn number_of(&self, now: u64, inside: Endpoint) -> Option<u16>
+        requires { AreTimers self.now.timers }
+        ensures none { number_at self.now inside ≡ None → result ≡ None }
+        ensures some { (n : ℕ) → number_at self.now inside ≡ Some n → result ≡ option_map (λ b. n) (seen self.now.timers now (held self.now n)) }
+    {
+        let number = *self.by_inside.get(&(inside.address, inside.number))?;
+        match self.by_number.get(&number) {
+            Some(binding) if binding.is_live(self.timers, now) => Some(number),
+            _ => None,
+        }
+    }
+
+    /// A packet comes in: the inside endpoint of the live binding with the number, where it lets the remote through.
+    pub(crate) fn receive(
+        &mut self,
+        filter: Filter,
+        now: u64,
+        number: u16,
+        remote: Endpoint,
+        flags: Flags,
+    ) -> Result<Endpoint, Cause>
+        requires { AreTimers self.old.timers }
+        ensures place { IsSamePlace self.old self.new }
+        ensures inside { self.new.by_inside ≡ self.old.by_inside }
+        ensures due { self.new.due ≡ self.old.due }
+        ensures numbers { self.new.numbers ≡ self.old.numbers }
+        ensures others { (n : ℕ) → n ≢ number → held self.new n ≡ held self.old n }
+        ensures absent { seen self.old.timers now (held self.old number) ≡ None → (result ≡ Err NoBinding) × (held self.new number ≡ held self.old number) }
+        ensures found { (b : Binding) → seen self.old.timers now (held self.old number) ≡ Some b → (result ≡ entered filter remote b) × (held self.new number ≡ Some (left_by filter remote flags now b)) }
+    {
+        let timers = self.timers;
+        let Some(binding) = self.by_number.get_mut(&number) else {
+            return Err(Cause::NoBinding);
+        };
+        if !binding.is_live(timers, now) {
+            return Err(Cause::NoBinding);
+        }
+        binding.take_in(timers, filter, now, remote, flags)
+    }
+
+    /// Makes room for one more binding.
+    fn make_room(&mut self) -> Result<(), AllocError>
+        ensures place { IsSamePlace self.old self.new }
+        ensures held { (n : ℕ) → held self.new n ≡ held self.old n }
+        ensures inside { (e : Endpoint) → number_at self.new e ≡ number_at self.old e }
+        ensures due { self.new.due.entries ≡ self.old.due.entries }
+        ensures numbers { self.new.numbers ≡ self.old.numbers }
+        ensures room { OnOk result (HasRoom self.new) }
+    {
+        self.by_number.reserve(1)?;
+        self.by_inside.reserve(1)?;
+        let due = &mut self.due;
+        due.reserve()?;
+        Ok(())
+    }
+
+    /// The binding with the number goes.
+    fn remove(&mut self, number: u16)
+        ensures place { IsSamePlace self.old self.new }
+        ensures due { self.new.due ≡ self.old.due }
+        ensures held { (n : ℕ) → held self.new n ≡ cond (number == n) None (held self.old n) }
+        ensures inside { (b : Binding) → held self.old number ≡ Some b → (e : Endpoint) → number_at self.new e ≡ cond (pair_eq (b.inside.address, b.inside.number) (e.address, e.number)) None (number_at self.old e) }
+        ensures used { (b : Binding) → held self.old number ≡ Some b → (n : ℕ) → n < 2 ^ 16 → is_used self.new.numbers n ≡ (not (n == number) && is_used self.old.numbers n) }
+        ensures numbers { spare self.old.by_number ≤ spare self.new.by_number }
+        ensures insides { spare self.old.by_inside ≤ spare self.new.by_inside }
+    {
+        let Some(binding) = self.by_number.remove(&number) else {
+            return;
+        };
+        let inside = binding.inside;
+        self.by_inside.remove(&(inside.address, inside.number));
+        let numbers = &mut self.numbers;
+        numbers.take(number);
+    }
+
+    /// The binding with the number has no entry in the queue: a dead one goes, a live one is entered.
+    fn judge(&mut self, number: u16)
+        requires part { IsPart self.old }
+        requires due { AreDueBut number self.old }
+        requires room { 0 < self.old.due.room }
+        ensures part { IsPart self.new }
+        ensures due { AreDue self.new }
+        ensures place { IsSamePlace self.old self.new }
+        ensures seen { (n : ℕ) → seen self.old.timers self.old.at (held self.new n) ≡ seen self.old.timers self.old.at (held self.old n) }
+        ensures come_up { come_up self.new ≤ come_up self.old }
+        ensures numbers { spare self.old.by_number ≤ spare self.new.by_number }
+        ensures insides { spare self.old.by_inside ≤ spare self.new.by_inside }
+        ensures queue { self.old.due.room ≤ self.new.due.room + 1 }
+    {
+        let (timers, at) = (self.timers, self.at);
+        let Some(binding) = self.by_number.get(&number) else {
+            return;
+        };
+        if binding.fixed {
+            return;
+        }
+        if binding.is_live(timers, at) {
+            let until = binding.until(timers, at);
+            let due = &mut self.due;
+            due.put(until, number);
+        } else {
+            self.remove(number);
+        }
+    }
+
+    /// Judges the binding of an entry that came up; whether there was one.
+    fn purge_first(&mut self) -> bool
+        requires part { IsPart self.old }
+        requires due { AreDue self.old }
+        ensures part { IsPart self.new }
+        ensures due { AreDue self.new }
+        ensures place { IsSamePlace self.old self.new }
+        ensures seen { (n : ℕ) → seen self.old.timers self.old.at (held self.new n) ≡ seen self.old.timers self.old.at (held self.old n) }
+        ensures room { HasRoom self.old → HasRoom self.new }
+        ensures fewer { result ≡ true → come_up self.new < come_up self.old }
+        ensures none { result ≡ false → All (λ e. self.old.at ≤ e.0) self.new.due.entries }
+    {
+        match self.due.first() {
+            Some((until, _)) if until < self.at => {}
+            _ => return false,
+        }
+        let due = &mut self.due;
+        let Some((_, number)) = due.take_first() else {
+            return false;
+        };
+        self.judge(number);
+        true
+    }
+
+    /// What is dead goes.
+    fn purge(&mut self)
+        requires part { IsPart self.old }
+        requires due { AreDue self.old }
+        ensures part { IsPart self.new }
+        ensures due { AreDue self.new }
+        ensures place { IsSamePlace self.old self.new }
+        ensures seen { (n : ℕ) → seen self.old.timers self.old.at (held self.new n) ≡ seen self.old.timers self.old.at (held self.old n) }
+        ensures room { HasRoom self.old → HasRoom self.new }
+        ensures live { (n : ℕ) (b : Binding) → held self.new n ≡ Some b → is_live self.old.timers self.old.at b ≡ true }
+    {
+        while self.purge_first() {}
+    }
+
+    /// A new binding, where there is room and neither of its ends is taken.
+    fn insert(&mut self, number: u16, binding: Binding)
+        requires room { HasRoom self.old }
+        requires part { IsPart self.old }
+        requires due { AreDue self.old }
+        requires live { is_live self.old.timers self.old.at binding ≡ true }
+        requires protocol { binding.protocol ≡ self.old.numbers.protocol }
+        requires external { binding.external ≡ record { address = self.old.address; number = number } }
+        requires free { held self.old number ≡ None }
+        requires absent { number_at self.old binding.inside ≡ None }
+        ensures part { IsPart self.new }
+        ensures due { AreDue self.new }
+        ensures place { IsSamePlace self.old self.new }
+        ensures held { (n : ℕ) → held self.new n ≡ cond (number == n) (Some binding) (held self.old n) }
+    {
+        let until = binding.until(self.timers, self.at);
+        self.hold(number, binding);
+        let due = &mut self.due;
+        due.put(until, number);
+    }
+
+    /// A new binding, where there is room and neither of its ends is taken. The queue stays as it is.
+    fn hold(&mut self, number: u16, binding: Binding)
+        requires room { HasRoom self.old }
+        requires part { IsPart self.old }
+        requires protocol { binding.protocol ≡ self.old.numbers.protocol }
+        requires external { binding.external ≡ record { address = self.old.address; number = number } }
+        requires free { held self.old number ≡ None }
+        requires absent { number_at self.old binding.inside ≡ None }
+        ensures part { IsPart self.new }
+        ensures place { IsSamePlace self.old self.new }
+        ensures due { self.new.due ≡ self.old.due }
+        ensures held { (n : ℕ) → held self.new n ≡ cond (number == n) (Some binding) (held self.old n) }
+    {
+        let inside = binding.inside;
+        match self
+            .by_inside
+            .insert((inside.address, inside.number), number)
+        {
+            Ok(_) => {}
+            Err(_) => unreachable!(),
+        }
+        match self.by_number.insert(number, binding) {
+            Ok(_) => {}
+            Err(_) => unreachable!(),
+        }
+        let numbers = &mut self.numbers;
+        numbers.put(number);
+    }
+}
+
+impl Part {
+    ghost use Rattle.std.specs.Prelude.{List, map, IfOk, OnErr};
+    ghost use Rattle.napt_config.specs.Rules.{AreTimers};
+    ghost use Rattle.napt_table.specs.declared.Binding.{Binding};
+    ghost use Rattle.napt_table.specs.Endpoints.{key, Apart};
+    ghost use Rattle.napt_table.specs.Held.{Shows, redirect_of};
+    ghost use Rattle.napt_table.specs.Life.{with_live_flows};
+    ghost use Rattle.napt_table.specs.Steps.{sent, out_purged};
+    ghost use Rattle.napt_table.specs.Part.{held, number_at, IsPart, AreDue, IsSamePlace};
+
+    /// A redirect, neither of whose ends is taken. It never expires, so it has no entry in the queue. Where memory is
+    /// refused nothing that is held is changed.
+    pub(crate) fn open(
+        &mut self,
+        alloc: Global,
+        inside: Endpoint,
+        number: u16,
+    ) -> Result<(), AllocError>
+        requires part { IsPart self.old }
+        requires due { AreDue self.old }
+        requires free { held self.old number ≡ None }
+        requires absent { number_at self.old inside ≡ None }
+        ensures part { IsPart self.new }
+        ensures due { AreDue self.new }
+        ensures place { IsSamePlace self.old self.new }
+        ensures held { OnOk result ((n : ℕ) → held self.new n ≡ cond (number == n) (Some (redirect_of self.old.numbers.protocol self.old.address inside number)) (held self.old n)) }
+        ensures refused { OnErr result ((n : ℕ) → held self.new n ≡ held self.old n) }
+    {
+        self.make_room()?;
+        let binding = Binding {
+            protocol: self.numbers.protocol(),
+            inside,
+            external: Endpoint {
+                address: self.address,
+                number,
+            },
+            fixed: true,
+            last: 0,
+            flows: Flows {
+                items: Vec::new(alloc),
+            },
+        };
+        self.hold(number, binding);
+        Ok(())
+    }
+
+    /// A packet goes out through the held binding with the number.
+    fn send_known(
+        &mut self,
+        now: u64,
+        number: u16,
+        remote: Endpoint,
+        flags: Flags,
+    ) -> Result<(), AllocError>
+        requires { AreTimers self.old.timers }
+        ensures place { IsSamePlace self.old self.new }
+        ensures inside { self.new.by_inside ≡ self.old.by_inside }
+        ensures due { self.new.due ≡ self.old.due }
+        ensures numbers { self.new.numbers ≡ self.old.numbers }
+        ensures others { (n : ℕ) → n ≢ number → held self.new n ≡ held self.old n }
+        ensures refused { OnErr result (held self.new number ≡ held self.old number) }
+        ensures ok { (b : Binding) → held self.old number ≡ Some b → OnOk result (seen self.old.timers now (held self.new number) ≡ Some (sent remote flags now (with_live_flows self.old.timers now b))) }
+    {
+        let timers = self.timers;
+        let Some(binding) = self.by_number.get_mut(&number) else {
+            return Ok(());
+        };
+        binding.send(timers, now, remote, flags)
+    }
+
+    /// A packet goes out from the inside endpoint: answers its external number, or `NoPort`. Where memory is refused nothing is changed.
+    pub(crate) fn send(
+        &mut self,
+        alloc: Global,
+        now: u64,
+        inside: Endpoint,
+        remote: Endpoint,
+        flags: Flags,
+    ) -> Result<Result<u16, Cause>, AllocError>
+        requires part { IsPart self.old }
+        requires due { AreDue self.old }
+        requires later { self.old.at ≤ now }
+        ensures part { IsPart self.new }
+        ensures due { AreDue self.new }
+        ensures at { self.new.at ≤ now }
+        ensures same_at { OnErr result (self.new.at ≡ self.old.at) }
+        ensures address { self.new.address ≡ self.old.address }
+        ensures timers { self.new.timers ≡ self.old.timers }
+        ensures protocol { self.new.numbers.protocol ≡ self.old.numbers.protocol }
+        ensures refused { OnErr result ((n : ℕ) → held self.new n ≡ held self.old n) }
+        ensures answer { (list : List Binding) → Apart (map key list) → Shows self.old.timers now self.old.address self.old.numbers.protocol (held self.old) list →
+            IfOk result (λ answer. answer ≡ (out_purged self.old.address now self.old.numbers.protocol inside remote flags list).number) }
+        ensures shows { (list : List Binding) → Apart (map key list) → Shows self.old.timers now self.old.address self.old.numbers.protocol (held self.old) list →
+            OnOk result (Shows self.old.timers now self.old.address self.old.numbers.protocol (held self.new) (out_purged self.old.address now self.old.numbers.protocol inside remote flags list).list) }
+    {
+        if let Some(number) = self.number_of(now, inside) {
+            self.send_known(now, number, remote, flags)?;
+            return Ok(Ok(number));
+        }
+        self.make_room()?;
+        let (address, timers) = (self.address, self.timers);
+        let protocol = self.numbers.protocol();
+        let flows = Flows::begun(alloc, timers, now, protocol, remote, flags)?;
+        self.at = now;
+        self.purge();
+        let Some(number) = self.numbers.choose(inside.number) else {
+            return Ok(Err(Cause::NoPort));
+        };
+        let binding = Binding {
+            protocol,
+            inside,
+            external: Endpoint { address, number },
+            fixed: false,
+            last: now,
+            flows,
+        };
+        self.insert(number, binding);
+        Ok(Ok(number))
+    }
+}
+
+impl Part {
+    ghost use Rattle.std.specs.Prelude.{List, map};
+    ghost use Rattle.napt_table.specs.declared.Binding.{Binding};
+    ghost use Rattle.napt_table.specs.Endpoints.{key, Apart};
+    ghost use Rattle.napt_table.specs.Held.{Shows};
+    ghost use Rattle.napt_table.specs.Steps.{in_purged};
+    ghost use Rattle.napt_table.specs.Part.{held, number_at, IsPart, AreDue, IsSamePlace};
+
+    /// A packet comes in to the number: answers the inside endpoint, `NoBinding` or `Filtered`. It takes no memory.
+    pub(crate) fn enter(
+        &mut self,
+        filter: Filter,
+        now: u64,
+        number: u16,
+        remote: Endpoint,
+        flags: Flags,
+    ) -> Result<Endpoint, Cause>
+        requires part { IsPart self.old }
+        requires due { AreDue self.old }
+        requires later { self.old.at ≤ now }
+        ensures part { IsPart self.new }
+        ensures due { AreDue self.new }
+        ensures place { IsSamePlace self.old self.new }
+        ensures answer { (list : List Binding) → Apart (map key list) → Shows self.old.timers now self.old.address self.old.numbers.protocol (held self.old) list →
+            result ≡ (in_purged filter self.old.address now self.old.numbers.protocol number remote flags list).inside }
+        ensures shows { (list : List Binding) → Apart (map key list) → Shows self.old.timers now self.old.address self.old.numbers.protocol (held self.old) list →
+            Shows self.old.timers now self.old.address self.old.numbers.protocol (held self.new) (in_purged filter self.old.address now self.old.numbers.protocol number remote flags list).list }
+    {
+        self.receive(filter, now, number, remote, flags)
+    }
+}
+
+impl Part {
+    ghost use Rattle.std.specs.Prelude.{◌++◌};
+    ghost use Rattle.napt_config.specs.Rules.{AreTimers};
+    ghost use Rattle.napt_table.specs.Listing.{part_rows, AreRead};
+
+    /// Adds the rows of the bindings that are live at `now` (ns), in no order.
+    pub(crate) fn push_rows(&self, now: u64, made: &mut Vec<Row>) -> Result<(), AllocError>
+        requires { AreTimers self.now.timers }
+        ensures rows { OnOk result (made.new.items ≡ made.old.items ++ part_rows now self.now) }
+        ensures read { OnOk result (AreRead now self.now) }
+    {
+        for binding in self.by_number.values() {
+            if binding.is_live(self.timers, now) {
+                made.push(Row::of(binding))?;
+            }
+        }
+        Ok(())
+    }
+}
+
+/// What is held goes on showing the list when time passes.
+pub(crate) fn held_is_purged_later()
+    ensures { HeldIsPurgedLater }
+{}

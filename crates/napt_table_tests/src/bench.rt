@@ -1,0 +1,158 @@
+//! A table whose caller keeps what it owes.
+
+use napt_config::Config;
+use napt_table::{Row, Table};
+use napt_wire::{Cause, Endpoint, Flags, Protocol};
+use std::alloc::Global;
+use std::test::Fail;
+
+/// 203.0.113.1
+pub(crate) const EXTERNAL: u32 = 0xCB00_7101;
+
+/// 10.0.0.2:5000, 10.0.0.3:5000 and 198.51.100.7:53.
+pub(crate) const CLIENT: Endpoint = Endpoint {
+    address: 0x0A00_0002,
+    number: 5000,
+};
+
+pub(crate) const SECOND_CLIENT: Endpoint = Endpoint {
+    address: 0x0A00_0003,
+    number: 5000,
+};
+
+pub(crate) const RESOLVER: Endpoint = Endpoint {
+    address: 0xC633_6407,
+    number: 53,
+};
+
+/// The pool is 203.0.113.1, and 10.0.0.0/8 is inside.
+const ONE_ADDRESS: &str = "pool = [\"203.0.113.1\"]\ninside = [\"10.0.0.0/8\"]\n";
+
+pub(crate) const SECOND: u64 = 1_000_000_000;
+
+pub(crate) const NO_FLAGS: Flags = Flags {
+    fin: false,
+    syn: false,
+    rst: false,
+    ack: false,
+};
+
+/// 10.0.0.0 and so many more.
+pub(crate) fn host(many: u16, number: u16) -> Endpoint {
+    Endpoint {
+        address: 0x0A00_0000 + u32::from(many),
+        number,
+    }
+}
+
+/// The configuration with these settings whose pool is 203.0.113.1.
+pub(crate) fn settings_of(alloc: Global, settings: &str) -> Result<Config, Fail> {
+    let text = format!(in alloc; "{ONE_ADDRESS}{settings}")?;
+    Ok(Config::read(alloc, text.as_bytes())?)
+}
+
+/// A table whose caller keeps what it owes: no time is before an earlier one, no port is 0. It is behind a box: a function that
+/// owns a table as it stands takes minutes to prove.
+#[derive(Drop)]
+pub(crate) struct Bench {
+    alloc: Global,
+    pub(crate) table: Box<Table>,
+}
+
+impl Bench {
+    /// The table of the address under the configuration.
+    pub(crate) fn of(alloc: Global, address: u32, config: &Config) -> Result<Bench, Fail> {
+        let table = Box::new(alloc, Table::new(alloc, address, config)?)?;
+        Ok(Bench { alloc, table })
+    }
+
+    /// The table of 203.0.113.1, which is the pool, with these settings.
+    pub(crate) fn with(alloc: Global, settings: &str) -> Result<Bench, Fail> {
+        let config = settings_of(alloc, settings)?;
+        Bench::of(alloc, EXTERNAL, &config)
+    }
+
+    pub(crate) fn send(
+        &mut self,
+        now: u64,
+        protocol: Protocol,
+        inside: Endpoint,
+        remote: Endpoint,
+        flags: Flags,
+    ) -> Result<Result<u16, Cause>, Fail> {
+        let (table, alloc) = (&mut self.table, self.alloc);
+        if now < table.at() {
+            return Err("a later time".into());
+        }
+        let answer = match protocol {
+            Protocol::Icmp => table.outbound(alloc, now, Protocol::Icmp, inside, remote, flags)?,
+            _ if inside.number == 0 => return Err("a port".into()),
+            Protocol::Tcp => table.outbound(alloc, now, Protocol::Tcp, inside, remote, flags)?,
+            Protocol::Udp => table.outbound(alloc, now, Protocol::Udp, inside, remote, flags)?,
+        };
+        Ok(answer)
+    }
+
+    pub(crate) fn receive(
+        &mut self,
+        now: u64,
+        protocol: Protocol,
+        external: u16,
+        remote: Endpoint,
+        flags: Flags,
+    ) -> Result<Result<Endpoint, Cause>, Fail> {
+        if now < self.table.at() {
+            return Err("a later time".into());
+        }
+        Ok(self.table.inbound(now, protocol, external, remote, flags))
+    }
+
+    pub(crate) fn udp_out(
+        &mut self,
+        now: u64,
+        inside: Endpoint,
+        remote: Endpoint,
+    ) -> Result<Result<u16, Cause>, Fail> {
+        self.send(now, Protocol::Udp, inside, remote, NO_FLAGS)
+    }
+
+    pub(crate) fn udp_in(
+        &mut self,
+        now: u64,
+        external: u16,
+        remote: Endpoint,
+    ) -> Result<Result<Endpoint, Cause>, Fail> {
+        self.receive(now, Protocol::Udp, external, remote, NO_FLAGS)
+    }
+
+    pub(crate) fn inside_of(
+        &self,
+        now: u64,
+        protocol: Protocol,
+        number: u16,
+    ) -> Result<Option<Endpoint>, Fail> {
+        if now < self.table.at() {
+            return Err("a later time".into());
+        }
+        Ok(self.table.by_external(now, protocol, number))
+    }
+
+    pub(crate) fn number_of(
+        &self,
+        now: u64,
+        protocol: Protocol,
+        inside: Endpoint,
+    ) -> Result<Option<u16>, Fail> {
+        if now < self.table.at() {
+            return Err("a later time".into());
+        }
+        Ok(self.table.by_inside(now, protocol, inside))
+    }
+
+    pub(crate) fn rows(&self, now: u64) -> Result<Vec<Row>, Fail> {
+        if now < self.table.at() {
+            return Err("a later time".into());
+        }
+        Ok(self.table.bindings(self.alloc, now)?)
+    }
+}

@@ -1,0 +1,192 @@
+//! Which numbers are given, and what the table tells of them.
+
+use crate::bench::{Bench, CLIENT, EXTERNAL, NO_FLAGS, RESOLVER, SECOND, SECOND_CLIENT, host};
+use napt_config::Config;
+use napt_table::Row;
+use napt_wire::{Cause, Endpoint, Protocol};
+use std::alloc::Global;
+use std::test::Fail;
+
+#[test]
+fn one_binding_for_all_remotes(rt: HostRuntime) -> Result<(), Fail> {
+    let mut bench = Bench::with(rt.alloc(), "")?;
+    let other = Endpoint {
+        address: 0xC633_6408,
+        number: 53,
+    };
+    assert_eq!(rt; bench.udp_out(SECOND, CLIENT, RESOLVER)?, Ok(5000));
+    assert_eq!(rt; bench.udp_out(2 * SECOND, CLIENT, other)?, Ok(5000));
+    assert_eq!(rt; bench.rows(2 * SECOND)?.len(), 1);
+    assert_eq!(rt; bench.table.at(), 2 * SECOND);
+    Ok(())
+}
+
+#[test]
+fn next_number_of_its_class(rt: HostRuntime) -> Result<(), Fail> {
+    let mut bench = Bench::with(rt.alloc(), "")?;
+    let sent = [
+        (2, 5000, 5000),
+        (3, 5000, 5002),
+        (4, 5000, 5004),
+        (2, 65_535, 65_535),
+        (3, 65_535, 1025),
+        (2, 1022, 1022),
+        (3, 1022, 2),
+    ];
+    for (many, port, number) in sent {
+        assert_eq!(rt;
+            bench.udp_out(SECOND, host(many, port), RESOLVER)?,
+            Ok(number)
+        );
+    }
+    let remote = Endpoint {
+        address: RESOLVER.address,
+        number: 0,
+    };
+    for (many, number) in [(2, 65_535), (3, 0)] {
+        let answer = bench.send(SECOND, Protocol::Icmp, host(many, 65_535), remote, NO_FLAGS)?;
+        assert_eq!(rt; answer, Ok(number));
+    }
+    Ok(())
+}
+
+#[test]
+fn full_class(rt: HostRuntime) -> Result<(), Fail> {
+    let mut bench = Bench::with(rt.alloc(), "")?;
+    for k in 0..511 {
+        let answer = bench.udp_out(SECOND, host(256 + k, 2), RESOLVER)?;
+        assert_eq!(rt; answer, Ok(2 + 2 * k));
+    }
+    let one_more = host(256 + 511, 2);
+    assert_eq!(rt;
+        bench.udp_out(SECOND, one_more, RESOLVER)?,
+        Err(Cause::NoPort)
+    );
+    assert_eq!(rt; bench.rows(SECOND)?.len(), 511);
+    let odd = host(256 + 511, 1);
+    assert_eq!(rt; bench.udp_out(SECOND, odd, RESOLVER)?, Ok(1));
+    assert_eq!(rt; bench.rows(SECOND)?.len(), 512);
+    Ok(())
+}
+
+/// Redirects at two addresses, one of them by the pair of its host.
+const REDIRECTS: &str = r#"
+pool = ["203.0.113.1", "203.0.113.2"]
+inside = ["10.0.0.0/8"]
+[[pair]]
+host = "10.0.0.5"
+external = "203.0.113.1"
+[[redirect]]
+protocol = "tcp"
+inside = "10.0.0.3:80"
+external = 8080
+[[redirect]]
+protocol = "udp"
+inside = "10.0.0.2:53"
+external = 53
+[[redirect]]
+protocol = "tcp"
+inside = "10.0.0.5:22"
+external = 2222
+"#;
+
+/// A row of a redirect.
+fn redirected(protocol: Protocol, inside: Endpoint, address: u32, number: u16) -> Row {
+    Row {
+        protocol,
+        inside,
+        external: Endpoint { address, number },
+        fixed: true,
+    }
+}
+
+fn of_redirects(alloc: Global) -> Result<Config, Fail> {
+    Ok(Config::read(alloc, REDIRECTS.as_bytes())?)
+}
+
+fn shell() -> Row {
+    redirected(Protocol::Tcp, host(5, 22), EXTERNAL, 2222)
+}
+
+fn web() -> Row {
+    redirected(Protocol::Tcp, host(3, 80), EXTERNAL + 1, 8080)
+}
+
+fn names() -> Row {
+    redirected(Protocol::Udp, host(2, 53), EXTERNAL, 53)
+}
+
+#[test]
+fn redirects_at_their_addresses(rt: HostRuntime) -> Result<(), Fail> {
+    let config = of_redirects(rt.alloc())?;
+    let first = Bench::of(rt.alloc(), EXTERNAL, &config)?;
+    let second = Bench::of(rt.alloc(), EXTERNAL + 1, &config)?;
+    assert_eq!(rt; first.table.at(), 0);
+    assert_eq!(rt;
+        first.rows(u64::MAX)?.as_slice(),
+        [shell(), names()].as_slice()
+    );
+    assert_eq!(rt; second.rows(u64::MAX)?.as_slice(), [web()].as_slice());
+    Ok(())
+}
+
+#[test]
+fn redirects_are_found(rt: HostRuntime) -> Result<(), Fail> {
+    let config = of_redirects(rt.alloc())?;
+    let bench = Bench::of(rt.alloc(), EXTERNAL, &config)?;
+    assert_eq!(rt;
+        bench.inside_of(SECOND, Protocol::Tcp, 2222)?,
+        Some(host(5, 22))
+    );
+    assert_eq!(rt; bench.inside_of(SECOND, Protocol::Udp, 2222)?, None);
+    assert_eq!(rt;
+        bench.number_of(SECOND, Protocol::Udp, host(2, 53))?,
+        Some(53)
+    );
+    assert_eq!(rt; bench.number_of(SECOND, Protocol::Tcp, host(3, 80))?, None);
+    Ok(())
+}
+
+/// A row at 203.0.113.1 whose binding ends.
+fn passing(protocol: Protocol, inside: Endpoint, number: u16) -> Row {
+    Row {
+        protocol,
+        inside,
+        external: Endpoint {
+            address: EXTERNAL,
+            number,
+        },
+        fixed: false,
+    }
+}
+
+#[test]
+fn rows_in_order(rt: HostRuntime) -> Result<(), Fail> {
+    let settings = "[[redirect]]\nprotocol = \"tcp\"\ninside = \"10.0.0.3:80\"\nexternal = 8080\n";
+    let mut bench = Bench::with(rt.alloc(), settings)?;
+    let sent = [
+        (Protocol::Udp, host(3, 5001), 5001),
+        (Protocol::Udp, host(2, 5001), 5003),
+        (Protocol::Tcp, CLIENT, 5000),
+        (Protocol::Udp, SECOND_CLIENT, 5000),
+        (Protocol::Icmp, host(9, 60_000), 60_000),
+    ];
+    for (protocol, inside, number) in sent {
+        let answer = bench.send(SECOND, protocol, inside, RESOLVER, NO_FLAGS)?;
+        assert_eq!(rt; answer, Ok(number));
+    }
+    let web = redirected(Protocol::Tcp, host(3, 80), EXTERNAL, 8080);
+    let echo = passing(Protocol::Icmp, host(9, 60_000), 60_000);
+    let client = passing(Protocol::Tcp, CLIENT, 5000);
+    let udp = [
+        passing(Protocol::Udp, SECOND_CLIENT, 5000),
+        passing(Protocol::Udp, host(3, 5001), 5001),
+        passing(Protocol::Udp, host(2, 5001), 5003),
+    ];
+    let all = [echo, client, web, udp[0], udp[1], udp[2]];
+    assert_eq!(rt; bench.rows(61 * SECOND - 1)?.as_slice(), all.as_slice());
+    assert_eq!(rt; bench.rows(61 * SECOND)?.as_slice(), &all[1..]);
+    assert_eq!(rt; bench.rows(241 * SECOND)?.as_slice(), &all[2..]);
+    assert_eq!(rt; bench.rows(301 * SECOND)?.as_slice(), [web].as_slice());
+    Ok(())
+}

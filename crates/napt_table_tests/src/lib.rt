@@ -1,0 +1,16 @@
+//! The tests of the crate napt_table, over what it makes public. They stand in a crate of their own, so that the gate does not
+//! prove napt_table again for them.
+#![tactic(auto)]
+
+#[cfg(test)]
+mod bench;
+#[cfg(test)]
+mod bindings;
+#[cfg(test)]
+mod numbers;
+#[cfg(test)]
+mod plain;
+#[cfg(test)]
+mod times;
+#[cfg(test)]
+mod twins;

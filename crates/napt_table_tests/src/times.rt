@@ -1,0 +1,190 @@
+//! How long bindings live, and whom they let in.
+
+use crate::bench::{Bench, CLIENT, NO_FLAGS, RESOLVER, SECOND, SECOND_CLIENT, host};
+use napt_wire::{Cause, Endpoint, Flags, Protocol};
+use std::alloc::Global;
+use std::test::Fail;
+
+#[test]
+fn udp_timer_ends(rt: HostRuntime) -> Result<(), Fail> {
+    let mut bench = Bench::with(rt.alloc(), "")?;
+    assert_eq!(rt; bench.udp_out(10 * SECOND, CLIENT, RESOLVER)?, Ok(5000));
+    assert_eq!(rt; bench.udp_in(310 * SECOND - 1, 5000, RESOLVER)?, Ok(CLIENT));
+    assert_eq!(rt;
+        bench.udp_in(310 * SECOND, 5000, RESOLVER)?,
+        Err(Cause::NoBinding)
+    );
+    let mut other = Bench::with(rt.alloc(), "")?;
+    assert_eq!(rt; other.udp_out(10 * SECOND, CLIENT, RESOLVER)?, Ok(5000));
+    assert_eq!(rt;
+        other.udp_out(310 * SECOND, SECOND_CLIENT, RESOLVER)?,
+        Ok(5000)
+    );
+    Ok(())
+}
+
+#[test]
+fn filters(rt: HostRuntime) -> Result<(), Fail> {
+    let stranger = Endpoint {
+        address: 0xC633_6409,
+        number: 53,
+    };
+    let other_port = Endpoint {
+        address: RESOLVER.address,
+        number: 99,
+    };
+    let (passed, refused) = (Ok(CLIENT), Err(Cause::Filtered));
+    let cases = [
+        ("independent", [passed, passed, passed]),
+        ("address", [refused, passed, passed]),
+        ("address-port", [refused, refused, passed]),
+    ];
+    for (word, expected) in cases {
+        let settings = format!(in rt.alloc();
+            "filter = \"{word}\"\n[[redirect]]\nprotocol = \"udp\"\ninside = \"10.0.0.3:53\"\nexternal = 5353\n"
+        )?;
+        let mut bench = Bench::with(rt.alloc(), &settings)?;
+        assert_eq!(rt; bench.udp_out(SECOND, CLIENT, RESOLVER)?, Ok(5000));
+        for (remote, answer) in [stranger, other_port, RESOLVER].into_iter().zip(expected) {
+            assert_eq!(rt; bench.udp_in(2 * SECOND, 5000, remote)?, answer);
+            assert_eq!(rt; bench.udp_in(2 * SECOND, 5353, remote)?, Ok(host(3, 53)));
+        }
+    }
+    Ok(())
+}
+
+/// 198.51.100.7:80
+const SERVER: Endpoint = Endpoint {
+    address: RESOLVER.address,
+    number: 80,
+};
+
+const SYN: Flags = Flags {
+    fin: false,
+    syn: true,
+    rst: false,
+    ack: false,
+};
+
+const SYN_ACK: Flags = Flags {
+    fin: false,
+    syn: true,
+    rst: false,
+    ack: true,
+};
+
+const ACK: Flags = Flags {
+    fin: false,
+    syn: false,
+    rst: false,
+    ack: true,
+};
+
+const FIN_ACK: Flags = Flags {
+    fin: true,
+    syn: false,
+    rst: false,
+    ack: true,
+};
+
+const RST: Flags = Flags {
+    fin: false,
+    syn: false,
+    rst: true,
+    ack: false,
+};
+
+/// A segment of the client to the server.
+fn client(bench: &mut Bench, now: u64, flags: Flags) -> Result<bool, Fail> {
+    let answer = bench.send(now, Protocol::Tcp, CLIENT, SERVER, flags)?;
+    Ok(answer == Ok(5000))
+}
+
+/// A segment of the server to the client: where it goes.
+fn server(bench: &mut Bench, now: u64, flags: Flags) -> Result<Result<Endpoint, Cause>, Fail> {
+    bench.receive(now, Protocol::Tcp, 5000, SERVER, flags)
+}
+
+/// A session that opened in three segments, the last at 2 s.
+fn opened(alloc: Global) -> Result<Bench, Fail> {
+    let mut bench = Bench::with(alloc, "")?;
+    let all = client(&mut bench, 0, SYN)?
+        && server(&mut bench, SECOND, SYN_ACK)? == Ok(CLIENT)
+        && client(&mut bench, 2 * SECOND, ACK)?;
+    if all {
+        Ok(bench)
+    } else {
+        Err("three segments that pass".into())
+    }
+}
+
+#[test]
+fn tcp_lives_while_established(rt: HostRuntime) -> Result<(), Fail> {
+    let mut bench = opened(rt.alloc())?;
+    assert_eq!(rt; server(&mut bench, 7441 * SECOND, ACK)?, Ok(CLIENT));
+    let mut other = opened(rt.alloc())?;
+    assert_eq!(rt;
+        server(&mut other, 7442 * SECOND, ACK)?,
+        Err(Cause::NoBinding)
+    );
+    Ok(())
+}
+
+#[test]
+fn tcp_lives_while_closing(rt: HostRuntime) -> Result<(), Fail> {
+    for (last, answer) in [
+        (244 * SECOND - 1, Ok(CLIENT)),
+        (244 * SECOND, Err(Cause::NoBinding)),
+    ] {
+        let mut bench = opened(rt.alloc())?;
+        assert!(rt; client(&mut bench, 3 * SECOND, FIN_ACK)?);
+        assert_eq!(rt; server(&mut bench, 4 * SECOND, FIN_ACK)?, Ok(CLIENT));
+        assert_eq!(rt; server(&mut bench, last, ACK)?, answer);
+    }
+    Ok(())
+}
+
+#[test]
+fn tcp_lives_in_a_redirect(rt: HostRuntime) -> Result<(), Fail> {
+    let settings = "[[redirect]]\nprotocol = \"tcp\"\ninside = \"10.0.0.3:80\"\nexternal = 8080\n";
+    let mut bench = Bench::with(rt.alloc(), settings)?;
+    let remote = Endpoint {
+        address: SERVER.address,
+        number: 4000,
+    };
+    let answer = bench.receive(0, Protocol::Tcp, 8080, remote, SYN)?;
+    assert_eq!(rt; answer, Ok(host(3, 80)));
+    Ok(())
+}
+
+#[test]
+fn tcp_lives_when_both_open(rt: HostRuntime) -> Result<(), Fail> {
+    let mut bench = Bench::with(rt.alloc(), "filter = \"address-port\"\n")?;
+    assert!(rt; client(&mut bench, 0, SYN)?);
+    assert_eq!(rt; server(&mut bench, SECOND, SYN)?, Ok(CLIENT));
+    assert_eq!(rt; server(&mut bench, 7441 * SECOND - 1, ACK)?, Ok(CLIENT));
+    Ok(())
+}
+
+#[test]
+fn tcp_lives_again_after_a_reset(rt: HostRuntime) -> Result<(), Fail> {
+    let mut bench = opened(rt.alloc())?;
+    assert!(rt; client(&mut bench, 3 * SECOND, RST)?);
+    assert!(rt; client(&mut bench, 4 * SECOND, SYN)?);
+    assert_eq!(rt; server(&mut bench, 5 * SECOND, SYN_ACK)?, Ok(CLIENT));
+    assert_eq!(rt; server(&mut bench, 7444 * SECOND, ACK)?, Ok(CLIENT));
+    Ok(())
+}
+
+#[test]
+fn tcp_lives_a_while_after_a_reset(rt: HostRuntime) -> Result<(), Fail> {
+    for (last, answer) in [
+        (243 * SECOND - 1, Ok(CLIENT)),
+        (243 * SECOND, Err(Cause::NoBinding)),
+    ] {
+        let mut bench = opened(rt.alloc())?;
+        assert!(rt; client(&mut bench, 3 * SECOND, RST)?);
+        assert_eq!(rt; server(&mut bench, last, ACK)?, answer);
+    }
+    Ok(())
+}
