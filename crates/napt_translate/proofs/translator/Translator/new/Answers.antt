@@ -1,0 +1,16 @@
+use Rattle.std.proofs.Common.{ℕ, List, ◌∙◌, ap}
+use Rattle.std.specs.Prelude.{slice_index}
+use Rattle.napt_table.specs.Tables.{TableState}
+use Rattle.napt_translate.proofs.translator.Translator.new.Goals as goal
+
+-- the table that was made is the one that the configuration opens with
+pub invariant_of-result : goal.invariant_of-result
+invariant_of-result c =
+    let shown = c.in_ok-table.ensures.shown in
+    record {
+      place = c.requires.place;
+      rules = c.pool.ensures.kept;
+      address = ap (λ (t : TableState). t.address) shown ∙ ap (λ (p : List ℕ). slice_index p c.args.index) c.pool.ensures.addresses;
+      timers = ap (λ (t : TableState). t.timers) shown;
+      filter = ap (λ (t : TableState). t.filter) shown;
+    }
