@@ -2,7 +2,8 @@ ghost use Rattle.std.specs.Prelude.{◌<◌, ◌*◌, ◌^◌, IfOk};
 ghost use Rattle.napt_capture.specs.Text.{IsWritable};
 
 use napt_capture::{
-    Capture, CaptureFault, Record, Watched, WriteFault, read_capture, write_capture, write_text,
+    Capture, CaptureFault, Record, Sink, Source, Watched, WriteFault, read_capture, write_capture,
+    write_text,
 };
 use std::alloc::{AllocError, Global};
 use std::io;
