@@ -31,4 +31,3 @@ pub const LARGEST_RECORD: u32 = 262_144;
 
 /// The most bytes that reading one capture asks its source for.
 pub const MOST_ASKED: u64 = 68_719_476_736;
-

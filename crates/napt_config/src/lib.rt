@@ -23,4 +23,3 @@ pub use endpoint::Endpoint;
 pub use fault::ConfigFault;
 pub use prefix::Prefix;
 pub use settings::{Filter, Redirect, Timers};
-

@@ -17,8 +17,8 @@ use Rattle.napt_run.proofs.OutputsAreOne.{HaveOneAnswer, captures-one}
 sides_long : (inputs : List Arrival) → length (filter (is_from Inside) inputs) + length (filter (is_from Outside) inputs) ≡ length inputs
 sides_long [] = refl
 sides_long (input ∷ inputs) = elim input.side as (λ v. input.side ≡ v → length (filter (is_from Inside) (input ∷ inputs)) + length (filter (is_from Outside) (input ∷ inputs)) ≡ suc (length inputs)) [
-    | Inside ↦ λ e. rw e (omega (arith, sides_long inputs))
-    | Outside ↦ λ e. rw e (omega (arith, sides_long inputs))
+  | Inside ↦ λ e. rw e (omega (arith, sides_long inputs))
+  | Outside ↦ λ e. rw e (omega (arith, sides_long inputs))
 ] refl
 
 -- a merged list has all records of both captures

@@ -2,9 +2,9 @@
 
 mod packets;
 
-use napt_translate::{Answer, End, Leg, Translator, onward, route};
 use napt_config::Config;
 use napt_table::Row;
+use napt_translate::{Answer, End, Leg, Translator, onward, route};
 use napt_wire::{Cause, Endpoint, Packet, Protocol, Side, Way};
 use packets as wire;
 use std::alloc::Global;
