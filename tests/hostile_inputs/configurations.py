@@ -10,7 +10,7 @@ VALUES = (
     "9223372036854775807", "9223372036854775808", "-9223372036854775808", "-9223372036854775809", "99999999999999999999999",
     "1.5", "1e3", "inf", "nan", "true", "false", "1979-05-27", "1979-05-27T07:32:00Z", "07:32:00",
     '""', '"x"', "'x'", '"""x"""', '"\\u0000"', '"\\uD800"', '"\\x"', '"é"', '"203.0.113.1"', '"10.0.0.0/8"', '"10.0.0.2:80"',
-    '"udp"', '"tcp"', '"icmp"', '"independent"', '"address"', '"address-port"', '"Address"',
+    '"udp"', '"tcp"', '"icmp"', '"independent"', '"address"', '"address-port"', '"Address"', '"outbound"', '"both"',
     '"0.0.0.0"', '"255.255.255.255"', '"256.0.0.1"', '"1.2.3"', '"1.2.3.4.5"', '"01.2.3.4"', '"1..2.3"', '" 1.2.3.4"', '"1.2.3.4 "',
     '"+1.2.3.4"', '"-1.2.3.4"', '"1.2.3.99999999999999999999"', '"0.0.0.0/0"', '"10.0.0.0/33"', '"10.0.0.0/08"', '"10.0.0.1/8"',
     '"10.0.0.0/"', '"10.0.0.0"', '"10.0.0.2:0"', '"10.0.0.2:65536"', '"10.0.0.2:"', '"10.0.0.2:080"', '"11.0.0.2:80"',
@@ -18,7 +18,7 @@ VALUES = (
     "{", "", "x", '"', "'", '"""', "\0", "\x7f", "# x",
 )
 KEYS = (
-    "pool", "inside", "filter", "ring", "timers", "pair", "redirect", "udp", "tcp-established", "tcp-transitory", "icmp",
+    "pool", "inside", "filter", "refresh", "ring", "timers", "pair", "redirect", "udp", "tcp-established", "tcp-transitory", "icmp",
     "host", "external", "protocol", "x", "Pool", "\"pool\"", "'inside'", "\"po\\u006fl\"", "pool.x", "timers.udp", "", "a b", "é", "1", "-",
 )
 LINES = (
@@ -41,6 +41,7 @@ class Configuration:
     def __init__(self, draw):
         self.pool = [POOL + place for place in range(draw.choice((1, 1, 2, 2, 3, 4, 16)))]
         self.settings = draw.choice(("", 'filter = "independent"', 'filter = "address"', 'filter = "address-port"'))
+        self.settings += draw.choice(("", "", '\nrefresh = "outbound"', '\nrefresh = "both"'))
         self.ring = draw.choice(("", "ring = 1", "ring = 2", "ring = 4096"))
         self.timers = draw.choice(("", "[timers]", "[timers]\nudp = 120\ntcp-established = 7440\ntcp-transitory = 240\nicmp = 60"))
         self.entries = self.pairs(draw) + self.redirects(draw)

@@ -13,7 +13,7 @@ MOST_DEPTH = 80
 MOST_SECONDS = 1_000_000_000
 LEAST_SECONDS = {"udp": 120, "tcp-established": 7440, "tcp-transitory": 240, "icmp": 60}
 DEFAULT_SECONDS = LEAST_SECONDS | {"udp": 300}
-KEYS = {"pool", "inside", "filter", "timers", "ring", "pair", "redirect"}
+KEYS = {"pool", "inside", "filter", "refresh", "timers", "ring", "pair", "redirect"}
 KEYS_OF_ENTRIES = {"pair": {"host", "external"}, "redirect": {"protocol", "inside", "external"}}
 
 
@@ -97,6 +97,8 @@ class Configured:
         want(not any(self.is_inside(address) for address in self.pool), "pool-inside")
         self.filter = text_in(table.get("filter", "independent"))
         want(self.filter in ("independent", "address", "address-port"), "bad-word")
+        self.refresh = text_in(table.get("refresh", "outbound"))
+        want(self.refresh in ("outbound", "both"), "bad-word")
         self.timers = self.timers_of(table.get("timers", {}))
         want(1 <= number_in(table.get("ring", 64)) <= 4096, "bad-number")
         self.pairs, self.redirects = {}, []

@@ -248,6 +248,8 @@ class Translator:
         flow = binding.flow_of(remote)
         if packet.protocol == TCP and flow:
             flow.use(now, "in", packet.flags())
+        if packet.protocol == UDP and self.rules.refresh == "both" and not binding.is_fixed:
+            binding.last = now
         packet.put_end(False, binding.inside)
 
     def take(self, now, is_outside, data):

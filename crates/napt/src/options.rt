@@ -11,19 +11,57 @@ const ABOUT: &str = "Network address and port translation for IPv4: reads captur
 that inside hosts and the outside send, and writes the captures of what leaves for the other side, \
 with addresses and ports translated.";
 
-const NOTES: &str = "Example:
+const NOTES: &str = "Examples:
+  napt < inside.pcap > to-outside.pcap
   napt --config napt.toml --inside inside.pcap --outside outside.pcap \\
        --to-outside to-outside.pcap --to-inside to-inside.pcap --report report.txt
 
-Exit status:
-  0  done
-  2  the command line is not understood
-  3  the configuration is refused
-  4  a capture is refused or cannot be read
-  5  the run failed, as for want of memory
-  6  a file cannot be opened, created or written
+Exit status, and the line on standard error that says why:
+  0  done, without a line
+  2  napt: usage
+       an unknown option, one that stands twice, or one without its file
+  3  napt: config WORD
+       not-toml         no TOML in UTF-8
+       unknown-key      a key that no configuration has
+       missing          a required key is absent, or its list is empty
+       bad-shape        a value is of another kind than its key asks for
+       too-many         a list has more entries than it may have
+       bad-address      no IPv4 address, or in a redirect no endpoint
+       bad-prefix       no IPv4 prefix, or bits past its length are set
+       bad-number       a number is out of its range
+       bad-word         no word that the key knows
+       double-address   an address stands twice in the pool
+       pool-inside      a pool address is in a prefix of inside
+       double-pair      a host has two pairs
+       not-in-pool      the external address of a pair is not in the pool
+       not-inside       a host is in no prefix of inside
+       double-redirect  two redirects share an inside or an external endpoint
+       timer-too-short  a timer is below what the RFC asks
+       memory           memory ran out
+  4  napt: capture SIDE WORD, where SIDE is inside or outside
+       no-header        fewer than 24 bytes
+       bad-magic        no libpcap capture (pcapng is another format)
+       bad-version      not version 2.4
+       bad-link         neither link type 101 (raw IP) nor 228 (raw IPv4)
+       bad-fraction N   the time of record N has a fraction of a second or more
+       too-long N       record N has more than 262144 bytes
+       too-large        reading would ask for more than 68719476736 bytes
+       read             the file could not be read
+       memory           memory ran out
+  5  napt: run WORD
+       memory           memory ran out
+       too-many         more than 4294967295 packets
+       no-thread        the system refused a worker its thread
+       gate-shut N      the gate kept worker N waiting; never in this program
+       ring             the ends of a ring disagree; nothing is known to cause it
+  6  napt: file OPTION
+       not opened, read or created; its stream is closed; a configuration of more
+       than 64 MiB; or an output that another option names too
+     napt: write OPTION
+       writing failed; help goes where to-outside goes by default, so that help
+       which could not be written to standard output is write to-outside
 
-With a status other than 0 one line on standard error says what is wrong.";
+napt 1.0, proved with rattle-kit-13b logic dac8208d650f15bf";
 
 // The options, each with its meaning, in the order of the help text.
 const OPTIONS: [(&str, &str); 6] = [

@@ -121,12 +121,6 @@ empty_marked = record {
   marks = λ i within. empty_has_none 16 i ∙ sym (ap (λ (w : ℕ). w == full_word) (zero_at 1024 i));
 }
 
--- BOUNDS
-
--- the first up to a nearer end
-pub nearer : (used : ℕ → Bool) (from big end : ℕ) → end ≤ big → IsFirstAbsent used from big None → IsFirstAbsent used from end None
-nearer used from big end le h j low high = h j low (omega arith)
-
 -- THE FIRST OVER ALL WORDS
 
 module _ (words full : List ℕ) (m : IsMarked words full) (from d : ℕ) (within : from < 65536) (here : IsFirstAbsent (has_bit (get_or words (from / 64) d)) (from % 64) 64 None) where

@@ -22,9 +22,6 @@ open_word word i lt clear = elim (eqb word full_word) as (λ v. eqb word full_wo
   | false ↦ λ e. e
 ] refl
 
-pub bit_from_set : (word i : ℕ) → has_bit word i ≡ true → bit_at word i ≡ 1
-bit_from_set word i h = grind (arith, nat_tests)
-
 -- the bits below `from` are set
 abbrev pub filled : ℕ → ℕ → ℕ
 filled word from = bit_or word (1 * 2 ^ from % 2 ^ 64 - 1)

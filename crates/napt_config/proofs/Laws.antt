@@ -16,7 +16,7 @@ use Rattle.napt_config.specs.declared.settings.Timers.{Timers}
 use Rattle.napt_config.specs.Network.{Network, IsNetwork, have_address}
 use Rattle.napt_config.specs.Text.{address_of, network_of, network_at, number_of, is_slash}
 use Rattle.napt_config.specs.Rules.{Rules, has, paired_with, paired, IsTimer, AreTimers, IsInside, ArePairs, KeepsRules}
-use Rattle.napt_config.specs.Configured.{item_count, short_list, text_in, number_in, table_in, list_in, between, with_address, pool_in, with_prefix, prefixes_in, inside_in, filter_in, timer_at, timers_at, timers_in, default_timers, ring_at, ring_in, address_in, with_pair, pairs_at, pairs_in, redirects_in, required, optional, configured, knows_all_keys}
+use Rattle.napt_config.specs.Configured.{item_count, short_list, text_in, number_in, table_in, list_in, between, with_address, pool_in, with_prefix, prefixes_in, inside_in, filter_in, refresh_in, timer_at, timers_at, timers_in, default_timers, ring_at, ring_in, address_in, with_pair, pairs_at, pairs_in, redirects_in, required, optional, configured, knows_all_keys}
 use Rattle.napt_config.proofs.Addresses.{address_of-bound}
 use Rattle.napt_config.proofs.Chains.{reads, holds, ok_or_ok, optional_reads, each_keeps, each_adds}
 use Rattle.napt_config.proofs.Numbers.{number_of-range, between-range}
@@ -274,11 +274,12 @@ configured-keeps table rules is =
     reads (pool_in table) _ rules rest λ pool pool_is rest₁.
     reads (inside_in pool table) _ rules rest₁ λ inside inside_is rest₂.
     reads (filter_in table) _ rules rest₂ λ filter _ rest₃.
-    reads (timers_in table) _ rules rest₃ λ timers timers_is rest₄.
-    reads (ring_in table) _ rules rest₄ λ ring ring_is rest₅.
-    reads (pairs_in pool inside table) _ rules rest₅ λ pairs pairs_is rest₆.
-    reads (redirects_in inside (paired pool pairs) table) _ rules rest₆ λ redirects redirects_are last.
-    let made : Rules = record { pool = pool; inside = inside; filter = filter; timers = timers; ring = ring; pairs = pairs; redirects = redirects } in
+    reads (refresh_in table) _ rules rest₃ λ refresh _ rest₄.
+    reads (timers_in table) _ rules rest₄ λ timers timers_is rest₅.
+    reads (ring_in table) _ rules rest₅ λ ring ring_is rest₆.
+    reads (pairs_in pool inside table) _ rules rest₆ λ pairs pairs_is rest₇.
+    reads (redirects_in inside (paired pool pairs) table) _ rules rest₇ λ redirects redirects_are last.
+    let made : Rules = record { pool = pool; inside = inside; filter = filter; refresh = refresh; timers = timers; ring = ring; pairs = pairs; redirects = redirects } in
     let same : made ≡ rules = cc in
     let of_pool = pool_in-keeps table pool pool_is in
     let (of_inside, outside) = inside_in-keeps pool table inside inside_is in

@@ -14,6 +14,8 @@ use Rattle.napt_config.specs.Fault.{◌>>=◌, ◌>>◌, must}
 use Rattle.napt_config.specs.Rules.{Rules, has, paired_with, paired, is_double}
 use Rattle.napt_config.specs.declared.settings.Filter.{Filter}
 use Rattle.napt_config.specs.declared.settings.Filter.TheVariants.{Independent, Address, AddressPort}
+use Rattle.napt_config.specs.declared.settings.Refresh.{Refresh}
+use Rattle.napt_config.specs.declared.settings.Refresh.TheVariants.{Outbound, Both}
 use Rattle.napt_config.specs.declared.settings.Timers.{Timers}
 use Rattle.napt_config.specs.declared.settings.Redirect.{Redirect}
 use Rattle.napt_config.specs.declared.fault.ConfigFault.{ConfigFault}
@@ -36,7 +38,7 @@ only_keys_in_each names no_items = true
 only_keys_in_each names (item entry rest) = only_keys_in names entry && only_keys_in_each names rest
 
 abbrev pub top_keys : List (List ℕ)
-top_keys = codes "pool" ∷ codes "inside" ∷ codes "filter" ∷ codes "timers" ∷ codes "ring" ∷ codes "pair" ∷ codes "redirect" ∷ []
+top_keys = codes "pool" ∷ codes "inside" ∷ codes "filter" ∷ codes "refresh" ∷ codes "timers" ∷ codes "ring" ∷ codes "pair" ∷ codes "redirect" ∷ []
 
 abbrev pub timer_keys : List (List ℕ)
 timer_keys = codes "udp" ∷ codes "tcp-established" ∷ codes "tcp-transitory" ∷ codes "icmp" ∷ []
@@ -158,6 +160,21 @@ filter_at value = do
 
 unfoldable pub filter_in : Members → Result Filter ConfigFault
 filter_in table = optional (codes "filter") Independent filter_at table
+
+-- ---- refresh
+
+abbrev pub refresh_of : List ℕ → Option Refresh
+refresh_of word =
+    if bytes_eq word (codes "outbound") then Some Outbound
+    else (if bytes_eq word (codes "both") then Some Both else None)
+
+unfoldable pub refresh_at : Data → Result Refresh ConfigFault
+refresh_at value = do
+  word ← text_in value
+  ok_or (refresh_of word) BadWord
+
+unfoldable pub refresh_in : Members → Result Refresh ConfigFault
+refresh_in table = optional (codes "refresh") Outbound refresh_at table
 
 -- ---- timers
 
@@ -288,11 +305,12 @@ configured table = do
   pool ← pool_in table
   inside ← inside_in pool table
   filter ← filter_in table
+  refresh ← refresh_in table
   timers ← timers_in table
   ring ← ring_in table
   pairs ← pairs_in pool inside table
   redirects ← redirects_in inside (paired pool pairs) table
-  Ok (record { pool = pool; inside = inside; filter = filter; timers = timers; ring = ring; pairs = pairs; redirects = redirects })
+  Ok (record { pool = pool; inside = inside; filter = filter; refresh = refresh; timers = timers; ring = ring; pairs = pairs; redirects = redirects })
 
 -- the table that a text reads as: it is UTF-8, and TOML
 unfoldable pub document_of : List ℕ → Option Members
@@ -312,6 +330,7 @@ built_in = record {
   pool = 0xCB007101 ∷ [];
   inside = private_networks;
   filter = Independent;
+  refresh = Outbound;
   timers = default_timers;
   ring = 64;
   pairs = [];

@@ -6,8 +6,8 @@ use Rattle.napt_config.specs.declared.fault.ConfigFault.TheVariants as Fault
 abbrev pub fault_message : ConfigFault → List ℕ
 fault_message Fault.NotToml = codes "expected TOML in UTF-8"
 fault_message Fault.UnknownKey =
-    codes "unknown key: expected `pool`, `inside`, `filter`, `timers`, `ring`, `pair` or `redirect`; in "
-    ++ codes "`timers` `udp`, `tcp-established`, `tcp-transitory` or `icmp`; in a `pair` `host` or "
+    codes "unknown key: expected `pool`, `inside`, `filter`, `refresh`, `timers`, `ring`, `pair` or `redirect`; "
+    ++ codes "in `timers` `udp`, `tcp-established`, `tcp-transitory` or `icmp`; in a `pair` `host` or "
     ++ codes "`external`; in a `redirect` `protocol`, `inside` or `external`"
 fault_message Fault.Missing =
     codes "expected `pool` and `inside` with at least one entry each, `host` and `external` in each "
@@ -25,7 +25,8 @@ fault_message Fault.BadNumber =
     codes "expected a timer of 0 to 1000000000 seconds, a `ring` of 1 to 4096, or an `external` port of 1 "
     ++ codes "to 65535"
 fault_message Fault.BadWord =
-    codes "expected `independent`, `address` or `address-port` as `filter`, or `udp` or `tcp` as `protocol`"
+    codes "expected `independent`, `address` or `address-port` as `filter`, `outbound` or `both` as "
+    ++ codes "`refresh`, or `udp` or `tcp` as `protocol`"
 fault_message Fault.DoubleAddress = codes "expected each address of `pool` once"
 fault_message Fault.PoolInside = codes "expected no address of `pool` in a prefix of `inside`"
 fault_message Fault.DoublePair = codes "expected at most one `pair` for each host"

@@ -8,6 +8,7 @@ use Rattle.std.specs.Ordering.{nat_cmp}
 use Rattle.std.specs.BTreeMap.{is_at}
 use Rattle.napt_config.specs.Network.{Network, IsNetwork, have_address}
 use Rattle.napt_config.specs.declared.settings.Filter.{Filter}
+use Rattle.napt_config.specs.declared.settings.Refresh.{Refresh}
 use Rattle.napt_config.specs.declared.settings.Timers.{Timers}
 use Rattle.napt_config.specs.declared.settings.Redirect.{Redirect}
 
@@ -17,6 +18,7 @@ pub record Rules : Type 0 where
   pub pool : List ℕ
   pub inside : List Network
   pub filter : Filter
+  pub refresh : Refresh
   pub timers : Timers
   pub ring : ℕ
   pub pairs : List (ℕ × ℕ)

@@ -8,6 +8,7 @@ shown config = record {
   pool = config.pool.items;
   inside = config.inside.items;
   filter = config.filter;
+  refresh = config.refresh;
   timers = config.timers;
   ring = config.ring;
   pairs = config.pairs.entries;

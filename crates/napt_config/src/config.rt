@@ -6,7 +6,9 @@ ghost use Rattle.napt_config.specs.Fault.{Gives};
 ghost use Rattle.napt_config.specs.Configured.{document_of};
 ghost use Rattle.napt_config.specs.declared.fault.ConfigFault.TheVariants.{NotToml};
 
-use crate::{ConfigFault, Filter, Prefix, Redirect, Timers, keys, pairing, reading, redirects};
+use crate::{
+    ConfigFault, Filter, Prefix, Redirect, Refresh, Timers, keys, pairing, reading, redirects,
+};
 use std::alloc::{AllocError, Global};
 use std::collections::BTreeMap;
 use std::marker::Model;
@@ -27,6 +29,7 @@ pub struct Config {
     pool: Vec<u32>,
     inside: Vec<Prefix>,
     filter: Filter,
+    refresh: Refresh,
     timers: Timers,
     ring: usize,
     pairs: BTreeMap<u32, u32>,
@@ -72,6 +75,7 @@ impl Config {
         let pool = reading::pool(alloc, table)?;
         let inside = reading::inside(alloc, table, &pool)?;
         let filter = reading::filter(table)?;
+        let refresh = reading::refresh(table)?;
         let timers = reading::timers(table)?;
         let ring = reading::ring(table)?;
         let pairs = reading::pairs(alloc, table, &pool, &inside)?;
@@ -80,6 +84,7 @@ impl Config {
             pool,
             inside,
             filter,
+            refresh,
             timers,
             ring,
             pairs,
@@ -99,6 +104,7 @@ impl Config {
             pool,
             inside,
             filter: Filter::Independent,
+            refresh: Refresh::Outbound,
             timers: Timers::DEFAULT,
             ring: reading::DEFAULT_SLOTS,
             pairs: BTreeMap::new(alloc),
@@ -114,6 +120,7 @@ impl Config {
             pool: Vec::from_slice(alloc, &self.pool)?,
             inside: Vec::from_slice(alloc, &self.inside)?,
             filter: self.filter,
+            refresh: self.refresh,
             timers: self.timers,
             ring: self.ring,
             pairs: self.pairs.clone()?,
@@ -178,6 +185,13 @@ impl Config {
         ensures { result ≡ self.now.filter }
     {
         self.filter
+    }
+
+    /// Which UDP packets keep a binding alive.
+    pub fn refresh(&self) -> Refresh
+        ensures { result ≡ self.now.refresh }
+    {
+        self.refresh
     }
 
     /// How long what is idle lives.

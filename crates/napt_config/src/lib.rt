@@ -22,4 +22,4 @@ pub use config::Config;
 pub use endpoint::Endpoint;
 pub use fault::ConfigFault;
 pub use prefix::Prefix;
-pub use settings::{Filter, Redirect, Timers};
+pub use settings::{Filter, Redirect, Refresh, Timers};

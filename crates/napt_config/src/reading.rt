@@ -4,10 +4,10 @@ ghost use Rattle.std.specs.List.{list_any};
 ghost use Rattle.toml.specs.View.{view, table_view, items_view};
 ghost use Rattle.napt_config.specs.Fault.{Gives};
 ghost use Rattle.napt_config.specs.Network.{have_address};
-ghost use Rattle.napt_config.specs.Configured.{each_in_order, between, short_list, with_address, pool_in, with_prefix, prefixes_in, inside_in, filter_at, filter_in, timer_at, timers_at, timers_in, ring_at, ring_in, address_in, with_pair, pairs_at, pairs_in, optional};
+ghost use Rattle.napt_config.specs.Configured.{each_in_order, between, short_list, with_address, pool_in, with_prefix, prefixes_in, inside_in, filter_at, filter_in, refresh_at, refresh_in, timer_at, timers_at, timers_in, ring_at, ring_in, address_in, with_pair, pairs_at, pairs_in, optional};
 
 use crate::values::{list_in, number_in, required, table_in, text_in, value_at};
-use crate::{ConfigFault, Filter, Prefix, Timers, text};
+use crate::{ConfigFault, Filter, Prefix, Refresh, Timers, text};
 use std::alloc::Global;
 use std::collections::BTreeMap;
 use toml::{Table, Value};
@@ -151,6 +151,30 @@ pub(crate) fn filter(table: &Table) -> Result<Filter, ConfigFault>
     match value_at(table, "filter") {
         Some(value) => filter_at(value),
         None => Ok(Filter::Independent),
+    }
+}
+
+// ---- refresh
+
+#[tactic(auto, unfolding(crate::specs::Configured::refresh_at))]
+fn refresh_at(value: &Value) -> Result<Refresh, ConfigFault>
+    ensures { Gives (λ refresh. refresh) result (refresh_at (view value.now)) }
+{
+    match text_in(value)? {
+        "outbound" => Ok(Refresh::Outbound),
+        "both" => Ok(Refresh::Both),
+        _ => Err(ConfigFault::BadWord),
+    }
+}
+
+/// Which UDP packets keep a binding alive.
+#[tactic(auto, unfolding(crate::specs::Configured::refresh_in))]
+pub(crate) fn refresh(table: &Table) -> Result<Refresh, ConfigFault>
+    ensures { Gives (λ refresh. refresh) result (refresh_in (table_view table.now)) }
+{
+    match value_at(table, "refresh") {
+        Some(value) => refresh_at(value),
+        None => Ok(Refresh::Outbound),
     }
 }
 

@@ -11,6 +11,15 @@ pub enum Filter {
     AddressPort,
 }
 
+/// Which UDP packets keep a binding alive (RFC 4787, REQ-6). Bindings of other protocols go by their own rules.
+#[derive(Clone, Copy, Debug, PartialEq, Eq)]
+pub enum Refresh {
+    /// Those that go out.
+    Outbound,
+    /// Those that go out, and those that are let in.
+    Both,
+}
+
 /// How long what is idle lives, in seconds (RFC 4787, section 4.3; RFC 5382, section 5; RFC 5508, section 3.2).
 #[derive(Clone, Copy, Debug, PartialEq, Eq)]
 pub struct Timers {

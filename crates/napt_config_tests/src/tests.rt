@@ -1,4 +1,6 @@
-use napt_config::{Address, Config, ConfigFault, Endpoint, Filter, Prefix, Redirect, Timers};
+use napt_config::{
+    Address, Config, ConfigFault, Endpoint, Filter, Prefix, Redirect, Refresh, Timers,
+};
 use std::alloc::Global;
 use std::process::Abort;
 use std::test::Fail;
@@ -25,6 +27,7 @@ fn example(rt: HostRuntime) -> Result<(), Fail> {
 pool = ["203.0.113.1", "203.0.113.2"]
 inside = ["10.0.0.0/8"]
 filter = "independent"
+refresh = "outbound"
 ring = 64
 [timers]
 udp = 300
@@ -46,6 +49,7 @@ external = 7000
     assert!(rt; !config.is_inside(0x09FF_FFFF));
     assert!(rt; !config.is_inside(0x0B00_0000));
     assert_eq!(rt; config.filter(), Filter::Independent);
+    assert_eq!(rt; config.refresh(), Refresh::Outbound);
     let timers = Timers {
         udp: 300,
         established: 7440,
@@ -70,6 +74,7 @@ fn other_settings(rt: HostRuntime) -> Result<(), Fail> {
     let text = r#"
 ring = 4096
 filter = "address-port"
+refresh = "both"
 inside = ["10.0.0.0/8", "0.0.0.0/32", "128.0.0.0/1"]
 pool = ["11.0.0.1"]
 timers = { icmp = 61, tcp-transitory = 241, tcp-established = 7441, udp = 1000000000 }
@@ -80,6 +85,7 @@ timers = { icmp = 61, tcp-transitory = 241, tcp-established = 7441, udp = 100000
     assert!(rt; !config.is_inside(1));
     assert!(rt; config.is_inside(0xFFFF_FFFF));
     assert_eq!(rt; config.filter(), Filter::AddressPort);
+    assert_eq!(rt; config.refresh(), Refresh::Both);
     let timers = Timers {
         udp: 1_000_000_000,
         established: 7441,
@@ -223,6 +229,12 @@ BadWord
 filter = "Address"
 ---
 BadShape
+refresh = true
+---
+BadWord
+refresh = "inbound"
+---
+BadShape
 timers = 1
 ---
 BadShape
@@ -338,6 +350,14 @@ tcp = 7440
 ---
 BadWord
 filter = "any"
+refresh = 1
+---
+BadShape
+refresh = 1
+timers = 1
+---
+BadWord
+refresh = "none"
 timers = 1
 ---
 TimerTooShort
@@ -734,6 +754,7 @@ fn built_in_and_copy(rt: HostRuntime) -> Result<(), Fail> {
     assert_eq!(rt; config.timers(), Timers::DEFAULT);
     assert_eq!(rt; config.ring(), 64);
     assert_eq!(rt; config.filter(), Filter::Independent);
+    assert_eq!(rt; config.refresh(), Refresh::Outbound);
     assert_eq!(rt; config.pair(7), 0xCB00_7101);
     assert!(rt; config.redirects().is_empty());
     Ok(())
@@ -781,7 +802,7 @@ fn messages(rt: HostRuntime) -> Result<(), Fail> {
         ),
         (
             ConfigFault::BadWord,
-            "expected `independent`, `address` or `address-port` as `filter`, or `udp` or `tcp` as `protocol`",
+            "expected `independent`, `address` or `address-port` as `filter`, `outbound` or `both` as `refresh`, or `udp` or `tcp` as `protocol`",
         ),
         (
             ConfigFault::DoubleRedirect,

@@ -1,4 +1,4 @@
-//! A gate that stays shut to one step.
+//! Gates that stay shut.
 
 use crate::packets::RESOLVER;
 use crate::runs::{MILLISECOND, TWO, host, input};
@@ -9,6 +9,10 @@ use napt_wire::Side;
 use std::sync::Arc;
 use std::sync::atomic::{AtomicU64, Ordering};
 use std::test::Fail;
+use std::thread;
+
+/// The most often that a gate may be asked for one leg.
+const MOST_ASKS: u64 = 1_000_000;
 
 /// The turn of worker 1 to which the gate says no.
 const SHUT_TURN: u64 = 3;
@@ -48,6 +52,57 @@ fn gate_stays_shut_to_one_turn(rt: HostRuntime) -> Result<(), Fail> {
     }
     let fault = run_workers(&rt, alloc, &config, &inputs, gate).err();
     assert_eq!(rt; fault, Some(RunFault::Pool(PoolFault::GateShut(1))));
-    assert_eq!(rt; watched.asks.load(Ordering::SeqCst), 1_000_000);
+    assert_eq!(rt; watched.asks.load(Ordering::SeqCst), MOST_ASKS);
+    Ok(())
+}
+
+/// Says no to both workers, to worker 0 only once worker 1 was told no for the last time.
+#[derive(Drop)]
+struct SecondFirst {
+    asks: AtomicU64,
+}
+
+impl SecondFirst {
+    /// Waits until worker 1 was told no for the last time, or so long that it never is.
+    fn wait_for_second(&self) {
+        for _ in 0..MOST_ASKS {
+            if self.asks.load(Ordering::SeqCst) == MOST_ASKS {
+                return;
+            }
+            thread::yield_now();
+        }
+    }
+}
+
+impl Gate for SecondFirst {
+    ghost use Rattle.std.specs.Prelude.{false};
+
+    ghost is_open = { false };
+
+    fn enter(&self, worker: u32, _turn: u64) -> bool {
+        if worker == 1 {
+            self.asks.fetch_add(1, Ordering::SeqCst);
+        } else {
+            self.wait_for_second();
+            thread::yield_now();
+        }
+        false
+    }
+}
+
+/// Worker 1 stops while worker 0 is still asking, and both have stopped when the pool is closed: the fault that ended
+/// dispatching is told, and not that of the least worker, which `close` tells.
+#[test]
+fn fault_of_dispatching_is_told_first(rt: HostRuntime) -> Result<(), Fail> {
+    let alloc = rt.alloc();
+    let asks = AtomicU64::new(0);
+    let gate = Arc::new(alloc, SecondFirst { asks })?;
+    let config = Config::read(alloc, TWO.as_bytes())?;
+    let mut inputs = Vec::new(alloc);
+    for last in [2, 3] {
+        inputs.push(input(alloc, Side::Inside, MILLISECOND, host(last, 5000), RESOLVER)?)?;
+    }
+    let fault = run_workers(&rt, alloc, &config, &inputs, gate).err();
+    assert_eq!(rt; fault, Some(RunFault::Pool(PoolFault::GateShut(1))));
     Ok(())
 }

@@ -1,5 +1,5 @@
 // How a thread waits for what another thread does.
-ghost use Rattle.std.specs.Prelude.{◌≡◌, ◌≤◌, ◌<◌};
+ghost use Rattle.std.specs.Prelude.{◌≡◌, ◌+◌, ◌≤◌, ◌<◌};
 ghost use Rattle.napt_pool.specs.declared.backoff.Pause.TheVariants.{Spin, Yield, Park};
 
 use std::sync::Wait;
@@ -64,7 +64,10 @@ impl Backoff {
 
     /// Pauses before the next look: 32 times for an instant, 16 times until other threads had their turn, and then each
     /// time for the shortest time that the system sleeps.
-    pub fn pause<R: Wait>(&mut self, rt: &R) {
+    pub fn pause<R: Wait>(&mut self, rt: &R)
+        ensures counted { self.old.looks < 48 → self.new.looks ≡ self.old.looks + 1 }
+        ensures asleep { 48 ≤ self.old.looks → self.new.looks ≡ self.old.looks }
+    {
         match Pause::after(self.looks) {
             Pause::Spin => hint::spin_loop(),
             Pause::Yield => thread::yield_now(),

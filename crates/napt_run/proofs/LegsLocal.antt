@@ -11,6 +11,7 @@ use Rattle.napt_wire.specs.declared.Kind.{Kind}
 use Rattle.napt_wire.specs.declared.Kind.TheVariants.{Udp, Tcp, Echo, ErrorOf}
 use Rattle.napt_wire.specs.Fields.{source, destination, kind}
 use Rattle.napt_config.specs.Rules.{Rules}
+use Rattle.napt_table.specs.Inbound.{inbound_of}
 use Rattle.napt_table.specs.declared.Binding.{Binding}
 use Rattle.napt_table.specs.Bindings.{same_protocol, same_endpoint, of, is_at, is_of_inside, has_number}
 use Rattle.napt_table.specs.Life.{purge}
@@ -40,11 +41,11 @@ module _ (rules : Rules) (address now : ℕ) (own list : List Binding) (same : p
       }
 
   alike_in : (packet : List ℕ) (protocol : Protocol) (number : ℕ) (remote : Endpoint) (flags : Flags) →
-      (let o : List Binding → In = λ l. in_purged rules.filter address now protocol number remote flags (purge rules.timers now l) in
+      (let o : List Binding → In = λ l. in_purged (inbound_of rules) address now protocol number remote flags (purge rules.timers now l) in
       ActsAlike rules address now (acted_in packet (o own)) (acted_in packet (o list)))
   alike_in packet protocol number remote flags =
-      let e : in_purged rules.filter address now protocol number remote flags (purge rules.timers now own) ≡ record { inside = (in_purged rules.filter address now protocol number remote flags (purge rules.timers now list)).inside; list = of address (in_purged rules.filter address now protocol number remote flags (purge rules.timers now list)).list }
-      = ap (in_purged rules.filter address now protocol number remote flags) same ∙ in_local rules.filter address now protocol number remote flags (purge rules.timers now list) in
+      let e : in_purged (inbound_of rules) address now protocol number remote flags (purge rules.timers now own) ≡ record { inside = (in_purged (inbound_of rules) address now protocol number remote flags (purge rules.timers now list)).inside; list = of address (in_purged (inbound_of rules) address now protocol number remote flags (purge rules.timers now list)).list }
+      = ap (in_purged (inbound_of rules) address now protocol number remote flags) same ∙ in_local (inbound_of rules) address now protocol number remote flags (purge rules.timers now list) in
       record {
         end = ap (λ (o : In). (acted_in packet o).end) e;
         list = record { same = ap (λ (o : In). purge rules.timers now o.list) e };
@@ -88,9 +89,9 @@ module _ (rules : Rules) (address now : ℕ) (list : List Binding) (other : ℕ)
       ap (purge rules.timers now) (out_other address now protocol inside remote flags other differ (purge rules.timers now list) ∙ of_purge rules.timers now other list)
       ∙ purge_purge rules.timers now now (omega arith) (of other list)
 
-  kept_in : (protocol : Protocol) (number : ℕ) (remote : Endpoint) (flags : Flags) → purge rules.timers now (of other (in_purged rules.filter address now protocol number remote flags (purge rules.timers now list)).list) ≡ purge rules.timers now (of other list)
+  kept_in : (protocol : Protocol) (number : ℕ) (remote : Endpoint) (flags : Flags) → purge rules.timers now (of other (in_purged (inbound_of rules) address now protocol number remote flags (purge rules.timers now list)).list) ≡ purge rules.timers now (of other list)
   kept_in protocol number remote flags =
-      ap (purge rules.timers now) (in_other rules.filter address now protocol number remote flags other differ (purge rules.timers now list) ∙ of_purge rules.timers now other list)
+      ap (purge rules.timers now) (in_other (inbound_of rules) address now protocol number remote flags other differ (purge rules.timers now list) ∙ of_purge rules.timers now other list)
       ∙ purge_purge rules.timers now now (omega arith) (of other list)
 
   kept_by : (packet : List ℕ) (way : Way) (kind : Kind) → purge rules.timers now (of other (act_by rules address now packet list way kind).list) ≡ purge rules.timers now (of other list)

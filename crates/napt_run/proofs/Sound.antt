@@ -11,6 +11,7 @@ use Rattle.napt_wire.specs.Fields.{source, destination, kind, local_of, local_en
 use Rattle.napt_wire.specs.Reading.{reading}
 use Rattle.napt_wire.specs.Laws.{PacketsCarryNumbers}
 use Rattle.napt_config.specs.Rules.{Rules, pair_of}
+use Rattle.napt_table.specs.Inbound.{inbound_of}
 use Rattle.napt_table.specs.declared.Binding.{Binding}
 use Rattle.napt_table.specs.Endpoints.{IsSound, OutStaysSound, InStaysSound, SoundIsApart}
 use Rattle.napt_table.specs.Opening.{opening, OpeningIsSound}
@@ -26,9 +27,9 @@ use Rattle.napt_run.specs.Sound.{RunsAreSound, RunsStayApart}
 module _ (carry : PacketsCarryNumbers) (out_sound : OutStaysSound) (in_sound : InStaysSound) (rules : Rules) where
   -- an incoming leg, whatever the packet
   sound_in : (address now : ℕ) (packet : List ℕ) (list : List Binding) (kind : Kind) → IsSound (pair_of rules) list → IsSound (pair_of rules) (act_by rules address now packet list Incoming kind).list
-  sound_in address now packet list Udp s = in_sound (pair_of rules) rules.timers rules.filter address now protocols.Udp (destination packet).number (source packet) no_flags list s
-  sound_in address now packet list (Tcp flags) s = in_sound (pair_of rules) rules.timers rules.filter address now protocols.Tcp (destination packet).number (source packet) flags list s
-  sound_in address now packet list Echo s = in_sound (pair_of rules) rules.timers rules.filter address now protocols.Icmp (destination packet).number (source packet) no_flags list s
+  sound_in address now packet list Udp s = in_sound (pair_of rules) rules.timers (inbound_of rules) address now protocols.Udp (destination packet).number (source packet) no_flags list s
+  sound_in address now packet list (Tcp flags) s = in_sound (pair_of rules) rules.timers (inbound_of rules) address now protocols.Tcp (destination packet).number (source packet) flags list s
+  sound_in address now packet list Echo s = in_sound (pair_of rules) rules.timers (inbound_of rules) address now protocols.Icmp (destination packet).number (source packet) no_flags list s
   sound_in address now packet list (ErrorOf inner) s = s
 
   -- an outgoing leg at the address of its host's pairing, of a packet whose source has a number

@@ -202,10 +202,6 @@ offered_parts_are w leg parts mid later m counts owed held progress =
     parts_as later.counts (slice_set parts.counts w (slice_index parts.counts w + 1)) later.owed (pushed w (owed_of leg) parts.owed) later.held parts.held later.progress parts.progress
     (counts ∙ ap (λ (p : Parts). p.counts) m) (owed ∙ ap (λ (p : Parts). pushed w (owed_of leg) p.owed) m) (held ∙ ap (λ (p : Parts). p.held) m) (progress ∙ ap (λ (p : Parts). p.progress) m)
 
-pub same_keeps : (ledger later : Ledger) → later.offered ≡ ledger.offered → later.taken ≡ ledger.taken → later.parts ≡ ledger.parts → Keeps ledger later
-same_keeps ledger later a b c = λ rules done all s.
-    subst (Stands rules done all) (sym (ledger_as later.offered ledger.offered later.taken ledger.taken later.parts ledger.parts a b c)) s
-
 -- AN ANSWER
 
 get_set : (xs : List Progress) (n i : ℕ) (v x : Progress) → slice_get (set xs n v) i ≡ Some x → ((i ≡ n) × (v ≡ x)) ⊎ (slice_get xs i ≡ Some x)
@@ -448,21 +444,10 @@ module _ (w : ℕ) (number : ℕ) (ledger : Ledger) (held : List (List Held)) (w
         known_set (run rules all (opening rules)) ledger.parts.progress number Awaited tt r.known,
       )) s)
 
--- a leg that stood first is taken out
-pub ready_keeps : (w : ℕ) (leg : Leg) (ledger : Ledger) (held : List (List Held)) → w < length ledger.parts.held → Popped w (Ready leg) ledger.parts.held held →
-    Keeps ledger (with_first w leg (held_as ledger held ledger.parts.progress))
-ready_keeps w leg ledger held within p = λ rules done all s.
-    subst (λ (h : List (List Held)). Stands rules done all (held_as ledger h ledger.parts.progress)) (sym (restored w (Ready leg) ledger.parts.held held within p)) s
-
 pub next_keeps_as : (w number : ℕ) (ledger : Ledger) (held : List (List Held)) → w < length ledger.parts.held → Popped w (Place number) ledger.parts.held held → (leg : Leg) (progress : List Progress) →
     IsSecond number ledger.parts.progress progress (seconds.Known leg) → Keeps ledger (with_first w leg (held_as ledger held progress))
 next_keeps_as w number ledger held within p leg progress is = λ rules done all s.
     subst (λ (ps : List Progress). Stands rules done all (with_first w leg (held_as ledger held ps))) (sym is.0) (next_keeps w number ledger held within p leg is.1 is.2 rules done all s)
-
-pub gone_keeps_as : (w number : ℕ) (ledger : Ledger) (held : List (List Held)) → w < length ledger.parts.held → Popped w (Place number) ledger.parts.held held → (progress : List Progress) →
-    IsSecond number ledger.parts.progress progress seconds.Never → Keeps ledger (held_as ledger held progress)
-gone_keeps_as w number ledger held within p progress is = λ rules done all s.
-    subst (λ (ps : List Progress). Stands rules done all (held_as ledger held ps)) (sym is.0) (gone_keeps w number ledger held within p is.1 is.2 rules done all s)
 
 -- ONE INPUT MORE
 

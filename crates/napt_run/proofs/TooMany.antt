@@ -1,5 +1,6 @@
 -- Captures with more records than a run can count.
-use Rattle.std.proofs.Common.{◌≡◌, ℕ, suc, ◌+◌, ◌^◌, ◌≤◌, List, [], ◌∷◌, length, map, filter, Option, Some, None, Result, Ok, Err, refl, sym, ◌∙◌, ap, ap₂, subst, arith}
+use Rattle.std.proofs.Common.{◌≡◌, ℕ, suc, ◌+◌, ◌^◌, ◌<◌, ◌≤◌, List, [], ◌∷◌, length, filter, Option, Some, None, Result, Ok, Err, refl, sym, ◌∙◌, ap, ap₂, subst, arith}
+use Rattle.std.proofs.Math.Nat.{lt_of_not-le}
 use Rattle.std.proofs.lemmas.List.{length-map}
 use Rattle.napt_wire.specs.declared.Side.TheVariants.{Inside, Outside}
 use Rattle.napt_capture.specs.Contents.{Entry}
@@ -7,8 +8,8 @@ use Rattle.napt_run.specs.declared.captures.Captures.{Captures}
 use Rattle.napt_run.specs.declared.fault.Fault.{Fault}
 use Rattle.napt_run.specs.declared.fault.Fault.TheVariants.{Run}
 use Rattle.napt_run.specs.declared.fault.RunFault.{RunFault}
-use Rattle.napt_run.specs.declared.fault.RunFault.TheVariants.{Memory, TooMany, Pool}
-use Rattle.napt_run.specs.Captures.{AreTooMany, IsOutsideCapture, IsReadAsOutside, IsReadFrom, TellsTooMany, TooManyAreTold}
+use Rattle.napt_run.specs.declared.fault.RunFault.TheVariants.{TooMany}
+use Rattle.napt_run.specs.Captures.{AreTooMany, IsReadAsOutside, IsReadFrom, TellsTooMany, TooManyAreTold}
 use Rattle.napt_run.specs.Inputs.{Arrival}
 use Rattle.napt_run.specs.Merge.{IsMerged, is_from, of_input, of_record}
 use Rattle.napt_run.proofs.OutputsAreOne.{HaveOneAnswer, captures-one}
@@ -27,6 +28,10 @@ merged_long insides outsides inputs merged =
     let first : length (filter (is_from Inside) inputs) ≡ length insides = sym (length-map (filter (is_from Inside) inputs) of_input) ∙ (ap length merged.inside ∙ length-map insides of_record) in
     let second : length (filter (is_from Outside) inputs) ≡ length outsides = sym (length-map (filter (is_from Outside) inputs) of_input) ∙ (ap length merged.outside ∙ length-map outsides of_record) in
     sym (sides_long inputs) ∙ ap₂ (λ (i o : ℕ). i + o) first second
+
+-- not too many records are so many inputs as their numbers can count
+pub merged_few : (insides outsides : List Entry) (inputs : List Arrival) → IsMerged insides outsides inputs → (2 ^ 32 ≤ length insides + length outsides → ⊥) → length inputs < 2 ^ 32
+merged_few insides outsides inputs merged few = subst (λ (n : ℕ). n < 2 ^ 32) (sym (merged_long insides outsides inputs merged)) (lt_of_not-le few)
 
 -- WHAT IS TOLD
 

@@ -26,6 +26,13 @@ record_to side pair = record_at pair.0.time (packet_to side pair.1)
 abbrev pub records_to : Side → List Arrival → List Outcome → List Entry
 records_to side arrivals outcomes = filter_map (record_to side) (zip arrivals outcomes)
 
+-- the same by the times alone
+abbrev pub records_at : Side → List ℕ → List Outcome → List Entry
+records_at side times outcomes = filter_map (λ pair. record_at pair.0 (packet_to side pair.1)) (zip times outcomes)
+
 -- arrival times for which a capture has room
+abbrev pub IsTime : ℕ → Type 0
+IsTime time = time < 2 ^ 32 * 1000000000
+
 abbrev pub IsTimely : Arrival → Type 0
-IsTimely arrival = arrival.time < 2 ^ 32 * 1000000000
+IsTimely arrival = IsTime arrival.time

@@ -6,10 +6,11 @@ ghost use Rattle.napt_run.specs.Captures.{AreOutputs, AreTooMany, Explains, Gets
 ghost use Rattle.napt_run.specs.Dispatch.{is_gate_fault};
 
 use crate::fault::{Fault, RunFault, Which};
+use crate::input::times_of;
 use crate::merging::merge;
 use crate::output::records_sent;
 use crate::report::report_text;
-use crate::workers::run_workers;
+use crate::workers::run_on_pool;
 use napt_capture::{
     Capture, Record, Sink, Source, one_answer, read_capture, write_capture, write_text,
 };
@@ -91,9 +92,10 @@ fn make_outputs<T: Threads + Wait + Copy + Send + 'static, G: Gate + Send + Sync
     }
     let Captures { inside, outside } = captures;
     let inputs = merge(alloc, inside.records, outside.records)?;
-    let run = run_workers(rt, alloc, config, &inputs, gate)?;
+    let times = times_of(alloc, &inputs)?;
+    let run = run_on_pool(rt, alloc, config, inputs, gate)?;
     let report = report_text(alloc, &run, inside.cut, outside.cut)?;
-    let sent = records_sent(alloc, &inputs, run.outcomes)?;
+    let sent = records_sent(alloc, &times, run.outcomes)?;
     Ok(Outputs {
         to_outside: sent.to_outside,
         to_inside: sent.to_inside,

@@ -7,6 +7,7 @@ ghost use Rattle.std.specs.Prelude.{◌≡◌, ◌≢◌, ◌+◌, ◌≤◌, �
 ghost use Rattle.napt_wire.specs.declared.Side.TheVariants.{Inside as InsideSide};
 ghost use Rattle.napt_wire.specs.Fields.{destination};
 ghost use Rattle.napt_wire.specs.Packet.{IsPacket};
+ghost use Rattle.napt_wire.specs.Reading.{reading};
 ghost use Rattle.napt_config.specs.Rules.{KeepsRules, place_of};
 ghost use Rattle.napt_translate.specs.Sides.{way_from, served_at};
 ghost use Rattle.napt_pool.specs.Pools.{starts, accepts, takes, zip_with};
@@ -15,13 +16,14 @@ ghost use Rattle.napt_run.specs.declared.dispatcher.held.Held.TheVariants.{Ready
 ghost use Rattle.napt_run.specs.declared.dispatcher.progress.Progress.TheVariants.{Awaited as AwaitedInput};
 ghost use Rattle.napt_run.specs.Inputs.{Arrival};
 ghost use Rattle.napt_run.specs.Sequential.{last_clock};
-ghost use Rattle.napt_run.specs.Dispatch.{started, of_worker, IsFaultUnder, admission, IsDispatched};
+ghost use Rattle.napt_run.specs.Dispatch.{started, of_worker, IsFaultUnder, admission_as, IsDispatched};
 ghost use Rattle.napt_run.specs.Standing.{pushed, parts_of, ledger_of, IsSized, Stands, Keeps, with_held, put_first, with_first, Noted, IsFirst, Admits, AdmitsIn, IsDone};
 
 mod held;
 mod progress;
 mod queues;
 
+use crate::input::copies;
 use crate::laws::{places_stand_for_legs, right_answers};
 use crate::run::way_from;
 use crate::{Input, Outcome, RunFault, Worker};
@@ -496,31 +498,28 @@ impl Dispatcher {
     /// Reads an input of a number, at a time in ns, and tells the worker of its first leg.
     fn admit(
         &mut self,
-        alloc: Global,
         config: &Config,
         number: u64,
         now: u64,
-        input: &Input,
+        input: Input,
     ) -> Result<Option<u32>, RunFault>
         requires keeps { KeepsRules config.now }
         requires sized { IsSized (length config.now.pool) (parts_of self.old) }
         ensures sized { OnOk result (IsSized (length config.now.pool) (parts_of self.new)) }
         ensures place { IfOk result (λ found. IfSome found (λ w. w < length config.now.pool)) }
-        ensures admits { OnOk result (Admits config.now number now input.now (parts_of self.old) (parts_of self.new)) }
+        ensures admits { OnOk result (Admits config.now number now input (parts_of self.old) (parts_of self.new)) }
         ensures fault { (open_gate : Bool) → IfErr result (IsFaultUnder open_gate) }
     {
         right_answers();
         places_stand_for_legs();
-        let Ok(judged) = judge(alloc, config, input) else {
-            return Err(RunFault::Memory);
-        };
-        match judged {
+        let side = input.side;
+        match judge(config, side, input.bytes) {
             Ok((place, packet)) => {
-                let to = second_place(config, input.side, &packet);
+                let to = second_place(config, side, &packet);
                 let leg = Leg {
                     number,
                     now,
-                    way: way_from(input.side),
+                    way: way_from(side),
                     packet,
                 };
                 match self.hold_first(place, leg, to) {
@@ -558,29 +557,34 @@ impl Dispatcher {
         }
     }
 
-    /// Serves all inputs, in their order. After each one worker's answers are taken, each in its turn.
+    /// Serves all inputs, in their order; their bytes move. After each one worker's answers are taken, each in its turn.
     fn serve_all<R: Wait, G: Gate>(
         &mut self,
         rt: &R,
         alloc: Global,
         pool: &mut Pool<Worker, G>,
         config: &Config,
-        inputs: &[Input],
+        inputs: Vec<Input>,
     ) -> Result<(), RunFault>
         requires keeps { KeepsRules config.now }
         requires count { length (starts pool.old) ≡ length config.now.pool }
         requires sized { IsSized (length (starts pool.old)) (parts_of self.old) }
         ensures starts { starts pool.new ≡ starts pool.old }
         ensures sized { OnOk result (IsSized (length (starts pool.new)) (parts_of self.new)) }
-        ensures served { OnOk result (Stands config.now [] inputs.now (ledger_of pool.old self.old) → Stands config.now inputs.now inputs.now (ledger_of pool.new self.new)) }
+        ensures served { OnOk result (Stands config.now [] inputs.items (ledger_of pool.old self.old) → Stands config.now inputs.items inputs.items (ledger_of pool.new self.new)) }
         ensures fault { IfErr result (IsFaultUnder G.is_open) }
     {
         let count = config.pool().len();
         let mut clock = 0;
-        for (number, input) in inputs.iter().enumerate() {
+        let many = inputs.len();
+        let mut inputs = VecDeque::from(inputs);
+        for number in 0..many {
+            let Some(input) = inputs.pop_front() else {
+                return Err(STRANGER);
+            };
             clock = input.clock.max(clock);
             self.make_room(rt, alloc, pool, count as u32)?;
-            let found = self.admit(alloc, config, number as u64, clock, input)?;
+            let found = self.admit(config, number as u64, clock, input)?;
             self.offer_to(alloc, pool, found)?;
             let turn = (number % count) as u32;
             self.look_at(rt, alloc, pool, turn, count as u32)?;
@@ -602,23 +606,18 @@ fn second_place(config: &Config, side: Side, packet: &Packet) -> Option<u32>
     }
 }
 
-/// The packet that an input is and the place in the pool where it is served, or why it is dropped.
-fn judge(
-    alloc: Global,
-    config: &Config,
-    input: &Input,
-) -> Result<Result<(u32, Packet), Cause>, AllocError>
+/// The packet that an input from a side is and the place in the pool where it is served, or why it is dropped.
+fn judge(config: &Config, side: Side, bytes: Vec<u8>) -> Result<(u32, Packet), Cause>
     requires keeps { KeepsRules config.now }
-    ensures admitted { IfOk result (λ judged. IfOk judged (λ first. (admission config.now input.now ≡ Ok first.1) × (slice_get config.now.pool first.0 ≡ Some (served_at config.now (way_from input.now.side) first.1)))) }
-    ensures refused { IfOk result (λ judged. IfErr judged (λ cause. admission config.now input.now ≡ Err cause)) }
+    ensures admitted { IfOk result (λ first. (admission_as config.now side (reading side bytes.items) ≡ Ok first.1) × (slice_get config.now.pool first.0 ≡ Some (served_at config.now (way_from side) first.1))) }
+    ensures refused { IfErr result (λ cause. admission_as config.now side (reading side bytes.items) ≡ Err cause) }
 {
-    let bytes = Vec::from_slice(alloc, &input.bytes)?;
-    match Packet::read(input.side, bytes) {
-        Ok(packet) => match route(config, input.side, &packet) {
-            Ok(place) => Ok(Ok((place, packet))),
-            Err(cause) => Ok(Err(cause)),
+    match Packet::read(side, bytes) {
+        Ok(packet) => match route(config, side, &packet) {
+            Ok(place) => Ok((place, packet)),
+            Err(cause) => Err(cause),
         },
-        Err((cause, _)) => Ok(Err(cause)),
+        Err((cause, _)) => Err(cause),
     }
 }
 
@@ -643,8 +642,32 @@ pub fn dispatch<R: Wait, G: Gate>(
     ensures run { IfOk result (λ done. takes pool.new ≡ zip_with (replies ⟦<Worker as Machine>⟧) (starts pool.new) (accepts pool.new) → IsDispatched config.now inputs.now (accepts pool.new) done.0.items done.1.items) }
     ensures fault { IfErr result (IsFaultUnder G.is_open) }
 {
+    let Ok(inputs) = copies(alloc, inputs) else {
+        return Err(RunFault::Memory);
+    };
+    dispatch_owned(rt, alloc, pool, config, inputs)
+}
+
+/// The same over inputs whose bytes move into the run.
+pub(crate) fn dispatch_owned<R: Wait, G: Gate>(
+    rt: &R,
+    alloc: Global,
+    pool: &mut Pool<Worker, G>,
+    config: &Config,
+    inputs: Vec<Input>,
+) -> Result<(Vec<Outcome>, Vec<u64>), RunFault>
+    requires few { length inputs.items < 2 ^ 32 }
+    requires started { starts pool.old ≡ started config.now (length config.now.pool) }
+    requires unoffered { accepts pool.old ≡ replicate (length config.now.pool) [] }
+    requires untaken { takes pool.old ≡ replicate (length config.now.pool) [] }
+    ensures starts { starts pool.new ≡ starts pool.old }
+    ensures settled { OnOk result (map length (takes pool.new) ≡ map length (accepts pool.new)) }
+    ensures run { IfOk result (λ done. takes pool.new ≡ zip_with (replies ⟦<Worker as Machine>⟧) (starts pool.new) (accepts pool.new) → IsDispatched config.now inputs.items (accepts pool.new) done.0.items done.1.items) }
+    ensures fault { IfErr result (IsFaultUnder G.is_open) }
+{
     let count = config.pool().len();
-    let Ok(mut dispatcher) = Dispatcher::new(alloc, count, inputs.len()) else {
+    let many = inputs.len();
+    let Ok(mut dispatcher) = Dispatcher::new(alloc, count, many) else {
         return Err(RunFault::Memory);
     };
     dispatcher.serve_all(rt, alloc, pool, config, inputs)?;
@@ -654,7 +677,7 @@ pub fn dispatch<R: Wait, G: Gate>(
         progress,
         ..
     } = dispatcher;
-    match all_known(alloc, progress, inputs.len()) {
+    match all_known(alloc, progress, many) {
         Ok(Some(outcomes)) => Ok((outcomes, offered)),
         Ok(None) => Err(STRANGER),
         Err(_) => Err(RunFault::Memory),

@@ -68,7 +68,7 @@ pub fn merge(
     ensures merged { IfOk result (λ inputs. IsMerged inside.items outside.items inputs.items) }
     ensures timely { All IsWritable inside.items → All IsWritable outside.items → IfOk result (λ inputs. All IsTimely inputs.items) }
 {
-    let mut inputs = Vec::new(alloc);
+    let mut inputs = Vec::with_capacity(alloc, inside.len().saturating_add(outside.len()))?;
     let mut inside = VecDeque::from(inside);
     let mut outside = VecDeque::from(outside);
     let mut clock = 0u64;

@@ -2,9 +2,8 @@
 ghost use Rattle.std.specs.Prelude.{◌≡◌, ◌++◌, ◌<◌, ◌≤◌, ◌*◌, ◌^◌, [], ◌∷◌, length, All, IfOk, OnOk, option_to_list};
 ghost use Rattle.napt_wire.specs.declared.Side.TheVariants as sides;
 ghost use Rattle.napt_capture.specs.Text.{IsWritable};
-ghost use Rattle.napt_run.specs.Output.{IsTimely, packet_to, record_at, records_to, sent_at};
+ghost use Rattle.napt_run.specs.Output.{IsTime, packet_to, record_at, records_at, sent_at};
 
-use crate::input::Input;
 use crate::outcome::Outcome;
 use napt_capture::Record;
 use napt_wire::Packet;
@@ -48,26 +47,26 @@ fn push_outcome(sent: &mut Sent, time: u64, outcome: Outcome) -> Result<(), Allo
     }
 }
 
-/// The records of the packets that leave for each side.
+/// The records of the packets that leave for each side, of inputs that arrived at these times, in ns.
 pub(crate) fn records_sent(
     alloc: Global,
-    inputs: &[Input],
+    times: &[u64],
     outcomes: Vec<Outcome>,
 ) -> Result<Sent, AllocError>
-    requires { All IsTimely inputs.now }
-    ensures to_outside { IfOk result (λ sent. sent.to_outside.items ≡ records_to sides.Outside inputs.now outcomes.items) }
-    ensures to_inside { IfOk result (λ sent. sent.to_inside.items ≡ records_to sides.Inside inputs.now outcomes.items) }
+    requires { All IsTime times.now }
+    ensures to_outside { IfOk result (λ sent. sent.to_outside.items ≡ records_at sides.Outside times.now outcomes.items) }
+    ensures to_inside { IfOk result (λ sent. sent.to_inside.items ≡ records_at sides.Inside times.now outcomes.items) }
     ensures outside_writable { IfOk result (λ sent. All IsWritable sent.to_outside.items) }
     ensures inside_writable { IfOk result (λ sent. All IsWritable sent.to_inside.items) }
-    ensures outside_few { IfOk result (λ sent. length sent.to_outside.items ≤ length inputs.now) }
-    ensures inside_few { IfOk result (λ sent. length sent.to_inside.items ≤ length inputs.now) }
+    ensures outside_few { IfOk result (λ sent. length sent.to_outside.items ≤ length times.now) }
+    ensures inside_few { IfOk result (λ sent. length sent.to_inside.items ≤ length times.now) }
 {
     let mut sent = Sent {
         to_outside: Vec::new(alloc),
         to_inside: Vec::new(alloc),
     };
-    for (input, outcome) in inputs.iter().zip(outcomes) {
-        push_outcome(&mut sent, input.time, outcome)?;
+    for (time, outcome) in times.iter().zip(outcomes) {
+        push_outcome(&mut sent, *time, outcome)?;
     }
     Ok(sent)
 }

@@ -1,5 +1,6 @@
 //! The report: how many packets came and what became of them, which captures were cut, and the bindings.
-ghost use Rattle.std.specs.Prelude.{◌≡◌, ◌++◌, IfOk, OnOk, Some, codes, count_by, decimal, flat_map, string_bytes};
+ghost use Rattle.std.specs.Prelude.{◌≡◌, ◌+◌, ◌-◌, ◌^◌, ◌<◌, ◌++◌, ◌∷◌, [], IfOk, OnOk, Some, codes, count_by, decimal, flat_map, slice_index, string_bytes};
+ghost use Rattle.napt_wire.specs.declared.Cause.{Cause};
 ghost use Rattle.napt_run.specs.Report as model;
 
 use crate::outcome::{Outcome, Run};
@@ -27,8 +28,9 @@ const CAUSES: [Cause; 13] = [
 ];
 
 /// The place of a cause among them.
-fn place_of(cause: Cause) -> u8
-    ensures { result ≡ model.place_of cause }
+fn place_of(cause: Cause) -> usize
+    ensures place { result ≡ model.place_of cause }
+    ensures below { result < 13 }
 {
     match cause {
         Cause::Truncated => 0,
@@ -77,52 +79,47 @@ fn protocol_name(protocol: Protocol) -> &'static str
     }
 }
 
-fn is_to_outside(outcome: &Outcome) -> bool
-    ensures { result ≡ model.is_to_outside outcome.now }
-{
-    matches!(outcome, Outcome::ToOutside(_))
+/// How many outcomes are of each kind.
+#[derive(Clone, Copy)]
+struct Counts {
+    to_outside: usize,
+    to_inside: usize,
+    /// Those that were dropped for each cause, at its place.
+    dropped: [usize; 13],
 }
 
-fn is_to_inside(outcome: &Outcome) -> bool
-    ensures { result ≡ model.is_to_inside outcome.now }
-{
-    matches!(outcome, Outcome::ToInside(_))
-}
-
-fn is_dropped(cause: Cause, outcome: &Outcome) -> bool
-    ensures { result ≡ model.is_dropped cause outcome.now }
-{
-    match outcome {
-        Outcome::Dropped(given) => place_of(*given) == place_of(cause),
-        Outcome::ToOutside(_) | Outcome::ToInside(_) => false,
+impl Counts {
+    /// Counts one outcome more.
+    fn add(&mut self, outcome: &Outcome)
+        requires outside_fits { self.old.to_outside < 2 ^ 64 - 1 }
+        requires inside_fits { self.old.to_inside < 2 ^ 64 - 1 }
+        requires dropped_fit { (cause : Cause) → slice_index self.old.dropped (model.place_of cause) < 2 ^ 64 - 1 }
+        ensures to_outside { self.new.to_outside ≡ self.old.to_outside + count_by model.is_to_outside (outcome.now ∷ []) }
+        ensures to_inside { self.new.to_inside ≡ self.old.to_inside + count_by model.is_to_inside (outcome.now ∷ []) }
+        ensures dropped { (cause : Cause) → slice_index self.new.dropped (model.place_of cause) ≡ slice_index self.old.dropped (model.place_of cause) + count_by (model.is_dropped cause) (outcome.now ∷ []) }
+    {
+        match outcome {
+            Outcome::ToOutside(_) => self.to_outside += 1,
+            Outcome::ToInside(_) => self.to_inside += 1,
+            Outcome::Dropped(cause) => self.dropped[place_of(*cause)] += 1,
+        }
     }
 }
 
-fn count_to_outside(outcomes: &[Outcome]) -> usize
-    ensures { result ≡ count_by model.is_to_outside outcomes.now }
+fn counts_of(outcomes: &[Outcome]) -> Counts
+    ensures to_outside { result.to_outside ≡ count_by model.is_to_outside outcomes.now }
+    ensures to_inside { result.to_inside ≡ count_by model.is_to_inside outcomes.now }
+    ensures dropped { (cause : Cause) → slice_index result.dropped (model.place_of cause) ≡ count_by (model.is_dropped cause) outcomes.now }
 {
-    outcomes
-        .iter()
-        .filter(|outcome| is_to_outside(outcome))
-        .count()
-}
-
-fn count_to_inside(outcomes: &[Outcome]) -> usize
-    ensures { result ≡ count_by model.is_to_inside outcomes.now }
-{
-    outcomes
-        .iter()
-        .filter(|outcome| is_to_inside(outcome))
-        .count()
-}
-
-fn count_dropped(outcomes: &[Outcome], cause: Cause) -> usize
-    ensures { result ≡ count_by (model.is_dropped cause) outcomes.now }
-{
-    outcomes
-        .iter()
-        .filter(|outcome| is_dropped(cause, outcome))
-        .count()
+    let mut counts = Counts {
+        to_outside: 0,
+        to_inside: 0,
+        dropped: [0; 13],
+    };
+    for outcome in outcomes {
+        counts.add(outcome);
+    }
+    counts
 }
 
 /// An endpoint as `10.0.0.2:5000`.
@@ -152,35 +149,18 @@ fn push_count(
     report.push_str(&line)
 }
 
-/// Adds the line of the packets that were dropped for a cause.
-fn push_drop(
-    alloc: Global,
-    report: &mut String,
-    outcomes: &[Outcome],
-    cause: Cause,
-) -> Result<(), AllocError>
-    ensures { OnOk result (string_bytes report.new ≡ string_bytes report.old ++ model.drop_line outcomes.now cause) }
-{
-    report.push_str("drop ")?;
-    push_count(
-        alloc,
-        report,
-        cause_name(cause),
-        count_dropped(outcomes, cause),
-    )
-}
-
 /// Adds the lines of the packets that were dropped, a cause each.
 fn push_drops(
     alloc: Global,
     report: &mut String,
-    outcomes: &[Outcome],
     causes: &[Cause],
+    dropped: &[usize; 13],
 ) -> Result<(), AllocError>
-    ensures { OnOk result (string_bytes report.new ≡ string_bytes report.old ++ flat_map (model.drop_line outcomes.now) causes.now) }
+    ensures { OnOk result (string_bytes report.new ≡ string_bytes report.old ++ flat_map (λ cause. codes "drop " ++ model.count_line (model.cause_name cause) (slice_index dropped.now (model.place_of cause))) causes.now) }
 {
     for cause in causes {
-        push_drop(alloc, report, outcomes, *cause)?;
+        report.push_str("drop ")?;
+        push_count(alloc, report, cause_name(*cause), dropped[place_of(*cause)])?;
     }
     Ok(())
 }
@@ -211,10 +191,11 @@ fn push_rows(alloc: Global, report: &mut String, rows: &[Row]) -> Result<(), All
 fn push_counts(alloc: Global, report: &mut String, outcomes: &[Outcome]) -> Result<(), AllocError>
     ensures { OnOk result (string_bytes report.new ≡ string_bytes report.old ++ model.counts_text outcomes.now) }
 {
+    let counts = counts_of(outcomes);
     push_count(alloc, report, "packets", outcomes.len())?;
-    push_count(alloc, report, "to outside", count_to_outside(outcomes))?;
-    push_count(alloc, report, "to inside", count_to_inside(outcomes))?;
-    push_drops(alloc, report, outcomes, &CAUSES)?;
+    push_count(alloc, report, "to outside", counts.to_outside)?;
+    push_count(alloc, report, "to inside", counts.to_inside)?;
+    push_drops(alloc, report, &CAUSES, &counts.dropped)?;
     Ok(())
 }
 

@@ -6,7 +6,8 @@ ghost use Rattle.napt_run.specs.Sequential as model;
 ghost use Rattle.napt_run.specs.Dispatch.{first_fault, started, rows_after, IsFaultUnder, is_gate_fault};
 ghost use Rattle.napt_run.specs.Sound.{AreRowsApart};
 
-use crate::dispatcher::dispatch;
+use crate::dispatcher::dispatch_owned;
+use crate::input::copies;
 use crate::laws::runs_are_sound;
 use crate::{Input, Outcome, Run, RunFault, Worker};
 use napt_config::Config;
@@ -76,6 +77,9 @@ pub fn run_workers<
     if inputs.len() > 4_294_967_295 {
         return Err(RunFault::TooMany);
     }
+    let Ok(inputs) = copies(alloc, inputs) else {
+        return Err(RunFault::Memory);
+    };
     run_on_pool(rt, alloc, config, inputs, gate)
 }
 
@@ -90,16 +94,13 @@ fn first_fault(
     Ok((dispatched, closed?))
 }
 
-/// The run over so many inputs as their numbers can count.
-fn run_on_pool<R: Threads + Wait + Copy + Send + 'static, G: Gate + Send + Sync + Drop + 'static>(
-    rt: &R,
-    alloc: Global,
-    config: &Config,
-    inputs: &[Input],
-    gate: Arc<G>,
-) -> Result<Run, RunFault>
-    requires few { length inputs.now < 2 ^ 32 }
-    ensures run { IfOk result (λ run. run ≡ model.ran config.now inputs.now) }
+/// The run over so many inputs as their numbers can count. Their bytes move.
+pub(crate) fn run_on_pool<
+    R: Threads + Wait + Copy + Send + 'static,
+    G: Gate + Send + Sync + Drop + 'static,
+>(rt: &R, alloc: Global, config: &Config, inputs: Vec<Input>, gate: Arc<G>) -> Result<Run, RunFault>
+    requires few { length inputs.items < 2 ^ 32 }
+    ensures run { IfOk result (λ run. run ≡ model.ran config.now inputs.items) }
     ensures fault { IfErr result (IsFaultUnder G.is_open) }
 {
     let Ok(machines) = workers(alloc, config) else {
@@ -109,10 +110,11 @@ fn run_on_pool<R: Threads + Wait + Copy + Send + 'static, G: Gate + Send + Sync 
         Ok(pool) => pool,
         Err(fault) => return Err(RunFault::Pool(fault)),
     };
-    let dispatched = dispatch(rt, alloc, &mut pool, config, inputs);
+    let last = last_clock(&inputs);
+    let dispatched = dispatch_owned(rt, alloc, &mut pool, config, inputs);
     let closed = pool.close(rt, alloc);
     let ((outcomes, legs), ended) = first_fault(dispatched, closed)?;
-    let Ok(bindings) = bindings(alloc, &ended, last_clock(inputs)) else {
+    let Ok(bindings) = bindings(alloc, &ended, last) else {
         return Err(RunFault::Memory);
     };
     Ok(Run {

@@ -19,3 +19,7 @@ pub mod PartSteps
 pub mod TableSteps
 pub mod Opening
 pub mod Listed
+mod Slots
+mod Timed
+mod Manys
+mod Distinct

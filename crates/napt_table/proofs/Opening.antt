@@ -12,6 +12,7 @@ use Rattle.napt_wire.specs.declared.Endpoint.{Endpoint}
 use Rattle.napt_config.specs.Rules.{Rules, KeepsRules, AreSingle, is_double, pair_of}
 use Rattle.napt_config.specs.declared.settings.Redirect.{Redirect}
 use Rattle.napt_config.specs.declared.settings.Timers.{Timers}
+use Rattle.napt_table.specs.Inbound.{inbound_of}
 use Rattle.napt_table.specs.declared.Binding.{Binding}
 use Rattle.napt_table.specs.declared.part.Part.{Part}
 use Rattle.napt_table.specs.declared.parts.Parts.{Parts as AllParts}
@@ -218,21 +219,21 @@ module _ (rules : Rules) (keeps : KeepsRules rules) (address k : ℕ) (redirect 
       AreHeld address new (begun rules address (k + 1))
   step_are new others holds = subst (AreHeld address new) (sym pushed) (held_more address protocol inside redirect.external (begun rules address k) apart parts rules.timers all are new others holds)
 
-  pub step_played : (past new : List (ℕ × Event)) → new ≡ past ++ (0, Redirected protocol inside redirect.external) ∷ [] → played_all rules.timers rules.filter address past [] ≡ begun rules address k →
-      played_all rules.timers rules.filter address new [] ≡ begun rules address (k + 1)
+  pub step_played : (past new : List (ℕ × Event)) → new ≡ past ++ (0, Redirected protocol inside redirect.external) ∷ [] → played_all rules.timers (inbound_of rules) address past [] ≡ begun rules address k →
+      played_all rules.timers (inbound_of rules) address new [] ≡ begun rules address (k + 1)
   step_played past new is_new so_far =
-      ap (λ (es : List (ℕ × Event)). played_all rules.timers rules.filter address es []) is_new
-      ∙ (played_more rules.timers rules.filter address past (0, Redirected protocol inside redirect.external) []
+      ap (λ (es : List (ℕ × Event)). played_all rules.timers (inbound_of rules) address es []) is_new
+      ∙ (played_more rules.timers (inbound_of rules) address past (0, Redirected protocol inside redirect.external) []
       ∙ (ap (λ (list : List Binding). list ++ redirect_of protocol address inside redirect.external ∷ []) so_far ∙ sym pushed))
 
 -- THE END OF THE LOOP
 
-pub opened_keeps_its_list : (rules : Rules) → KeepsRules rules → (address k : ℕ) (table : Inside) → length rules.redirects ≤ k → table.address ≡ address → table.timers ≡ rules.timers → table.filter ≡ rules.filter → table.at ≡ 0 →
-    played_all rules.timers rules.filter address table.past.items [] ≡ begun rules address k → AreOf address rules.timers 0 table.parts → AreHeld address table.parts (begun rules address k) →
+pub opened_keeps_its_list : (rules : Rules) → KeepsRules rules → (address k : ℕ) (table : Inside) → length rules.redirects ≤ k → table.address ≡ address → table.timers ≡ rules.timers → table.inbound ≡ (inbound_of rules) → table.at ≡ 0 →
+    played_all rules.timers (inbound_of rules) address table.past.items [] ≡ begun rules address k → AreOf address rules.timers 0 table.parts → AreHeld address table.parts (begun rules address k) →
     (shown table ≡ opened rules address) × KeepsItsList table
 opened_keeps_its_list rules keeps address k table end a t f z played all are =
     let list : list_of table ≡ of address (opening rules) = rw (t, f, a) (played ∙ all_begun rules address k end) in
-    let shown : shown table ≡ opened rules address = λ i. record { address = a i; timers = t i; filter = f i; list = list i; at = z i } in (
+    let shown : shown table ≡ opened rules address = λ i. record { address = a i; timers = t i; inbound = f i; list = list i; at = z i } in (
       shown,
       record {
         state = subst IsTable (sym shown) (opened_is_table rules keeps address);

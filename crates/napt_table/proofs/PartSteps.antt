@@ -5,7 +5,7 @@ use Rattle.napt_wire.specs.declared.Protocol.{Protocol}
 use Rattle.napt_wire.specs.declared.Cause.TheVariants.{Filtered}
 use Rattle.napt_wire.specs.declared.Endpoint.{Endpoint}
 use Rattle.napt_wire.specs.declared.Flags.{Flags}
-use Rattle.napt_config.specs.declared.settings.Filter.{Filter}
+use Rattle.napt_table.specs.declared.inbound.Inbound.{Inbound}
 use Rattle.napt_config.specs.declared.settings.Timers.{Timers}
 use Rattle.napt_table.specs.declared.Binding.{Binding}
 use Rattle.napt_table.specs.declared.part.Part.{Part}
@@ -42,13 +42,13 @@ kept_of address timers at q old new of is due same = record {
 }
 
 -- other protocols are as before
-pub in_others : (filtering : Filter) (timers : Timers) (address now : ℕ) (protocol : Protocol) (number : ℕ) (remote : Endpoint) (flags : Flags) (list : List Binding) (q : Protocol) → q ≢ protocol → (n : ℕ) →
-    find (has_number address q n) (in_purged filtering address now protocol number remote flags list).list ≡ find (has_number address q n) list
-in_others filtering timers address now protocol number remote flags list q differs n =
-    elim (find (has_number address protocol number) list) as (λ o. find (has_number address q n) (in_found filtering list address now protocol number remote flags o).list ≡ find (has_number address q n) list) [
+pub in_others : (inbound : Inbound) (timers : Timers) (address now : ℕ) (protocol : Protocol) (number : ℕ) (remote : Endpoint) (flags : Flags) (list : List Binding) (q : Protocol) → q ≢ protocol → (n : ℕ) →
+    find (has_number address q n) (in_purged inbound address now protocol number remote flags list).list ≡ find (has_number address q n) list
+in_others inbound timers address now protocol number remote flags list q differs n =
+    elim (find (has_number address protocol number) list) as (λ o. find (has_number address q n) (in_found inbound list address now protocol number remote flags o).list ≡ find (has_number address q n) list) [
       | None ↦ refl
-      | Some b ↦ elim (permits filtering b remote) as (λ v. find (has_number address q n) (let i : In = cond v (record { inside = Ok b.inside; list = change_first (has_number address protocol number) (received remote flags now) list }) (record { inside = Err Filtered; list = list }) in i.list) ≡ find (has_number address q n) list) [
-        | true ↦ changed_other timers now address protocol number (received remote flags now) (received_key remote flags now) list q n (λ p. absurd (differs p))
+      | Some b ↦ elim (permits inbound b remote) as (λ v. find (has_number address q n) (let i : In = cond v (record { inside = Ok b.inside; list = change_first (has_number address protocol number) (received inbound remote flags now) list }) (record { inside = Err Filtered; list = list }) in i.list) ≡ find (has_number address q n) list) [
+        | true ↦ changed_other timers now address protocol number (received inbound remote flags now) (received_key inbound remote flags now) list q n (λ p. absurd (differs p))
         | false ↦ refl
       ]
     ]
@@ -71,10 +71,10 @@ pub sent_of : (address : ℕ) (timers : Timers) (at : ℕ) (q : Protocol) (old n
 sent_of address timers at q old new of is due before a t p = record { is = is; due = due; before = before; address_is = a ∙ of.address_is; timers_is = t ∙ of.timers_is; protocol_is = p ∙ of.protocol_is }
 
 -- one event more
-pub played_more : (timers : Timers) (filtering : Filter) (address : ℕ) (events : List (ℕ × Event)) (event : ℕ × Event) (list : List Binding) →
-    played_all timers filtering address (events ++ event ∷ []) list ≡ played timers filtering address event.0 event.1 (played_all timers filtering address events list)
-played_more timers filtering address [] event list = refl
-played_more timers filtering address (e ∷ events) event list = played_more timers filtering address events event (played timers filtering address e.0 e.1 list)
+pub played_more : (timers : Timers) (inbound : Inbound) (address : ℕ) (events : List (ℕ × Event)) (event : ℕ × Event) (list : List Binding) →
+    played_all timers inbound address (events ++ event ∷ []) list ≡ played timers inbound address event.0 event.1 (played_all timers inbound address events list)
+played_more timers inbound address [] event list = refl
+played_more timers inbound address (e ∷ events) event list = played_more timers inbound address events event (played timers inbound address e.0 e.1 list)
 
 -- RESULTS
 

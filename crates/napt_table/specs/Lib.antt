@@ -5,6 +5,7 @@ pub mod Life
 pub mod Choice
 pub mod Classes
 pub mod Filtering
+pub mod Inbound
 pub mod Steps
 pub mod Endpoints
 pub mod Live
@@ -20,3 +21,9 @@ pub mod Parts
 pub mod Events
 pub mod Shown
 pub mod Listing
+pub mod Slots
+pub mod SlotsShown
+pub mod Timed
+pub mod Counts
+pub mod Many
+pub mod Kept

@@ -13,6 +13,8 @@ ghost use Rattle.napt_table.specs.Rows.{RowsAreInOrder};
 ghost use Rattle.napt_table.specs.Tables.{TablesShareNothing, TablesAreNumbered};
 
 mod event;
+mod flows;
+mod inbound;
 mod life;
 mod numbers;
 mod part;
@@ -22,9 +24,10 @@ mod session;
 mod table;
 mod traffic;
 
+pub use flows::Flows;
+pub use inbound::Inbound;
 use napt_wire::{Endpoint, Protocol};
 pub use numbers::Numbers;
-use std::marker::Model;
 pub use table::Table;
 
 /// What a TCP flow was seen to do: a SYN and a FIN of each side, and a reset (RFC 5382, REQ-2 and REQ-5).
@@ -45,21 +48,6 @@ pub struct Flow {
     pub marks: Marks,
     /// The time at which it was last used, in ns.
     pub last: u64,
-}
-
-/// The flows of one binding, in the order in which they began; contracts see them as a list.
-#[derive(Drop)]
-pub struct Flows {
-    items: Vec<Flow>,
-}
-
-impl Model for Flows {
-    ghost use Rattle.std.specs.Prelude.{List};
-    ghost use Rattle.napt_table.specs.declared.Flow.{Flow};
-
-    ghost Value = { List Flow };
-
-    ghost view = { λ flows. flows.items.items };
 }
 
 /// An inside endpoint and the external endpoint that stands for it under one protocol (RFC 3022, section 2.2).

@@ -11,8 +11,8 @@ ghost use Rattle.napt_wire.specs.declared.Cause.TheVariants.{NoBinding};
 ghost use Rattle.napt_table.specs.Held.{seen, entered, left_by, HeldIsPurgedLater};
 
 use crate::numbers::Numbers;
-use crate::{Binding, Flows, Row};
-use napt_config::{Filter, Timers};
+use crate::{Binding, Flows, Inbound, Row};
+use napt_config::Timers;
 use napt_due::Due;
 use napt_wire::{Cause, Endpoint, Flags, Protocol};
 use std::alloc::{AllocError, Global};
@@ -98,7 +98,7 @@ impl Part {
     /// A packet comes in: the inside endpoint of the live binding with the number, where it lets the remote through.
     pub(crate) fn receive(
         &mut self,
-        filter: Filter,
+        inbound: Inbound,
         now: u64,
         number: u16,
         remote: Endpoint,
@@ -111,7 +111,7 @@ impl Part {
         ensures numbers { self.new.numbers ≡ self.old.numbers }
         ensures others { (n : ℕ) → n ≢ number → held self.new n ≡ held self.old n }
         ensures absent { seen self.old.timers now (held self.old number) ≡ None → (result ≡ Err NoBinding) × (held self.new number ≡ held self.old number) }
-        ensures found { (b : Binding) → seen self.old.timers now (held self.old number) ≡ Some b → (result ≡ entered filter remote b) × (held self.new number ≡ Some (left_by filter remote flags now b)) }
+        ensures found { (b : Binding) → seen self.old.timers now (held self.old number) ≡ Some b → (result ≡ entered inbound remote b) × (held self.new number ≡ Some (left_by inbound remote flags now b)) }
     {
         let timers = self.timers;
         let Some(binding) = self.by_number.get_mut(&number) else {
@@ -120,7 +120,7 @@ impl Part {
         if !binding.is_live(timers, now) {
             return Err(Cause::NoBinding);
         }
-        binding.take_in(timers, filter, now, remote, flags)
+        binding.take_in(timers, inbound, now, remote, flags)
     }
 
     /// Makes room for one more binding.
@@ -315,9 +315,7 @@ impl Part {
             },
             fixed: true,
             last: 0,
-            flows: Flows {
-                items: Vec::new(alloc),
-            },
+            flows: Flows::new(alloc),
         };
         self.hold(number, binding);
         Ok(())
@@ -326,6 +324,7 @@ impl Part {
     /// A packet goes out through the held binding with the number.
     fn send_known(
         &mut self,
+        alloc: Global,
         now: u64,
         number: u16,
         remote: Endpoint,
@@ -344,7 +343,7 @@ impl Part {
         let Some(binding) = self.by_number.get_mut(&number) else {
             return Ok(());
         };
-        binding.send(timers, now, remote, flags)
+        binding.send(alloc, timers, now, remote, flags)
     }
 
     /// A packet goes out from the inside endpoint: answers its external number, or `NoPort`. Where memory is refused nothing is changed.
@@ -373,7 +372,7 @@ impl Part {
             OnOk result (Shows self.old.timers now self.old.address self.old.numbers.protocol (held self.new) (out_purged self.old.address now self.old.numbers.protocol inside remote flags list).list) }
     {
         if let Some(number) = self.number_of(now, inside) {
-            self.send_known(now, number, remote, flags)?;
+            self.send_known(alloc, now, number, remote, flags)?;
             return Ok(Ok(number));
         }
         self.make_room()?;
@@ -409,7 +408,7 @@ impl Part {
     /// A packet comes in to the number: answers the inside endpoint, `NoBinding` or `Filtered`. It takes no memory.
     pub(crate) fn enter(
         &mut self,
-        filter: Filter,
+        inbound: Inbound,
         now: u64,
         number: u16,
         remote: Endpoint,
@@ -422,11 +421,11 @@ impl Part {
         ensures due { AreDue self.new }
         ensures place { IsSamePlace self.old self.new }
         ensures answer { (list : List Binding) → Apart (map key list) → Shows self.old.timers now self.old.address self.old.numbers.protocol (held self.old) list →
-            result ≡ (in_purged filter self.old.address now self.old.numbers.protocol number remote flags list).inside }
+            result ≡ (in_purged inbound self.old.address now self.old.numbers.protocol number remote flags list).inside }
         ensures shows { (list : List Binding) → Apart (map key list) → Shows self.old.timers now self.old.address self.old.numbers.protocol (held self.old) list →
-            Shows self.old.timers now self.old.address self.old.numbers.protocol (held self.new) (in_purged filter self.old.address now self.old.numbers.protocol number remote flags list).list }
+            Shows self.old.timers now self.old.address self.old.numbers.protocol (held self.new) (in_purged inbound self.old.address now self.old.numbers.protocol number remote flags list).list }
     {
-        self.receive(filter, now, number, remote, flags)
+        self.receive(inbound, now, number, remote, flags)
     }
 }
 

@@ -1,7 +1,7 @@
 //! A table kept as a plain list, of which each call walks all: a second body, of which nothing is proved but that it is safe.
 
 use crate::bench::SECOND;
-use napt_config::{Config, Filter, Timers};
+use napt_config::{Config, Filter, Refresh, Timers};
 use napt_table::{Marks, Row};
 use napt_wire::{Cause, Endpoint, Flags, Protocol, Way};
 use std::alloc::{AllocError, Global};
@@ -166,6 +166,7 @@ pub(crate) struct PlainTable {
     address: u32,
     timers: Timers,
     filter: Filter,
+    refresh: Refresh,
     list: Vec<PlainBinding>,
 }
 
@@ -200,6 +201,7 @@ impl PlainTable {
             address,
             timers: config.timers(),
             filter: config.filter(),
+            refresh: config.refresh(),
             list,
         })
     }
@@ -269,14 +271,18 @@ impl PlainTable {
         flags: Flags,
     ) -> Result<Endpoint, Cause> {
         self.purge(now);
-        let filter = self.filter;
+        let (filter, refresh) = (self.filter, self.refresh);
         for binding in self.list.iter_mut() {
             if binding.protocol == protocol && binding.external == external {
                 if !binding.permits(filter, remote) {
                     return Err(Cause::Filtered);
                 }
-                if protocol == Protocol::Tcp {
-                    binding.receive(now, remote, flags);
+                match protocol {
+                    Protocol::Tcp => binding.receive(now, remote, flags),
+                    Protocol::Udp if refresh == Refresh::Both && !binding.fixed => {
+                        binding.last = now;
+                    }
+                    _ => {}
                 }
                 return Ok(binding.inside);
             }

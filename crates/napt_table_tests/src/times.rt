@@ -23,6 +23,69 @@ fn udp_timer_ends(rt: HostRuntime) -> Result<(), Fail> {
     Ok(())
 }
 
+/// A UDP binding made at 10 s, through which the resolver's packet comes in at 309 s, where inbound packets refresh too.
+fn refreshed(alloc: Global) -> Result<Bench, Fail> {
+    let mut bench = Bench::with(alloc, "refresh = \"both\"\n")?;
+    let both = bench.udp_out(10 * SECOND, CLIENT, RESOLVER)? == Ok(5000)
+        && bench.udp_in(309 * SECOND, 5000, RESOLVER)? == Ok(CLIENT);
+    if both {
+        Ok(bench)
+    } else {
+        Err("two packets that pass".into())
+    }
+}
+
+#[test]
+fn inbound_udp_refreshes(rt: HostRuntime) -> Result<(), Fail> {
+    let mut bench = refreshed(rt.alloc())?;
+    assert_eq!(rt; bench.udp_in(609 * SECOND - 1, 5000, RESOLVER)?, Ok(CLIENT));
+    let mut other = refreshed(rt.alloc())?;
+    assert_eq!(rt;
+        other.udp_in(609 * SECOND, 5000, RESOLVER)?,
+        Err(Cause::NoBinding)
+    );
+    Ok(())
+}
+
+#[test]
+fn filtered_udp_does_not_refresh(rt: HostRuntime) -> Result<(), Fail> {
+    let stranger = Endpoint {
+        address: 0xC633_6409,
+        number: 53,
+    };
+    let mut bench = Bench::with(
+        rt.alloc(),
+        "filter = \"address-port\"\nrefresh = \"both\"\n",
+    )?;
+    assert_eq!(rt; bench.udp_out(10 * SECOND, CLIENT, RESOLVER)?, Ok(5000));
+    assert_eq!(rt;
+        bench.udp_in(309 * SECOND, 5000, stranger)?,
+        Err(Cause::Filtered)
+    );
+    assert_eq!(rt;
+        bench.udp_in(310 * SECOND, 5000, RESOLVER)?,
+        Err(Cause::NoBinding)
+    );
+    Ok(())
+}
+
+#[test]
+fn inbound_echo_does_not_refresh(rt: HostRuntime) -> Result<(), Fail> {
+    for (last, answer) in [
+        (70 * SECOND - 1, Ok(CLIENT)),
+        (70 * SECOND, Err(Cause::NoBinding)),
+    ] {
+        let mut bench = Bench::with(rt.alloc(), "refresh = \"both\"\n")?;
+        let sent = bench.send(10 * SECOND, Protocol::Icmp, CLIENT, RESOLVER, NO_FLAGS)?;
+        assert_eq!(rt; sent, Ok(5000));
+        let back = bench.receive(69 * SECOND, Protocol::Icmp, 5000, RESOLVER, NO_FLAGS)?;
+        assert_eq!(rt; back, Ok(CLIENT));
+        let late = bench.receive(last, Protocol::Icmp, 5000, RESOLVER, NO_FLAGS)?;
+        assert_eq!(rt; late, answer);
+    }
+    Ok(())
+}
+
 #[test]
 fn filters(rt: HostRuntime) -> Result<(), Fail> {
     let stranger = Endpoint {

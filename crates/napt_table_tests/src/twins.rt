@@ -52,22 +52,22 @@ const JUMPS: [u64; 16] = [
 
 /// A packet that goes out.
 #[derive(Clone, Copy)]
-struct Sent {
-    protocol: Protocol,
-    inside: Endpoint,
-    remote: Endpoint,
-    flags: Flags,
+pub(crate) struct Sent {
+    pub(crate) protocol: Protocol,
+    pub(crate) inside: Endpoint,
+    pub(crate) remote: Endpoint,
+    pub(crate) flags: Flags,
 }
 
 /// Numbers that look like any, the same each time.
 #[derive(Clone, Copy)]
-struct Draws {
-    state: u64,
+pub(crate) struct Draws {
+    pub(crate) state: u64,
 }
 
 impl Draws {
     /// A number below the bound.
-    fn below(&mut self, bound: u64) -> u64
+    pub(crate) fn below(&mut self, bound: u64) -> u64
         requires { 0 < bound }
         ensures { result < bound }
     {
@@ -128,7 +128,7 @@ impl Draws {
         }
     }
 
-    fn flags(&mut self) -> Flags {
+    pub(crate) fn flags(&mut self) -> Flags {
         Flags {
             fin: self.below(8) == 0,
             syn: self.is_drawn(),
@@ -140,11 +140,11 @@ impl Draws {
 
 /// How many packets passed, and how many were refused for each cause.
 #[derive(Clone, Copy, Debug, PartialEq, Eq)]
-struct Counts {
-    passed: u64,
+pub(crate) struct Counts {
+    pub(crate) passed: u64,
     no_port: u64,
-    no_binding: u64,
-    filtered: u64,
+    pub(crate) no_binding: u64,
+    pub(crate) filtered: u64,
 }
 
 impl Counts {
@@ -177,16 +177,16 @@ const NONE: Counts = Counts {
 
 /// A table and a plain one that hear the same calls.
 #[derive(Drop)]
-struct Twins {
+pub(crate) struct Twins {
     alloc: Global,
     bench: Bench,
     plain: PlainTable,
-    counts: Counts,
+    pub(crate) counts: Counts,
 }
 
 impl Twins {
     /// Two tables of 203.0.113.1 with these settings.
-    fn with(alloc: Global, settings: &str) -> Result<Twins, Fail> {
+    pub(crate) fn with(alloc: Global, settings: &str) -> Result<Twins, Fail> {
         let config = settings_of(alloc, settings)?;
         Ok(Twins {
             alloc,
@@ -196,7 +196,7 @@ impl Twins {
         })
     }
 
-    fn send(&mut self, now: u64, sent: Sent) -> Result<bool, Fail> {
+    pub(crate) fn send(&mut self, now: u64, sent: Sent) -> Result<bool, Fail> {
         let Sent {
             protocol,
             inside,
@@ -214,6 +214,17 @@ impl Twins {
     fn receive(&mut self, now: u64, draws: &mut Draws) -> Result<bool, Fail> {
         let protocol = draws.protocol();
         let (number, remote, flags) = (draws.number(protocol), draws.remote(), draws.flags());
+        self.hear(now, protocol, number, remote, flags)
+    }
+
+    pub(crate) fn hear(
+        &mut self,
+        now: u64,
+        protocol: Protocol,
+        number: u16,
+        remote: Endpoint,
+        flags: Flags,
+    ) -> Result<bool, Fail> {
         let answer = self.bench.receive(now, protocol, number, remote, flags)?;
         let plain = self.plain.inbound(now, protocol, number, remote, flags);
         self.counts.count(answer.err());
@@ -223,7 +234,21 @@ impl Twins {
     /// Looks up one number and one inside endpoint.
     fn look(&self, now: u64, draws: &mut Draws) -> Result<bool, Fail> {
         let protocol = draws.protocol();
-        let (number, inside) = (draws.number(protocol), draws.inside(protocol));
+        self.look_at(
+            now,
+            protocol,
+            draws.number(protocol),
+            draws.inside(protocol),
+        )
+    }
+
+    pub(crate) fn look_at(
+        &self,
+        now: u64,
+        protocol: Protocol,
+        number: u16,
+        inside: Endpoint,
+    ) -> Result<bool, Fail> {
         let found = self.bench.inside_of(now, protocol, number)?;
         let given = self.bench.number_of(now, protocol, inside)?;
         Ok(
@@ -278,9 +303,11 @@ impl Twins {
     }
 }
 
-/// Calls that are drawn, from that time on, under a filter: what was counted, where all agreed.
-fn run(alloc: Global, filter: &str, from: u64) -> Result<Option<Counts>, Fail> {
-    let settings = format!(in alloc; "filter = \"{filter}\"\n{REDIRECTS}")?;
+/// Calls that are drawn, from that time on, under a filter and a refresh: what was counted, where all agreed.
+fn run(alloc: Global, filter: &str, refresh: &str, from: u64) -> Result<Option<Counts>, Fail> {
+    let settings = format!(in alloc;
+        "filter = \"{filter}\"\nrefresh = \"{refresh}\"\n{REDIRECTS}"
+    )?;
     let mut twins = Twins::with(alloc, &settings)?;
     let mut draws = Draws { state: from };
     let agreed = twins.mix(from, &mut draws)?;
@@ -291,8 +318,8 @@ fn run(alloc: Global, filter: &str, from: u64) -> Result<Option<Counts>, Fail> {
 fn table_and_plain_list_agree(rt: HostRuntime) -> Result<(), Fail> {
     let mut all = NONE;
     for filter in ["independent", "address", "address-port"] {
-        for from in [0, u64::MAX - 20_000 * SECOND] {
-            let counts = run(rt.alloc(), filter, from)?.ok_or("the same answers")?;
+        for (refresh, from) in [("outbound", 0), ("both", u64::MAX - 20_000 * SECOND)] {
+            let counts = run(rt.alloc(), filter, refresh, from)?.ok_or("the same answers")?;
             all = all.and(counts);
         }
     }

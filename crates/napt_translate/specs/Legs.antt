@@ -16,6 +16,7 @@ use Rattle.napt_wire.specs.declared.Kind.TheVariants.{Udp, Tcp, Echo, ErrorOf}
 use Rattle.napt_wire.specs.Fields.{source, destination, kind}
 use Rattle.napt_wire.specs.Rewriting.{with_source, with_destination, reverted}
 use Rattle.napt_config.specs.Rules.{Rules, place_of}
+use Rattle.napt_table.specs.Inbound.{inbound_of}
 use Rattle.napt_table.specs.declared.Binding.{Binding}
 use Rattle.napt_table.specs.Steps.{Out, In, step_out, step_in, by_inside, by_number}
 use Rattle.napt_translate.specs.declared.translator.Leg.{Leg}
@@ -73,9 +74,9 @@ act_by rules address now packet list Outgoing Udp = acted_out rules address pack
 act_by rules address now packet list Outgoing (Tcp flags) = acted_out rules address packet (step_out rules.timers address now protocols.Tcp (source packet) (destination packet) flags list)
 act_by rules address now packet list Outgoing Echo = acted_out rules address packet (step_out rules.timers address now protocols.Icmp (source packet) (destination packet) no_flags list)
 act_by rules address now packet list Outgoing (ErrorOf inner) = record { end = error_out rules packet (by_inside rules.timers address now inner.protocol inner.destination list); list = list }
-act_by rules address now packet list Incoming Udp = acted_in packet (step_in rules.timers rules.filter address now protocols.Udp (destination packet).number (source packet) no_flags list)
-act_by rules address now packet list Incoming (Tcp flags) = acted_in packet (step_in rules.timers rules.filter address now protocols.Tcp (destination packet).number (source packet) flags list)
-act_by rules address now packet list Incoming Echo = acted_in packet (step_in rules.timers rules.filter address now protocols.Icmp (destination packet).number (source packet) no_flags list)
+act_by rules address now packet list Incoming Udp = acted_in packet (step_in rules.timers (inbound_of rules) address now protocols.Udp (destination packet).number (source packet) no_flags list)
+act_by rules address now packet list Incoming (Tcp flags) = acted_in packet (step_in rules.timers (inbound_of rules) address now protocols.Tcp (destination packet).number (source packet) flags list)
+act_by rules address now packet list Incoming Echo = acted_in packet (step_in rules.timers (inbound_of rules) address now protocols.Icmp (destination packet).number (source packet) no_flags list)
 act_by rules address now packet list Incoming (ErrorOf inner) = record { end = error_in packet (by_number rules.timers address now inner.protocol inner.source.number list); list = list }
 
 -- a leg at an address

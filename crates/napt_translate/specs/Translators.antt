@@ -3,6 +3,7 @@ use Rattle.std.specs.Prelude.{◌≡◌, ℕ, ◌<◌, List, length, slice_index
 use Rattle.napt_wire.specs.declared.Protocol.{Protocol}
 use Rattle.napt_wire.specs.declared.Flags.{Flags}
 use Rattle.napt_wire.specs.Fields.{source, destination}
+use Rattle.napt_table.specs.Inbound.{inbound_of}
 use Rattle.napt_table.specs.Steps.{Out, In, step_out, step_in}
 use Rattle.napt_config.specs.Rules.{Rules, KeepsRules}
 use Rattle.napt_table.specs.Tables.{TableState, opened}
@@ -25,7 +26,7 @@ pub record IsTranslator (state : TranslatorState) : Type 0 where
   pub rules : KeepsRules state.rules
   pub address : state.table.address ≡ slice_index state.rules.pool state.index
   pub timers : state.table.timers ≡ state.rules.timers
-  pub filter : state.table.filter ≡ state.rules.filter
+  pub inbound : state.table.inbound ≡ inbound_of state.rules
 
 abbrev pub kept_of : TableState → Kept
 kept_of table = record { list = table.list; at = table.at }
@@ -42,4 +43,4 @@ abbrev pub out_at : TranslatorState → ℕ → Protocol → Flags → List ℕ 
 out_at state now protocol flags packet = step_out state.rules.timers state.table.address now protocol (source packet) (destination packet) flags state.table.list
 
 abbrev pub in_at : TranslatorState → ℕ → Protocol → Flags → List ℕ → In
-in_at state now protocol flags packet = step_in state.rules.timers state.rules.filter state.table.address now protocol (destination packet).number (source packet) flags state.table.list
+in_at state now protocol flags packet = step_in state.rules.timers (inbound_of state.rules) state.table.address now protocol (destination packet).number (source packet) flags state.table.list

@@ -1,7 +1,8 @@
-use super::{LineFault, Options, parse_words};
+use super::{LineFault, NOTES, Options, parse_words};
 use std::alloc::{AllocError, Global};
 use std::test::Fail;
 
+/// The help text up to its notes.
 const HELP: &str = "\
 Network address and port translation for IPv4: reads captures of the packets that inside hosts and \
 the outside send, and writes the captures of what leaves for the other side, with addresses and \
@@ -18,19 +19,6 @@ Options:
       --report <FILE>      Counts of what became of the packets, and the live bindings [default: not written]
   -h, --help               Print help
 
-Example:
-  napt --config napt.toml --inside inside.pcap --outside outside.pcap \\
-       --to-outside to-outside.pcap --to-inside to-inside.pcap --report report.txt
-
-Exit status:
-  0  done
-  2  the command line is not understood
-  3  the configuration is refused
-  4  a capture is refused or cannot be read
-  5  the run failed, as for want of memory
-  6  a file cannot be opened, created or written
-
-With a status other than 0 one line on standard error says what is wrong.
 ";
 
 // What the program answers to its arguments.
@@ -179,7 +167,7 @@ fn shows_help(rt: HostRuntime) -> Result<(), Fail> {
         &["--help", "--frob"],
     ];
     for arguments in lines {
-        let wanted = LineFault::Help(String::from_str(rt.alloc(), HELP)?);
+        let wanted = LineFault::Help(format!(in rt.alloc(); "{HELP}{NOTES}\n")?);
         assert_eq!(rt;
             parsed(rt.alloc(), arguments)?,
             Err(wanted),

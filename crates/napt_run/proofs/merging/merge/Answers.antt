@@ -7,8 +7,8 @@ use Rattle.napt_run.proofs.merging.merge.Goals as goal
 
 pub loop-side-init : goal.loop-side-init
 loop-side-init c = record {
-  merging = rw (c.new-inputs.ensures.items, c.from-inside.ensures.0, c.from-outside.ensures.0) (begins c.args.inside.items c.args.outside.items);
-  timely = λ first second. rw (c.new-inputs.ensures.items, c.from-inside.ensures.0, c.from-outside.ensures.0) (none_yet, (first, second));
+  merging = rw (c.in_ok-inputs.ensures.items, c.from-inside.ensures.0, c.from-outside.ensures.0) (begins c.args.inside.items c.args.outside.items);
+  timely = λ first second. rw (c.in_ok-inputs.ensures.items, c.from-inside.ensures.0, c.from-outside.ensures.0) (none_yet, (first, second));
 }
 
 pub loop-side-preserved : goal.loop-side-preserved

@@ -1,4 +1,5 @@
 use Rattle.std.proofs.Common.{◌≡◌, ℕ, List, Ok, Err, Option, Some, None, IfSome, MatchOption, ◌∙◌, ap, subst, slice_get}
+use Rattle.std.proofs.lemmas.Result.{IfOk-at_ok}
 use Rattle.napt_wire.specs.declared.Side.{Side}
 use Rattle.napt_wire.specs.declared.Side.TheVariants.{Inside}
 use Rattle.napt_wire.specs.declared.Way.{Way}
@@ -17,14 +18,16 @@ use Rattle.napt_run.proofs.dispatcher.Dispatcher.admit.Goals as goal
 pub returns-in-Ok-hold_first-clause-admits : goal.returns-in-Ok-hold_first-clause-admits
 returns-in-Ok-hold_first-clause-admits c =
     let config : Rules = c.args.config.now in
-    let input : Arrival = c.args.input.now in
+    let input : Arrival = c.args.input in
     let copy : Arrival = record { side = c.input.inside.side; time = c.input.inside.time; clock = c.input.inside.clock; bytes = c.input.inside.bytes.items } in
-    let packet : List ℕ = c.in-Ok-judged.packet in
-    let place : ℕ = c.in-Ok-judged.place in
+    let packet : List ℕ = c.in-Ok.packet in
+    let place : ℕ = c.in-Ok.place in
     let to : Option ℕ = c.second_place-to.result in
     let parts : Parts = parts_of c.args.self.now in
     let later : Parts = parts_of c.hold_first.new.self in
-    let first : (admission config input ≡ Ok packet) × (slice_get config.pool place ≡ Some (served_at config (way_from input.side) packet)) = rw c.in-Ok-judged.is at c.in-Ok.ensures.admitted in
+    let judged : (admission config copy ≡ Ok packet) × (slice_get config.pool place ≡ Some (served_at config (way_from copy.side) packet)) = IfOk-at_ok _ c.in-Ok.is c.judge.ensures.admitted in
+    let first : (admission config input ≡ Ok packet) × (slice_get config.pool place ≡ Some (served_at config (way_from input.side) packet)) =
+    subst (λ (a : Arrival). (admission config a ≡ Ok packet) × (slice_get config.pool place ≡ Some (served_at config (way_from a.side) packet))) c.input.view_is judged in
     let side : c.input.inside.side ≡ input.side = side_as input copy c.input.view_is in
     let way : c.way_from.result ≡ way_from input.side = c.way_from.ensures ∙ ap way_from side in
     let some : IfSome to (λ v. (input.side ≡ Inside) × (place_of config (destination packet).address ≡ Some v)) =
@@ -38,6 +41,9 @@ returns-in-Ok-hold_first-clause-admits c =
 pub returns-in-Ok-write-clause-admits : goal.returns-in-Ok-write-clause-admits
 returns-in-Ok-write-clause-admits c =
     let parts : Parts = parts_of c.args.self.now in
-    let against : admission c.args.config.now c.args.input.now ≡ Err c.in-Err.cause = rw c.in-Err.is at c.in-Ok.ensures.refused in
-    refused_admits c.args.config.now c.args.number c.args.now c.args.input.now parts (with_progress c.write.new.all.items parts) c.in-Err.cause c.requires.keeps.pool.distinct against
+    let copy : Arrival = record { side = c.input.inside.side; time = c.input.inside.time; clock = c.input.inside.clock; bytes = c.input.inside.bytes.items } in
+    let refused : admission c.args.config.now copy ≡ Err c.in-Err.cause = c.in-Err.ensures.refused in
+    let against : admission c.args.config.now c.args.input ≡ Err c.in-Err.cause =
+    subst (λ (a : Arrival). admission c.args.config.now a ≡ Err c.in-Err.cause) c.input.view_is refused in
+    refused_admits c.args.config.now c.args.number c.args.now c.args.input parts (with_progress c.write.new.all.items parts) c.in-Err.cause c.requires.keeps.pool.distinct against
     (ap (λ (ps : List Progress). with_progress ps parts) c.in-Ok-write.ensures)

@@ -1,4 +1,4 @@
-use Rattle.std.proofs.Common.{◌≡◌, [], length, take}
+use Rattle.std.proofs.Common.{◌≡◌, [], length, drop, take}
 use Rattle.napt_pool.specs.Pools.{starts}
 use Rattle.napt_run.specs.Sequential.{last_clock}
 use Rattle.napt_run.specs.Standing.{parts_of, ledger_of, IsSized, Stands}
@@ -8,6 +8,8 @@ abbrev pub invariant-loop-number : goal.invariant-loop-number
 invariant-loop-number g l = record {
   same : starts l.pool ≡ starts l.initial.pool;
   sized : IsSized (length (starts l.pool)) (parts_of l.self);
-  clock : last_clock 0 (take l.number l.inputs) ≡ l.clock;
-  served : Stands l.config [] l.inputs (ledger_of l.initial.pool l.initial.self) → Stands l.config (take l.number l.inputs) l.inputs (ledger_of l.pool l.self);
+  left : l.inputs.items ≡ drop l.number l.fn.inputs.items;
+  many : l.many ≡ length l.fn.inputs.items;
+  clock : last_clock 0 (take l.number l.fn.inputs.items) ≡ l.clock;
+  served : Stands l.config [] l.fn.inputs.items (ledger_of l.initial.pool l.initial.self) → Stands l.config (take l.number l.fn.inputs.items) l.fn.inputs.items (ledger_of l.pool l.self);
 }

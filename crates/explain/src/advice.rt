@@ -1,0 +1,72 @@
+//! What causes of drops mean, and what to do where there are many.
+
+use napt_wire::Cause;
+
+/// All causes, in the order of the report.
+pub const CAUSES: [Cause; 13] = [
+    Cause::Truncated,
+    Cause::NotIpv4,
+    Cause::BadHeader,
+    Cause::BadChecksum,
+    Cause::Fragment,
+    Cause::Unsupported,
+    Cause::BadInner,
+    Cause::BadPort,
+    Cause::Spoofed,
+    Cause::NotOurs,
+    Cause::NoBinding,
+    Cause::Filtered,
+    Cause::NoPort,
+];
+
+/// A cause in words.
+pub fn meaning(cause: Cause) -> &'static str {
+    match cause {
+        Cause::Truncated => "fewer bytes than the packet's own length says",
+        Cause::NotIpv4 => "not version 4",
+        Cause::BadHeader => "a length in a header that cannot be",
+        Cause::BadChecksum => "the checksum of the IP header, or of an ICMP error, is wrong",
+        Cause::Fragment => "a fragment, and napt does not put them together",
+        Cause::Unsupported => {
+            "neither UDP nor TCP, an ICMP message that is not translated, or an echo to the pool"
+        }
+        Cause::BadInner => "an ICMP error that quotes too little, or what nobody here sent",
+        Cause::BadPort => "a port 0",
+        Cause::Spoofed => "the source belongs to the other side",
+        Cause::NotOurs => "the destination is not beyond the gateway",
+        Cause::NoBinding => "nobody inside sent from there, or longer ago than the timer",
+        Cause::Filtered => "the filter does not let this remote in: nothing was sent to it",
+        Cause::NoPort => "every number that may stand for it is taken at this external address",
+    }
+}
+
+/// What to do where many packets are dropped so.
+pub fn advice(cause: Cause) -> Option<&'static str> {
+    match cause {
+        Cause::Truncated => Some(
+            "the capture was made with a snapshot length: capture whole packets (tcpdump -s 0)",
+        ),
+        Cause::NotIpv4 => Some(
+            "link headers were left in the capture, or the recipe that cuts them was used twice",
+        ),
+        Cause::BadHeader => Some(
+            "link headers were cut at the wrong place, or the card leaves total lengths 0: switch its offload off",
+        ),
+        Cause::BadChecksum => Some(
+            "the checksum was left to the network card: switch its offload off, or capture at the other end",
+        ),
+        Cause::Spoofed => Some("the captures are exchanged, or a prefix is missing in `inside`"),
+        Cause::NotOurs => Some(
+            "the capture has traffic that does not cross the gateway, or `pool` lacks an address",
+        ),
+        Cause::NoBinding => Some(
+            "the inside capture lacks what was sent before, or `pool` is not that of the gateway that was captured",
+        ),
+        Cause::Filtered => Some(
+            "the remotes were not sent to: `filter = \"independent\"` would let them in",
+        ),
+        Cause::NoPort => Some("the pool is too small: add an address"),
+        Cause::Fragment => Some("the path has a small MTU: capture where datagrams are whole"),
+        Cause::Unsupported | Cause::BadInner | Cause::BadPort => None,
+    }
+}

@@ -1,0 +1,201 @@
+//! The lines of an account.
+
+use crate::account::{Account, Note, rank};
+use crate::advice::{CAUSES, advice, meaning};
+use crate::names::{cause_name, endpoint_text, protocol_name, side_name, time_text};
+use crate::options::{Choice, Options};
+use crate::shown::{arrival_text, has_address, packet_text};
+use crate::stop::Stop;
+use napt_run::{Input, Outcome};
+use napt_table::Row;
+use napt_wire::{Cause, Kind, Packet, Side};
+use std::alloc::{AllocError, Global};
+
+/// Writes the line of the packet of a number, from 1, where it is asked for.
+pub fn tell_line<R: Print + AllocGlobal>(
+    rt: &R,
+    options: &Options,
+    number: u64,
+    input: &Input,
+    account: &Account,
+) -> Result<(), Stop> {
+    let at = number.wrapping_sub(1) as usize;
+    let (Some(outcome), Some(note)) = (account.outcome_at(at), account.notes.get(at)) else {
+        return Ok(());
+    };
+    if !is_chosen(options.choice, number, input, outcome) {
+        return Ok(());
+    }
+    let alloc = rt.alloc();
+    let time = time_text(alloc, input.time)?;
+    let side = side_name(input.side);
+    let before = arrival_text(alloc, input.side, &input.bytes)?;
+    let happened = happened(alloc, input.side, outcome, *note)?;
+    match outcome {
+        Outcome::ToOutside(packet) | Outcome::ToInside(packet) => {
+            let after = packet_text(alloc, packet)?;
+            println!(rt; "{number} {time} {side:<7} {before} | {happened} | {after}")?;
+        }
+        Outcome::Dropped(_) => println!(rt; "{number} {time} {side:<7} {before} | {happened}")?,
+    }
+    Ok(())
+}
+
+fn is_chosen(choice: Choice, number: u64, input: &Input, outcome: &Outcome) -> bool {
+    let is_numbered = choice.only.is_none_or(|only| only == number);
+    let is_hosted = choice.host.is_none_or(|host| has_address(&input.bytes, host)
+        || leaves_with(outcome, host));
+    let is_dropped = matches!(outcome, Outcome::Dropped(_));
+    is_numbered && is_hosted && (is_dropped || !choice.dropped)
+}
+
+/// Whether an outcome's packet has the address.
+fn leaves_with(outcome: &Outcome, host: u32) -> bool {
+    match outcome {
+        Outcome::ToOutside(packet) | Outcome::ToInside(packet) => has_address(packet.bytes(), host),
+        Outcome::Dropped(_) => false,
+    }
+}
+
+/// What happened to a packet that came from a side.
+fn happened(
+    alloc: Global,
+    side: Side,
+    outcome: &Outcome,
+    note: Note,
+) -> Result<String, AllocError> {
+    match outcome {
+        Outcome::Dropped(cause) => {
+            let name = cause_name(alloc, *cause)?;
+            format!(in alloc; "dropped, {name}: {}", meaning(*cause))
+        }
+        Outcome::ToInside(packet) => match side {
+            Side::Inside => {
+                let via = endpoint_text(alloc, packet.source())?;
+                format!(in alloc; "hairpin via {via}, {}", used(packet, note))
+            }
+            Side::Outside => String::from_str(alloc, used(packet, note)),
+        },
+        Outcome::ToOutside(packet) => String::from_str(alloc, used(packet, note)),
+    }
+}
+
+/// What a packet that went through did to a binding.
+fn used(packet: &Packet, note: Note) -> &'static str {
+    match (packet.kind(), note) {
+        (Kind::ErrorOf(_), _) => "error about a binding",
+        (_, Note::Made) => "made a binding",
+        (_, Note::Redirect) => "found a redirect",
+        (_, Note::Found | Note::Nothing) => "found a binding",
+    }
+}
+
+/// Writes the bindings that live at the last clock, with their ages.
+pub fn tell_bindings<R: Print + AllocGlobal>(
+    rt: &R,
+    inputs: &[Input],
+    account: &Account,
+) -> Result<(), Stop> {
+    let now = match inputs.last() {
+        Some(input) => input.clock,
+        None => 0,
+    };
+    let time = time_text(rt.alloc(), now)?;
+    println!(rt; "live bindings at {time}: {}", account.run.bindings.len())?;
+    for row in &account.run.bindings {
+        tell_binding(rt, now, row, account)?;
+    }
+    Ok(())
+}
+
+fn tell_binding<R: Print + AllocGlobal>(
+    rt: &R,
+    now: u64,
+    row: &Row,
+    account: &Account,
+) -> Result<(), Stop> {
+    let alloc = rt.alloc();
+    let name = protocol_name(row.protocol);
+    let inside = endpoint_text(alloc, row.inside)?;
+    let external = endpoint_text(alloc, row.external)?;
+    if row.fixed {
+        println!(rt; "  {name} {inside} at {external}, a redirect")?;
+        return Ok(());
+    }
+    let key = (
+        rank(row.protocol),
+        row.external.address,
+        row.external.number,
+    );
+    match account.ages.get(&key) {
+        Some(age) => {
+            let made = time_text(alloc, now.saturating_sub(age.made))?;
+            let used = time_text(alloc, now.saturating_sub(age.used))?;
+            println!(rt;
+                "  {name} {inside} at {external}, made {made} s ago, last used from inside {used} s ago"
+            )?;
+        }
+        None => println!(rt; "  {name} {inside} at {external}")?,
+    }
+    Ok(())
+}
+
+/// Writes how many packets ended in which way, and what to do where more than half of them were dropped for one cause.
+pub fn tell_counts<R: Print + AllocGlobal>(rt: &R, account: &Account) -> Result<(), Stop> {
+    let outcomes = account.run.outcomes.as_slice();
+    println!(rt; "packets: {}", outcomes.len())?;
+    println!(rt; "  {} to the outside", count_to_outside(outcomes))?;
+    println!(rt; "  {} to the inside", count_to_inside(outcomes))?;
+    for cause in CAUSES {
+        tell_cause(rt, cause, outcomes)?;
+    }
+    Ok(())
+}
+
+fn tell_cause<R: Print + AllocGlobal>(
+    rt: &R,
+    cause: Cause,
+    outcomes: &[Outcome],
+) -> Result<(), Stop> {
+    let many = count_dropped(outcomes, cause);
+    if many == 0 {
+        return Ok(());
+    }
+    let name = cause_name(rt.alloc(), cause)?;
+    println!(rt; "  {many} dropped, {name}: {}", meaning(cause))?;
+    match advice(cause) {
+        Some(text) if many > outcomes.len() / 2 => {
+            println!(rt; "    most packets end so: {text}")?;
+        }
+        _ => {}
+    }
+    Ok(())
+}
+
+fn count_to_outside(outcomes: &[Outcome]) -> usize {
+    outcomes
+        .iter()
+        .filter(|outcome| matches!(outcome, Outcome::ToOutside(_)))
+        .count()
+}
+
+fn count_to_inside(outcomes: &[Outcome]) -> usize {
+    outcomes
+        .iter()
+        .filter(|outcome| matches!(outcome, Outcome::ToInside(_)))
+        .count()
+}
+
+fn count_dropped(outcomes: &[Outcome], cause: Cause) -> usize {
+    outcomes
+        .iter()
+        .filter(|outcome| is_dropped(cause, outcome))
+        .count()
+}
+
+fn is_dropped(cause: Cause, outcome: &Outcome) -> bool {
+    match outcome {
+        Outcome::Dropped(given) => *given == cause,
+        Outcome::ToOutside(_) | Outcome::ToInside(_) => false,
+    }
+}

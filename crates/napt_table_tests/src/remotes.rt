@@ -1,0 +1,187 @@
+//! One inside endpoint that talks with some hundreds of remotes: a table and a plain list answer the same.
+
+ghost use Rattle.std.specs.Prelude.{ℕ, ◌<◌};
+
+use crate::bench::{NO_FLAGS, RESOLVER, SECOND, host};
+use crate::twins::{Counts, Draws, Sent, Twins};
+use napt_wire::{Endpoint, Flags, Protocol};
+use std::alloc::Global;
+use std::test::Fail;
+
+/// How many remotes there are, at 40 addresses.
+const REMOTES: u64 = 320;
+
+/// The port of the inside endpoint, and the external one that stands for it.
+const PORT: u16 = 5000;
+
+/// How many calls one mix makes.
+const CALLS: u32 = 900;
+
+/// How far time goes on between two drawn calls, in ns: mostly not at all.
+const JUMPS: [u64; 16] = [
+    0,
+    0,
+    0,
+    0,
+    0,
+    0,
+    0,
+    0,
+    0,
+    1,
+    SECOND - 1,
+    SECOND,
+    2 * SECOND,
+    5 * SECOND,
+    10 * SECOND,
+    60 * SECOND,
+];
+
+/// After how long a look-up asks what is live, in ns: about the ends of all timers.
+const LATER: [u64; 8] = [
+    0,
+    119 * SECOND,
+    120 * SECOND,
+    240 * SECOND - 1,
+    240 * SECOND,
+    7440 * SECOND - 1,
+    7440 * SECOND,
+    u64::MAX,
+];
+
+const SYN: Flags = Flags {
+    syn: true,
+    ..NO_FLAGS
+};
+
+const SYN_ACK: Flags = Flags { ack: true, ..SYN };
+
+fn remote(many: u64) -> Endpoint
+    requires { many < 320 }
+{
+    Endpoint {
+        address: RESOLVER.address + (many % 40) as u32,
+        number: 50 + (many / 40) as u16,
+    }
+}
+
+/// A packet to that remote.
+fn packet(protocol: Protocol, many: u64, flags: Flags) -> Sent
+    requires { many < 320 }
+{
+    Sent {
+        protocol,
+        inside: host(2, PORT),
+        remote: remote(many),
+        flags,
+    }
+}
+
+/// Each remote of a range is sent a SYN, and each third one answers it.
+fn fill(twins: &mut Twins, now: u64, protocol: Protocol, least: u64) -> Result<bool, Fail> {
+    for many in least..REMOTES {
+        if !twins.send(now, packet(protocol, many, SYN))? {
+            return Ok(false);
+        }
+        if many % 3 == 0 && !twins.hear(now, protocol, PORT, remote(many), SYN_ACK)? {
+            return Ok(false);
+        }
+    }
+    Ok(true)
+}
+
+/// Each remote sends a packet without flags.
+fn hear_all(twins: &mut Twins, now: u64, protocol: Protocol) -> Result<bool, Fail> {
+    for many in 0..REMOTES {
+        if !twins.hear(now, protocol, PORT, remote(many), NO_FLAGS)? {
+            return Ok(false);
+        }
+    }
+    Ok(true)
+}
+
+/// Looks that move no time, about the ends of all timers.
+fn look_ahead(twins: &Twins, now: u64, protocol: Protocol) -> Result<bool, Fail> {
+    for ahead in LATER {
+        let later = now.saturating_add(ahead);
+        if !twins.look_at(later, protocol, PORT, host(2, PORT))? {
+            return Ok(false);
+        }
+    }
+    Ok(true)
+}
+
+/// One call that is drawn, with a segment of any flags.
+fn call(twins: &mut Twins, now: u64, protocol: Protocol, draws: &mut Draws) -> Result<bool, Fail> {
+    let many = draws.below(REMOTES);
+    let flags = draws.flags();
+    match draws.below(8) {
+        0..=3 => twins.send(now, packet(protocol, many, flags)),
+        4..=6 => twins.hear(now, protocol, PORT, remote(many), flags),
+        _ => look_ahead(twins, now, protocol),
+    }
+}
+
+/// So many calls that are drawn, from that time on: the time of the last, where all agreed.
+fn mix(
+    twins: &mut Twins,
+    from: u64,
+    protocol: Protocol,
+    draws: &mut Draws,
+) -> Result<Option<u64>, Fail> {
+    let mut now = from;
+    for _ in 0..CALLS {
+        now = now.saturating_add(JUMPS[draws.below(16) as usize]);
+        if !call(twins, now, protocol, draws)? {
+            return Ok(None);
+        }
+    }
+    Ok(Some(now))
+}
+
+/// The flows begin, most of them die while some live on, they come again in fewer and in more slots, and all die at last.
+fn run(alloc: Global, filter: &str, protocol: Protocol) -> Result<Option<Counts>, Fail> {
+    let settings = format!(in alloc; "filter = \"{filter}\"\n")?;
+    let mut twins = Twins::with(alloc, &settings)?;
+    let mut draws = Draws { state: 7 };
+    let mut now = 0;
+    for least in [0, 300, 0] {
+        if !fill(&mut twins, now, protocol, least)? || !look_ahead(&twins, now, protocol)? {
+            return Ok(None);
+        }
+        // all but those that are established die
+        now = now.saturating_add(241 * SECOND);
+        if !hear_all(&mut twins, now, protocol)? || !look_ahead(&twins, now, protocol)? {
+            return Ok(None);
+        }
+        let Some(after) = mix(&mut twins, now, protocol, &mut draws)? else {
+            return Ok(None);
+        };
+        now = after.saturating_add(7_441 * SECOND);
+        if !look_ahead(&twins, now, protocol)? || !hear_all(&mut twins, now, protocol)? {
+            return Ok(None);
+        }
+    }
+    Ok(Some(twins.counts))
+}
+
+#[test]
+fn many_tcp_remotes_of_one_port(rt: HostRuntime) -> Result<(), Fail> {
+    for filter in ["independent", "address", "address-port"] {
+        let counts = run(rt.alloc(), filter, Protocol::Tcp)?.ok_or("the same answers")?;
+        assert!(rt; counts.passed > 2_000);
+        assert!(rt; counts.no_binding > 100);
+        assert!(rt; filter == "independent" || counts.filtered > 100);
+    }
+    Ok(())
+}
+
+#[test]
+fn many_udp_remotes_of_one_port(rt: HostRuntime) -> Result<(), Fail> {
+    for filter in ["independent", "address", "address-port"] {
+        let counts = run(rt.alloc(), filter, Protocol::Udp)?.ok_or("the same answers")?;
+        assert!(rt; counts.passed > 2_000);
+        assert!(rt; counts.no_binding > 100);
+    }
+    Ok(())
+}

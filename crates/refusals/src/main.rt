@@ -1,0 +1,88 @@
+//! Makes a call that may be refused, and looks at what a refusal left or changed. `tests/refused_calls` runs it again and again,
+//! each time with another growth of memory refused.
+//!
+//! `refusals CALL`: `pool` starts a pool of three workers, fills it and closes it; `run` runs over captures on two workers, and
+//! `plain` on one thread; `capture` and `configuration` read one; `bindings`, `flows` and `ends` send packets through a table: of
+//! new bindings, of new flows of bindings that are there, and of bindings that have ended.
+//!
+//! One line on standard output tells the end. Statuses: 0 done, 1 something is left, changed or wrong, 2 usage, 3 memory was
+//! refused before the call, 4 after it, 5 memory or a thread was refused to the call, 6 the line is not written.
+#![tactic(auto)]
+
+mod left;
+mod pool;
+mod readers;
+mod run;
+mod table;
+
+use crate::table::Kind;
+use std::env;
+use std::env::Env;
+use std::process::ExitCode;
+use std::rt::Files;
+use std::sync::Wait;
+use std::thread::Threads;
+
+/// How a call ended.
+#[derive(Clone, Copy)]
+enum End {
+    /// It answered what it answers with ample memory.
+    Done,
+    /// Memory was refused to it, and nothing is left or changed.
+    Memory,
+    /// A thread was refused to it, and nothing is left or changed.
+    NoThread,
+    /// Memory was refused before the call.
+    Before,
+    /// Memory was refused to the look at what the call left.
+    After,
+    /// Something is left, changed or wrong.
+    Wrong(&'static str),
+    /// The word says no call.
+    Usage,
+}
+
+impl End {
+    /// The line and the status.
+    fn told(self) -> (&'static str, u8) {
+        match self {
+            End::Done => ("done", 0),
+            End::Memory => ("memory", 5),
+            End::NoThread => ("no-thread", 5),
+            End::Before => ("before", 3),
+            End::After => ("after", 4),
+            End::Wrong(what) => (what, 1),
+            End::Usage => ("usage", 2),
+        }
+    }
+}
+
+fn main(rt: HostRuntime) -> ExitCode {
+    let (line, status) = ended(&rt).told();
+    match println!(rt; "{line}") {
+        Ok(()) => ExitCode::from(status),
+        Err(_) => ExitCode::from(6),
+    }
+}
+
+/// Makes the call of the first word.
+fn ended<R: Env + Files + AllocGlobal + Threads + Wait + Copy + Send + 'static>(rt: &R) -> End {
+    let alloc = rt.alloc();
+    let Ok(args) = env::args(rt) else {
+        return End::Before;
+    };
+    let Ok(words) = args.collect::<Vec<String>>(alloc) else {
+        return End::Before;
+    };
+    match words.get(1).map(String::as_str) {
+        Some("pool") => pool::ended(rt),
+        Some("run") => run::ended(rt),
+        Some("plain") => run::plain_ended(alloc),
+        Some("capture") => readers::capture_ended(alloc),
+        Some("configuration") => readers::configuration_ended(alloc),
+        Some("bindings") => table::ended(alloc, Kind::Bindings),
+        Some("flows") => table::ended(alloc, Kind::Flows),
+        Some("ends") => table::ended(alloc, Kind::Ends),
+        _ => End::Usage,
+    }
+}

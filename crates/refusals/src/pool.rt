@@ -1,0 +1,123 @@
+//! A pool that is started, filled and closed.
+
+ghost use Rattle.std.specs.Prelude.{◌≡◌, ◌<◌, IfOk, length, vec_len};
+ghost use Rattle.napt_pool.specs.Pools.{starts};
+
+use crate::End;
+use crate::left::{Counts, gate, looked_at};
+use napt_pool::{Ended, Gate, Machine, Pool, PoolFault};
+use std::alloc::{AllocError, Global};
+use std::rt::Files;
+use std::sync::atomic::Ordering;
+use std::sync::{Arc, Wait};
+use std::thread::Threads;
+
+/// How many workers there are.
+const WORKERS: u32 = 3;
+
+/// Answers each item with itself, and takes memory for each step. What is made and dropped of it is counted.
+struct Echo {
+    counts: Arc<Counts>,
+}
+
+impl Drop for Echo {
+    fn drop(self) {
+        self.counts.dropped.fetch_add(1, Ordering::SeqCst);
+        let Echo { counts: _ } = self;
+    }
+}
+
+impl Machine for Echo {
+    type Item = u64;
+
+    type Answer = u64;
+
+    ghost stepped = { λ echo _. echo };
+
+    ghost reply = { λ _ item. item };
+
+    fn step(&mut self, alloc: Global, item: u64) -> Result<u64, AllocError> {
+        let mut room = Vec::new(alloc);
+        room.push(item)?;
+        Ok(item)
+    }
+}
+
+/// The machines of the pool.
+fn machines(alloc: Global, counts: &Arc<Counts>) -> Result<Vec<Echo>, AllocError>
+    ensures { IfOk result (λ v. vec_len v ≡ 3) }
+{
+    let mut all = Vec::new(alloc);
+    for _ in 0..WORKERS {
+        let theirs = Arc::try_clone(counts)?;
+        counts.made.fetch_add(1, Ordering::SeqCst);
+        all.push(Echo { counts: theirs })?;
+    }
+    Ok(all)
+}
+
+/// Offers a worker as many items as it may owe answers, and says whether it took them.
+fn fill<G: Gate>(alloc: Global, pool: &mut Pool<Echo, G>, w: u32) -> bool
+    requires { w < length (starts pool.old) }
+    ensures { length (starts pool.new) ≡ length (starts pool.old) }
+{
+    let first = pool.offer(alloc, w, 7).is_ok();
+    let second = pool.offer(alloc, w, 8).is_ok();
+    first && second
+}
+
+/// Whether each worker handed back the answers to its items.
+fn are_whole(ended: &[Ended<Echo>]) -> bool {
+    for end in ended {
+        if end.answers.as_slice() != [7, 8].as_slice() {
+            return false;
+        }
+    }
+    ended.len() == WORKERS as usize
+}
+
+/// What a fault of the pool comes to.
+fn end_of(fault: PoolFault) -> End {
+    match fault {
+        PoolFault::Memory => End::Memory,
+        PoolFault::NoThread => End::NoThread,
+        _ => End::Wrong("another fault"),
+    }
+}
+
+/// Starts a pool, fills it and closes it.
+fn filled_and_closed<R: Threads + Wait + Copy + Send + 'static>(
+    rt: &R,
+    alloc: Global,
+    counts: &Arc<Counts>,
+) -> End {
+    let Ok(gate) = gate(alloc, counts) else {
+        return End::Before;
+    };
+    let Ok(machines) = machines(alloc, counts) else {
+        return End::Before;
+    };
+    let mut pool = match Pool::start(rt, alloc, machines, 2, gate) {
+        Ok(pool) => pool,
+        Err(fault) => return end_of(fault),
+    };
+    let first = fill(alloc, &mut pool, 0);
+    let second = fill(alloc, &mut pool, 1);
+    let third = fill(alloc, &mut pool, 2);
+    match pool.close(rt, alloc) {
+        Ok(ended) if first && second && third && are_whole(&ended) => End::Done,
+        Ok(_) => End::Wrong("other answers"),
+        Err(fault) => end_of(fault),
+    }
+}
+
+pub(crate) fn ended<R: Files + AllocGlobal + Threads + Wait + Copy + Send + 'static>(
+    rt: &R,
+) -> End {
+    let alloc = rt.alloc();
+    let Ok(counts) = Counts::shared(alloc) else {
+        return End::Before;
+    };
+    let end = filled_and_closed(rt, alloc, &counts);
+    looked_at(rt, &counts, end)
+}

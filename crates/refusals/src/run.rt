@@ -1,0 +1,132 @@
+//! Runs over captures of both sides, through two external addresses: on workers, with a report, and on one thread.
+
+use crate::End;
+use crate::left::{Asked, Counts, gate, looked_at};
+use napt_capture::{CaptureFault, Watched, read_capture};
+use napt_config::Config;
+use napt_pool::PoolFault;
+use napt_run::{Fault, Input, RunFault, merge, run_captures, run_plain};
+use std::alloc::Global;
+use std::rt::Files;
+use std::sync::{Arc, Wait};
+use std::thread::Threads;
+
+const CONFIGURATION: &str =
+    "pool = [\"203.0.113.1\", \"203.0.113.2\"]\ninside = [\"10.0.0.0/8\"]\n";
+
+/// At 1 s udp 10.0.0.3:7000 > 198.51.100.7:53, and at 2 s a hairpin, udp 10.0.0.2:5000 > 203.0.113.2:7000.
+const INSIDE: [u8; 112] = [
+    0xd4, 0xc3, 0xb2, 0xa1, 2, 0, 4, 0, 0, 0, 0, 0, 0, 0, 0, 0, 0xff, 0xff, 0, 0, 0x65, 0, 0, 0,
+    // time, captured and original length
+    1, 0, 0, 0, 0, 0, 0, 0, 28, 0, 0, 0, 28, 0, 0, 0, // and the packet
+    0x45, 0x00, 0x00, 0x1c, 0x00, 0x01, 0x00, 0x00, 0x40, 0x11, 0x46, 0x93, 0x0a, 0x00, 0x00, 0x03,
+    0xc6, 0x33, 0x64, 0x07, 0x1b, 0x58, 0x00, 0x35, 0x00, 0x08, 0x00, 0x00,
+    // time, captured and original length
+    2, 0, 0, 0, 0, 0, 0, 0, 28, 0, 0, 0, 28, 0, 0, 0, // and the packet
+    0x45, 0x00, 0x00, 0x1c, 0x00, 0x01, 0x00, 0x00, 0x40, 0x11, 0x34, 0xcc, 0x0a, 0x00, 0x00, 0x02,
+    0xcb, 0x00, 0x71, 0x02, 0x13, 0x88, 0x1b, 0x58, 0x00, 0x08, 0x00, 0x00,
+];
+
+/// At 3 s the answer to the first, udp 198.51.100.7:53 > 203.0.113.2:7000.
+const OUTSIDE: [u8; 68] = [
+    0xd4, 0xc3, 0xb2, 0xa1, 2, 0, 4, 0, 0, 0, 0, 0, 0, 0, 0, 0, 0xff, 0xff, 0, 0, 0x65, 0, 0, 0,
+    // time, captured and original length
+    3, 0, 0, 0, 0, 0, 0, 0, 28, 0, 0, 0, 28, 0, 0, 0, // and the packet
+    0x45, 0x00, 0x00, 0x1c, 0x00, 0x01, 0x00, 0x00, 0x40, 0x11, 0x14, 0x93, 0xc6, 0x33, 0x64, 0x07,
+    0xcb, 0x00, 0x71, 0x02, 0x00, 0x35, 0x1b, 0x58, 0x00, 0x08, 0x00, 0x00,
+];
+
+/// How many bytes an output has room for, so that none grows while it is written.
+const ROOM: usize = 4096;
+
+/// What a fault comes to that came before anything was written.
+fn end_of(fault: Fault) -> End {
+    match fault {
+        Fault::Capture(_, CaptureFault::Memory) => End::Memory,
+        Fault::Run(RunFault::Memory) => End::Memory,
+        Fault::Run(RunFault::Pool(PoolFault::Memory)) => End::Memory,
+        Fault::Run(RunFault::Pool(PoolFault::NoThread)) => End::NoThread,
+        _ => End::Wrong("another fault"),
+    }
+}
+
+/// Makes the run, through the gate.
+fn ran<R: Threads + Wait + Copy + Send + 'static>(
+    rt: &R,
+    alloc: Global,
+    config: &Config,
+    gate: Arc<Asked>,
+) -> End {
+    let (Ok(to_outside), Ok(to_inside), Ok(report)) = (
+        Vec::with_capacity(alloc, ROOM),
+        Vec::with_capacity(alloc, ROOM),
+        Vec::with_capacity(alloc, ROOM),
+    ) else {
+        return End::Before;
+    };
+    let mut to_outside = Watched::new(to_outside);
+    let mut to_inside = Watched::new(to_inside);
+    let mut report = Watched::new(report);
+    let answer = run_captures(
+        rt,
+        alloc,
+        config,
+        &mut Watched::new(INSIDE.as_slice()),
+        Some(&mut Watched::new(OUTSIDE.as_slice())),
+        &mut to_outside,
+        Some(&mut to_inside),
+        Some(&mut report),
+        gate,
+    );
+    let (to_outside, to_inside) = (to_outside.into_inner().len(), to_inside.into_inner().len());
+    let report = report.into_inner().len();
+    match answer {
+        // a packet to the outside, two to inside hosts
+        Ok(()) if to_outside == 68 && to_inside == 112 && report > 0 => End::Done,
+        Ok(()) => End::Wrong("other outputs"),
+        Err(_) if to_outside > 0 || to_inside > 0 || report > 0 => {
+            End::Wrong("something is written")
+        }
+        Err(fault) => end_of(fault),
+    }
+}
+
+pub(crate) fn ended<R: Files + AllocGlobal + Threads + Wait + Copy + Send + 'static>(
+    rt: &R,
+) -> End {
+    let alloc = rt.alloc();
+    let Ok(config) = Config::read(alloc, CONFIGURATION.as_bytes()) else {
+        return End::Before;
+    };
+    let Ok(counts) = Counts::shared(alloc) else {
+        return End::Before;
+    };
+    let Ok(gate) = gate(alloc, &counts) else {
+        return End::Before;
+    };
+    let end = ran(rt, alloc, &config, gate);
+    looked_at(rt, &counts, end)
+}
+
+/// The merged inputs; none where memory is refused.
+fn inputs(alloc: Global) -> Option<Vec<Input>> {
+    let inside = read_capture(alloc, &mut Watched::new(INSIDE.as_slice())).ok()?;
+    let outside = read_capture(alloc, &mut Watched::new(OUTSIDE.as_slice())).ok()?;
+    merge(alloc, inside.records, outside.records).ok()
+}
+
+/// The run on one thread.
+pub(crate) fn plain_ended(alloc: Global) -> End {
+    let Ok(config) = Config::read(alloc, CONFIGURATION.as_bytes()) else {
+        return End::Before;
+    };
+    let Some(inputs) = inputs(alloc) else {
+        return End::Before;
+    };
+    match run_plain(alloc, &config, &inputs) {
+        Ok(run) if run.bindings.len() == 2 => End::Done,
+        Ok(_) => End::Wrong("another run"),
+        Err(RunFault::Memory) => End::Memory,
+        Err(_) => End::Wrong("another fault"),
+    }
+}

@@ -1,0 +1,181 @@
+//! Packets that go out through a table.
+
+use crate::End;
+use napt_config::Config;
+use napt_table::{Row, Table};
+use napt_wire::{Endpoint, Flags, Protocol};
+use std::alloc::{AllocError, Global};
+
+const SECOND: u64 = 1_000_000_000;
+
+/// 203.0.113.1
+const EXTERNAL: u32 = 0xCB00_7101;
+
+/// The table's address, and a filter under which a flow shows.
+const CONFIGURATION: &str =
+    "pool = [\"203.0.113.1\"]\ninside = [\"10.0.0.0/8\"]\nfilter = \"address-port\"\n";
+
+/// How many packets there are.
+const PACKETS: u16 = 60;
+
+/// What a packet is to the table.
+#[derive(Clone, Copy)]
+pub(crate) enum Kind {
+    /// Each is the first of its host.
+    Bindings,
+    /// Each but the first of its protocol is of a binding that is there, to another remote.
+    Flows,
+    /// Each comes 400 s after the one before it of its protocol and host, whose binding has ended by then; others are live.
+    Ends,
+}
+
+/// A packet that goes out, at a time in ns.
+#[derive(Clone, Copy)]
+struct Packet {
+    now: u64,
+    protocol: Protocol,
+    inside: Endpoint,
+    remote: Endpoint,
+    flags: Flags,
+}
+
+/// The packet of a kind at a place in the order, one of each protocol in turn: from 10.0.0.0:5000 and on, to 198.51.100.0:53 and
+/// on.
+fn packet_of(kind: Kind, place: u16) -> Packet {
+    let round = place / 3;
+    let protocol = match place % 3 {
+        0 => Protocol::Udp,
+        1 => Protocol::Tcp,
+        _ => Protocol::Icmp,
+    };
+    let (host, remote, seconds) = match kind {
+        Kind::Bindings => (round, 0, u64::from(place)),
+        Kind::Flows => (0, round, u64::from(place)),
+        Kind::Ends => (round % 4, 0, 100 * u64::from(round) + u64::from(place % 3)),
+    };
+    Packet {
+        now: seconds.saturating_mul(SECOND),
+        protocol,
+        inside: Endpoint {
+            address: 0x0A00_0000 + u32::from(host),
+            number: host.saturating_add(5000),
+        },
+        remote: Endpoint {
+            address: 0xC633_6400 + u32::from(remote),
+            number: 53,
+        },
+        flags: Flags {
+            fin: false,
+            syn: true,
+            rst: false,
+            ack: false,
+        },
+    }
+}
+
+/// Sends the packet: the external number; none where the packet is refused, or may not be sent.
+fn send(alloc: Global, table: &mut Table, packet: Packet) -> Result<Option<u16>, AllocError> {
+    let Packet {
+        now,
+        protocol,
+        inside,
+        remote,
+        flags,
+    } = packet;
+    if now < table.at() || inside.number == 0 {
+        return Ok(None);
+    }
+    let answer = match protocol {
+        Protocol::Icmp => table.outbound(alloc, now, Protocol::Icmp, inside, remote, flags)?,
+        Protocol::Tcp => table.outbound(alloc, now, Protocol::Tcp, inside, remote, flags)?,
+        Protocol::Udp => table.outbound(alloc, now, Protocol::Udp, inside, remote, flags)?,
+    };
+    Ok(answer.ok())
+}
+
+/// Whether an answer to the packet comes in, where its external number is that of its inside endpoint.
+fn is_answered(table: &mut Table, packet: Packet) -> bool {
+    if packet.now < table.at() {
+        return false;
+    }
+    let (number, remote) = (packet.inside.number, packet.remote);
+    let flags = Flags {
+        ack: true,
+        ..packet.flags
+    };
+    table
+        .inbound(packet.now, packet.protocol, number, remote, flags)
+        .is_ok()
+}
+
+/// The rows at each of the times.
+fn rows_at(alloc: Global, table: &Table, times: &[u64]) -> Result<Vec<Row>, AllocError> {
+    let mut all = Vec::new(alloc);
+    for time in times {
+        if table.at() <= *time {
+            all.append(&mut table.bindings(alloc, *time)?)?;
+        }
+    }
+    Ok(all)
+}
+
+/// Sends the packet, and looks at the table where it is refused.
+fn step(alloc: Global, table: &mut Table, packet: Packet) -> Result<(), End> {
+    let at = table.at();
+    let lasts = match packet.protocol {
+        Protocol::Icmp => 60,
+        Protocol::Tcp => 240,
+        Protocol::Udp => 300,
+    };
+    // when the packet before it came, when it comes, and when what is as old as the packet before it has ended
+    let times = [at, packet.now, at.saturating_add(lasts * SECOND)];
+    let Ok(before) = rows_at(alloc, table, &times) else {
+        return Err(End::Before);
+    };
+    match send(alloc, table, packet) {
+        Ok(Some(number)) if number == packet.inside.number => Ok(()),
+        Ok(_) => Err(End::Wrong("another answer")),
+        Err(_) => {
+            let Ok(after) = rows_at(alloc, table, &times) else {
+                return Err(End::After);
+            };
+            if before.as_slice() != after.as_slice() {
+                return Err(End::Wrong("the list is changed"));
+            }
+            Err(sent_again(alloc, table, packet))
+        }
+    }
+}
+
+/// What a refused packet comes to: no answer to it comes in, until it is sent again and passes.
+fn sent_again(alloc: Global, table: &mut Table, packet: Packet) -> End {
+    if is_answered(table, packet) {
+        return End::Wrong("a refused packet is answered");
+    }
+    match send(alloc, table, packet) {
+        Ok(Some(number)) if number == packet.inside.number && is_answered(table, packet) => {
+            End::Memory
+        }
+        _ => End::Wrong("it does not pass when it is sent again"),
+    }
+}
+
+/// Sends all packets of the kind.
+pub(crate) fn ended(alloc: Global, kind: Kind) -> End {
+    let Ok(config) = Config::read(alloc, CONFIGURATION.as_bytes()) else {
+        return End::Before;
+    };
+    let Ok(table) = Table::new(alloc, EXTERNAL, &config) else {
+        return End::Before;
+    };
+    // behind a box: a function that owns a table as it stands takes minutes to prove
+    let Ok(mut table) = Box::new(alloc, table) else {
+        return End::Before;
+    };
+    for place in 0..PACKETS {
+        if let Err(end) = step(alloc, &mut table, packet_of(kind, place)) {
+            return end;
+        }
+    }
+    End::Done
+}
