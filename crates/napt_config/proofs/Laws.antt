@@ -1,6 +1,6 @@
 -- What a table configures keeps the rules of a configuration.
-use Rattle.std.proofs.Common.{◌≡◌, ℕ, ◌+◌, ◌-◌, ◌%◌, ◌^◌, ◌<◌, ◌≤◌, ◌==◌, Bool, true, false, not, List, [], ◌∷◌, ◌++◌, length, get_or, Some, Ok, nat_lt, nat_le, nat_cmp, is_some, refl, sym, ap, subst, ◌∙◌, ltb-true, leb-true, eqb-true, length-append, arith}
-use Rattle.std.specs.Prelude.{All, ok_or, codes}
+use Rattle.std.proofs.Common.{◌≡◌, ℕ, ◌+◌, ◌-◌, ◌%◌, ◌^◌, ◌<◌, ◌≤◌, ◌==◌, Bool, true, false, not, List, [], ◌∷◌, ◌++◌, length, get_or, Option, Some, None, Ok, nat_lt, nat_le, nat_cmp, is_some, refl, sym, ap, subst, ◌∙◌, ltb-true, leb-true, eqb-true, length-append, arith}
+use Rattle.std.specs.Prelude.{All, IfSome, ok_or, codes}
 use Rattle.std.specs.BTreeMap.{insert_entry}
 use Rattle.std.specs.List.{list_any, before_first, after_first}
 use Rattle.std.specs.List.Sorted.{IsStrictlySortedBy}
@@ -15,8 +15,8 @@ use Rattle.napt_config.specs.declared.fault.ConfigFault.TheVariants.{BadAddress,
 use Rattle.napt_config.specs.declared.settings.Timers.{Timers}
 use Rattle.napt_config.specs.Network.{Network, IsNetwork, have_address}
 use Rattle.napt_config.specs.Text.{address_of, network_of, network_at, number_of, is_slash}
-use Rattle.napt_config.specs.Rules.{Rules, has, paired_with, paired, IsTimer, AreTimers, IsInside, ArePairs, KeepsRules}
-use Rattle.napt_config.specs.Configured.{item_count, short_list, text_in, number_in, table_in, list_in, between, with_address, pool_in, with_prefix, prefixes_in, inside_in, filter_in, refresh_in, timer_at, timers_at, timers_in, default_timers, ring_at, ring_in, address_in, with_pair, pairs_at, pairs_in, redirects_in, required, optional, configured, knows_all_keys}
+use Rattle.napt_config.specs.Rules.{Rules, has, paired_with, paired, IsTimer, AreTimers, IsInside, IsQuota, ArePairs, KeepsRules}
+use Rattle.napt_config.specs.Configured.{item_count, short_list, text_in, number_in, table_in, list_in, between, with_address, pool_in, with_prefix, prefixes_in, inside_in, filter_in, refresh_in, timer_at, timers_at, timers_in, default_timers, ring_at, ring_in, quota_at, quota_in, address_in, with_pair, pairs_at, pairs_in, redirects_in, required, optional, configured, knows_all_keys}
 use Rattle.napt_config.proofs.Addresses.{address_of-bound}
 use Rattle.napt_config.proofs.Chains.{reads, holds, ok_or_ok, optional_reads, each_keeps, each_adds}
 use Rattle.napt_config.proofs.Numbers.{number_of-range, between-range}
@@ -146,7 +146,7 @@ inside_in-keeps pool table inside is =
     let same : read ≡ inside = cc in
     rw (← same) (prefixes_in-keeps table read found, all_outside read pool (not-true _ outside))
 
--- ---- timers and ring
+-- ---- timers, ring and quota
 
 timer_at-keeps : (least seconds : ℕ) (value : Data) → timer_at least value ≡ Ok seconds → IsTimer least seconds
 unfolding timer_at
@@ -201,6 +201,19 @@ ring_at-keeps slots value is =
 pub ring_in-keeps : (slots : ℕ) (table : Members) → ring_in table ≡ Ok slots → IsRing slots
 unfolding ring_in
 ring_in-keeps slots table is = optional_reads IsRing (codes "ring") 64 ring_at table slots is (omega arith, omega arith) (λ value y read. ring_at-keeps y value read)
+
+quota_at-keeps : (quota : Option ℕ) (value : Data) → quota_at value ≡ Ok quota → IfSome quota IsQuota
+unfolding quota_at
+quota_at-keeps quota value is =
+    reads (number_in value) _ quota is λ number _ ranged.
+    reads (ok_or (between 1 65535 number) BadNumber) _ quota ranged λ bindings found last.
+    let same : Some bindings ≡ quota = cc in
+    subst (λ q. IfSome q IsQuota) same (between-range 1 65535 bindings number (ok_or_ok _ _ _ found))
+
+pub quota_in-keeps : (quota : Option ℕ) (table : Members) → quota_in table ≡ Ok quota → IfSome quota IsQuota
+unfolding quota_in
+quota_in-keeps quota table is =
+    optional_reads (λ q. IfSome q IsQuota) (codes "quota") None quota_at table quota is tt (λ value y read. quota_at-keeps y value read)
 
 -- ---- pairs
 
@@ -277,9 +290,10 @@ configured-keeps table rules is =
     reads (refresh_in table) _ rules rest₃ λ refresh _ rest₄.
     reads (timers_in table) _ rules rest₄ λ timers timers_is rest₅.
     reads (ring_in table) _ rules rest₅ λ ring ring_is rest₆.
-    reads (pairs_in pool inside table) _ rules rest₆ λ pairs pairs_is rest₇.
-    reads (redirects_in inside (paired pool pairs) table) _ rules rest₇ λ redirects redirects_are last.
-    let made : Rules = record { pool = pool; inside = inside; filter = filter; refresh = refresh; timers = timers; ring = ring; pairs = pairs; redirects = redirects } in
+    reads (quota_in table) _ rules rest₆ λ quota quota_is rest₇.
+    reads (pairs_in pool inside table) _ rules rest₇ λ pairs pairs_is rest₈.
+    reads (redirects_in inside (paired pool pairs) table) _ rules rest₈ λ redirects redirects_are last.
+    let made : Rules = record { pool = pool; inside = inside; filter = filter; refresh = refresh; timers = timers; ring = ring; quota = quota; pairs = pairs; redirects = redirects } in
     let same : made ≡ rules = cc in
     let of_pool = pool_in-keeps table pool pool_is in
     let (of_inside, outside) = inside_in-keeps pool table inside inside_is in
@@ -291,6 +305,7 @@ configured-keeps table rules is =
       timers = timers_in-keeps timers table timers_is;
       ring_low = of_ring.0;
       ring_high = of_ring.1;
+      quota = quota_in-keeps quota table quota_is;
       pairs = pairs_in-keeps pool inside table pairs pairs_is;
       redirects_few = of_redirects.few;
       redirects = of_redirects.kept.redirects;

@@ -38,7 +38,7 @@ only_keys_in_each names no_items = true
 only_keys_in_each names (item entry rest) = only_keys_in names entry && only_keys_in_each names rest
 
 abbrev pub top_keys : List (List ℕ)
-top_keys = codes "pool" ∷ codes "inside" ∷ codes "filter" ∷ codes "refresh" ∷ codes "timers" ∷ codes "ring" ∷ codes "pair" ∷ codes "redirect" ∷ []
+top_keys = codes "pool" ∷ codes "inside" ∷ codes "filter" ∷ codes "refresh" ∷ codes "timers" ∷ codes "ring" ∷ codes "quota" ∷ codes "pair" ∷ codes "redirect" ∷ []
 
 abbrev pub timer_keys : List (List ℕ)
 timer_keys = codes "udp" ∷ codes "tcp-established" ∷ codes "tcp-transitory" ∷ codes "icmp" ∷ []
@@ -211,6 +211,17 @@ ring_at value = do
 unfoldable pub ring_in : Members → Result ℕ ConfigFault
 ring_in table = optional (codes "ring") 64 ring_at table
 
+-- ---- quota
+
+unfoldable pub quota_at : Data → Result (Option ℕ) ConfigFault
+quota_at value = do
+  number ← number_in value
+  bindings ← ok_or (between 1 65535 number) BadNumber
+  Ok (Some bindings)
+
+unfoldable pub quota_in : Members → Result (Option ℕ) ConfigFault
+quota_in table = optional (codes "quota") None quota_at table
+
 -- ---- pair
 
 -- the address at a required key
@@ -308,9 +319,10 @@ configured table = do
   refresh ← refresh_in table
   timers ← timers_in table
   ring ← ring_in table
+  quota ← quota_in table
   pairs ← pairs_in pool inside table
   redirects ← redirects_in inside (paired pool pairs) table
-  Ok (record { pool = pool; inside = inside; filter = filter; refresh = refresh; timers = timers; ring = ring; pairs = pairs; redirects = redirects })
+  Ok (record { pool = pool; inside = inside; filter = filter; refresh = refresh; timers = timers; ring = ring; quota = quota; pairs = pairs; redirects = redirects })
 
 -- the table that a text reads as: it is UTF-8, and TOML
 unfoldable pub document_of : List ℕ → Option Members
@@ -333,6 +345,7 @@ built_in = record {
   refresh = Outbound;
   timers = default_timers;
   ring = 64;
+  quota = None;
   pairs = [];
   redirects = [];
 }

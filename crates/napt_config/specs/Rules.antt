@@ -1,5 +1,5 @@
 -- What a configuration says, and the rules that each one keeps.
-use Rattle.std.specs.Prelude.{◌≡◌, ℕ, ◌%◌, ◌^◌, ◌<◌, ◌≤◌, ◌==◌, Bool, true, false, ◌&&◌, ◌||◌, List, [], ◌∷◌, All, length, slice_index, position, Option, unwrap_or}
+use Rattle.std.specs.Prelude.{◌≡◌, ℕ, ◌%◌, ◌^◌, ◌<◌, ◌≤◌, ◌==◌, Bool, true, false, ◌&&◌, ◌||◌, List, [], ◌∷◌, All, length, slice_index, position, Option, unwrap_or, IfSome}
 use Rattle.std.specs.Bool.{beq}
 use Rattle.std.specs.List.{list_any}
 use Rattle.std.specs.List.Sorted.{IsStrictlySortedBy}
@@ -21,6 +21,7 @@ pub record Rules : Type 0 where
   pub refresh : Refresh
   pub timers : Timers
   pub ring : ℕ
+  pub quota : Option ℕ
   pub pairs : List (ℕ × ℕ)
   pub redirects : List Redirect
 
@@ -74,6 +75,10 @@ pub record IsInside (inside : List Network) : Type 0 where
   pub few : length inside ≤ 16
   pub networks : All IsNetwork inside
 
+-- bindings that a host may have
+abbrev pub IsQuota : ℕ → Type 0
+IsQuota bindings = (1 ≤ bindings) × (bindings ≤ 65535)
+
 -- at most 256 inside hosts, none twice, each with a pool address
 pub record ArePairs (pool : List ℕ) (inside : List Network) (pairs : List (ℕ × ℕ)) : Type 0 where
   pub few : length pairs ≤ 256
@@ -111,6 +116,7 @@ pub record KeepsRules (rules : Rules) : Type 0 where
   pub timers : AreTimers rules.timers
   pub ring_low : 1 ≤ rules.ring
   pub ring_high : rules.ring ≤ 4096
+  pub quota : IfSome rules.quota IsQuota
   pub pairs : ArePairs rules.pool rules.inside rules.pairs
   pub redirects_few : length rules.redirects ≤ 256
   pub redirects : All (IsRedirect rules.inside) rules.redirects

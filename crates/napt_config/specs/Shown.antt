@@ -11,6 +11,7 @@ shown config = record {
   refresh = config.refresh;
   timers = config.timers;
   ring = config.ring;
+  quota = config.quota;
   pairs = config.pairs.entries;
   redirects = config.redirects.items;
 }

@@ -21,6 +21,7 @@ use toml::Table;
 /// - the timers are at least 120 (UDP), 7440 (established), 240 (transitory) and 60 seconds (ICMP), and at
 ///   most 1,000,000,000;
 /// - a ring has 1 to 4096 slots;
+/// - a quota, where there is one, allows 1 to 65535 bindings;
 /// - at most 256 inside hosts are paired by an entry of their own, each once, with a pool address;
 /// - at most 256 redirects, each of an inside host and with ports that are not 0; no two of one protocol have
 ///   one inside endpoint or one external endpoint.
@@ -32,6 +33,7 @@ pub struct Config {
     refresh: Refresh,
     timers: Timers,
     ring: usize,
+    quota: Option<u16>,
     pairs: BTreeMap<u32, u32>,
     redirects: Vec<Redirect>,
 }
@@ -78,6 +80,7 @@ impl Config {
         let refresh = reading::refresh(table)?;
         let timers = reading::timers(table)?;
         let ring = reading::ring(table)?;
+        let quota = reading::quota(table)?;
         let pairs = reading::pairs(alloc, table, &pool, &inside)?;
         let redirects = redirects::redirects(alloc, table, &inside, &pool, &pairs)?;
         Ok(Config {
@@ -87,6 +90,7 @@ impl Config {
             refresh,
             timers,
             ring,
+            quota,
             pairs,
             redirects,
         })
@@ -107,6 +111,7 @@ impl Config {
             refresh: Refresh::Outbound,
             timers: Timers::DEFAULT,
             ring: reading::DEFAULT_SLOTS,
+            quota: None,
             pairs: BTreeMap::new(alloc),
             redirects: Vec::new(alloc),
         })
@@ -123,6 +128,7 @@ impl Config {
             refresh: self.refresh,
             timers: self.timers,
             ring: self.ring,
+            quota: self.quota,
             pairs: self.pairs.clone()?,
             redirects: Vec::from_slice(alloc, &self.redirects)?,
         })
@@ -178,6 +184,15 @@ impl Config {
         ensures kept { KeepsRules self.now }
     {
         self.ring
+    }
+
+    /// How many bindings, over all protocols, an inside host may have at its external address (RFC 6888, REQ-4), from 1 to
+    /// 65535; redirects do not count. None where there is no limit.
+    pub fn quota(&self) -> Option<u16>
+        ensures quota { result ≡ self.now.quota }
+        ensures kept { KeepsRules self.now }
+    {
+        self.quota
     }
 
     /// Which remotes may reach a binding from outside.

@@ -88,7 +88,7 @@ fn knows_top_keys(table: &Table) -> bool
     only_keys(
         table,
         &[
-            "pool", "inside", "filter", "refresh", "timers", "ring", "pair", "redirect",
+            "pool", "inside", "filter", "refresh", "timers", "ring", "quota", "pair", "redirect",
         ],
     )
 }

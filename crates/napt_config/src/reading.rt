@@ -4,7 +4,7 @@ ghost use Rattle.std.specs.List.{list_any};
 ghost use Rattle.toml.specs.View.{view, table_view, items_view};
 ghost use Rattle.napt_config.specs.Fault.{Gives};
 ghost use Rattle.napt_config.specs.Network.{have_address};
-ghost use Rattle.napt_config.specs.Configured.{each_in_order, between, short_list, with_address, pool_in, with_prefix, prefixes_in, inside_in, filter_at, filter_in, refresh_at, refresh_in, timer_at, timers_at, timers_in, ring_at, ring_in, address_in, with_pair, pairs_at, pairs_in, optional};
+ghost use Rattle.napt_config.specs.Configured.{each_in_order, between, short_list, with_address, pool_in, with_prefix, prefixes_in, inside_in, filter_at, filter_in, refresh_at, refresh_in, timer_at, timers_at, timers_in, ring_at, ring_in, quota_at, quota_in, address_in, with_pair, pairs_at, pairs_in, optional};
 
 use crate::values::{list_in, number_in, required, table_in, text_in, value_at};
 use crate::{ConfigFault, Filter, Prefix, Refresh, Timers, text};
@@ -23,6 +23,9 @@ const MOST_SECONDS: u64 = 1_000_000_000;
 
 /// How many slots a ring may have.
 const MOST_SLOTS: u64 = 4096;
+
+/// How many bindings a quota may allow.
+const MOST_BINDINGS: u64 = 65535;
 
 /// How many slots a ring has where the configuration names no number.
 pub(crate) const DEFAULT_SLOTS: usize = 64;
@@ -247,6 +250,27 @@ pub(crate) fn ring(table: &Table) -> Result<usize, ConfigFault>
     match value_at(table, "ring") {
         Some(value) => ring_at(value),
         None => Ok(DEFAULT_SLOTS),
+    }
+}
+
+// ---- quota
+
+#[tactic(auto, unfolding(crate::specs::Configured::quota_at))]
+fn quota_at(value: &Value) -> Result<Option<u16>, ConfigFault>
+    ensures { Gives (λ quota. quota) result (quota_at (view value.now)) }
+{
+    let bindings = between(1, MOST_BINDINGS, number_in(value)?).ok_or(ConfigFault::BadNumber)?;
+    Ok(Some(bindings as u16))
+}
+
+/// How many bindings a host may have.
+#[tactic(auto, unfolding(crate::specs::Configured::quota_in))]
+pub(crate) fn quota(table: &Table) -> Result<Option<u16>, ConfigFault>
+    ensures { Gives (λ quota. quota) result (quota_in (table_view table.now)) }
+{
+    match value_at(table, "quota") {
+        Some(value) => quota_at(value),
+        None => Ok(None),
     }
 }
 

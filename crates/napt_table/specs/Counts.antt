@@ -1,7 +1,7 @@
--- Counts of flows by remote address.
+-- Counts by address.
 use Rattle.std.specs.Prelude.{ℕ, nat_eq, unwrap_or}
 use Rattle.std.specs.HashMap.{get}
-use Rattle.napt_table.specs.declared.flows.addresses.Addresses.{Addresses}
+use Rattle.napt_table.specs.declared.addresses.Addresses.{Addresses}
 
 -- an address without an entry has none
 abbrev pub count_at : Addresses → ℕ → ℕ

@@ -4,6 +4,7 @@ pub mod Bindings
 pub mod Life
 pub mod Choice
 pub mod Classes
+pub mod Quota
 pub mod Filtering
 pub mod Inbound
 pub mod Steps

@@ -11,7 +11,6 @@ ghost use Rattle.napt_table.specs.Slots.{AreDistinct, somes};
 ghost use Rattle.napt_table.specs.Many.{IsMany};
 ghost use Rattle.napt_table.specs.Steps as steps;
 
-mod addresses;
 mod few;
 mod many;
 mod slots;

@@ -12,6 +12,7 @@ ghost use Rattle.napt_table.specs.Opening.{OpeningIsSound};
 ghost use Rattle.napt_table.specs.Rows.{RowsAreInOrder};
 ghost use Rattle.napt_table.specs.Tables.{TablesShareNothing, TablesAreNumbered};
 
+mod addresses;
 mod event;
 mod flows;
 mod inbound;

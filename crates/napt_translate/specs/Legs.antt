@@ -70,9 +70,9 @@ error_in packet None = Dropped NoBinding
 
 -- by what the packet is
 abbrev pub act_by : Rules → ℕ → ℕ → List ℕ → List Binding → Way → Kind → Acted
-act_by rules address now packet list Outgoing Udp = acted_out rules address packet (step_out rules.timers address now protocols.Udp (source packet) (destination packet) no_flags list)
-act_by rules address now packet list Outgoing (Tcp flags) = acted_out rules address packet (step_out rules.timers address now protocols.Tcp (source packet) (destination packet) flags list)
-act_by rules address now packet list Outgoing Echo = acted_out rules address packet (step_out rules.timers address now protocols.Icmp (source packet) (destination packet) no_flags list)
+act_by rules address now packet list Outgoing Udp = acted_out rules address packet (step_out rules.timers rules.quota address now protocols.Udp (source packet) (destination packet) no_flags list)
+act_by rules address now packet list Outgoing (Tcp flags) = acted_out rules address packet (step_out rules.timers rules.quota address now protocols.Tcp (source packet) (destination packet) flags list)
+act_by rules address now packet list Outgoing Echo = acted_out rules address packet (step_out rules.timers rules.quota address now protocols.Icmp (source packet) (destination packet) no_flags list)
 act_by rules address now packet list Outgoing (ErrorOf inner) = record { end = error_out rules packet (by_inside rules.timers address now inner.protocol inner.destination list); list = list }
 act_by rules address now packet list Incoming Udp = acted_in packet (step_in rules.timers (inbound_of rules) address now protocols.Udp (destination packet).number (source packet) no_flags list)
 act_by rules address now packet list Incoming (Tcp flags) = acted_in packet (step_in rules.timers (inbound_of rules) address now protocols.Tcp (destination packet).number (source packet) flags list)

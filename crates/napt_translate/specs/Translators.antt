@@ -26,6 +26,7 @@ pub record IsTranslator (state : TranslatorState) : Type 0 where
   pub rules : KeepsRules state.rules
   pub address : state.table.address ≡ slice_index state.rules.pool state.index
   pub timers : state.table.timers ≡ state.rules.timers
+  pub quota : state.table.quota ≡ state.rules.quota
   pub inbound : state.table.inbound ≡ inbound_of state.rules
 
 abbrev pub kept_of : TableState → Kept
@@ -40,7 +41,7 @@ left_by leg state = with_kept state (kept_after state.rules state.table.address 
 
 -- a packet's step out at a time, and in
 abbrev pub out_at : TranslatorState → ℕ → Protocol → Flags → List ℕ → Out
-out_at state now protocol flags packet = step_out state.rules.timers state.table.address now protocol (source packet) (destination packet) flags state.table.list
+out_at state now protocol flags packet = step_out state.rules.timers state.rules.quota state.table.address now protocol (source packet) (destination packet) flags state.table.list
 
 abbrev pub in_at : TranslatorState → ℕ → Protocol → Flags → List ℕ → In
 in_at state now protocol flags packet = step_in state.rules.timers (inbound_of state.rules) state.table.address now protocol (destination packet).number (source packet) flags state.table.list

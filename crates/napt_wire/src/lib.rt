@@ -104,6 +104,28 @@ pub enum Cause {
     NoBinding,
     /// The binding lets no packet of this remote end in.
     Filtered,
+    /// The inside host has all the bindings that its quota allows (RFC 6888, REQ-4).
+    OverQuota,
     /// No number is free for a new binding.
     NoPort,
+}
+
+impl Cause {
+    /// All causes, in the order of the report.
+    pub const ALL: [Cause; 14] = [
+        Cause::Truncated,
+        Cause::NotIpv4,
+        Cause::BadHeader,
+        Cause::BadChecksum,
+        Cause::Fragment,
+        Cause::Unsupported,
+        Cause::BadInner,
+        Cause::BadPort,
+        Cause::Spoofed,
+        Cause::NotOurs,
+        Cause::NoBinding,
+        Cause::Filtered,
+        Cause::OverQuota,
+        Cause::NoPort,
+    ];
 }

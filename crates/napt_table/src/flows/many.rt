@@ -10,7 +10,7 @@ ghost use Rattle.napt_table.specs.Lists.{change_first};
 ghost use Rattle.napt_table.specs.Slots.{somes, Stands, AreDistinct};
 ghost use Rattle.napt_table.specs.Steps as steps;
 
-use super::addresses::Addresses;
+use crate::addresses::Addresses;
 use super::slots::Slots;
 use crate::Flow;
 use napt_config::Timers;

@@ -1,11 +1,11 @@
-//! How many flows there are of each remote address.
+//! How many there are of each address: flows of a remote one, bindings of an inside one.
 
 ghost use Rattle.std.specs.Prelude.{◌≡◌, ◌==◌, ℕ, ◌+◌, ◌-◌, ◌*◌, ◌^◌, ◌<◌, ◌≤◌, cond, nat_lt, OnOk};
 
 use std::alloc::{AllocError, Global};
 use std::collections::HashMap;
 
-/// How many flows there are of each remote address. An address without any has no entry.
+/// How many there are of each address. An address without any has no entry.
 #[derive(Drop)]
 pub(crate) struct Addresses {
     counts: HashMap<u32, usize>,
@@ -15,7 +15,7 @@ impl Addresses {
     ghost use Rattle.std.specs.HashMap.{spare};
     ghost use Rattle.napt_table.specs.Counts.{count_at};
 
-    /// No flow is counted. It takes no memory.
+    /// Nothing is counted. It takes no memory.
     pub(crate) fn new(alloc: Global) -> Addresses
         ensures { (address : ℕ) → count_at result address ≡ 0 }
     {
@@ -32,7 +32,7 @@ impl Addresses {
         self.counts.reserve(1)
     }
 
-    /// Whether a flow of the address is counted.
+    /// Whether one of the address is counted.
     pub(crate) fn has(&self, address: u32) -> bool
         ensures { result ≡ nat_lt 0 (count_at self.now address) }
     {
@@ -42,7 +42,7 @@ impl Addresses {
         }
     }
 
-    /// One flow more of the address, where there is room for it.
+    /// One more of the address, where there is room for it.
     pub(crate) fn put(&mut self, address: u32)
         requires room { 0 < spare self.old.counts }
         requires fits { count_at self.old address + 1 < 2 ^ 64 }
@@ -58,7 +58,7 @@ impl Addresses {
         }
     }
 
-    /// One flow less of the address.
+    /// One less of the address.
     pub(crate) fn take(&mut self, address: u32)
         ensures counts { (other : ℕ) → count_at self.new other ≡ count_at self.old other - cond {A = ℕ} (address == other) 1 0 }
         ensures room { spare self.old.counts ≤ spare self.new.counts }
