@@ -17,6 +17,7 @@ pub mod Rows
 pub mod Places
 pub mod Ends
 pub mod Held
+pub mod Hosts
 pub mod Part
 pub mod Parts
 pub mod Events
