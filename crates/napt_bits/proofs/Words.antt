@@ -18,7 +18,9 @@ is_clear word i h = grind (arith, nat_tests)
 -- a word with a clear bit is not full
 pub open_word : (word i : ℕ) → i < 64 → has_bit word i ≡ false → (word == full_word) ≡ false
 open_word word i lt clear = elim (eqb word full_word) as (λ v. eqb word full_word ≡ v → (word == full_word) ≡ false) [
-  | true ↦ λ e. absurd (true≢false (sym (is_set full_word i (bit_at_ones 64 i lt)) ∙ (ap (λ (w : ℕ). has_bit w i) (sym (eqb-true word full_word e)) ∙ clear)))
+  | true ↦ λ e.
+      absurd (true≢false (sym (is_set full_word i (bit_at_ones 64 i lt))
+      ∙ (ap (λ (w : ℕ). has_bit w i) (sym (eqb-true word full_word e)) ∙ clear)))
   | false ↦ λ e. e
 ] refl
 
@@ -59,12 +61,20 @@ module _ (word from : ℕ) (within : from < 64) where
 
     pub first_from : from ≤ k
     first_from = elim (Rattle.std.proofs.Common.ltb k from) as (λ v. Rattle.std.proofs.Common.ltb k from ≡ v → from ≤ k) [
-      | true ↦ λ e. let lt : k < from = grind (arith, nat_tests) in let a = filled_below k lt in let b = found.1 in absurd (omega arith)
+      | true ↦ λ e. let lt : k < from = grind (arith, nat_tests) in let a = filled_below k lt in let b = found.1 in
+          absurd (omega arith)
       | false ↦ λ e. grind (arith, nat_tests)
     ] refl
 
-    pub first_is : (from ≤ k) × (k < 64) × (has_bit word k ≡ false) × ((j : ℕ) → from ≤ j → j < k → has_bit word j ≡ true)
-    first_is = (first_from, found.0, is_clear word k (sym (filled_from k first_from) ∙ found.1), λ j le lt. is_set word j (sym (filled_from j le) ∙ found.2 j lt))
+    pub first_is : (from ≤ k) × (k < 64) × (has_bit word k ≡ false) × ((j : ℕ) → from ≤ j → j < k → has_bit word j
+        ≡ true)
+    first_is = (
+      first_from,
+      found.0,
+      is_clear word k (sym (filled_from k first_from) ∙ found.1),
+      λ j le lt.
+          is_set word j (sym (filled_from j le) ∙ found.2 j lt),
+    )
 
 pub filled_small : (word from : ℕ) → word < 2 ^ 64 → filled word from < 2 ^ 64
 filled_small word from lt = or_lt 64 word (1 * 2 ^ from % 2 ^ 64 - 1) lt (omega arith)

@@ -16,7 +16,8 @@ abbrev pub HasAnswer : List ℕ → Type 0
 HasAnswer bytes = (answer : Result Contents CaptureFault) × IsCapture bytes answer
 
 -- the file ends behind these records
-ends : (s : Spelling) (stored : List Stored) (front rest : List ℕ) → IsFront s stored front → MayAsk (length front) 16 → IsPartial s (length front) rest → HasAnswer (front ++ rest)
+ends : (s : Spelling) (stored : List Stored) (front rest : List ℕ) → IsFront s stored front → MayAsk (length front) 16 →
+    IsPartial s (length front) rest → HasAnswer (front ++ rest)
 unfolding IsCapture
 ends s stored front rest p may partial =
     let contents : Contents = record { records = map (entry_of s) stored; cut = nat_lt 0 (length rest) } in
@@ -35,62 +36,97 @@ ends s stored front rest p may partial =
     (Ok contents, (front ++ rest, [], sym (append-nil (front ++ rest)), (holds, refl)))
 
 -- or the header behind them is refused
-stops : (s : Spelling) (stored : List Stored) (front header left : List ℕ) (fault : CaptureFault) → (fault ≡ NoHeader → ⊥) → IsFront s stored front
+stops : (s : Spelling) (stored : List Stored) (front header left : List ℕ) (fault : CaptureFault) →
+    (fault ≡ NoHeader → ⊥) → IsFront s stored front
     → IsRefusedRecord s (length front) (length stored + 1) header fault → HasAnswer (front ++ (header ++ left))
 unfolding IsCapture
 stops s stored front header left fault other p refused =
     let record_refused : EndsInRecord (front ++ header) fault =
-    record { spelling = s; stored = stored; front = front; header = header; whole = refl; is_front = p; refused = refused } in
-    (Err fault, (front ++ header, left, sym (append_assoc front header left), (inr record_refused, λ e. absurd (other e))))
+    record {
+      spelling = s;
+      stored = stored;
+      front = front;
+      header = header;
+      whole = refl;
+      is_front = p;
+      refused =
+          refused;
+    } in (
+      Err fault,
+      (
+        front ++ header,
+        left,
+        sym (append_assoc front header left),
+        (
+          inr record_refused,
+          λ e.
+              absurd (other e),
+        ),
+      ),
+    )
 
 -- nothing stands behind them
-ends_there : (s : Spelling) (stored : List Stored) (front rest : List ℕ) → length rest ≤ 0 → IsFront s stored front → length front ≤ MOST_ASKED → HasAnswer (front ++ rest)
+ends_there : (s : Spelling) (stored : List Stored) (front rest : List ℕ) → length rest ≤ 0 → IsFront s stored front →
+    length front ≤ MOST_ASKED → HasAnswer (front ++ rest)
 ends_there s stored front rest none p within = elim (cases_lt MOST_ASKED (length front + 16)) [
-  | inl past ↦ stops s stored front [] rest TooLarge (λ e. cc) p (inl (refl, omega (arith, within), λ (h : MayAsk (length front) 16). omega (arith, past, h)))
+  | inl past ↦ stops s stored front [] rest TooLarge (λ e. cc) p
+      (inl (refl, omega (arith, within), λ (h : MayAsk (length front) 16). omega (arith, past, h)))
   | inr may ↦ ends s stored front rest p may (inl (omega (arith, none)))
 ]
 
 -- how to go on behind a front, where no more bytes are left than this
 abbrev GoesOn : ℕ → Spelling → Type 0
-GoesOn most s = (stored : List Stored) (front rest : List ℕ) → length rest ≤ most → IsFront s stored front → length front ≤ MOST_ASKED → HasAnswer (front ++ rest)
+GoesOn most s = (stored : List Stored) (front rest : List ℕ) → length rest ≤ most → IsFront s stored front →
+    length front ≤ MOST_ASKED → HasAnswer (front ++ rest)
 
 -- a good header, and bytes behind it
-behind_header : (most : ℕ) (s : Spelling) → GoesOn most s → (stored : List Stored) (front header body : List ℕ) → length body ≤ most → IsFront s stored front
+behind_header : (most : ℕ) (s : Spelling) → GoesOn most s → (stored : List Stored) (front header body : List ℕ) →
+    length body ≤ most → IsFront s stored front
     → MayAsk (length front) 16 → IsRecordHeader s header → HasAnswer (front ++ (header ++ body))
-behind_header most s next stored front header body enough p may good = elim (cases_lt MOST_ASKED (length front + (16 + captured_of s header))) [
-  | inl past ↦ stops s stored front header body TooLarge (λ e. cc) p (inr (good, may, λ (h : MayAsk (length front) (16 + captured_of s header)). omega (arith, past, h)))
-  | inr room ↦ elim (cases_lt (length body) (captured_of s header)) [
-    | inl short ↦ ends s stored front (header ++ body) p may (inr (header, body, refl, good, room, short))
-    | inr whole ↦
-        let count = captured_of s header in
-        let r : Stored = record { header = header; bytes = take count body } in
-        let size : length r.bytes ≡ count = length-take-le count body whole in
-        let fine : IsStored s r = record { header = good; bytes = size } in
-        let text = stored_text r in
-        let lengths : length (front ++ text) ≡ length front + (16 + count) =
-        omega (arith, length-append front text, length-append header (take count body), good.whole, size) in
-        let same : (front ++ text) ++ drop count body ≡ front ++ (header ++ body) =
-        append_assoc front text (drop count body) ∙ ap (λ l. front ++ l) (append_assoc header (take count body) (drop count body))
-        ∙ ap (λ l. front ++ (header ++ l)) (take-append-drop count body) in
-        subst HasAnswer same (next (stored ++ r ∷ []) (front ++ text) (drop count body) (omega (arith, enough, length-drop count body)) (IsFront-more r p fine) (omega (arith, lengths, room)))
-  ]
-]
+behind_header most s next stored front header body enough p may good =
+    elim (cases_lt MOST_ASKED (length front + (16 + captured_of s header))) [
+      | inl past ↦ stops s stored front header body TooLarge (λ e. cc) p
+          (inr (good, may, λ (h : MayAsk (length front) (16 + captured_of s header)). omega (arith, past, h)))
+      | inr room ↦ elim (cases_lt (length body) (captured_of s header)) [
+        | inl short ↦ ends s stored front (header ++ body) p may (inr (header, body, refl, good, room, short))
+        | inr whole ↦
+            let count = captured_of s header in
+            let r : Stored = record { header = header; bytes = take count body } in
+            let size : length r.bytes ≡ count = length-take-le count body whole in
+            let fine : IsStored s r = record { header = good; bytes = size } in
+            let text = stored_text r in
+            let lengths : length (front ++ text) ≡ length front + (16 + count) =
+            omega (arith, length-append front text, length-append header (take count body), good.whole, size) in
+            let same : (front ++ text) ++ drop count body ≡ front ++ (header ++ body) =
+            append_assoc front text (drop count body) ∙ ap (λ l. front ++ l) (append_assoc header (take count body)
+            (drop count body))
+            ∙ ap (λ l. front ++ (header ++ l)) (take-append-drop count body) in
+            subst HasAnswer same (next (stored ++ r ∷ []) (front ++ text) (drop count body)
+            (omega (arith, enough, length-drop count body)) (IsFront-more r p fine) (omega (arith, lengths, room)))
+      ]
+    ]
 
 -- what may stand behind a front
-behind : (most : ℕ) (s : Spelling) → GoesOn most s → (stored : List Stored) (front rest : List ℕ) → length rest ≤ most + 16 → IsFront s stored front
+behind : (most : ℕ) (s : Spelling) → GoesOn most s → (stored : List Stored) (front rest : List ℕ) → length rest ≤ most
+    + 16 → IsFront s stored front
     → length front ≤ MOST_ASKED → HasAnswer (front ++ rest)
 behind most s next stored front rest enough p within = elim (cases_lt MOST_ASKED (length front + 16)) [
-  | inl past ↦ stops s stored front [] rest TooLarge (λ e. cc) p (inl (refl, omega (arith, within), λ (h : MayAsk (length front) 16). omega (arith, past, h)))
+  | inl past ↦ stops s stored front [] rest TooLarge (λ e. cc) p
+      (inl (refl, omega (arith, within), λ (h : MayAsk (length front) 16). omega (arith, past, h)))
   | inr may ↦ elim (cases_lt (length rest) 16) [
     | inl short ↦ ends s stored front rest p may (inl short)
     | inr whole ↦
         let header = take 16 rest in
         let size : length header ≡ 16 = length-take-le 16 rest whole in
-        subst (λ l. HasAnswer (front ++ l)) (take-append-drop 16 rest) (elim (cases_lt (fraction_of s header) (units_per_second s)) [
-          | inr past ↦ stops s stored front header (drop 16 rest) (BadFraction (length stored + 1)) (λ e. cc) p (refl, size, may, past)
+        subst (λ l. HasAnswer (front ++ l)) (take-append-drop 16 rest)
+        (elim (cases_lt (fraction_of s header) (units_per_second s)) [
+          | inr past ↦ stops s stored front header (drop 16 rest) (BadFraction (length stored + 1)) (λ e. cc) p
+              (refl, size, may, past)
           | inl fraction ↦ elim (cases_lt LARGEST_RECORD (captured_of s header)) [
-            | inl long ↦ stops s stored front header (drop 16 rest) (TooLong (length stored + 1)) (λ e. cc) p (refl, size, may, fraction, long)
-            | inr captured ↦ behind_header most s next stored front header (drop 16 rest) (omega (arith, enough, length-drop 16 rest)) p may
+            | inl long ↦ stops s stored front header (drop 16 rest) (TooLong (length stored + 1)) (λ e. cc) p
+                (refl, size, may, fraction, long)
+            | inr captured ↦ behind_header most s next stored front header (drop 16 rest)
+                (omega (arith, enough, length-drop 16 rest)) p may
                 (record { whole = size; fraction = fraction; captured = captured })
           ]
         ])
@@ -99,7 +135,8 @@ behind most s next stored front rest enough p within = elim (cases_lt MOST_ASKED
 
 behind_any : (most : ℕ) (s : Spelling) → GoesOn most s
 behind_any zero s stored front rest enough p within = ends_there s stored front rest enough p within
-behind_any (suc most) s stored front rest enough p within = behind most s (behind_any most s) stored front rest (omega (arith, enough)) p within
+behind_any (suc most) s stored front rest enough p within = behind most s (behind_any most s) stored front rest
+    (omega (arith, enough)) p within
 
 -- ---- the header of the file
 
@@ -113,7 +150,8 @@ version_or_not s header = elim (cases_eq (short_number s (drop 4 header)) 2) [
   | inr other ↦ inr (λ (h : HasVersion s header). other h.0)
 ]
 
-no_link : (s : Spelling) (header : List ℕ) → (long_number s (drop 20 header) ≡ 101 → ⊥) → (long_number s (drop 20 header) ≡ 228 → ⊥) → HasLink s header → ⊥
+no_link : (s : Spelling) (header : List ℕ) → (long_number s (drop 20 header) ≡ 101 → ⊥) →
+    (long_number s (drop 20 header) ≡ 228 → ⊥) → HasLink s header → ⊥
 no_link s header a b (inl h) = a h
 no_link s header a b (inr h) = b h
 
@@ -130,7 +168,8 @@ magic_or_not : (o : Option Spelling) → ((s : Spelling) × (o ≡ Some s)) ⊎ 
 magic_or_not None = inr refl
 magic_or_not (Some s) = inl (s, refl)
 
-refused_file : (header left : List ℕ) (fault : CaptureFault) → (fault ≡ NoHeader → ⊥) → IsRefusedFile header fault → HasAnswer (header ++ left)
+refused_file : (header left : List ℕ) (fault : CaptureFault) → (fault ≡ NoHeader → ⊥) → IsRefusedFile header fault →
+    HasAnswer (header ++ left)
 unfolding IsCapture
 refused_file header left fault other refused = (Err fault, (header, left, refl, (inl refused, λ e. absurd (other e))))
 
@@ -140,7 +179,12 @@ no_header bytes short = (Err NoHeader, (bytes, [], sym (append-nil bytes), (inl 
 
 good_file : (s : Spelling) (header left : List ℕ) → IsFileHeader s header → HasAnswer (header ++ left)
 good_file s header left good =
-    let front : IsFront s [] header = record { header = header; file_header = good; records = All-nil (IsStored s); text = sym (append-nil header) } in
+    let front : IsFront s [] header = record {
+      header = header;
+      file_header = good;
+      records = All-nil (IsStored s);
+      text = sym (append-nil header);
+    } in
     behind_any (length left) s [] header left (omega arith) front (omega (arith, good.whole))
 
 -- each text has an answer
@@ -157,7 +201,13 @@ IsCapture-some bytes = elim (cases_lt (length bytes) 24) [
           | inr other ↦ refused_file header left BadVersion (λ e. cc) (size, (s, magic, other))
           | inl version ↦ elim (link_or_not s header) [
             | inr other ↦ refused_file header left BadLink (λ e. cc) (size, (s, magic, version, other))
-            | inl link ↦ good_file s header left (record { whole = size; magic = magic; version = version; link = link })
+            | inl link ↦ good_file s header left (record {
+              whole = size;
+              magic = magic;
+              version = version;
+              link =
+                  link;
+            })
           ]
         ]
       ])

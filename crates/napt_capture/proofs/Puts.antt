@@ -27,7 +27,8 @@ PutsFront-append {old} {new} xs ys p q = record {
   taken = length xs + q.taken;
   within = omega (arith, length-append xs ys, q.within);
   counted = omega (arith, p.counted, q.counted);
-  appended = subst (Appends old new) (sym (take-append-add xs ys q.taken)) (Appends-trans _ _ _ xs (take q.taken ys) p.appended q.appended);
+  appended = subst (Appends old new) (sym (take-append-add xs ys q.taken))
+      (Appends-trans _ _ _ xs (take q.taken ys) p.appended q.appended);
 }
 
 pub Puts-append : {before mid : ℕ} (old now new : Option (List ℕ)) (xs ys : List ℕ) (r : Result ℕ WriteFault)
@@ -56,13 +57,18 @@ PutsFront-fault {old} {new} {fault} xs p =
 pub PutsAll-fault : (old now new : Option (List ℕ)) {written : ℕ} (xs : List ℕ) (n : ℕ)
     → PutsAll 0 old now xs written → Keeps now new → n ≡ written → (n ≤ length xs) × Appends old new (take n xs)
 PutsAll-fault old now new xs n p kept is =
-    let all : n ≡ length xs = omega (arith, p.counted, is) in
-    (omega arith, subst (Appends old new) (sym (take_all n xs (omega arith))) (Appends-kept old now new xs p.appended kept))
+    let all : n ≡ length xs = omega (arith, p.counted, is) in (
+      omega arith,
+      subst (Appends old new) (sym (take_all n xs (omega arith)))
+          (Appends-kept old now new xs p.appended kept),
+    )
 
-pub PutsAll-same : {before written : ℕ} {old new : Option (List ℕ)} {xs ys : List ℕ} → xs ≡ ys → PutsAll before old new xs written → PutsAll before old new ys written
+pub PutsAll-same : {before written : ℕ} {old new : Option (List ℕ)} {xs ys : List ℕ} → xs ≡ ys →
+    PutsAll before old new xs written → PutsAll before old new ys written
 PutsAll-same {before} {written} {old} {new} e p = subst (λ l. PutsAll before old new l written) e p
 
-pub PutsFront-same : {before : ℕ} {fault : WriteFault} {old new : Option (List ℕ)} {xs ys : List ℕ} → xs ≡ ys → PutsFront before old new xs fault → PutsFront before old new ys fault
+pub PutsFront-same : {before : ℕ} {fault : WriteFault} {old new : Option (List ℕ)} {xs ys : List ℕ} → xs ≡ ys →
+    PutsFront before old new xs fault → PutsFront before old new ys fault
 PutsFront-same {before} {fault} {old} {new} e p = subst (λ l. PutsFront before old new l fault) e p
 
 -- a record's text is no longer than the limit and its header
@@ -73,7 +79,12 @@ length-record_text r h = omega (arith, h.bytes)
 pub length-texts : (rs : List Entry) → All IsWritable rs → length (flat_map record_text rs) ≤ 262160 * length rs
 length-texts [] h = omega arith
 length-texts (r ∷ rs) h =
-    omega (arith, length-append (record_text r) (flat_map record_text rs), length-record_text r (All-head IsWritable r rs h), length-texts rs (All-tail IsWritable r rs h))
+    omega (
+      arith,
+      length-append (record_text r) (flat_map record_text rs),
+      length-record_text r (All-head IsWritable r rs h),
+      length-texts rs (All-tail IsWritable r rs h),
+    )
 
 -- the text with its first i records
 abbrev pub text_of_first : ℕ → List Entry → List ℕ
@@ -84,7 +95,10 @@ pub text_of_first-more : (i : ℕ) (rs : List Entry) (r : Entry) → i < length 
     → text_of_first i rs ++ record_text r ≡ text_of_first (i + 1) rs
 text_of_first-more i rs r within is =
     append_assoc file_header (flat_map record_text (take i rs)) (record_text r)
-    ∙ ap (λ l. file_header ++ l) (sym (ap (flat_map record_text) (take_more rs i r within ∙ ap (λ e. take i rs ++ e ∷ []) (sym is)) ∙ flat_map-append record_text (take i rs) (r ∷ []) ∙ ap (λ l. flat_map record_text (take i rs) ++ l) (append-nil (record_text r))))
+    ∙ ap (λ l. file_header ++ l)
+    (sym (ap (flat_map record_text) (take_more rs i r within ∙ ap (λ e. take i rs ++ e ∷ []) (sym is))
+    ∙ flat_map-append record_text (take i rs) (r ∷ []) ∙ ap (λ l. flat_map record_text (take i rs) ++ l)
+    (append-nil (record_text r))))
 
 -- and the rest of the text
 pub text-split : (i : ℕ) (rs : List Entry) → text rs ≡ text_of_first i rs ++ flat_map record_text (drop i rs)
@@ -105,7 +119,8 @@ length-text rs few all = omega (arith, length-texts rs all)
 
 -- so there is room for one record more
 pub text_of_first-room : (i : ℕ) (rs : List Entry) (r : Entry) (written : ℕ) → i < length rs → r ≡ get_or rs i r
-    → length rs < 2 ^ 32 → All IsWritable rs → written ≡ 0 + length (text_of_first i rs) → written + length (record_text r) < 2 ^ 64
+    → length rs < 2 ^ 32 → All IsWritable rs → written ≡ 0 + length (text_of_first i rs) →
+    written + length (record_text r) < 2 ^ 64
 text_of_first-room i rs r written within is few all counted =
     let more = ap length (text_of_first-more i rs r within is) in
     let split = ap length (text-split (i + 1) rs) in

@@ -24,7 +24,8 @@ StopsBy-refused Read p = tt
 StopsBy-refused Memory p = tt
 
 -- a buffer that was filled to its end
-pub Consumes-full : (old new : Option (List ℕ)) (filled : ℕ) (buffer : List ℕ) → length buffer ≤ filled → Consumes old new (take filled buffer) → Consumes old new buffer
+pub Consumes-full : (old new : Option (List ℕ)) (filled : ℕ) (buffer : List ℕ) → length buffer ≤ filled →
+    Consumes old new (take filled buffer) → Consumes old new buffer
 Consumes-full old new filled buffer full p = subst (Consumes old new) (take_all filled buffer full) p
 
 -- what two reads consumed is not empty where the first gave a header
@@ -32,8 +33,10 @@ some-bytes : (header bytes : List ℕ) → length header ≡ 16 → nat_lt 0 (le
 some-bytes header bytes whole = lt-ltb 0 (length (header ++ bytes)) (omega (arith, length-append header bytes, whole))
 
 -- the bytes of a record end early
-pub ReadsNext-cut : (s : Spelling) (asked : ℕ) (old mid new : Option (List ℕ)) (header buffer : List ℕ) (filled : ℕ) (f : Fields)
-    → HasFields s header f → Consumes old mid header → Consumes mid new (take filled buffer) → filled ≤ length buffer → filled < f.captured
+pub ReadsNext-cut : (s : Spelling) (asked : ℕ) (old mid new : Option (List ℕ)) (header buffer : List ℕ) (filled : ℕ)
+    (f : Fields)
+    → HasFields s header f → Consumes old mid header → Consumes mid new (take filled buffer) → filled ≤ length buffer →
+    filled < f.captured
     → IsAtEnd new → MayAsk asked (16 + f.captured) → ReadsNext s asked old new (End true)
 ReadsNext-cut s asked old mid new header buffer filled f fields first second within early at_end may =
     let body = take filled buffer in
@@ -49,11 +52,19 @@ ReadsNext-cut s asked old mid new header buffer filled f fields first second wit
     )
 
 -- a record is whole
-pub ReadsNext-whole : (s : Spelling) (asked : ℕ) (old mid new : Option (List ℕ)) (header bytes items : List ℕ) (f : Fields)
-    → HasFields s header f → Consumes old mid header → Consumes mid new bytes → length bytes ≡ f.captured → MayAsk asked (16 + f.captured)
+pub ReadsNext-whole : (s : Spelling) (asked : ℕ) (old mid new : Option (List ℕ)) (header bytes items : List ℕ)
+    (f : Fields)
+    → HasFields s header f → Consumes old mid header → Consumes mid new bytes → length bytes ≡ f.captured →
+    MayAsk asked (16 + f.captured)
     → items ≡ bytes → ReadsNext s asked old new (Whole (record { time = f.time; bytes = items; original = f.original }))
 ReadsNext-whole s asked old mid new header bytes items f fields first second size may is =
     let stored : Stored = record { header = header; bytes = bytes } in
     let good : IsStored s stored = record { header = fields.good; bytes = size ∙ fields.captured } in
-    let same : record { time = f.time; bytes = items; original = f.original } ≡ entry_of s stored = rw (fields.time, fields.original, is) refl in
-    (stored, good, same, omega (arith, may, length-append header bytes, size, fields.good.whole), Consumes-trans old mid new header bytes first second)
+    let same : record { time = f.time; bytes = items; original = f.original } ≡ entry_of s stored =
+    rw (fields.time, fields.original, is) refl in (
+      stored,
+      good,
+      same,
+      omega (arith, may, length-append header bytes, size, fields.good.whole),
+      Consumes-trans old mid new header bytes first second,
+    )

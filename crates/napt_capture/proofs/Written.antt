@@ -51,7 +51,12 @@ IsStored-written r h =
     let fraction = fraction_of-written r in
     let captured = captured_of-written r h in
     record {
-      header = record { whole = length-record_header r; fraction = omega (arith, fraction); captured = omega (arith, captured, h.bytes) };
+      header = record {
+        whole = length-record_header r;
+        fraction = omega (arith, fraction);
+        captured =
+            omega (arith, captured, h.bytes);
+      };
       bytes = sym captured;
     }
 
@@ -64,9 +69,11 @@ entry_of-written r h = rw (time_of-written r h, original_of-written r h) refl
 All-written : (rs : List Entry) → All IsWritable rs → All (IsStored written_spelling) (map stored_of rs)
 All-written [] h = All-nil (IsStored written_spelling)
 All-written (r ∷ rs) h =
-    All-cons (IsStored written_spelling) (stored_of r) (map stored_of rs) (IsStored-written r (All-head IsWritable r rs h)) (All-written rs (All-tail IsWritable r rs h))
+    All-cons (IsStored written_spelling) (stored_of r) (map stored_of rs)
+    (IsStored-written r (All-head IsWritable r rs h)) (All-written rs (All-tail IsWritable r rs h))
 
-entries-written : (rs : List Entry) → All IsWritable rs → map as_written rs ≡ map (entry_of written_spelling) (map stored_of rs)
+entries-written : (rs : List Entry) → All IsWritable rs → map as_written rs ≡ map (entry_of written_spelling)
+    (map stored_of rs)
 entries-written [] h = refl
 entries-written (r ∷ rs) h =
     rw (entry_of-written r (All-head IsWritable r rs h), entries-written rs (All-tail IsWritable r rs h)) refl

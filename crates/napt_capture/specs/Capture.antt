@@ -98,7 +98,8 @@ abbrev pub IsRefusedFile : List ℕ → CaptureFault → Type 0
 IsRefusedFile header NoHeader = length header < 24
 IsRefusedFile header BadMagic = (length header ≡ 24) × (spelling_of (big_number 4 header) ≡ None)
 IsRefusedFile header BadVersion = (length header ≡ 24) × ((s : Spelling) × HasMagic s header × (¬ HasVersion s header))
-IsRefusedFile header BadLink = (length header ≡ 24) × ((s : Spelling) × HasMagic s header × HasVersion s header × (¬ HasLink s header))
+IsRefusedFile header BadLink = (length header ≡ 24) × ((s : Spelling) × HasMagic s header × HasVersion s header
+    × (¬ HasLink s header))
 IsRefusedFile header _ = ⊥
 
 -- The header of the record of this number, behind so many bytes, has this fault. A capture is too large where

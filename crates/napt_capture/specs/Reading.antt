@@ -33,12 +33,15 @@ pub record HasFields (s : Spelling) (header : List ℕ) (f : Fields) : Type 0 wh
 -- behind so many bytes a reader gave the next record, or its end
 abbrev pub ReadsNext : Spelling → ℕ → Option (List ℕ) → Option (List ℕ) → Next → Type 0
 ReadsNext s asked old new (Whole entry) =
-    (r : Stored) × IsStored s r × (entry ≡ entry_of s r) × MayAsk asked (length (stored_text r)) × Consumes old new (stored_text r)
+    (r : Stored) × IsStored s r × (entry ≡ entry_of s r) × MayAsk asked (length (stored_text r))
+    × Consumes old new (stored_text r)
 ReadsNext s asked old new (End cut) =
-    (rest : List ℕ) × Consumes old new rest × IsAtEnd new × MayAsk asked 16 × IsPartial s asked rest × (cut ≡ nat_lt 0 (length rest))
+    (rest : List ℕ) × Consumes old new rest × IsAtEnd new × MayAsk asked 16 × IsPartial s asked rest
+    × (cut ≡ nat_lt 0 (length rest))
 
 -- it gave a record's header that is refused
-pub record RefusesRecord (s : Spelling) (asked number : ℕ) (fault : CaptureFault) (old new : Option (List ℕ)) : Type 0 where
+pub record RefusesRecord (s : Spelling) (asked number : ℕ) (fault : CaptureFault) (old new : Option (List ℕ)) : Type
+    0 where
   pub header : List ℕ
   pub consumed : Consumes old new header
   pub refused : IsRefusedRecord s asked number header fault

@@ -7,7 +7,8 @@ ghost use Rattle.napt_capture.specs.Text.{IsWritable, as_written, text};
 
 /// A text has one answer: no second, and not none.
 pub fn one_answer()
-    ensures unique { (bytes : List ℕ) (a b : Result Contents CaptureFault) → IsCapture bytes a → IsCapture bytes b → a ≡ b }
+    ensures unique { (bytes : List ℕ) (a b : Result Contents CaptureFault) → IsCapture bytes a →
+        IsCapture bytes b → a ≡ b }
     ensures exists { (bytes : List ℕ) → (a : Result Contents CaptureFault) × IsCapture bytes a }
 {}
 

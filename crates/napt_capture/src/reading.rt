@@ -77,7 +77,8 @@ pub fn read_capture<R: Source>(alloc: Global, reader: &mut R) -> Result<Capture,
 fn fill<R: Source>(reader: &mut R, buffer: &mut [u8]) -> Result<usize, DeviceFault>
     requires { R.failed reader.old < 2 ^ 64 - 1 }
     ensures bound { IfOk result (λ n. n ≤ length buffer.new) }
-    ensures bytes { IfOk result (λ n. Consumes (R.remaining reader.old) (R.remaining reader.new) (take n buffer.new)) }
+    ensures bytes { IfOk result (λ n. Consumes (R.remaining reader.old) (R.remaining reader.new)
+        (take n buffer.new)) }
     ensures end { IfOk result (λ n. n < length buffer.new → IsAtEnd (R.remaining reader.new)) }
     ensures count { R.failed reader.new ≡ R.failed reader.old + failed_calls result }
 {
@@ -94,8 +95,10 @@ fn fill<R: Source>(reader: &mut R, buffer: &mut [u8]) -> Result<usize, DeviceFau
 
 fn read_file_header<R: Source>(reader: &mut R) -> Result<Spelling, CaptureFault>
     requires { R.failed reader.old < 2 ^ 64 - 1 }
-    ensures ok { IfOk result (λ s. ReadsFileHeader s (R.remaining reader.old) (R.remaining reader.new)) }
-    ensures err { IfErr result (λ fault. StopsBy fault (RefusesFile fault (R.remaining reader.old) (R.remaining reader.new))) }
+    ensures ok { IfOk result (λ s. ReadsFileHeader s (R.remaining reader.old)
+        (R.remaining reader.new)) }
+    ensures err { IfErr result (λ fault.
+        StopsBy fault (RefusesFile fault (R.remaining reader.old) (R.remaining reader.new))) }
     ensures count { R.failed reader.new ≡ R.failed reader.old + failed_reads result }
 {
     let mut header = [0; FILE_HEADER];
@@ -135,7 +138,8 @@ fn read_record<R: Source>(
 ) -> Result<Next, CaptureFault>
     requires can_fail { R.failed reader.old < 2 ^ 64 - 1 }
     requires within { MayAsk asked 0 }
-    ensures ok { IfOk result (λ next. ReadsNext spelling asked (R.remaining reader.old) (R.remaining reader.new) next) }
+    ensures ok { IfOk result (λ next. ReadsNext spelling asked (R.remaining reader.old)
+        (R.remaining reader.new) next) }
     ensures err { IfErr result (λ fault. StopsBy fault
         (RefusesRecord spelling asked number fault (R.remaining reader.old) (R.remaining reader.new))) }
     ensures writable { IfOk result IsWritableNext }
@@ -171,7 +175,8 @@ fn fields_of(spelling: Spelling, header: &[u8], number: u64) -> Result<Fields, C
     ensures ok { IfOk result (λ fields. HasFields spelling header.now fields) }
     ensures time { IfOk result (λ fields. fields.time < 2 ^ 32 * 1000000000) }
     ensures captured { IfOk result (λ fields. fields.captured ≤ LARGEST_RECORD) }
-    ensures err { (asked : ℕ) → MayAsk asked 16 → IfErr result (λ fault. IsRefusedRecord spelling asked number header.now fault) }
+    ensures err { (asked : ℕ) → MayAsk asked 16 →
+        IfErr result (λ fault. IsRefusedRecord spelling asked number header.now fault) }
 {
     let seconds = spelling.long(header);
     let fraction = spelling.long(&header[4..]);

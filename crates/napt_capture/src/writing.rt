@@ -21,7 +21,8 @@ pub fn write_capture<W: Sink>(writer: &mut W, records: &[Record]) -> Result<(), 
     requires can_fail { W.failed writer.old < 2 ^ 64 - 1 }
     requires few { length records.now < 2 ^ 32 }
     requires writable { All IsWritable records.now }
-    ensures ok { OnOk result (Appends (W.contents writer.old) (W.contents writer.new) (text records.now)) }
+    ensures ok { OnOk result (Appends (W.contents writer.old) (W.contents writer.new)
+        (text records.now)) }
     ensures flushed { OnOk result (W.is_flushed writer.new) }
     ensures err { IfErr result (λ fault. (fault.written ≤ length (text records.now))
         × Appends (W.contents writer.old) (W.contents writer.new) (take fault.written (text records.now))) }
@@ -53,7 +54,8 @@ fn put_record<W: Sink>(writer: &mut W, before: u64, packet: &Record) -> Result<u
     requires can_fail { W.failed writer.old < 2 ^ 64 - 1 }
     requires room { before + length (record_text packet.now) < 2 ^ 64 }
     requires writable { IsWritable packet.now }
-    ensures puts { Puts before (W.contents writer.old) (W.contents writer.new) (record_text packet.now) result }
+    ensures puts { Puts before (W.contents writer.old) (W.contents writer.new)
+        (record_text packet.now) result }
     ensures count { W.failed writer.new ≡ W.failed writer.old + failed_calls result }
 {
     let written = put(writer, before, &record_header(packet))?;

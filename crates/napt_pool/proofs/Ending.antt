@@ -13,12 +13,14 @@ use Rattle.napt_pool.specs.Histories.{after, replies, Served, HasStopped, Told, 
 use Rattle.napt_pool.proofs.Grown.{answers_of-append}
 
 -- two lists of items that are followed by Close are one list
-pub same_items : {I : Type 0} (xs ys : List I) (rest : List (Message I)) → map Work xs ++ Close ∷ rest ≡ map Work ys ++ Close ∷ [] → xs ≡ ys
+pub same_items : {I : Type 0} (xs ys : List I) (rest : List (Message I)) → map Work xs ++ Close ∷ rest ≡ map Work ys
+    ++ Close ∷ [] → xs ≡ ys
 same_items [] [] rest e = refl
 same_items [] (y ∷ ys) rest e = cc
 same_items (x ∷ xs) [] rest e = cc
 same_items {I} (x ∷ xs) (y ∷ ys) rest e =
-    let tails : map Work xs ++ Close ∷ rest ≡ map Work ys ++ Close ∷ [] = cc in let ih = same_items xs ys rest tails in cc
+    let tails : map Work xs ++ Close ∷ rest ≡ map Work ys ++ Close ∷ [] = cc in let ih = same_items xs ys rest tails in
+    cc
 
 module _ {A : Type 0} where
   pub answers_of-map : (xs : List A) → answers_of (map Done xs) ≡ xs
@@ -40,10 +42,13 @@ module _ {A : Type 0} where
   no_stop s ks (x ∷ xs) e = cc
 
   -- what was taken and what is in the ring are all answers that were sent
-  pub all_taken : (t t' ready s s' : List (Reply A)) → t' ≡ t → t' ++ ready ≡ s' → s' ≡ s → answers_of t ++ answers_of ready ≡ answers_of s
-  all_taken t t' ready s s' et fifo es = sym (answers_of-append t ready) ∙ ap (λ r. answers_of (r ++ ready)) (sym et) ∙ ap answers_of (fifo ∙ es)
+  pub all_taken : (t t' ready s s' : List (Reply A)) → t' ≡ t → t' ++ ready ≡ s' → s' ≡ s → answers_of t
+      ++ answers_of ready ≡ answers_of s
+  all_taken t t' ready s s' et fifo es = sym (answers_of-append t ready) ∙ ap (λ r. answers_of (r ++ ready)) (sym et)
+      ∙ ap answers_of (fifo ∙ es)
 
-  no_stop_at : (s : Stop) (xs : List A) (k : ℕ) → k < length (map Done xs) → get_or (map Done xs) k (Stopped s) ≡ Stopped s → ⊥
+  no_stop_at : (s : Stop) (xs : List A) (k : ℕ) → k < length (map Done xs) → get_or (map Done xs) k (Stopped s)
+      ≡ Stopped s → ⊥
   no_stop_at s [] k below e = absurd (omega arith)
   no_stop_at s (x ∷ xs) zero below e = cc
   no_stop_at s (x ∷ xs) (suc k) below e = no_stop_at s xs k (omega arith) e
@@ -57,11 +62,14 @@ module _ {A : Type 0} where
       let here : Contains t' x = rw et c in let there = Contains-append_left t' ks x here in rw (← looked) there
 
   -- the one word that a worker sends of its stop is its end
-  pub told_stop : (e stop : Stop) (xs : List A) (s : List (Reply A)) → Told e (map Done xs) s → Contains s (Stopped stop) → e ≡ stop
+  pub told_stop : (e stop : Stop) (xs : List A) (s : List (Reply A)) → Told e (map Done xs) s →
+      Contains s (Stopped stop) → e ≡ stop
   told_stop e stop xs s told c =
       ⊎_elim (λ last. let there : Contains (map Done xs ++ Stopped e ∷ []) (Stopped stop) = rw (← last) c in
-      ⊎_elim (λ early. absurd (no_stop_among stop xs early)) (λ same. cc) (Contains-push_cases (map Done xs) (Stopped e) (Stopped stop) there))
-      (λ silent. let there : Contains (map Done xs) (Stopped stop) = rw (← silent.1) c in absurd (no_stop_among stop xs there))
+      ⊎_elim (λ early. absurd (no_stop_among stop xs early)) (λ same. cc) (Contains-push_cases (map Done xs) (Stopped e)
+      (Stopped stop) there))
+      (λ silent. let there : Contains (map Done xs) (Stopped stop) = rw (← silent.1) c in
+      absurd (no_stop_among stop xs there))
       told
 
   pub at_most_replies : (rs : List (Reply A)) → length (answers_of rs) ≤ length rs
@@ -78,16 +86,19 @@ module _ {M I A : Type 0} (g : Ghosts M I A) where
   pub seen_is : (m n : M) (h h' a known : List (Message I)) (s : List (Reply A)) (xs : List I)
       → (w : Served g m h s n) → h' ≡ h → h' ++ known ≡ a → a ≡ map Work xs ++ Close ∷ [] → w.seen ≡ xs
   seen_is m n h h' a known s xs w eh fifo ea =
-      same_items w.seen xs known (sym (append_assoc (map Work w.seen) (Close ∷ []) known) ∙ ap (λ r. r ++ known) (sym (eh ∙ w.received_is)) ∙ fifo ∙ ea)
+      same_items w.seen xs known (sym (append_assoc (map Work w.seen) (Close ∷ []) known)
+      ∙ ap (λ r. r ++ known) (sym (eh ∙ w.received_is)) ∙ fifo ∙ ea)
 
   pub machine_is : (m n : M) (h h' a known : List (Message I)) (s : List (Reply A)) (xs : List I)
       → Served g m h s n → h' ≡ h → h' ++ known ≡ a → a ≡ map Work xs ++ Close ∷ [] → n ≡ after g m xs
-  machine_is m n h h' a known s xs w eh fifo ea = w.machine_is ∙ ap (after g m) (seen_is m n h h' a known s xs w eh fifo ea)
+  machine_is m n h h' a known s xs w eh fifo ea = w.machine_is
+      ∙ ap (after g m) (seen_is m n h h' a known s xs w eh fifo ea)
 
   -- what the worker sent is the replies to what was accepted
   pub sent_is : (m n : M) (h h' a known : List (Message I)) (s : List (Reply A)) (xs : List I)
       → Served g m h s n → h' ≡ h → h' ++ known ≡ a → a ≡ map Work xs ++ Close ∷ [] → s ≡ map Done (replies g m xs)
-  sent_is m n h h' a known s xs w eh fifo ea = w.sent_is ∙ ap (λ ys. map Done (replies g m ys)) (seen_is m n h h' a known s xs w eh fifo ea)
+  sent_is m n h h' a known s xs w eh fifo ea = w.sent_is ∙ ap (λ ys. map Done (replies g m ys))
+      (seen_is m n h h' a known s xs w eh fifo ea)
 
   -- the answers that are still in the ring of a worker whose end is Ok
   pub known_on_ok : {U : Type 0} (m n : M) (h : List (Message I)) (s t ks : List (Reply A)) (end : Result U Stop)
@@ -95,7 +106,8 @@ module _ {M I A : Type 0} (g : Ghosts M I A) where
   known_on_ok m n h s t ks (Ok u) w looked = last_answers t ks (replies g m w.seen) (looked ∙ w.sent_is)
   known_on_ok m n h s t ks (Err e) w looked = tt
 
-  pub room_on_ok : {U : Type 0} (m n : M) (h h' a known : List (Message I)) (s t t' ks : List (Reply A)) (xs : List I) (room : ℕ) (end : Result U Stop)
+  pub room_on_ok : {U : Type 0} (m n : M) (h h' a known : List (Message I)) (s t t' ks : List (Reply A)) (xs : List I)
+      (room : ℕ) (end : Result U Stop)
       → OnOk end (Served g m h s n) → h' ≡ h → h' ++ known ≡ a → a ≡ map Work xs ++ Close ∷ []
       → t' ≡ t → t' ++ ks ≡ s → length xs ≤ length (answers_of t) + room → OnOk end (length ks ≤ room)
   room_on_ok m n h h' a known s t t' ks xs room (Ok u) w eh fifo ea et looked fits =
@@ -122,7 +134,8 @@ module _ {M I A : Type 0} (g : Ghosts M I A) where
       cc
 
   -- what the join of a worker gives, which is Ok where its end is
-  pub machine_if_ok : {U E : Type 0} (u : U) (m n : M) (h h' a known : List (Message I)) (s : List (Reply A)) (xs : List I) (f : E → M) (r : Result E Stop) (end : Result U Stop)
+  pub machine_if_ok : {U E : Type 0} (u : U) (m n : M) (h h' a known : List (Message I)) (s : List (Reply A))
+      (xs : List I) (f : E → M) (r : Result E Stop) (end : Result U Stop)
       → MatchResult r (λ _. end ≡ Ok u) (λ stop. end ≡ Err stop)
       → OnOk end (Served g m h s n) → h' ≡ h → h' ++ known ≡ a → a ≡ map Work xs ++ Close ∷ []
       → IfOk r (λ e. f e ≡ n) → IfOk r (λ e. f e ≡ after g m xs)
@@ -130,7 +143,8 @@ module _ {M I A : Type 0} (g : Ghosts M I A) where
       let served = rw is at w in here ∙ machine_is m n h h' a known s xs served eh fifo ea
   machine_if_ok u m n h h' a known s xs f (Err e) end is w eh fifo ea here = tt
 
-  pub answers_if_ok : {U E : Type 0} (u : U) (m n : M) (h h' a known : List (Message I)) (s : List (Reply A)) (xs : List I) (f : E → List A) (t t' ks : List (Reply A)) (r : Result E Stop) (end : Result U Stop)
+  pub answers_if_ok : {U E : Type 0} (u : U) (m n : M) (h h' a known : List (Message I)) (s : List (Reply A))
+      (xs : List I) (f : E → List A) (t t' ks : List (Reply A)) (r : Result E Stop) (end : Result U Stop)
       → MatchResult r (λ _. end ≡ Ok u) (λ stop. end ≡ Err stop)
       → OnOk end (Served g m h s n) → h' ≡ h → h' ++ known ≡ a → a ≡ map Work xs ++ Close ∷ [] → t' ≡ t → t' ++ ks ≡ s
       → IfOk r (λ e. f e ≡ answers_of ks) → IfOk r (λ e. answers_of t ++ f e ≡ replies g m xs)

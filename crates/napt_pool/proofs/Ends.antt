@@ -16,10 +16,12 @@ use Rattle.napt_pool.proofs.Ending.{seen_is}
 module _ {M G I A : Type 0} (g : Ghosts M I A) (open_gate : Bool) (bench : Bench M G I A) (left : Left M G I A) where
   pub has_received_on_ok : {E : Type 0} (r : Result E Stop) (h' a known : List (Message I)) (xs : List I)
       → Worked g open_gate bench left → MatchResult r (λ _. left.end ≡ Ok tt) (λ stop. left.end ≡ Err stop)
-      → h' ≡ received left.bench.items → h' ++ known ≡ a → a ≡ map Work xs ++ Close ∷ [] → OnOk r (HasReceived g open_gate bench xs)
+      → h' ≡ received left.bench.items → h' ++ known ≡ a → a ≡ map Work xs ++ Close ∷ [] →
+      OnOk r (HasReceived g open_gate bench xs)
   has_received_on_ok (Ok e) h' a known xs worked is eh fifo ea =
       let served = rw is at worked.served in
-      let same = seen_is g bench.machine left.bench.machine (received left.bench.items) h' a known (sent left.bench.answers) xs served eh fifo ea in
+      let same = seen_is g bench.machine left.bench.machine (received left.bench.items) h' a known
+      (sent left.bench.answers) xs served eh fifo ea in
       record {
         left = left;
         worked = worked;
@@ -29,13 +31,15 @@ module _ {M G I A : Type 0} (g : Ghosts M I A) (open_gate : Bool) (bench : Bench
   has_received_on_ok (Err stop) h' a known xs worked is eh fifo ea = tt
 
   pub has_broken_off_if_err : {E : Type 0} (r : Result E Stop)
-      → Worked g open_gate bench left → MatchResult r (λ _. left.end ≡ Ok tt) (λ stop. left.end ≡ Err stop) → IfErr r (HasBrokenOff g open_gate bench)
+      → Worked g open_gate bench left → MatchResult r (λ _. left.end ≡ Ok tt) (λ stop. left.end ≡ Err stop) →
+      IfErr r (HasBrokenOff g open_gate bench)
   has_broken_off_if_err (Ok e) worked is = tt
   has_broken_off_if_err (Err stop) worked is = record { left = left; worked = worked; end_is = rw is refl }
 
 -- the same where Close was not sent: s is what the worker's end is
 module _ {U : Type 0} where
-  pub told_if_stop : (s stop : Stop) (end : Result U Stop) → MatchResult end (λ _. s ≡ Ring) (λ e. s ≡ e) → end ≡ Err stop → s ≡ stop
+  pub told_if_stop : (s stop : Stop) (end : Result U Stop) → MatchResult end (λ _. s ≡ Ring) (λ e. s ≡ e) →
+      end ≡ Err stop → s ≡ stop
   told_if_stop s stop (Ok u) is ended = cc
   told_if_stop s stop (Err e) is ended = cc
 

@@ -17,10 +17,12 @@ module _ {I : Type 0} where
   pub items_of-work : (h h' : List (Message I)) (x : I) → h' ≡ h ++ Work x ∷ [] → items_of h' ≡ items_of h ++ x ∷ []
   items_of-work h h' x e = ap items_of e ∙ items_of-append h (Work x ∷ [])
 
-  pub work-only : (h h' : List (Message I)) (x : I) → h ≡ map Work (items_of h) → h' ≡ h ++ Work x ∷ [] → h' ≡ map Work (items_of h')
+  pub work-only : (h h' : List (Message I)) (x : I) → h ≡ map Work (items_of h) → h' ≡ h ++ Work x ∷ [] →
+      h' ≡ map Work (items_of h')
   work-only h h' x was e = e ∙ rw (items_of-work h h' x e, map-snoc, ← was) refl
 
-  pub count-work : (h h' : List (Message I)) (x : I) → h' ≡ h ++ Work x ∷ [] → length (items_of h') ≡ length (items_of h) + 1
+  pub count-work : (h h' : List (Message I)) (x : I) → h' ≡ h ++ Work x ∷ [] → length (items_of h')
+      ≡ length (items_of h) + 1
   count-work h h' x e = ap length (items_of-work h h' x e) ∙ length-append (items_of h) (x ∷ [])
 
 module _ {A : Type 0} where
@@ -39,5 +41,6 @@ module _ {I : Type 0} where
   pub items_of-close : (h h' : List (Message I)) → h' ≡ h ++ Close ∷ [] → items_of h' ≡ items_of h
   items_of-close h h' e = ap items_of e ∙ items_of-append h (Close ∷ []) ∙ append-nil (items_of h)
 
-  pub closed-last : (h h' : List (Message I)) → h ≡ map Work (items_of h) → h' ≡ h ++ Close ∷ [] → h' ≡ map Work (items_of h') ++ Close ∷ []
+  pub closed-last : (h h' : List (Message I)) → h ≡ map Work (items_of h) → h' ≡ h ++ Close ∷ [] →
+      h' ≡ map Work (items_of h') ++ Close ∷ []
   closed-last h h' was e = e ∙ rw (items_of-close h h' e, ← was) refl

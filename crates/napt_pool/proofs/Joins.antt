@@ -43,7 +43,8 @@ shut_is GateShut w = refl
 shut_is Ring w = refl
 
 module _ {M G I A : Type 0} (g : Ghosts M I A) (open_gate : Bool) where
-  pub AreEnds-push : (ws : List (Closing M G I A)) (es : List (Result (Ended M I A) Stop)) (w : Closing M G I A) (e : Result (Ended M I A) Stop)
+  pub AreEnds-push : (ws : List (Closing M G I A)) (es : List (Result (Ended M I A) Stop)) (w : Closing M G I A)
+      (e : Result (Ended M I A) Stop)
       → AreEnds g open_gate ws es → IsEnd g open_gate w e → AreEnds g open_gate (ws ++ w ∷ []) (es ++ e ∷ [])
   AreEnds-push [] [] w e h k = (k, tt)
   AreEnds-push [] (f ∷ es) w e h k = absurd h
@@ -57,21 +58,26 @@ module _ {M G I A : Type 0} (g : Ghosts M I A) (open_gate : Bool) where
   machines_are [] (e ∷ es) h = absurd h
   machines_are (w ∷ ws) [] h = absurd h
   machines_are (w ∷ ws) (e ∷ es) h =
-      ap (λ m. m ∷ map (λ d. d.machine) es) h.0.machine_is ∙ ap (λ ms. after g (closing_machine w) (closing_accepted w) ∷ ms) (machines_are ws es h.1)
+      ap (λ m. m ∷ map (λ d. d.machine) es) h.0.machine_is ∙ ap (λ ms. after g (closing_machine w) (closing_accepted w)
+      ∷ ms) (machines_are ws es h.1)
 
   -- what was taken and what is handed back are the replies to what was accepted
   pub answers_are : (ws : List (Closing M G I A)) (es : List (Ended M I A)) → AreEnds g open_gate ws (map Ok es)
-      → zip_with (λ t rest. t ++ rest) (map closing_taken ws) (map (λ e. e.answers.items) es) ≡ zip_with (replies g) (map closing_machine ws) (map closing_accepted ws)
+      → zip_with (λ t rest. t ++ rest) (map closing_taken ws) (map (λ e. e.answers.items) es)
+      ≡ zip_with (replies g) (map closing_machine ws) (map closing_accepted ws)
   answers_are [] [] h = refl
   answers_are [] (e ∷ es) h = absurd h
   answers_are (w ∷ ws) [] h = absurd h
   answers_are (w ∷ ws) (e ∷ es) h =
-      ap (λ r. r ∷ zip_with (λ t rest. t ++ rest) (map closing_taken ws) (map (λ d. d.answers.items) es)) h.0.answers_are
+      ap (λ r. r ∷ zip_with (λ t rest. t ++ rest) (map closing_taken ws) (map (λ d. d.answers.items) es))
+      h.0.answers_are
       ∙ ap (λ rs. replies g (closing_machine w) (closing_accepted w) ∷ rs) (answers_are ws es h.1)
 
   -- where no answer is owed, nothing is handed back
-  pub settled : (ts : List (List A)) (ws : List (Closing M G I A)) (es : List (Ended M I A)) → AreEnds g open_gate ws (map Ok es)
-      → map closing_taken ws ≡ ts → map length ts ≡ map length (map closing_accepted ws) → ts ≡ zip_with (replies g) (map closing_machine ws) (map closing_accepted ws)
+  pub settled : (ts : List (List A)) (ws : List (Closing M G I A)) (es : List (Ended M I A)) →
+      AreEnds g open_gate ws (map Ok es)
+      → map closing_taken ws ≡ ts → map length ts ≡ map length (map closing_accepted ws) →
+      ts ≡ zip_with (replies g) (map closing_machine ws) (map closing_accepted ws)
   settled ts [] [] h is same = sym is
   settled ts [] (e ∷ es) h is same = absurd h
   settled ts (w ∷ ws) [] h is same = absurd h
@@ -84,11 +90,13 @@ module _ {M G I A : Type 0} (g : Ghosts M I A) (open_gate : Bool) where
       let ih = settled ts ws es h.1 tail counts in
       let whole = h.0.answers_are in
       let here : t ≡ replies g (closing_machine w) (closing_accepted w) =
-      sym head ∙ sym (no_rest (closing_taken w) e.answers.items (ap length whole ∙ length-replies g (closing_machine w) (closing_accepted w) ∙ sym count ∙ sym (ap length head))) ∙ whole in
+      sym head ∙ sym (no_rest (closing_taken w) e.answers.items (ap length whole ∙ length-replies g (closing_machine w)
+      (closing_accepted w) ∙ sym count ∙ sym (ap length head))) ∙ whole in
       cc
 
   -- a worker that stopped, behind a gate that promises yes, does not say that it was shut
-  gate_at : (ws : List (Closing M G I A)) (before : List (Ended M I A)) (stop : Stop) (rest : List (Result (Ended M I A) Stop))
+  gate_at : (ws : List (Closing M G I A)) (before : List (Ended M I A)) (stop : Stop)
+      (rest : List (Result (Ended M I A) Stop))
       → AreEnds g open_gate ws (map Ok before ++ Err stop ∷ rest) → open_gate ≡ true → is_gate_shut stop ≡ false
   gate_at [] [] stop rest h is_open = absurd h
   gate_at [] (b ∷ bs) stop rest h is_open = absurd h
@@ -99,23 +107,32 @@ module _ {M G I A : Type 0} (g : Ghosts M I A) (open_gate : Bool) where
       → AreEnds g open_gate ws es → IsLeastFault es fault → open_gate ≡ true → is_shut fault ≡ false
   least_not_shut ws es fault h least is_open =
       let here = rw least.ends_are at h in
-      ap is_shut least.fault_is ∙ shut_is least.stop (length least.before) ∙ gate_at ws least.before least.stop least.rest here is_open
+      ap is_shut least.fault_is ∙ shut_is least.stop (length least.before)
+      ∙ gate_at ws least.before least.stop least.rest here is_open
 
   -- the same of what `close` gives
-  module _ {T : Type 0} (items : T → List (Ended M I A)) (r : Result T PoolFault) (ws : List (Closing M G I A)) (es : List (Result (Ended M I A) Stop))
-      (ms : List M) (xs : List (List I)) (ends : AreEnds g open_gate ws es) (began : map closing_machine ws ≡ ms) (accepted : map closing_accepted ws ≡ xs) where
-    pub machines_if_ok : IfOk r (λ v. map Ok (items v) ≡ es) → IfOk r (λ v. map (λ e. e.machine) (items v) ≡ zip_with (after g) ms xs)
-    machines_if_ok h = IfOk-weaker r (λ v. map Ok (items v) ≡ es) (λ v. map (λ e. e.machine) (items v) ≡ zip_with (after g) ms xs)
+  module _ {T : Type 0} (items : T → List (Ended M I A)) (r : Result T PoolFault) (ws : List (Closing M G I A))
+      (es : List (Result (Ended M I A) Stop))
+      (ms : List M) (xs : List (List I)) (ends : AreEnds g open_gate ws es) (began : map closing_machine ws ≡ ms)
+      (accepted : map closing_accepted ws ≡ xs) where
+    pub machines_if_ok : IfOk r (λ v. map Ok (items v) ≡ es) →
+        IfOk r (λ v. map (λ e. e.machine) (items v) ≡ zip_with (after g) ms xs)
+    machines_if_ok h = IfOk-weaker r (λ v. map Ok (items v) ≡ es) (λ v. map (λ e. e.machine) (items v)
+        ≡ zip_with (after g) ms xs)
         (λ v k. let here = rw (← k) at ends in rw (← began, ← accepted) (machines_are ws (items v) here)) h
 
     pub answers_if_ok : (ts : List (List A)) → map closing_taken ws ≡ ts → IfOk r (λ v. map Ok (items v) ≡ es)
-        → IfOk r (λ v. zip_with (λ t rest. t ++ rest) ts (map (λ e. e.answers.items) (items v)) ≡ zip_with (replies g) ms xs)
-    answers_if_ok ts taken h = IfOk-weaker r (λ v. map Ok (items v) ≡ es) (λ v. zip_with (λ t rest. t ++ rest) ts (map (λ e. e.answers.items) (items v)) ≡ zip_with (replies g) ms xs)
+        → IfOk r (λ v. zip_with (λ t rest. t ++ rest) ts (map (λ e. e.answers.items) (items v))
+        ≡ zip_with (replies g) ms xs)
+    answers_if_ok ts taken h = IfOk-weaker r (λ v. map Ok (items v) ≡ es) (λ v.
+        zip_with (λ t rest. t ++ rest) ts (map (λ e. e.answers.items) (items v)) ≡ zip_with (replies g) ms xs)
         (λ v k. let here = rw (← k) at ends in rw (← began, ← accepted, ← taken) (answers_are ws (items v) here)) h
 
-  pub settled_at : {T : Type 0} (items : T → List (Ended M I A)) (ws : List (Closing M G I A)) (es : List (Result (Ended M I A) Stop)) (ms : List M) (xs : List (List I))
+  pub settled_at : {T : Type 0} (items : T → List (Ended M I A)) (ws : List (Closing M G I A))
+      (es : List (Result (Ended M I A) Stop)) (ms : List M) (xs : List (List I))
       → AreEnds g open_gate ws es → map closing_machine ws ≡ ms → map closing_accepted ws ≡ xs
-      → (ts : List (List A)) (r : Result T PoolFault) → map closing_taken ws ≡ ts → map length ts ≡ map length xs → IfOk r (λ v. map Ok (items v) ≡ es)
+      → (ts : List (List A)) (r : Result T PoolFault) → map closing_taken ws ≡ ts → map length ts ≡ map length xs →
+      IfOk r (λ v. map Ok (items v) ≡ es)
       → OnOk r (ts ≡ zip_with (replies g) ms xs)
   settled_at items ws es ms xs ends began accepted ts (Ok v) taken same k =
       let here = rw (← k) at ends in
@@ -123,26 +140,31 @@ module _ {M G I A : Type 0} (g : Ghosts M I A) (open_gate : Bool) where
       rw (← began, ← accepted) (settled ts ws (items v) here taken counts)
   settled_at items ws es ms xs ends began accepted ts (Err e) taken same k = tt
 
-  AreEnds-length : (ws : List (Closing M G I A)) (es : List (Result (Ended M I A) Stop)) → AreEnds g open_gate ws es → length es ≡ length ws
+  AreEnds-length : (ws : List (Closing M G I A)) (es : List (Result (Ended M I A) Stop)) → AreEnds g open_gate ws es →
+      length es ≡ length ws
   AreEnds-length [] [] h = refl
   AreEnds-length [] (e ∷ es) h = absurd h
   AreEnds-length (w ∷ ws) [] h = absurd h
   AreEnds-length (w ∷ ws) (e ∷ es) h = ap suc (AreEnds-length ws es h.1)
 
-  pub fault_if_err : {T : Type 0} (ws : List (Closing M G I A)) (es : List (Result (Ended M I A) Stop)) (ms : List M) (r : Result T PoolFault)
+  pub fault_if_err : {T : Type 0} (ws : List (Closing M G I A)) (es : List (Result (Ended M I A) Stop)) (ms : List M)
+      (r : Result T PoolFault)
       → AreEnds g open_gate ws es → map closing_machine ws ≡ ms
       → IfErr r (λ fault. IsLeastFault es fault) → IfErr r (λ fault. IsFaultOf (λ v. v < length ms) fault)
   fault_if_err ws es ms (Ok v) h began least = tt
   fault_if_err ws es ms (Err fault) h began least =
-      let count : length es ≡ length ms = AreEnds-length ws es h ∙ sym (length-map ws closing_machine) ∙ ap length began in
+      let count : length es ≡ length ms = AreEnds-length ws es h ∙ sym (length-map ws closing_machine)
+      ∙ ap length began in
       let first = first_below es least.before least.stop least.rest least.ends_are in
       let below : length least.before < length ms = omega arith in
       rw least.fault_is (fault_of_is least.stop (length least.before) (length ms) below)
 
-  pub least_if_err : {T : Type 0} (p : Pool M G I A) (ws : List (Closing M G I A)) (es : List (Result (Ended M I A) Stop))
+  pub least_if_err : {T : Type 0} (p : Pool M G I A) (ws : List (Closing M G I A))
+      (es : List (Result (Ended M I A) Stop))
       → map closing_machine ws ≡ starts p → map closing_accepted ws ≡ accepts p → map closing_taken ws ≡ takes p
       → map closing_heard ws ≡ heard p → map closing_bench ws ≡ benches p → AreEnds g open_gate ws es
-      → (r : Result T PoolFault) → IfErr r (λ fault. IsLeastFault es fault) → IfErr r (λ fault. IsLeastStop g open_gate p fault)
+      → (r : Result T PoolFault) → IfErr r (λ fault. IsLeastFault es fault) →
+      IfErr r (λ fault. IsLeastStop g open_gate p fault)
   least_if_err p ws es began accepted taken listened given h (Ok v) least = tt
   least_if_err p ws es began accepted taken listened given h (Err fault) least = record {
     closing = ws;
@@ -156,7 +178,8 @@ module _ {M G I A : Type 0} (g : Ghosts M I A) (open_gate : Bool) where
     least = least;
   }
 
-  -- a worker that told that it stopped: where all ended well there is none, and else the least that stopped is that one or one before it
+  -- a worker that told that it stopped: where all ended well there is none, and else the least that stopped is that one
+  -- or one before it
   all_well_untold : (ws : List (Closing M G I A)) (es : List (Ended M I A)) → AreEnds g open_gate ws (map Ok es)
       → (w : ℕ) (stop : Stop) → Contains (get_or (map closing_heard ws) w []) (Stopped stop) → ⊥
   all_well_untold [] [] h w stop c = let below = c.1 in absurd (omega arith)
@@ -165,8 +188,10 @@ module _ {M G I A : Type 0} (g : Ghosts M I A) (open_gate : Bool) where
   all_well_untold (v ∷ ws) (e ∷ es) h zero stop c = let here = h.0.told stop c in cc
   all_well_untold (v ∷ ws) (e ∷ es) h (suc w) stop c = all_well_untold ws es h.1 w stop c
 
-  least_up_to : (ws : List (Closing M G I A)) (before : List (Ended M I A)) (s : Stop) (rest : List (Result (Ended M I A) Stop))
-      → AreEnds g open_gate ws (map Ok before ++ Err s ∷ rest) → (w : ℕ) (stop : Stop) → Contains (get_or (map closing_heard ws) w []) (Stopped stop)
+  least_up_to : (ws : List (Closing M G I A)) (before : List (Ended M I A)) (s : Stop)
+      (rest : List (Result (Ended M I A) Stop))
+      → AreEnds g open_gate ws (map Ok before ++ Err s ∷ rest) → (w : ℕ) (stop : Stop) →
+      Contains (get_or (map closing_heard ws) w []) (Stopped stop)
       → (length before < w) ⊎ ((length before ≡ w) × (s ≡ stop))
   least_up_to [] [] s rest h w stop c = absurd h
   least_up_to [] (b ∷ bs) s rest h w stop c = absurd h
@@ -176,7 +201,8 @@ module _ {M G I A : Type 0} (g : Ghosts M I A) (open_gate : Bool) where
   least_up_to (v ∷ ws) (b ∷ bs) s rest h (suc w) stop c =
       ⊎_elim (λ less. inl (omega arith)) (λ same. inr (ap suc same.0, same.1)) (least_up_to ws bs s rest h.1 w stop c)
 
-  pub told_is : {T : Type 0} (p : Pool M G I A) (items : T → List (Ended M I A)) (ws : List (Closing M G I A)) (es : List (Result (Ended M I A) Stop))
+  pub told_is : {T : Type 0} (p : Pool M G I A) (items : T → List (Ended M I A)) (ws : List (Closing M G I A))
+      (es : List (Result (Ended M I A) Stop))
       → AreEnds g open_gate ws es → map closing_heard ws ≡ heard p
       → (r : Result T PoolFault) → IfOk r (λ v. map Ok (items v) ≡ es) → IfErr r (λ fault. IsLeastFault es fault)
       → (w : ℕ) (fault : PoolFault) → HasTold p w fault → MatchResult r (λ _. ⊥) (IsFaultUpTo w fault)
@@ -188,7 +214,8 @@ module _ {M G I A : Type 0} (g : Ghosts M I A) (open_gate : Bool) where
       let here = rw least.ends_are at h in
       let c : Contains (get_or (map closing_heard ws) w []) (Stopped told.0) = rw listened told.1 in
       ⊎_elim
-      (λ less. let first : 0 < w = omega arith in inr (first, rw least.fault_is (fault_of_is least.stop (length least.before) w less)))
+      (λ less. let first : 0 < w = omega arith in
+      inr (first, rw least.fault_is (fault_of_is least.stop (length least.before) w less)))
       (λ same. inl (least.fault_is ∙ ap (fault_of least.stop) same.0 ∙ ap (λ s. fault_of s w) same.1 ∙ sym told.2))
       (least_up_to ws least.before least.stop least.rest here w told.0 c)
 
@@ -199,19 +226,24 @@ module _ {M G I A : Type 0} (g : Ghosts M I A) (open_gate : Bool) where
   received_are (w ∷ ws) [] h = absurd h
   received_are (w ∷ ws) (e ∷ es) h = (h.0.has_received, received_are ws es h.1)
 
-  pub received_on_ok : {T : Type 0} (items : T → List (Ended M I A)) (ws : List (Closing M G I A)) (es : List (Result (Ended M I A) Stop))
-      (bs : List (Bench M G I A)) (xs : List (List I)) → AreEnds g open_gate ws es → map closing_bench ws ≡ bs → map closing_accepted ws ≡ xs
+  pub received_on_ok : {T : Type 0} (items : T → List (Ended M I A)) (ws : List (Closing M G I A))
+      (es : List (Result (Ended M I A) Stop))
+      (bs : List (Bench M G I A)) (xs : List (List I)) → AreEnds g open_gate ws es → map closing_bench ws ≡ bs →
+      map closing_accepted ws ≡ xs
       → (r : Result T PoolFault) → IfOk r (λ v. map Ok (items v) ≡ es) → OnOk r (HaveReceived g open_gate bs xs)
   received_on_ok items ws es bs xs h given accepted (Ok v) ended =
       let here = rw (← ended) at h in rw (← given, ← accepted) (received_are ws (items v) here)
   received_on_ok items ws es bs xs h given accepted (Err e) ended = tt
 
-  pub gate_if_err : {T : Type 0} (ws : List (Closing M G I A)) (es : List (Result (Ended M I A) Stop)) (r : Result T PoolFault)
-      → AreEnds g open_gate ws es → open_gate ≡ true → IfErr r (λ fault. IsLeastFault es fault) → IfErr r (λ fault. is_shut fault ≡ false)
+  pub gate_if_err : {T : Type 0} (ws : List (Closing M G I A)) (es : List (Result (Ended M I A) Stop))
+      (r : Result T PoolFault)
+      → AreEnds g open_gate ws es → open_gate ≡ true → IfErr r (λ fault. IsLeastFault es fault) →
+      IfErr r (λ fault. is_shut fault ≡ false)
   gate_if_err ws es (Ok v) h is_open least = tt
   gate_if_err ws es (Err fault) h is_open least = least_not_shut ws es fault h least is_open
 
-pub split-step : {X : Type 0} (done rest more all : List X) (x : X) → done ++ rest ≡ all → rest ≡ x ∷ more → (done ++ x ∷ []) ++ more ≡ all
+pub split-step : {X : Type 0} (done rest more all : List X) (x : X) → done ++ rest ≡ all → rest ≡ x ∷ more →
+    (done ++ x ∷ []) ++ more ≡ all
 split-step done rest more all x was step = append_assoc done (x ∷ []) more ∙ ap (λ r. done ++ r) (sym step) ∙ was
 
 replicate-suc : {Y : Type 0} (n : ℕ) (d : Y) → replicate (suc n) d ≡ replicate n d ++ d ∷ []
@@ -225,9 +257,11 @@ replicate-next n d = rw add-one (replicate-suc n d)
 pub all-push : {X Y : Type 0} (f : X → Y) (xs xs' : List X) (n n' : ℕ) (x : X) (d : Y)
     → xs' ≡ xs ++ x ∷ [] → n' ≡ n + 1 → f x ≡ d → map f xs ≡ replicate n d → map f xs' ≡ replicate n' d
 all-push f xs xs' n n' x d e k fx was =
-    ap (map f) e ∙ map-snoc f xs x ∙ ap (λ r. r ++ f x ∷ []) was ∙ ap (λ z. replicate n d ++ z ∷ []) fx ∙ sym (replicate-next n d) ∙ ap (λ m. replicate m d) (sym k)
+    ap (map f) e ∙ map-snoc f xs x ∙ ap (λ r. r ++ f x ∷ []) was ∙ ap (λ z. replicate n d ++ z ∷ []) fx
+    ∙ sym (replicate-next n d) ∙ ap (λ m. replicate m d) (sym k)
 
 pub map-split-step : {X Y : Type 0} (f : X → Y) (xs xs' : List X) (rest more all : List Y) (x : X) (y : Y)
     → xs' ≡ xs ++ x ∷ [] → f x ≡ y → rest ≡ y ∷ more → map f xs ++ rest ≡ all → map f xs' ++ more ≡ all
 map-split-step f xs xs' rest more all x y e fx step was =
-    ap (λ r. map f r ++ more) e ∙ ap (λ r. r ++ more) (map-snoc f xs x) ∙ ap (λ z. (map f xs ++ z ∷ []) ++ more) fx ∙ split-step (map f xs) rest more all y was step
+    ap (λ r. map f r ++ more) e ∙ ap (λ r. r ++ more) (map-snoc f xs x) ∙ ap (λ z. (map f xs ++ z ∷ []) ++ more) fx
+    ∙ split-step (map f xs) rest more all y was step

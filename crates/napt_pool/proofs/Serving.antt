@@ -19,7 +19,8 @@ module _ {M I A : Type 0} (g : Ghosts M I A) where
   after-snoc m [] x = refl
   after-snoc m (y ∷ ys) x = after-snoc (g.stepped m y) ys x
 
-  pub replies-snoc : (m : M) (xs : List I) (x : I) → replies g m (xs ++ x ∷ []) ≡ replies g m xs ++ g.reply (after g m xs) x ∷ []
+  pub replies-snoc : (m : M) (xs : List I) (x : I) → replies g m (xs ++ x ∷ []) ≡ replies g m xs
+      ++ g.reply (after g m xs) x ∷ []
   replies-snoc m [] x = refl
   replies-snoc m (y ∷ ys) x = ap (λ r. g.reply m y ∷ r) (replies-snoc (g.stepped m y) ys x)
 
@@ -29,7 +30,8 @@ module _ {M I A : Type 0} (g : Ghosts M I A) where
 
   -- one item more
   pub Serving-step : (m n k : M) (h h' : List (Message I)) (s s' : List (Reply A)) (x : I)
-      → Serving g m h s n → h' ≡ h ++ Work x ∷ [] → k ≡ g.stepped n x → s' ≡ s ++ Done (g.reply n x) ∷ [] → Serving g m h' s' k
+      → Serving g m h s n → h' ≡ h ++ Work x ∷ [] → k ≡ g.stepped n x → s' ≡ s ++ Done (g.reply n x) ∷ [] →
+      Serving g m h' s' k
   Serving-step m n k h h' s s' x was eh ek es = record {
     seen = was.seen ++ x ∷ [];
     received_is = eh ∙ (rw (map-snoc, was.received_is) refl);
@@ -57,8 +59,10 @@ module _ {M I A : Type 0} (g : Ghosts M I A) where
     sent_is = rw (← was.sent_is) told;
   }
 
-  pub HasStopped-if_err : {U : Type 0} (m n : M) (h h' : List (Message I)) (s s' : List (Reply A)) (x : I) (r : Result U Stop)
-      → Serving g m h s n → h' ≡ h ++ Work x ∷ [] → IfErr r (λ stop. Told stop s s') → IfErr r (λ stop. HasStopped g m stop h' s')
+  pub HasStopped-if_err : {U : Type 0} (m n : M) (h h' : List (Message I)) (s s' : List (Reply A)) (x : I)
+      (r : Result U Stop)
+      → Serving g m h s n → h' ≡ h ++ Work x ∷ [] → IfErr r (λ stop. Told stop s s') →
+      IfErr r (λ stop. HasStopped g m stop h' s')
   HasStopped-if_err m n h h' s s' x (Ok u) was eh told = tt
   HasStopped-if_err m n h h' s s' x (Err stop) was eh told = HasStopped-at_item m n stop h h' s s' x was eh told
 

@@ -10,14 +10,17 @@ use Rattle.rtrb.specs.Ring.{sent, received, SameProducer, SameConsumer}
 use Rattle.napt_pool.specs.Faults.{is_gate_shut}
 use Rattle.napt_pool.specs.Histories.{Served, HasStopped}
 
--- The ring ends are those that were given. A worker that met Close stepped on all items and answered each; where one stopped,
+-- The ring ends are those that were given. A worker that met Close stepped on all items and answered each; where one
+-- stopped,
 -- its end is what it told last, and it met no Close. None tells that a gate was shut which promises yes
 module _ {M G I A : Type 0} (g : Ghosts M I A) (open_gate : Bool) where
   pub record Worked (bench : Bench M G I A) (left : Left M G I A) : Type 0 where
     pub items : SameConsumer bench.items left.bench.items
     pub answers : SameProducer bench.answers left.bench.answers
-    pub served : OnOk left.end (Served g bench.machine (received left.bench.items) (sent left.bench.answers) left.bench.machine)
-    pub stopped : IfErr left.end (λ stop. HasStopped g bench.machine stop (received left.bench.items) (sent left.bench.answers))
+    pub served : OnOk left.end (Served g bench.machine (received left.bench.items)
+        (sent left.bench.answers) left.bench.machine)
+    pub stopped : IfErr left.end (λ stop. HasStopped g bench.machine stop (received left.bench.items)
+        (sent left.bench.answers))
     pub gate : open_gate ≡ true → IfErr left.end (λ stop. is_gate_shut stop ≡ false)
 
   -- the thread that was given the bench received these items, once and in order, then Close, and ended well

@@ -61,7 +61,8 @@ module _ {M I A : Type 0} (g : Ghosts M I A) where
     pub sent_is : sends ≡ map Done (replies m seen)
     pub machine_is : n ≡ after m seen
 
-  -- the same of a worker that stopped: it met no Close, answered the first of the items that it received, and told why it stopped
+  -- the same of a worker that stopped: it met no Close, answered the first of the items that it received, and told why
+  -- it stopped
   pub record HasStopped (m : M) (stop : Stop) (messages : List (Message I)) (sends : List (Reply A)) : Type 0 where
     pub seen : List I
     pub rest : List I

@@ -1,4 +1,5 @@
--- What a pool shows: its capacity and, for each worker, the machine that it was given, the items that were accepted for it,
+-- What a pool shows: its capacity and, for each worker, the machine that it was given, the items that were accepted for
+-- it,
 -- and the answers that were taken from it.
 use Rattle.std.specs.Prelude.{◌≡◌, ⊤, ℕ, Bool, Result, List, Contains, map, [], ◌∷◌, ◌++◌, slice_set, slice_index_or}
 use Rattle.napt_pool.specs.declared.closing.Closing.{Closing}
@@ -43,7 +44,8 @@ module _ {M G I A : Type 0} where
 
   -- the word that worker w stopped came out of its answer ring: `take` told this fault
   abbrev pub HasTold : Pool M G I A → ℕ → PoolFault → Type 0
-  HasTold p w fault = (stop : Stop) × Contains (slice_index_or (heard p) w []) (Stopped stop) × (fault ≡ fault_of stop w)
+  HasTold p w fault = (stop : Stop) × Contains (slice_index_or (heard p) w []) (Stopped stop)
+      × (fault ≡ fault_of stop w)
 
   -- the next reply of worker w was the word that it stopped, and the fault says why
   pub record Tells (p q : Pool M G I A) (w : ℕ) (fault : PoolFault) : Type 0 where

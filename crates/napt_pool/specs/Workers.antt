@@ -1,4 +1,5 @@
--- What a worker shows: the machine that it began with, the items that were accepted for it, and the answers that were taken.
+-- What a worker shows: the machine that it began with, the items that were accepted for it, and the answers that were
+-- taken.
 use Rattle.std.specs.Prelude.{◌≡◌, ⊤, Bool, true, false, Result, Err, OnOk, IfOk, IfErr, List, Contains, [], ◌∷◌, ◌++◌}
 use Rattle.napt_pool.specs.declared.fault.Stop.{Stop}
 use Rattle.napt_pool.specs.declared.serve.Bench.{Bench}
@@ -47,13 +48,16 @@ module _ {M G I A : Type 0} where
   abbrev pub closing_heard : Closing M G I A → List (Reply A)
   closing_heard w = received w.answers
 
--- How a worker ended: with the machine after what was accepted, which its thread received, and with answers that, put after those
--- that were taken, are the replies to it; or it stopped, as its thread did, and not at a gate that promises yes. Where the word that
+-- How a worker ended: with the machine after what was accepted, which its thread received, and with answers that, put
+-- after those
+-- that were taken, are the replies to it; or it stopped, as its thread did, and not at a gate that promises yes. Where
+-- the word that
 -- it stopped came out of its answer ring, that is its end
 module _ {M G I A : Type 0} (g : Ghosts M I A) (open_gate : Bool) where
   pub record IsEnd (w : Closing M G I A) (end : Result (Ended M I A) Stop) : Type 0 where
     pub machine_is : IfOk end (λ e. e.machine ≡ after g (closing_machine w) (closing_accepted w))
-    pub answers_are : IfOk end (λ e. closing_taken w ++ e.answers.items ≡ replies g (closing_machine w) (closing_accepted w))
+    pub answers_are : IfOk end (λ e. closing_taken w ++ e.answers.items ≡ replies g (closing_machine w)
+        (closing_accepted w))
     pub gate : open_gate ≡ true → IfErr end (λ stop. is_gate_shut stop ≡ false)
     pub told : (stop : Stop) → Contains (closing_heard w) (Stopped stop) → end ≡ Err stop
     pub has_received : OnOk end (HasReceived g open_gate (closing_bench w) (closing_accepted w))

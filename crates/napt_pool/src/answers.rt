@@ -17,9 +17,12 @@ pub(crate) fn pop_answer<A: Drop, G: Gate>(
     answers: &mut Consumer<Reply<A>, Global, Honest<G>>,
 ) -> Result<Option<A>, Stop>
     ensures ring { SameConsumer answers.old answers.new }
-    ensures some { IfOk result (λ got. MatchOption got (taken answers.new ≡ taken answers.old) (λ a. taken answers.new ≡ taken answers.old ++ a ∷ [])) }
-    ensures heard { IfOk result (λ got. MatchOption got (received answers.new ≡ received answers.old) (λ a. received answers.new ≡ received answers.old ++ Done a ∷ [])) }
-    ensures stopped { IfErr result (λ stop. received answers.new ≡ received answers.old ++ Stopped stop ∷ []) }
+    ensures some { IfOk result (λ got. MatchOption got (taken answers.new ≡ taken answers.old) (λ a.
+        taken answers.new ≡ taken answers.old ++ a ∷ [])) }
+    ensures heard { IfOk result (λ got. MatchOption got (received answers.new ≡ received answers.old) (λ a.
+        received answers.new ≡ received answers.old ++ Done a ∷ [])) }
+    ensures stopped { IfErr result (λ stop. received answers.new ≡ received answers.old
+        ++ Stopped stop ∷ []) }
     ensures err { OnErr result (taken answers.new ≡ taken answers.old) }
     ensures gate { G.is_open ≡ true → IfErr result (λ stop. is_gate_shut stop ≡ false) }
 {

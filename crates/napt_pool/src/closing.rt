@@ -90,7 +90,8 @@ impl<M: Machine, G: Gate> Left<M, G> {
         answers: &mut Consumer<Reply<M::Answer>, Global, Honest<G>>,
         rest: Vec<M::Answer>,
     ) -> Result<Ended<M>, Stop>
-        requires answered { OnOk self.end (known_items answers.old ≡ map Done (answers_of (known_items answers.old))) }
+        requires answered { OnOk self.end (known_items answers.old
+            ≡ map Done (answers_of (known_items answers.old))) }
         requires room { OnOk self.end (length (known_items answers.old) ≤ vec_capacity rest) }
         requires empty { rest.items ≡ [] }
         ensures end { MatchResult result (λ _. self.end ≡ Ok tt) (λ stop. self.end ≡ Err stop) }

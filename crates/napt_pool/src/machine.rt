@@ -17,5 +17,6 @@ pub trait Machine: Send + Drop {
 
     /// Steps on the item and answers it. An `Err` says that memory was refused, and leaves the state as it was.
     fn step(&mut self, alloc: Global, item: Self::Item) -> Result<Self::Answer, AllocError>
-        ensures { MatchResult result (λ answer. (answer ≡ reply self.old item) × (self.new ≡ stepped self.old item)) (λ _. self.new ≡ self.old) };
+        ensures { MatchResult result (λ answer. (answer ≡ reply self.old item)
+            × (self.new ≡ stepped self.old item)) (λ _. self.new ≡ self.old) };
 }

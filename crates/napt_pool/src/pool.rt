@@ -46,9 +46,12 @@ impl<M: Machine, G: Gate> Pool<M, G> {
         ensures capacity { capacity_of self.new ≡ capacity_of self.old }
         ensures takes { takes self.new ≡ takes self.old }
         ensures heard { heard self.new ≡ heard self.old }
-        ensures accepted { OnOk result (accepts self.new ≡ slice_set (accepts self.old) w (slice_index_or (accepts self.old) w [] ++ item ∷ [])) }
-        ensures refused { IfErr result (λ e. (item_back e ≡ item) × (accepts self.new ≡ accepts self.old)) }
-        ensures full { IsTrue (is_full result) ↔ (length (slice_index_or (accepts self.old) w []) ≡ length (slice_index_or (takes self.old) w []) + capacity_of self.old) }
+        ensures accepted { OnOk result (accepts self.new ≡ slice_set (accepts self.old) w
+            (slice_index_or (accepts self.old) w [] ++ item ∷ [])) }
+        ensures refused { IfErr result (λ e. (item_back e ≡ item)
+            × (accepts self.new ≡ accepts self.old)) }
+        ensures full { IsTrue (is_full result) ↔ (length (slice_index_or (accepts self.old) w [])
+            ≡ length (slice_index_or (takes self.old) w []) + capacity_of self.old) }
         ensures no_memory { is_memory result ≡ false }
     {
         let worker = &mut self.workers[w as usize];
@@ -69,9 +72,14 @@ impl<M: Machine, G: Gate> Pool<M, G> {
         ensures starts { starts self.new ≡ starts self.old }
         ensures capacity { capacity_of self.new ≡ capacity_of self.old }
         ensures accepts { accepts self.new ≡ accepts self.old }
-        ensures some { IfOk result (λ got. MatchOption got (takes self.new ≡ takes self.old) (λ a. takes self.new ≡ slice_set (takes self.old) w (slice_index_or (takes self.old) w [] ++ a ∷ []))) }
-        ensures silent { IfOk result (λ got. MatchOption got (heard self.new ≡ heard self.old) (λ a. heard self.new ≡ slice_set (heard self.old) w (slice_index_or (heard self.old) w [] ++ Done a ∷ []))) }
-        ensures none { length (slice_index_or (accepts self.old) w []) ≡ length (slice_index_or (takes self.old) w []) → result ≡ Ok None }
+        ensures some { IfOk result (λ got. MatchOption got (takes self.new ≡ takes self.old) (λ a.
+            takes self.new ≡ slice_set (takes self.old) w (slice_index_or (takes self.old) w [] ++ a
+            ∷ []))) }
+        ensures silent { IfOk result (λ got. MatchOption got (heard self.new ≡ heard self.old) (λ a.
+            heard self.new ≡ slice_set (heard self.old) w (slice_index_or (heard self.old) w []
+            ++ Done a ∷ []))) }
+        ensures none { length (slice_index_or (accepts self.old) w [])
+            ≡ length (slice_index_or (takes self.old) w []) → result ≡ Ok None }
         ensures err { OnErr result (takes self.new ≡ takes self.old) }
         ensures told { IfErr result (λ fault. Tells self.old self.new w fault) }
         ensures fault { IfErr result (λ fault. IsFaultOf (λ v. v ≡ w) fault) }
@@ -102,11 +110,17 @@ impl<M: Machine, G: Gate> Pool<M, G> {
     /// it. Of a worker that stopped and of which `take` told nothing no contract says why it did: tests alone show that
     /// its fault is its own (`least_fault_is_told`). `close` takes no memory of its own: `start` made the room.
     pub fn close<R: Threads>(self, rt: &R, _alloc: Global) -> Result<Vec<Ended<M>>, PoolFault>
-        ensures received { OnOk result (HaveReceived M.Machine G.is_open (benches self) (accepts self)) }
-        ensures machines { IfOk result (λ v. map (λ e. e.machine) v.items ≡ zip_with (after M.Machine) (starts self) (accepts self)) }
-        ensures answers { IfOk result (λ v. zip_with (λ t rest. t ++ rest) (takes self) (map (λ e. e.answers.items) v.items) ≡ zip_with (replies M.Machine) (starts self) (accepts self)) }
-        ensures settled { map length (takes self) ≡ map length (accepts self) → OnOk result (takes self ≡ zip_with (replies M.Machine) (starts self) (accepts self)) }
-        ensures told { (w : ℕ) (fault : _) → HasTold self w fault → MatchResult result (λ _. ⊥) (IsFaultUpTo w fault) }
+        ensures received { OnOk result (HaveReceived M.Machine G.is_open (benches self)
+            (accepts self)) }
+        ensures machines { IfOk result (λ v. map (λ e. e.machine) v.items
+            ≡ zip_with (after M.Machine) (starts self) (accepts self)) }
+        ensures answers { IfOk result (λ v. zip_with (λ t rest. t ++ rest) (takes self)
+            (map (λ e. e.answers.items) v.items) ≡ zip_with (replies M.Machine) (starts self)
+            (accepts self)) }
+        ensures settled { map length (takes self) ≡ map length (accepts self) →
+            OnOk result (takes self ≡ zip_with (replies M.Machine) (starts self) (accepts self)) }
+        ensures told { (w : ℕ) (fault : _) → HasTold self w fault →
+            MatchResult result (λ _. ⊥) (IsFaultUpTo w fault) }
         ensures least { IfErr result (λ fault. IsLeastStop M.Machine G.is_open self fault) }
         ensures fault { IfErr result (λ fault. IsFaultOf (λ v. v < length (starts self)) fault) }
         ensures gate { G.is_open ≡ true → IfErr result (λ fault. is_shut fault ≡ false) }

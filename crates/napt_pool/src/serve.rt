@@ -59,8 +59,10 @@ impl<M: Machine, G: Gate> Bench<M, G> {
         requires { (received self.old.items ≡ []) × (sent self.old.answers ≡ []) }
         ensures items { SameConsumer self.old.items self.new.items }
         ensures answers { SameProducer self.old.answers self.new.answers }
-        ensures served { OnOk result (Served M.Machine self.old.machine (received self.new.items) (sent self.new.answers) self.new.machine) }
-        ensures stopped { IfErr result (λ stop. HasStopped M.Machine self.old.machine stop (received self.new.items) (sent self.new.answers)) }
+        ensures served { OnOk result (Served M.Machine self.old.machine (received self.new.items)
+            (sent self.new.answers) self.new.machine) }
+        ensures stopped { IfErr result (λ stop. HasStopped M.Machine self.old.machine stop
+            (received self.new.items) (sent self.new.answers)) }
         ensures gate { G.is_open ≡ true → IfErr result (λ stop. is_gate_shut stop ≡ false) }
     {
         let mut turn = 0u64;
@@ -89,7 +91,8 @@ impl<M: Machine, G: Gate> Bench<M, G> {
         ensures items { self.new.items ≡ self.old.items }
         ensures answers { SameProducer self.old.answers self.new.answers }
         ensures stepped { OnOk result (self.new.machine ≡ M.stepped self.old.machine item) }
-        ensures answered { OnOk result (sent self.new.answers ≡ sent self.old.answers ++ Done (M.reply self.old.machine item) ∷ []) }
+        ensures answered { OnOk result (sent self.new.answers ≡ sent self.old.answers
+            ++ Done (M.reply self.old.machine item) ∷ []) }
         ensures told { IfErr result (λ stop. Told stop (sent self.old.answers) (sent self.new.answers)) }
         ensures gate { G.is_open ≡ true → IfErr result (λ stop. is_gate_shut stop ≡ false) }
     {
@@ -108,7 +111,8 @@ impl<M: Machine, G: Gate> Bench<M, G> {
     /// Waits until the empty item ring has a message, or has no other end.
     fn wait_for_message<R: Wait>(&mut self, rt: &R) -> Result<(), Stop>
         ensures machine { self.new.machine ≡ self.old.machine }
-        ensures items { SameConsumer self.old.items self.new.items × (received self.new.items ≡ received self.old.items) }
+        ensures items { SameConsumer self.old.items self.new.items
+            × (received self.new.items ≡ received self.old.items) }
         ensures answers { self.new.answers ≡ self.old.answers }
         ensures ring { IfErr result (λ stop. stop ≡ Ring) }
         ensures gate { IfErr result (λ stop. is_gate_shut stop ≡ false) }

@@ -34,7 +34,8 @@ where
     ensures accepted { IfOk result (λ v. map accepted_of v.items ≡ replicate (vec_len machines) []) }
     ensures taken { IfOk result (λ v. map taken_of v.items ≡ replicate (vec_len machines) []) }
     ensures heard { IfOk result (λ v. map heard_of v.items ≡ replicate (vec_len machines) []) }
-    ensures capacity { IfOk result (λ v. (k : ℕ) (d : _) → k < vec_len v → (slice_index_or v.items k d).capacity ≡ capacity) }
+    ensures capacity { IfOk result (λ v. (k : ℕ) (d : _) → k < vec_len v →
+        (slice_index_or v.items k d).capacity ≡ capacity) }
     ensures refused { IfErr result IsStartFault }
 {
     let Ok(mut workers) = Vec::with_capacity(alloc, machines.len()) else {

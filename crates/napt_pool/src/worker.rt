@@ -63,8 +63,10 @@ impl<M: Machine, G: Gate> Worker<M, G> {
         ensures taken { taken_of self.new ≡ taken_of self.old }
         ensures heard { heard_of self.new ≡ heard_of self.old }
         ensures accepted { OnOk result (accepted_of self.new ≡ accepted_of self.old ++ item ∷ []) }
-        ensures refused { IfErr result (λ e. (item_back e ≡ item) × (accepted_of self.new ≡ accepted_of self.old)) }
-        ensures full { IsTrue (is_full result) ↔ (length (accepted_of self.old) ≡ length (taken_of self.old) + self.old.capacity) }
+        ensures refused { IfErr result (λ e. (item_back e ≡ item)
+            × (accepted_of self.new ≡ accepted_of self.old)) }
+        ensures full { IsTrue (is_full result) ↔ (length (accepted_of self.old)
+            ≡ length (taken_of self.old) + self.old.capacity) }
         ensures no_memory { is_memory result ≡ false }
     {
         if self.untaken == self.capacity {
@@ -85,11 +87,15 @@ impl<M: Machine, G: Gate> Worker<M, G> {
         ensures machine { machine_of self.new ≡ machine_of self.old }
         ensures capacity { self.new.capacity ≡ self.old.capacity }
         ensures accepted { accepted_of self.new ≡ accepted_of self.old }
-        ensures some { IfOk result (λ got. MatchOption got (taken_of self.new ≡ taken_of self.old) (λ a. taken_of self.new ≡ taken_of self.old ++ a ∷ [])) }
-        ensures heard { IfOk result (λ got. MatchOption got (heard_of self.new ≡ heard_of self.old) (λ a. heard_of self.new ≡ heard_of self.old ++ Done a ∷ [])) }
-        ensures none { length (accepted_of self.old) ≡ length (taken_of self.old) → result ≡ Ok None }
+        ensures some { IfOk result (λ got. MatchOption got (taken_of self.new ≡ taken_of self.old)
+            (λ a. taken_of self.new ≡ taken_of self.old ++ a ∷ [])) }
+        ensures heard { IfOk result (λ got. MatchOption got (heard_of self.new ≡ heard_of self.old)
+            (λ a. heard_of self.new ≡ heard_of self.old ++ Done a ∷ [])) }
+        ensures none { length (accepted_of self.old) ≡ length (taken_of self.old) →
+            result ≡ Ok None }
         ensures err { OnErr result (taken_of self.new ≡ taken_of self.old) }
-        ensures told { IfErr result (λ stop. heard_of self.new ≡ heard_of self.old ++ Stopped stop ∷ []) }
+        ensures told { IfErr result (λ stop. heard_of self.new ≡ heard_of self.old ++ Stopped stop
+            ∷ []) }
         ensures gate { G.is_open ≡ true → IfErr result (λ stop. is_gate_shut stop ≡ false) }
     {
         if self.untaken == 0 {
@@ -153,7 +159,8 @@ impl<M: Machine, G: Gate + Send + Sync + Drop + 'static> Worker<M, G> {
         requires { (1 ≤ capacity) × (capacity ≤ 4096) }
         ensures machine { IfOk result (λ w. machine_of w ≡ machine) }
         ensures capacity { IfOk result (λ w. w.capacity ≡ capacity) }
-        ensures empty { IfOk result (λ w. (accepted_of w ≡ []) × (taken_of w ≡ []) × (heard_of w ≡ [])) }
+        ensures empty { IfOk result (λ w. (accepted_of w ≡ []) × (taken_of w ≡ [])
+            × (heard_of w ≡ [])) }
         ensures refused { IfErr result IsStartFault }
     {
         let Ok((items, theirs)) = RingBuffer::new(alloc, capacity + 1) else {

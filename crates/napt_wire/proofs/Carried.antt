@@ -14,30 +14,38 @@ use Rattle.napt_wire.specs.declared.form.Form.TheVariants.{Udp, Tcp, Request, Re
 use Rattle.napt_wire.specs.declared.form.End.TheVariants.{Source}
 
 module _ (side : Side) (bytes : List ℕ) where
-  no_zero_port : (form : Form) → has_zero_port (form_at 0 bytes) (transport 0 bytes) bytes ≡ false → form ≡ form_at 0 bytes → has_zero_port form (transport 0 bytes) bytes ≡ false
+  no_zero_port : (form : Form) → has_zero_port (form_at 0 bytes) (transport 0 bytes) bytes ≡ false →
+      form ≡ form_at 0 bytes → has_zero_port form (transport 0 bytes) bytes ≡ false
   no_zero_port form h e = subst (λ (f : Form). has_zero_port f (transport 0 bytes) bytes ≡ false) (sym e) h
 
-  carried_by : (form : Form) → refusal (message_checks form side bytes) ≡ None → form ≡ form_at 0 bytes → is_error (kind_of form bytes) ≡ false → CanCarry (kind_of form bytes) (number_at (transport 0 bytes) (number_place form Source) bytes)
-  carried_by Udp h e plain = let ports = no_zero_port Udp (first_passed (has_port_zero 0 bytes) BadPort [] h) e in grind (arith, nat_tests, ports)
-  carried_by Tcp h e plain = let ports = no_zero_port Tcp (first_passed (has_port_zero 0 bytes) BadPort [] h) e in grind (arith, nat_tests, ports)
+  carried_by : (form : Form) → refusal (message_checks form side bytes) ≡ None → form ≡ form_at 0 bytes →
+      is_error (kind_of form bytes) ≡ false →
+      CanCarry (kind_of form bytes) (number_at (transport 0 bytes) (number_place form Source) bytes)
+  carried_by Udp h e plain = let ports = no_zero_port Udp (first_passed (has_port_zero 0 bytes) BadPort [] h) e in
+      grind (arith, nat_tests, ports)
+  carried_by Tcp h e plain = let ports = no_zero_port Tcp (first_passed (has_port_zero 0 bytes) BadPort [] h) e in
+      grind (arith, nat_tests, ports)
   carried_by Request h e plain = tt
   carried_by Reply h e plain = tt
   carried_by Error h e plain = cc
 
   -- UDP and TCP packets have no source port 0
-  pub source-carried : reading side bytes ≡ Ok bytes → is_error (kind bytes) ≡ false → CanCarry (kind bytes) (source bytes).number
+  pub source-carried : reading side bytes ≡ Ok bytes → is_error (kind bytes) ≡ false →
+      CanCarry (kind bytes) (source bytes).number
   unfolding kind source
   source-carried h plain =
       let passes = passes_of_read side bytes bytes h in
       let messages = message_checks (form_at 0 bytes) side bytes in
       let translated = not (is_translated side (form_at 0 bytes) (byte_at (transport 0 bytes) bytes)) in
       let transports = has_bad_transport (form_at 0 bytes) (drop (transport 0 bytes) bytes) in
-      carried_by (form_at 0 bytes) (others_passed translated Unsupported messages (others_passed transports BadHeader ((translated, Unsupported) ∷ messages) passes.bodies)) refl plain
+      carried_by (form_at 0 bytes) (others_passed translated Unsupported messages
+      (others_passed transports BadHeader ((translated, Unsupported) ∷ messages) passes.bodies)) refl plain
 
   pub length-total : reading side bytes ≡ Ok bytes → length bytes ≤ total_length 0 bytes
   length-total h = let passes = passes_of_read side bytes bytes h in
       let long : length (take (total_length 0 bytes) bytes) ≡ length bytes = ap length passes.whole in
       grind (arith, common_steps, long)
 
-pub length-packet : (bytes : List ℕ) → IsPacket bytes → slice_index bytes 2 < 256 → slice_index bytes 3 < 256 → length bytes < 2 ^ 16
+pub length-packet : (bytes : List ℕ) → IsPacket bytes → slice_index bytes 2 < 256 → slice_index bytes 3 < 256 →
+    length bytes < 2 ^ 16
 length-packet bytes (side, h) high low = omega (arith, length-total side bytes h, high, low)

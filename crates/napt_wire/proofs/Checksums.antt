@@ -15,23 +15,44 @@ pub mod_early : (a b : ℕ) → (a % 65535 + b) % 65535 ≡ (a + b) % 65535
 mod_early a b = omega arith
 
 -- two updates are one, of all the words
-pub canon_again : (check : ℕ) (old new : List ℕ) (x y : ℕ) → canon (canon check old new) (x ∷ []) (y ∷ []) ≡ canon check (x ∷ old) (y ∷ new)
+pub canon_again : (check : ℕ) (old new : List ℕ) (x y : ℕ) → canon (canon check old new) (x ∷ []) (y ∷ [])
+    ≡ canon check (x ∷ old) (y ∷ new)
 unfolding canon
 canon_again check old new x y =
-    omega (arith, sum-cons x old, sum-cons y new, sum-cons x [], sum-cons y [], mod_early (check + sum old + 65534 * sum new) (x + 65534 * y))
+    omega (
+      arith,
+      sum-cons x old,
+      sum-cons y new,
+      sum-cons x [],
+      sum-cons y [],
+      mod_early (check + sum old + 65534 * sum new) (x + 65534 * y),
+    )
 
-pub canon_low : (check : ℕ) (old new : List ℕ) (x y : ℕ) → canon (canon check old new) (bit_and x 65535 ∷ []) (bit_and y 65535 ∷ []) ≡ canon check (x % 65536 ∷ old) (y % 65536 ∷ new)
+pub canon_low : (check : ℕ) (old new : List ℕ) (x y : ℕ) → canon (canon check old new) (bit_and x 65535 ∷ [])
+    (bit_and y 65535 ∷ []) ≡ canon check (x % 65536 ∷ old) (y % 65536 ∷ new)
 canon_low check old new x y =
     rw (and_mask x 16, and_mask y 16) (canon_again check old new (x % 65536) (y % 65536))
 
 -- the order of the words does not matter
-pub canon_swap : (check x y z w : ℕ) (old new : List ℕ) → canon check (x ∷ y ∷ old) (z ∷ w ∷ new) ≡ canon check (y ∷ x ∷ old) (w ∷ z ∷ new)
+pub canon_swap : (check x y z w : ℕ) (old new : List ℕ) → canon check (x ∷ y ∷ old) (z ∷ w ∷ new)
+    ≡ canon check (y ∷ x ∷ old) (w ∷ z ∷ new)
 unfolding canon
 canon_swap check x y z w old new =
-    omega (arith, sum-cons x (y ∷ old), sum-cons y old, sum-cons y (x ∷ old), sum-cons x old, sum-cons z (w ∷ new), sum-cons w new, sum-cons w (z ∷ new), sum-cons z new)
+    omega (
+      arith,
+      sum-cons x (y ∷ old),
+      sum-cons y old,
+      sum-cons y (x ∷ old),
+      sum-cons x old,
+      sum-cons z (w ∷ new),
+      sum-cons w new,
+      sum-cons w (z ∷ new),
+      sum-cons z new,
+    )
 
 -- what one update, and then another with the words turned round, come to
-pub canon_rot : (check a b c x y z : ℕ) → canon check (c ∷ b ∷ a ∷ []) (z ∷ y ∷ x ∷ []) ≡ canon check (a ∷ b ∷ c ∷ []) (x ∷ y ∷ z ∷ [])
+pub canon_rot : (check a b c x y z : ℕ) → canon check (c ∷ b ∷ a ∷ []) (z ∷ y ∷ x ∷ []) ≡ canon check (a ∷ b ∷ c ∷ [])
+    (x ∷ y ∷ z ∷ [])
 unfolding canon
 canon_rot check a b c x y z = omega arith
 
@@ -48,7 +69,13 @@ pub canon_all : (check : ℕ) (a b h : List Change) →
     ≡ canon check (olds (a ++ b ++ h)) (news (a ++ b ++ h))
 unfolding canon
 canon_all check a b h =
-    simp (map-append) (omega (arith, sum-append (olds a ++ olds b) (olds h), sum-append (olds a) (olds b), sum-append (news a ++ news b) (news h), sum-append (news a) (news b)))
+    simp (map-append) (omega (
+      arith,
+      sum-append (olds a ++ olds b) (olds h),
+      sum-append (olds a) (olds b),
+      sum-append (news a ++ news b) (news h),
+      sum-append (news a) (news b),
+    ))
 
 -- three updates of one word each are one
 pub canon_three : (check : ℕ) (x y z : Change) →

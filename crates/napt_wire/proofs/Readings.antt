@@ -16,7 +16,8 @@ use Rattle.napt_wire.specs.declared.form.Form.{Form}
 use Rattle.napt_wire.specs.declared.form.Form.TheVariants.{Udp, Tcp, Request, Reply, Error}
 
 -- the first part refuses, or the second judges
-pub refusal-append_some : (xs ys : List (Bool × Cause)) (cause : Cause) → refusal xs ≡ Some cause → refusal (xs ++ ys) ≡ Some cause
+pub refusal-append_some : (xs ys : List (Bool × Cause)) (cause : Cause) → refusal xs ≡ Some cause → refusal (xs ++ ys)
+    ≡ Some cause
 refusal-append_some [] ys cause h = cc
 refusal-append_some ((true, c) ∷ xs) ys cause h = h
 refusal-append_some ((false, c) ∷ xs) ys cause h = refusal-append_some xs ys cause h
@@ -32,23 +33,27 @@ refusal-prefix_none ((true, c) ∷ xs) ys h = h
 refusal-prefix_none ((false, c) ∷ xs) ys h = refusal-prefix_none xs ys h
 
 -- a check that did not refuse, and the checks behind it
-pub first_passed : (b : Bool) (cause : Cause) (checks : List (Bool × Cause)) → refusal ((b, cause) ∷ checks) ≡ None → b ≡ false
+pub first_passed : (b : Bool) (cause : Cause) (checks : List (Bool × Cause)) → refusal ((b, cause) ∷ checks) ≡ None →
+    b ≡ false
 first_passed true cause checks h = cc
 first_passed false cause checks h = refl
 
-pub others_passed : (b : Bool) (cause : Cause) (checks : List (Bool × Cause)) → refusal ((b, cause) ∷ checks) ≡ None → refusal checks ≡ None
+pub others_passed : (b : Bool) (cause : Cause) (checks : List (Bool × Cause)) → refusal ((b, cause) ∷ checks) ≡ None →
+    refusal checks ≡ None
 others_passed true cause checks h = cc
 others_passed false cause checks h = h
 
 -- what passed, check by check
-pub four_passed : (a b c d : Bool) (w x y z : Cause) → refusal ((a, w) ∷ (b, x) ∷ (c, y) ∷ (d, z) ∷ []) ≡ None → (a ≡ false) × (b ≡ false) × (c ≡ false) × (d ≡ false)
+pub four_passed : (a b c d : Bool) (w x y z : Cause) → refusal ((a, w) ∷ (b, x) ∷ (c, y) ∷ (d, z) ∷ []) ≡ None →
+    (a ≡ false) × (b ≡ false) × (c ≡ false) × (d ≡ false)
 four_passed true b c d w x y z h = cc
 four_passed false true c d w x y z h = cc
 four_passed false false true d w x y z h = cc
 four_passed false false false true w x y z h = cc
 four_passed false false false false w x y z h = (refl, refl, refl, refl)
 
-pub three_passed : (a b c : Bool) (x y z : Cause) → refusal ((a, x) ∷ (b, y) ∷ (c, z) ∷ []) ≡ None → (a ≡ false) × (b ≡ false) × (c ≡ false)
+pub three_passed : (a b c : Bool) (x y z : Cause) → refusal ((a, x) ∷ (b, y) ∷ (c, z) ∷ []) ≡ None →
+    (a ≡ false) × (b ≡ false) × (c ≡ false)
 three_passed true b c x y z h = cc
 three_passed false true c x y z h = cc
 three_passed false false true x y z h = cc
@@ -67,7 +72,8 @@ unfolding reading
 reading_ok side bytes h = rw h refl
 
 pub reading_ok_all : (side : Side) (bytes : List ℕ) →
-    refusal (length_checks bytes) ≡ None → refusal (header_checks (datagram bytes)) ≡ None → refusal (body_checks side (datagram bytes)) ≡ None →
+    refusal (length_checks bytes) ≡ None → refusal (header_checks (datagram bytes)) ≡ None →
+    refusal (body_checks side (datagram bytes)) ≡ None →
     reading side bytes ≡ Ok (datagram bytes)
 reading_ok_all side bytes l h b =
     reading_ok side bytes
@@ -75,26 +81,33 @@ reading_ok_all side bytes l h b =
     (refusal-append_none (length_checks bytes) (header_checks (datagram bytes)) l ∙ h)
     ∙ b)
 
-pub reading_err_length : (side : Side) (bytes : List ℕ) (cause : Cause) → refusal (length_checks bytes) ≡ Some cause → reading side bytes ≡ Err cause
+pub reading_err_length : (side : Side) (bytes : List ℕ) (cause : Cause) → refusal (length_checks bytes) ≡ Some cause →
+    reading side bytes ≡ Err cause
 reading_err_length side bytes cause h =
     reading_err side bytes cause
-    (refusal-append_some (length_checks bytes ++ header_checks (datagram bytes)) (body_checks side (datagram bytes)) cause
+    (refusal-append_some (length_checks bytes ++ header_checks (datagram bytes)) (body_checks side (datagram bytes))
+    cause
     (refusal-append_some (length_checks bytes) (header_checks (datagram bytes)) cause h))
 
-pub reading_err_header : (side : Side) (bytes : List ℕ) (cause : Cause) → refusal (length_checks bytes) ≡ None → refusal (header_checks (datagram bytes)) ≡ Some cause → reading side bytes ≡ Err cause
+pub reading_err_header : (side : Side) (bytes : List ℕ) (cause : Cause) → refusal (length_checks bytes) ≡ None →
+    refusal (header_checks (datagram bytes)) ≡ Some cause → reading side bytes ≡ Err cause
 reading_err_header side bytes cause l h =
     reading_err side bytes cause
-    (refusal-append_some (length_checks bytes ++ header_checks (datagram bytes)) (body_checks side (datagram bytes)) cause
+    (refusal-append_some (length_checks bytes ++ header_checks (datagram bytes)) (body_checks side (datagram bytes))
+    cause
     (refusal-append_none (length_checks bytes) (header_checks (datagram bytes)) l ∙ h))
 
-pub reading_err_body : (side : Side) (bytes : List ℕ) (cause : Cause) → refusal (length_checks bytes) ≡ None → refusal (header_checks (datagram bytes)) ≡ None → refusal (body_checks side (datagram bytes)) ≡ Some cause → reading side bytes ≡ Err cause
+pub reading_err_body : (side : Side) (bytes : List ℕ) (cause : Cause) → refusal (length_checks bytes) ≡ None →
+    refusal (header_checks (datagram bytes)) ≡ None → refusal (body_checks side (datagram bytes)) ≡ Some cause →
+    reading side bytes ≡ Err cause
 reading_err_body side bytes cause l h b =
     reading_err side bytes cause
     (refusal-append_none (length_checks bytes ++ header_checks (datagram bytes)) (body_checks side (datagram bytes))
     (refusal-append_none (length_checks bytes) (header_checks (datagram bytes)) l ∙ h)
     ∙ b)
 
-read_unless_ok : (refused : Option Cause) (packet bytes : List ℕ) → read_unless refused packet ≡ Ok bytes → (refused ≡ None) × (packet ≡ bytes)
+read_unless_ok : (refused : Option Cause) (packet bytes : List ℕ) → read_unless refused packet ≡ Ok bytes →
+    (refused ≡ None) × (packet ≡ bytes)
 read_unless_ok None packet bytes h = (refl, cc)
 read_unless_ok (Some cause) packet bytes h = cc
 
@@ -108,7 +121,9 @@ pub record HasLengths (bytes : List ℕ) : Type 0 where
 
 pub lengths_of : (bytes : List ℕ) → refusal (length_checks bytes) ≡ None → HasLengths bytes
 lengths_of bytes h =
-    let passed = four_passed (nat_lt (length bytes) 20) (not (version 0 bytes == 4)) (nat_lt (header_length 0 bytes) 20 || nat_lt (total_length 0 bytes) (header_length 0 bytes)) (nat_lt (length bytes) (total_length 0 bytes)) Truncated NotIpv4 BadHeader Truncated h in
+    let passed = four_passed (nat_lt (length bytes) 20) (not (version 0 bytes == 4)) (nat_lt (header_length 0 bytes) 20
+    || nat_lt (total_length 0 bytes) (header_length 0 bytes)) (nat_lt (length bytes) (total_length 0 bytes))
+    Truncated NotIpv4 BadHeader Truncated h in
     record {
       long = grind (arith, nat_tests, passed.0);
       version_is = grind (arith, nat_tests, passed.1);
@@ -117,20 +132,25 @@ lengths_of bytes h =
       total_fits = grind (arith, nat_tests, passed.3);
     }
 
-pub four_pass : (a b c d : Bool) (w x y z : Cause) → a ≡ false → b ≡ false → c ≡ false → d ≡ false → refusal ((a, w) ∷ (b, x) ∷ (c, y) ∷ (d, z) ∷ []) ≡ None
+pub four_pass : (a b c d : Bool) (w x y z : Cause) → a ≡ false → b ≡ false → c ≡ false → d ≡ false →
+    refusal ((a, w) ∷ (b, x) ∷ (c, y) ∷ (d, z) ∷ []) ≡ None
 four_pass a b c d w x y z ha hb hc hd = rw (ha, hb, hc, hd) refl
 
 pub lengths_pass : (bytes : List ℕ) → HasLengths bytes → refusal (length_checks bytes) ≡ None
 lengths_pass bytes has =
-    four_pass (nat_lt (length bytes) 20) (not (version 0 bytes == 4)) (nat_lt (header_length 0 bytes) 20 || nat_lt (total_length 0 bytes) (header_length 0 bytes)) (nat_lt (length bytes) (total_length 0 bytes)) Truncated NotIpv4 BadHeader Truncated
-    (grind (arith, nat_tests, has.long)) (grind (arith, nat_tests, has.version_is)) (grind (arith, nat_tests, has.header_long, has.header_fits)) (grind (arith, nat_tests, has.total_fits))
+    four_pass (nat_lt (length bytes) 20) (not (version 0 bytes == 4)) (nat_lt (header_length 0 bytes) 20
+    || nat_lt (total_length 0 bytes) (header_length 0 bytes)) (nat_lt (length bytes) (total_length 0 bytes))
+    Truncated NotIpv4 BadHeader Truncated
+    (grind (arith, nat_tests, has.long)) (grind (arith, nat_tests, has.version_is))
+    (grind (arith, nat_tests, has.header_long, has.header_fits)) (grind (arith, nat_tests, has.total_fits))
 
 -- the front of some bytes reads as they do
 pub slice_index_take : (bytes : List ℕ) (n i : ℕ) → i < n → slice_index (take n bytes) i ≡ slice_index bytes i
 slice_index_take bytes n i h = grind (arith, common_steps)
 
 -- the lengths are those of the first four bytes
-pub lengths_from : (new old : List ℕ) → slice_index new 0 ≡ slice_index old 0 → slice_index new 2 ≡ slice_index old 2 → slice_index new 3 ≡ slice_index old 3 →
+pub lengths_from : (new old : List ℕ) → slice_index new 0 ≡ slice_index old 0 → slice_index new 2 ≡ slice_index old 2 →
+    slice_index new 3 ≡ slice_index old 3 →
     total_length 0 old ≤ length new → HasLengths old → HasLengths new
 lengths_from new old b0 b2 b3 fits has =
     let long : 20 ≤ total_length 0 old = omega (arith, has.header_long, has.header_fits) in
@@ -143,11 +163,13 @@ lengths_from new old b0 b2 b3 fits has =
     }
 
 -- a datagram is its own datagram
-pub datagram_again : (bytes packet : List ℕ) → packet ≡ datagram bytes → HasLengths bytes → HasLengths packet × (datagram packet ≡ packet)
+pub datagram_again : (bytes packet : List ℕ) → packet ≡ datagram bytes → HasLengths bytes → HasLengths packet
+    × (datagram packet ≡ packet)
 datagram_again bytes packet e has =
     let front : (i : ℕ) → i < total_length 0 bytes → slice_index packet i ≡ slice_index bytes i =
     λ i h. rw e (slice_index_take bytes (total_length 0 bytes) i h) in
-    let fits : length packet ≡ total_length 0 bytes = rw e (length-take-le (total_length 0 bytes) bytes has.total_fits) in
+    let fits : length packet ≡ total_length 0 bytes =
+    rw e (length-take-le (total_length 0 bytes) bytes has.total_fits) in
     let b0 = front 0 (omega (arith, has.header_long, has.header_fits)) in
     let b2 = front 2 (omega (arith, has.header_long, has.header_fits)) in
     let b3 = front 3 (omega (arith, has.header_long, has.header_fits)) in
@@ -167,29 +189,34 @@ pub refusal-suffix_none : (xs ys : List (Bool × Cause)) → refusal (xs ++ ys) 
 refusal-suffix_none xs ys h = sym (refusal-append_none xs ys (refusal-prefix_none xs ys h)) ∙ h
 
 pub reading_ok_gives : (side : Side) (bytes packet : List ℕ) → reading side bytes ≡ Ok packet →
-    (refusal (length_checks bytes ++ header_checks (datagram bytes) ++ body_checks side (datagram bytes)) ≡ None) × (datagram bytes ≡ packet)
+    (refusal (length_checks bytes ++ header_checks (datagram bytes) ++ body_checks side (datagram bytes)) ≡ None)
+    × (datagram bytes ≡ packet)
 unfolding reading
 reading_ok_gives side bytes packet h = read_unless_ok _ _ _ h
 
 pub passes_of_read : (side : Side) (bytes packet : List ℕ) → reading side bytes ≡ Ok packet → Passes side packet
 passes_of_read side bytes packet h =
     let gives = reading_ok_gives side bytes packet h in
-    let front = refusal-prefix_none (length_checks bytes ++ header_checks (datagram bytes)) (body_checks side (datagram bytes)) gives.0 in
+    let front = refusal-prefix_none (length_checks bytes ++ header_checks (datagram bytes))
+    (body_checks side (datagram bytes)) gives.0 in
     let has = lengths_of bytes (refusal-prefix_none (length_checks bytes) (header_checks (datagram bytes)) front) in
     let again = datagram_again bytes packet (sym gives.1) has in
     record {
       whole = again.1;
       lengths = again.0;
       headers = rw (← gives.1) (refusal-suffix_none (length_checks bytes) (header_checks (datagram bytes)) front);
-      bodies = rw (← gives.1) (refusal-suffix_none (length_checks bytes ++ header_checks (datagram bytes)) (body_checks side (datagram bytes)) gives.0);
+      bodies = rw (← gives.1) (refusal-suffix_none (length_checks bytes ++ header_checks (datagram bytes))
+          (body_checks side (datagram bytes)) gives.0);
     }
 
 pub reads_of_passes : (side : Side) (bytes : List ℕ) → Passes side bytes → reading side bytes ≡ Ok bytes
 reads_of_passes side bytes p =
-    reading_ok_all side bytes (lengths_pass bytes p.lengths) (rw p.whole p.headers) (rw p.whole p.bodies) ∙ ap Ok p.whole
+    reading_ok_all side bytes (lengths_pass bytes p.lengths) (rw p.whole p.headers) (rw p.whole p.bodies)
+    ∙ ap Ok p.whole
 
 -- what a packet reads as reads as itself
-pub reads_again : (side : Side) (bytes packet : List ℕ) → reading side bytes ≡ Ok packet → reading side packet ≡ Ok packet
+pub reads_again : (side : Side) (bytes packet : List ℕ) → reading side bytes ≡ Ok packet → reading side packet
+    ≡ Ok packet
 reads_again side bytes packet h = reads_of_passes side packet (passes_of_read side bytes packet h)
 
 -- a transport header that can be has eight bytes
@@ -203,7 +230,8 @@ long_transport Error payload h = grind (arith, nat_tests, h)
 pub room_of : (side : Side) (bytes : List ℕ) → Passes side bytes → HasRoom 0 bytes
 room_of side bytes p =
     let good = first_passed (has_bad_transport (form_at 0 bytes) (drop (transport 0 bytes) bytes)) BadHeader
-    ((not (is_translated side (form_at 0 bytes) (byte_at (transport 0 bytes) bytes)), Unsupported) ∷ message_checks (form_at 0 bytes) side bytes) p.bodies in
+    ((not (is_translated side (form_at 0 bytes) (byte_at (transport 0 bytes) bytes)), Unsupported)
+    ∷ message_checks (form_at 0 bytes) side bytes) p.bodies in
     let long = long_transport (form_at 0 bytes) (drop (transport 0 bytes) bytes) good in
     record {
       header = omega (arith, p.lengths.header_long);

@@ -16,19 +16,26 @@ use Rattle.napt_wire.specs.declared.Endpoint.{Endpoint}
 use Rattle.napt_wire.specs.declared.rewrite.Change.{Change}
 use Rattle.napt_wire.specs.declared.form.End.TheVariants.{Source, Destination}
 
-source_leaves : (source : Endpoint) (bytes : List ℕ) → HasRoom 0 bytes → address 0 Destination (changed (end_changes 0 Source source bytes) bytes) ≡ address 0 Destination bytes
+source_leaves : (source : Endpoint) (bytes : List ℕ) → HasRoom 0 bytes →
+    address 0 Destination (changed (end_changes 0 Source source bytes) bytes) ≡ address 0 Destination bytes
 unfolding end_changes
 source_leaves source bytes room =
-    let numbers : List Change = number_changes (number_place (form_at 0 bytes) Source) (form_at 0 bytes) (transport 0 bytes) (end_at 0 Source bytes) source bytes in
+    let numbers : List Change = number_changes (number_place (form_at 0 bytes) Source) (form_at 0 bytes)
+    (transport 0 bytes) (end_at 0 Source bytes) source bytes in
     ap (address 0 Destination) (changed-append numbers (address_changes 0 Source source.address bytes) bytes)
     ∙ destination_stays 0 source.address bytes (changed numbers bytes)
-    ∙ long_other (transport 0 bytes) (length bytes) 16 numbers bytes (number-there (form_at 0 bytes) Source (transport 0 bytes) (end_at 0 Source bytes) source bytes room.transport_start) (inl (omega (arith, room.header)))
+    ∙ long_other (transport 0 bytes) (length bytes) 16 numbers bytes (number-there (form_at 0 bytes) Source
+    (transport 0 bytes) (end_at 0 Source bytes) source bytes room.transport_start)
+    (inl (omega (arith, room.header)))
 
-pub with_source-destination : (side : Side) (packet : List ℕ) → reading side packet ≡ Ok packet → (source : Endpoint) → (destination (with_source source packet)).address ≡ (destination packet).address
+pub with_source-destination : (side : Side) (packet : List ℕ) → reading side packet ≡ Ok packet → (source : Endpoint) →
+    (destination (with_source source packet)).address ≡ (destination packet).address
 unfolding destination with_source
-with_source-destination side packet reads source = source_leaves source packet (room_of side packet (passes_of_read side packet packet reads))
+with_source-destination side packet reads source =
+    source_leaves source packet (room_of side packet (passes_of_read side packet packet reads))
 
-error_leaves : (side : Side) (end : Endpoint) (bytes : List ℕ) → PassesError side bytes → address 0 Destination (changed (reverted_changes Outgoing end bytes) bytes) ≡ address 0 Destination bytes
+error_leaves : (side : Side) (end : Endpoint) (bytes : List ℕ) → PassesError side bytes →
+    address 0 Destination (changed (reverted_changes Outgoing end bytes) bytes) ≡ address 0 Destination bytes
 unfolding reverted_changes
 error_leaves side end bytes p =
     let quoted : List Change = end_changes (inner_at bytes) Destination end bytes in
@@ -38,12 +45,16 @@ error_leaves side end bytes p =
     let outer : HasRoom 0 bytes = room_of side bytes p.passes in
     let within : AreWithin 20 (length bytes) (quoted ++ c ∷ []) =
     within-append 20 (length bytes) quoted (c ∷ [])
-    (within-wider (inner_at bytes + 10) (length bytes) 20 (length bytes) quoted (omega (arith, outer.header)) (omega arith) (quoted_within (inner_at bytes) Destination end bytes inner))
+    (within-wider (inner_at bytes + 10) (length bytes) 20 (length bytes) quoted (omega (arith, outer.header))
+    (omega arith) (quoted_within (inner_at bytes) Destination end bytes inner))
     (omega (arith, outer.header), omega (arith, outer.transport_start), tt) in
     ap (address 0 Destination) (outer_last quoted (address_changes 0 Source end.address bytes) c bytes)
     ∙ destination_stays 0 end.address bytes (changed (quoted ++ c ∷ []) bytes)
     ∙ long_other 20 (length bytes) 16 (quoted ++ c ∷ []) bytes within (inl (omega arith))
 
-pub reverted-destination : (side : Side) (packet : List ℕ) → reading side packet ≡ Ok packet → is_error (kind packet) ≡ true → (end : Endpoint) → (destination (reverted Outgoing end packet)).address ≡ (destination packet).address
+pub reverted-destination : (side : Side) (packet : List ℕ) → reading side packet ≡ Ok packet → is_error (kind packet)
+    ≡ true → (end : Endpoint) → (destination (reverted Outgoing end packet)).address ≡ (destination packet).address
 unfolding destination reverted
-reverted-destination side packet reads error end = error_leaves side end packet (passes_error side packet (passes_of_read side packet packet reads) (error_of packet error))
+reverted-destination side packet reads error end =
+    error_leaves side end packet (passes_error side packet (passes_of_read side packet packet reads)
+    (error_of packet error))

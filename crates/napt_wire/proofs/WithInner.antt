@@ -53,7 +53,8 @@ pub record GoodInner (side : Side) (at : ℕ) (bytes : List ℕ) : Type 0 where
   pub ours : not (address at Source bytes == address 0 Destination bytes) ≡ false
 
 nine_passed : (a b c d e f g h i : Bool) → (a || b || c || d || e || f || g || h || i) ≡ false →
-    (a ≡ false) × (b ≡ false) × (c ≡ false) × (d ≡ false) × (e ≡ false) × (f ≡ false) × (g ≡ false) × (h ≡ false) × (i ≡ false)
+    (a ≡ false) × (b ≡ false) × (c ≡ false) × (d ≡ false) × (e ≡ false) × (f ≡ false) × (g ≡ false) × (h ≡ false)
+    × (i ≡ false)
 nine_passed a b c d e f g h i p =
     let p8 = or_left (a || b || c || d || e || f || g || h) i p in
     let p7 = or_left (a || b || c || d || e || f || g) h p8 in
@@ -76,15 +77,37 @@ nine_passed a b c d e f g h i p =
 pub good_inner : (side : Side) (at : ℕ) (bytes : List ℕ) → has_bad_inner side at bytes ≡ false → GoodInner side at bytes
 unfolding has_bad_inner
 good_inner side at bytes h =
-    let p = nine_passed (nat_lt (length bytes) (at + 20)) (not (version at bytes == 4)) (nat_lt (header_length at bytes) 20) (nat_lt (length bytes) (transport at bytes + 8))
-    (not (is_right (words (header at bytes)))) (not (fragment_offset at bytes == 0)) (not (is_known (protocol_number at bytes))) (not (is_quoted side (form_at at bytes)))
+    let p = nine_passed (nat_lt (length bytes) (at + 20)) (not (version at bytes == 4))
+    (nat_lt (header_length at bytes) 20) (nat_lt (length bytes) (transport at bytes + 8))
+    (not (is_right (words (header at bytes)))) (not (fragment_offset at bytes == 0))
+    (not (is_known (protocol_number at bytes))) (not (is_quoted side (form_at at bytes)))
     (not (address at Source bytes == address 0 Destination bytes)) h in
-    record { there = p.0; version_is = p.1; long = p.2; room = p.3; right = p.4; whole = p.5; known = p.6; quoted = p.7; ours = p.8 }
+    record {
+      there = p.0;
+      version_is = p.1;
+      long = p.2;
+      room = p.3;
+      right = p.4;
+      whole = p.5;
+      known = p.6;
+      quoted = p.7;
+      ours = p.8;
+    }
 
 pub inner_good : (side : Side) (at : ℕ) (bytes : List ℕ) → GoodInner side at bytes → has_bad_inner side at bytes ≡ false
 unfolding has_bad_inner
 inner_good side at bytes good =
-    rw (good.there, good.version_is, good.long, good.room, good.right, good.whole, good.known, good.quoted, good.ours) refl
+    rw (
+      good.there,
+      good.version_is,
+      good.long,
+      good.room,
+      good.right,
+      good.whole,
+      good.known,
+      good.quoted,
+      good.ours,
+    ) refl
 
 pub inner_room : (side : Side) (at : ℕ) (bytes : List ℕ) → GoodInner side at bytes → HasRoom at bytes
 inner_room side at bytes good =
@@ -95,7 +118,8 @@ inner_room side at bytes good =
     }
 
 -- the words of an error that are replaced are apart
-apart_one : (c : Change) (low high : ℕ) (ys : List Change) → AreWithin low high ys → (c.place + 2 ≤ low) ⊎ (high ≤ c.place) → IsApart c ys
+apart_one : (c : Change) (low high : ℕ) (ys : List Change) → AreWithin low high ys →
+    (c.place + 2 ≤ low) ⊎ (high ≤ c.place) → IsApart c ys
 apart_one c low high [] within out = tt
 apart_one c low high (d ∷ ys) within (inl h) = (inl (omega arith), apart_one c low high ys within.2 (inl h))
 apart_one c low high (d ∷ ys) within (inr h) = (inr (omega arith), apart_one c low high ys within.2 (inr h))
@@ -104,12 +128,17 @@ is_apart-append : (c : Change) (xs ys : List Change) → IsApart c xs → IsApar
 is_apart-append c [] ys p q = q
 is_apart-append c (d ∷ xs) ys p q = (p.0, is_apart-append c xs ys p.1 q)
 
-pub apart-append : (low high below above : ℕ) (xs ys : List Change) → AreApart xs → AreApart ys → AreWithin low high xs → AreWithin below above ys → (high ≤ below) ⊎ (above ≤ low) → AreApart (xs ++ ys)
+pub apart-append : (low high below above : ℕ) (xs ys : List Change) → AreApart xs → AreApart ys →
+    AreWithin low high xs → AreWithin below above ys → (high ≤ below) ⊎ (above ≤ low) → AreApart (xs ++ ys)
 apart-append low high below above [] ys p q within_x within_y out = q
-apart-append low high below above (c ∷ xs) ys p q within_x within_y (inl h) =
-    (is_apart-append c xs ys p.0 (apart_one c below above ys within_y (inl (omega arith))), apart-append low high below above xs ys p.1 q within_x.2 within_y (inl h))
-apart-append low high below above (c ∷ xs) ys p q within_x within_y (inr h) =
-    (is_apart-append c xs ys p.0 (apart_one c below above ys within_y (inr (omega arith))), apart-append low high below above xs ys p.1 q within_x.2 within_y (inr h))
+apart-append low high below above (c ∷ xs) ys p q within_x within_y (inl h) = (
+  is_apart-append c xs ys p.0 (apart_one c below above ys within_y (inl (omega arith))),
+  apart-append low high below above xs ys p.1 q within_x.2 within_y (inl h),
+)
+apart-append low high below above (c ∷ xs) ys p q within_x within_y (inr h) = (
+  is_apart-append c xs ys p.0 (apart_one c below above ys within_y (inr (omega arith))),
+  apart-append low high below above xs ys p.1 q within_x.2 within_y (inr h),
+)
 
 pub words-append : (at n : ℕ) (xs ys : List Change) → AreWords at n xs → AreWords at n ys → AreWords at n (xs ++ ys)
 words-append at n [] ys p q = q
@@ -119,19 +148,23 @@ pub of-append : (xs ys : List Change) (bytes : List ℕ) → AreOf xs bytes → 
 of-append [] ys bytes p q = q
 of-append (c ∷ xs) ys bytes p q = (p.0, of-append xs ys bytes p.1 q)
 
-if_of : (b : Bool) (c : Change) (bytes : List ℕ) → c.old ≡ word_at c.place bytes → AreOf (if b then c ∷ [] else []) bytes
+if_of : (b : Bool) (c : Change) (bytes : List ℕ) → c.old ≡ word_at c.place bytes →
+    AreOf (if b then c ∷ [] else []) bytes
 if_of true c bytes h = (h, tt)
 if_of false c bytes h = tt
 
-if_apart : (b : Bool) (c d : Change) → (c.place + 2 ≤ d.place) ⊎ (d.place + 2 ≤ c.place) → AreApart (c ∷ (if b then d ∷ [] else []))
+if_apart : (b : Bool) (c d : Change) → (c.place + 2 ≤ d.place) ⊎ (d.place + 2 ≤ c.place) →
+    AreApart (c ∷ (if b then d ∷ [] else []))
 if_apart true c d h = ((h, tt), (tt, tt))
 if_apart false c d h = (tt, tt)
 
-if_words : (b : Bool) (at n k : ℕ) (c : Change) → c.place ≡ at + 2 * k → (b ≡ true → 2 * k + 2 ≤ n) → AreWords at n (if b then c ∷ [] else [])
+if_words : (b : Bool) (at n k : ℕ) (c : Change) → c.place ≡ at + 2 * k → (b ≡ true → 2 * k + 2 ≤ n) →
+    AreWords at n (if b then c ∷ [] else [])
 if_words true at n k c h l = ((k, h, l refl), tt)
 if_words false at n k c h l = tt
 
-pub number-of : (form : Form) (end : End) (start : ℕ) (old new : Endpoint) (bytes : List ℕ) → AreOf (number_changes (number_place form end) form start old new bytes) bytes
+pub number-of : (form : Form) (end : End) (start : ℕ) (old new : Endpoint) (bytes : List ℕ) →
+    AreOf (number_changes (number_place form end) form start old new bytes) bytes
 number-of Udp Source start old new bytes = (refl, (refl, tt))
 number-of Udp Destination start old new bytes = (refl, (refl, tt))
 number-of Tcp Source start old new bytes = (refl, if_of (nat_le (start + 18) (length bytes)) _ bytes refl)
@@ -143,11 +176,14 @@ number-of Reply Destination start old new bytes = (refl, (refl, tt))
 number-of Error Source start old new bytes = tt
 number-of Error Destination start old new bytes = tt
 
-pub number-apart : (form : Form) (end : End) (start : ℕ) (old new : Endpoint) (bytes : List ℕ) → AreApart (number_changes (number_place form end) form start old new bytes)
+pub number-apart : (form : Form) (end : End) (start : ℕ) (old new : Endpoint) (bytes : List ℕ) →
+    AreApart (number_changes (number_place form end) form start old new bytes)
 number-apart Udp Source start old new bytes = ((inl (omega arith), tt), (tt, tt))
 number-apart Udp Destination start old new bytes = ((inl (omega arith), tt), (tt, tt))
-number-apart Tcp Source start old new bytes = if_apart (nat_le (start + 18) (length bytes)) (change bytes (start + 0) new.number) _ (inl (omega arith))
-number-apart Tcp Destination start old new bytes = if_apart (nat_le (start + 18) (length bytes)) (change bytes (start + 2) new.number) _ (inl (omega arith))
+number-apart Tcp Source start old new bytes = if_apart (nat_le (start + 18) (length bytes))
+    (change bytes (start + 0) new.number) _ (inl (omega arith))
+number-apart Tcp Destination start old new bytes = if_apart (nat_le (start + 18) (length bytes))
+    (change bytes (start + 2) new.number) _ (inl (omega arith))
 number-apart Request Source start old new bytes = ((inr (omega arith), tt), (tt, tt))
 number-apart Request Destination start old new bytes = tt
 number-apart Reply Source start old new bytes = tt
@@ -156,135 +192,219 @@ number-apart Error Source start old new bytes = tt
 number-apart Error Destination start old new bytes = tt
 
 -- each of them is a word of a part that begins an even number of bytes before
-pub number-words : (at n k : ℕ) (form : Form) (end : End) (start : ℕ) (old new : Endpoint) (bytes : List ℕ) → start ≡ at + 2 * k → start + 8 ≤ at + n → at + n ≡ length bytes →
+pub number-words : (at n k : ℕ) (form : Form) (end : End) (start : ℕ) (old new : Endpoint) (bytes : List ℕ) →
+    start ≡ at + 2 * k → start + 8 ≤ at + n → at + n ≡ length bytes →
     AreWords at n (number_changes (number_place form end) form start old new bytes)
-number-words at n k Udp Source start old new bytes s f l = ((k, omega arith, omega arith), ((k + 3, omega arith, omega arith), tt))
-number-words at n k Udp Destination start old new bytes s f l = ((k + 1, omega arith, omega arith), ((k + 3, omega arith, omega arith), tt))
-number-words at n k Tcp Source start old new bytes s f l = ((k, omega arith, omega arith), if_words (nat_le (start + 18) (length bytes)) at n (k + 8) _ (omega arith) (λ e. let le : start + 18 ≤ length bytes = grind (arith, nat_tests) in omega arith))
-number-words at n k Tcp Destination start old new bytes s f l = ((k + 1, omega arith, omega arith), if_words (nat_le (start + 18) (length bytes)) at n (k + 8) _ (omega arith) (λ e. let le : start + 18 ≤ length bytes = grind (arith, nat_tests) in omega arith))
-number-words at n k Request Source start old new bytes s f l = ((k + 2, omega arith, omega arith), ((k + 1, omega arith, omega arith), tt))
+number-words at n k Udp Source start old new bytes s f l =
+    ((k, omega arith, omega arith), ((k + 3, omega arith, omega arith), tt))
+number-words at n k Udp Destination start old new bytes s f l =
+    ((k + 1, omega arith, omega arith), ((k + 3, omega arith, omega arith), tt))
+number-words at n k Tcp Source start old new bytes s f l = (
+  (k, omega arith, omega arith),
+  if_words (nat_le (start + 18) (length bytes)) at n (k + 8) _ (omega arith) (λ e.
+      let le : start + 18 ≤ length bytes = grind (arith, nat_tests) in omega arith),
+)
+number-words at n k Tcp Destination start old new bytes s f l = (
+  (k + 1, omega arith, omega arith),
+  if_words (nat_le (start + 18) (length bytes)) at n (k + 8) _ (omega arith) (λ e.
+      let le : start + 18 ≤ length bytes = grind (arith, nat_tests) in omega arith),
+)
+number-words at n k Request Source start old new bytes s f l =
+    ((k + 2, omega arith, omega arith), ((k + 1, omega arith, omega arith), tt))
 number-words at n k Request Destination start old new bytes s f l = tt
 number-words at n k Reply Source start old new bytes s f l = tt
-number-words at n k Reply Destination start old new bytes s f l = ((k + 2, omega arith, omega arith), ((k + 1, omega arith, omega arith), tt))
+number-words at n k Reply Destination start old new bytes s f l =
+    ((k + 2, omega arith, omega arith), ((k + 1, omega arith, omega arith), tt))
 number-words at n k Error Source start old new bytes s f l = tt
 number-words at n k Error Destination start old new bytes s f l = tt
 
 -- the addresses of a datagram that a part holds
-pub inner_address-words : (at n k : ℕ) (end : End) (start new : ℕ) (bytes : List ℕ) → start ≡ at + 2 * k → start + 20 ≤ at + n → AreWords at n (address_changes start end new bytes)
-inner_address-words at n k Source start new bytes s f = ((k + 5, omega arith, omega arith), ((k + 6, omega arith, omega arith), ((k + 7, omega arith, omega arith), tt)))
-inner_address-words at n k Destination start new bytes s f = ((k + 5, omega arith, omega arith), ((k + 8, omega arith, omega arith), ((k + 9, omega arith, omega arith), tt)))
+pub inner_address-words : (at n k : ℕ) (end : End) (start new : ℕ) (bytes : List ℕ) → start ≡ at + 2 * k →
+    start + 20 ≤ at + n → AreWords at n (address_changes start end new bytes)
+inner_address-words at n k Source start new bytes s f =
+    ((k + 5, omega arith, omega arith), ((k + 6, omega arith, omega arith), ((k + 7, omega arith, omega arith), tt)))
+inner_address-words at n k Destination start new bytes s f =
+    ((k + 5, omega arith, omega arith), ((k + 8, omega arith, omega arith), ((k + 9, omega arith, omega arith), tt)))
 
 -- a header is kept where words before it change
-pub header_beyond : (at low high : ℕ) (changes : List Change) (old new : List ℕ) → AreWithin low high changes → high ≤ at → KeepsHeader at old new → KeepsHeader at old (changed changes new)
+pub header_beyond : (at low high : ℕ) (changes : List Change) (old new : List ℕ) → AreWithin low high changes →
+    high ≤ at → KeepsHeader at old new → KeepsHeader at old (changed changes new)
 header_beyond at low high changes old new within h keeps =
     record {
       long = length-changed changes new ∙ keeps.long;
       first = λ i l. slice_index-changed low high (at + i) changes new within (inr (omega arith)) ∙ keeps.first i l;
-      right = ap (λ (xs : List ℕ). sum (words xs) % 65535) (part-changed_other at (header_length at old) low high changes new within (inl h)) ∙ keeps.right;
+      right = ap (λ (xs : List ℕ). sum (words xs) % 65535)
+          (part-changed_other at (header_length at old) low high changes new within (inl h)) ∙ keeps.right;
     }
 
 -- an address that was written is read
 halves : (n a b : ℕ) → a ≡ n / 65536 → b ≡ n % 65536 → 65536 * a + b ≡ n
 halves n a b ha hb = omega arith
 
-long_read : (place new : ℕ) (bytes : List ℕ) → place + 4 ≤ length bytes → long_at place (put_word (place + 2) (new % 65536) (put_word place (new / 65536) bytes)) ≡ new
+long_read : (place new : ℕ) (bytes : List ℕ) → place + 4 ≤ length bytes →
+    long_at place (put_word (place + 2) (new % 65536) (put_word place (new / 65536) bytes)) ≡ new
 long_read place new bytes h =
-    halves new (word_at place (put_word (place + 2) (new % 65536) (put_word place (new / 65536) bytes))) (word_at (place + 2) (put_word (place + 2) (new % 65536) (put_word place (new / 65536) bytes)))
-    (word_at-put_word_other (place + 2) (new % 65536) place (put_word place (new / 65536) bytes) (inl (omega arith)) ∙ word_at-put_word place (new / 65536) bytes (omega arith))
-    (word_at-put_word (place + 2) (new % 65536) (put_word place (new / 65536) bytes) (omega (arith, length-put_word place (new / 65536) bytes)))
+    halves new (word_at place (put_word (place + 2) (new % 65536) (put_word place (new / 65536) bytes)))
+    (word_at (place + 2) (put_word (place + 2) (new % 65536) (put_word place (new / 65536) bytes)))
+    (word_at-put_word_other (place + 2) (new % 65536) place (put_word place (new / 65536) bytes) (inl (omega arith))
+    ∙ word_at-put_word place (new / 65536) bytes (omega arith))
+    (word_at-put_word (place + 2) (new % 65536) (put_word place (new / 65536) bytes)
+    (omega (arith, length-put_word place (new / 65536) bytes)))
 
-pub address_read : (at : ℕ) (end : End) (new : ℕ) (old bytes : List ℕ) → at + 20 ≤ length bytes → address at end (changed (address_changes at end new old) bytes) ≡ new
+pub address_read : (at : ℕ) (end : End) (new : ℕ) (old bytes : List ℕ) → at + 20 ≤ length bytes →
+    address at end (changed (address_changes at end new old) bytes) ≡ new
 address_read at Source new old bytes h =
-    long_read (at + 12) new (put_word (at + 10) (canon (word_at (at + 10) old) (address_words (address at Source old)) (address_words new)) bytes)
-    (omega (arith, length-put_word (at + 10) (canon (word_at (at + 10) old) (address_words (address at Source old)) (address_words new)) bytes))
+    long_read (at + 12) new (put_word (at + 10) (canon (word_at (at + 10) old) (address_words (address at Source old))
+    (address_words new)) bytes)
+    (omega (
+      arith,
+      length-put_word (at + 10) (canon (word_at (at + 10) old) (address_words (address at Source old))
+          (address_words new)) bytes,
+    ))
 address_read at Destination new old bytes h =
-    long_read (at + 16) new (put_word (at + 10) (canon (word_at (at + 10) old) (address_words (address at Destination old)) (address_words new)) bytes)
-    (omega (arith, length-put_word (at + 10) (canon (word_at (at + 10) old) (address_words (address at Destination old)) (address_words new)) bytes))
+    long_read (at + 16) new
+    (put_word (at + 10) (canon (word_at (at + 10) old) (address_words (address at Destination old))
+    (address_words new)) bytes)
+    (omega (
+      arith,
+      length-put_word (at + 10) (canon (word_at (at + 10) old) (address_words (address at Destination old))
+          (address_words new)) bytes,
+    ))
 
 -- one that was not stays
-pub long_other : (low high place : ℕ) (changes : List Change) (bytes : List ℕ) → AreWithin low high changes → (place + 4 ≤ low) ⊎ (high ≤ place) → long_at place (changed changes bytes) ≡ long_at place bytes
+pub long_other : (low high place : ℕ) (changes : List Change) (bytes : List ℕ) → AreWithin low high changes →
+    (place + 4 ≤ low) ⊎ (high ≤ place) → long_at place (changed changes bytes) ≡ long_at place bytes
 long_other low high place changes bytes within (inl h) =
-    rw (word_at-changed low high place changes bytes within (inl (omega arith)), word_at-changed low high (place + 2) changes bytes within (inl (omega arith))) refl
+    rw (
+      word_at-changed low high place changes bytes within (inl (omega arith)),
+      word_at-changed low high
+          (place + 2) changes bytes within (inl (omega arith)),
+    ) refl
 long_other low high place changes bytes within (inr h) =
-    rw (word_at-changed low high place changes bytes within (inr h), word_at-changed low high (place + 2) changes bytes within (inr (omega arith))) refl
+    rw (
+      word_at-changed low high place changes bytes within (inr h),
+      word_at-changed low high
+          (place + 2) changes bytes within (inr (omega arith)),
+    ) refl
 
-word_apart : (place : ℕ) (a b c : Change) (bytes : List ℕ) → ((place + 2 ≤ a.place) ⊎ (a.place + 2 ≤ place)) → ((place + 2 ≤ b.place) ⊎ (b.place + 2 ≤ place)) → ((place + 2 ≤ c.place) ⊎ (c.place + 2 ≤ place)) →
+word_apart : (place : ℕ) (a b c : Change) (bytes : List ℕ) → ((place + 2 ≤ a.place) ⊎ (a.place + 2 ≤ place)) →
+    ((place + 2 ≤ b.place) ⊎ (b.place + 2 ≤ place)) → ((place + 2 ≤ c.place) ⊎ (c.place + 2 ≤ place)) →
     word_at place (changed (a ∷ b ∷ c ∷ []) bytes) ≡ word_at place bytes
 word_apart place a b c bytes ha hb hc =
     word_at-put_word_other c.place c.new place (put_word b.place b.new (put_word a.place a.new bytes)) hc
-    ∙ word_at-put_word_other b.place b.new place (put_word a.place a.new bytes) hb ∙ word_at-put_word_other a.place a.new place bytes ha
+    ∙ word_at-put_word_other b.place b.new place (put_word a.place a.new bytes) hb
+    ∙ word_at-put_word_other a.place a.new place bytes ha
 
 same_long : (a b c d : ℕ) → a ≡ c → b ≡ d → 65536 * a + b ≡ 65536 * c + d
 same_long a b c d h k = rw (h, k) refl
 
-pub source_stays : (at new : ℕ) (old bytes : List ℕ) → address at Source (changed (address_changes at Destination new old) bytes) ≡ address at Source bytes
+pub source_stays : (at new : ℕ) (old bytes : List ℕ) →
+    address at Source (changed (address_changes at Destination new old) bytes) ≡ address at Source bytes
 source_stays at new old bytes =
-    same_long (word_at (at + 12) (changed (address_changes at Destination new old) bytes)) (word_at (at + 12 + 2) (changed (address_changes at Destination new old) bytes)) (word_at (at + 12) bytes) (word_at (at + 12 + 2) bytes)
-    (word_apart (at + 12) (change old (at + 10) (canon (word_at (at + 10) old) (address_words (address at Destination old)) (address_words new))) (change old (at + 16) (new / 65536)) (change old (at + 16 + 2) (new % 65536)) bytes (inr (omega arith)) (inl (omega arith)) (inl (omega arith)))
-    (word_apart (at + 12 + 2) (change old (at + 10) (canon (word_at (at + 10) old) (address_words (address at Destination old)) (address_words new))) (change old (at + 16) (new / 65536)) (change old (at + 16 + 2) (new % 65536)) bytes (inr (omega arith)) (inl (omega arith)) (inl (omega arith)))
+    same_long (word_at (at + 12) (changed (address_changes at Destination new old) bytes))
+    (word_at (at + 12 + 2) (changed (address_changes at Destination new old) bytes)) (word_at (at + 12) bytes)
+    (word_at (at + 12 + 2) bytes)
+    (word_apart (at + 12)
+    (change old (at + 10) (canon (word_at (at + 10) old) (address_words (address at Destination old))
+    (address_words new))) (change old (at + 16) (new / 65536)) (change old (at + 16 + 2) (new % 65536)) bytes
+    (inr (omega arith)) (inl (omega arith)) (inl (omega arith)))
+    (word_apart (at + 12 + 2)
+    (change old (at + 10) (canon (word_at (at + 10) old) (address_words (address at Destination old))
+    (address_words new))) (change old (at + 16) (new / 65536)) (change old (at + 16 + 2) (new % 65536)) bytes
+    (inr (omega arith)) (inl (omega arith)) (inl (omega arith)))
 
-pub destination_stays : (at new : ℕ) (old bytes : List ℕ) → address at Destination (changed (address_changes at Source new old) bytes) ≡ address at Destination bytes
+pub destination_stays : (at new : ℕ) (old bytes : List ℕ) →
+    address at Destination (changed (address_changes at Source new old) bytes) ≡ address at Destination bytes
 destination_stays at new old bytes =
-    same_long (word_at (at + 16) (changed (address_changes at Source new old) bytes)) (word_at (at + 16 + 2) (changed (address_changes at Source new old) bytes)) (word_at (at + 16) bytes) (word_at (at + 16 + 2) bytes)
-    (word_apart (at + 16) (change old (at + 10) (canon (word_at (at + 10) old) (address_words (address at Source old)) (address_words new))) (change old (at + 12) (new / 65536)) (change old (at + 12 + 2) (new % 65536)) bytes (inr (omega arith)) (inr (omega arith)) (inr (omega arith)))
-    (word_apart (at + 16 + 2) (change old (at + 10) (canon (word_at (at + 10) old) (address_words (address at Source old)) (address_words new))) (change old (at + 12) (new / 65536)) (change old (at + 12 + 2) (new % 65536)) bytes (inr (omega arith)) (inr (omega arith)) (inr (omega arith)))
+    same_long (word_at (at + 16) (changed (address_changes at Source new old) bytes))
+    (word_at (at + 16 + 2) (changed (address_changes at Source new old) bytes)) (word_at (at + 16) bytes)
+    (word_at (at + 16 + 2) bytes)
+    (word_apart (at + 16) (change old (at + 10) (canon (word_at (at + 10) old) (address_words (address at Source old))
+    (address_words new))) (change old (at + 12) (new / 65536)) (change old (at + 12 + 2) (new % 65536)) bytes
+    (inr (omega arith)) (inr (omega arith)) (inr (omega arith)))
+    (word_apart (at + 16 + 2)
+    (change old (at + 10) (canon (word_at (at + 10) old) (address_words (address at Source old))
+    (address_words new))) (change old (at + 12) (new / 65536)) (change old (at + 12 + 2) (new % 65536)) bytes
+    (inr (omega arith)) (inr (omega arith)) (inr (omega arith)))
 
 -- the words of the quoted datagram that are replaced
-pub quoted_within : (at : ℕ) (end : End) (new : Endpoint) (bytes : List ℕ) → HasRoom at bytes → AreWithin (at + 10) (length bytes) (end_changes at end new bytes)
+pub quoted_within : (at : ℕ) (end : End) (new : Endpoint) (bytes : List ℕ) → HasRoom at bytes →
+    AreWithin (at + 10) (length bytes) (end_changes at end new bytes)
 unfolding end_changes
 quoted_within at end new bytes room =
-    let numbers : List Change = number_changes (number_place (form_at at bytes) end) (form_at at bytes) (transport at bytes) (end_at at end bytes) new bytes in
+    let numbers : List Change = number_changes (number_place (form_at at bytes) end) (form_at at bytes)
+    (transport at bytes) (end_at at end bytes) new bytes in
     within-append (at + 10) (length bytes) numbers (address_changes at end new.address bytes)
-    (within-wider (transport at bytes) (length bytes) (at + 10) (length bytes) numbers (omega (arith, room.header)) (omega arith)
+    (within-wider (transport at bytes) (length bytes) (at + 10) (length bytes) numbers (omega (arith, room.header))
+    (omega arith)
     (number-there (form_at at bytes) end (transport at bytes) (end_at at end bytes) new bytes room.transport_start))
-    (within-wider (at + 10) (at + 20) (at + 10) (length bytes) (address_changes at end new.address bytes) (omega arith) (omega (arith, room.header, room.transport_start))
+    (within-wider (at + 10) (at + 20) (at + 10) (length bytes) (address_changes at end new.address bytes) (omega arith)
+    (omega (arith, room.header, room.transport_start))
     (address-within at end new.address bytes))
 
 quoted_of_bytes : (at : ℕ) (end : End) (new : Endpoint) (bytes : List ℕ) → AreOf (end_changes at end new bytes) bytes
 unfolding end_changes
 quoted_of_bytes at end new bytes =
-    of-append (number_changes (number_place (form_at at bytes) end) (form_at at bytes) (transport at bytes) (end_at at end bytes) new bytes) (address_changes at end new.address bytes) bytes
-    (number-of (form_at at bytes) end (transport at bytes) (end_at at end bytes) new bytes) (address-of at end new.address bytes)
+    of-append (number_changes (number_place (form_at at bytes) end) (form_at at bytes) (transport at bytes)
+    (end_at at end bytes) new bytes) (address_changes at end new.address bytes) bytes
+    (number-of (form_at at bytes) end (transport at bytes) (end_at at end bytes) new bytes)
+    (address-of at end new.address bytes)
 
-quoted_apart : (at : ℕ) (end : End) (new : Endpoint) (bytes : List ℕ) → HasRoom at bytes → AreApart (end_changes at end new bytes)
+quoted_apart : (at : ℕ) (end : End) (new : Endpoint) (bytes : List ℕ) → HasRoom at bytes →
+    AreApart (end_changes at end new bytes)
 unfolding end_changes
 quoted_apart at end new bytes room =
-    let numbers : List Change = number_changes (number_place (form_at at bytes) end) (form_at at bytes) (transport at bytes) (end_at at end bytes) new bytes in
-    apart-append (transport at bytes) (length bytes) (at + 10) (at + 20) numbers (address_changes at end new.address bytes)
-    (number-apart (form_at at bytes) end (transport at bytes) (end_at at end bytes) new bytes) (address-apart at end new.address bytes)
-    (number-there (form_at at bytes) end (transport at bytes) (end_at at end bytes) new bytes room.transport_start) (address-within at end new.address bytes) (inr room.header)
+    let numbers : List Change = number_changes (number_place (form_at at bytes) end) (form_at at bytes)
+    (transport at bytes) (end_at at end bytes) new bytes in
+    apart-append (transport at bytes) (length bytes) (at + 10) (at + 20) numbers
+    (address_changes at end new.address bytes)
+    (number-apart (form_at at bytes) end (transport at bytes) (end_at at end bytes) new bytes)
+    (address-apart at end new.address bytes)
+    (number-there (form_at at bytes) end (transport at bytes) (end_at at end bytes) new bytes room.transport_start)
+    (address-within at end new.address bytes) (inr room.header)
 
-quoted_words : (begin n k at : ℕ) (end : End) (new : Endpoint) (bytes : List ℕ) → HasRoom at bytes → at ≡ begin + 2 * k → begin + n ≡ length bytes → AreWords begin n (end_changes at end new bytes)
+quoted_words : (begin n k at : ℕ) (end : End) (new : Endpoint) (bytes : List ℕ) → HasRoom at bytes →
+    at ≡ begin + 2 * k → begin + n ≡ length bytes → AreWords begin n (end_changes at end new bytes)
 unfolding end_changes
 quoted_words begin n k at end new bytes room here all =
-    let numbers : List Change = number_changes (number_place (form_at at bytes) end) (form_at at bytes) (transport at bytes) (end_at at end bytes) new bytes in
+    let numbers : List Change = number_changes (number_place (form_at at bytes) end) (form_at at bytes)
+    (transport at bytes) (end_at at end bytes) new bytes in
     words-append begin n numbers (address_changes at end new.address bytes)
-    (number-words begin n (k + 2 * bit_and (byte_at at bytes) 15) (form_at at bytes) end (transport at bytes) (end_at at end bytes) new bytes
+    (number-words begin n (k + 2 * bit_and (byte_at at bytes) 15) (form_at at bytes) end (transport at bytes)
+    (end_at at end bytes) new bytes
     (omega arith) (omega (arith, room.transport_start)) all)
     (inner_address-words begin n k end at new.address bytes here (omega (arith, room.header, room.transport_start)))
 
 -- the ICMP checksum stays right
-icmp_residue : (sum_new sum_old check : ℕ) (old new : List ℕ) → sum_new + (sum old + check) ≡ sum_old + (sum new + canon check old new) → sum_new % 65535 ≡ sum_old % 65535
+icmp_residue : (sum_new sum_old check : ℕ) (old new : List ℕ) → sum_new + (sum old + check) ≡ sum_old
+    + (sum new + canon check old new) → sum_new % 65535 ≡ sum_old % 65535
 unfolding canon
 icmp_residue sum_new sum_old check old new h = omega arith
 
 sum-map-append : (f : Change → ℕ) (xs : List Change) (c : Change) → sum (map f (xs ++ c ∷ [])) ≡ sum (map f xs) + f c
-sum-map-append f xs c = ap sum (map-append f xs (c ∷ [])) ∙ sum-append (map f xs) (f c ∷ []) ∙ ap (λ (n : ℕ). sum (map f xs) + n) (sum-cons (f c) [] ∙ omega arith)
+sum-map-append f xs c = ap sum (map-append f xs (c ∷ [])) ∙ sum-append (map f xs) (f c ∷ [])
+    ∙ ap (λ (n : ℕ). sum (map f xs) + n) (sum-cons (f c) [] ∙ omega arith)
 
-pub message_residue : (begin n at k : ℕ) (end : End) (new : Endpoint) (bytes : List ℕ) → HasRoom at bytes → at ≡ begin + 2 * k → 4 ≤ k → begin + n ≡ length bytes →
+pub message_residue : (begin n at k : ℕ) (end : End) (new : Endpoint) (bytes : List ℕ) → HasRoom at bytes →
+    at ≡ begin + 2 * k → 4 ≤ k → begin + n ≡ length bytes →
     sum (words (part begin n (changed (end_changes at end new bytes
-    ++ change bytes (begin + 2) (canon (word_at (begin + 2) bytes) (olds (end_changes at end new bytes)) (news (end_changes at end new bytes))) ∷ []) bytes))) % 65535
+    ++ change bytes (begin + 2) (canon (word_at (begin + 2) bytes) (olds (end_changes at end new bytes))
+    (news (end_changes at end new bytes))) ∷ []) bytes))) % 65535
     ≡ sum (words (part begin n bytes)) % 65535
 message_residue begin n at k end new bytes room here behind all =
     let quoted : List Change = end_changes at end new bytes in
     let c : Change = change bytes (begin + 2) (canon (word_at (begin + 2) bytes) (olds quoted) (news quoted)) in
-    let total : sum (words (part begin n (changed (quoted ++ c ∷ []) bytes))) + sum (olds (quoted ++ c ∷ [])) ≡ sum (words (part begin n bytes)) + sum (news (quoted ++ c ∷ [])) =
+    let total : sum (words (part begin n (changed (quoted ++ c ∷ []) bytes))) + sum (olds (quoted ++ c ∷ []))
+    ≡ sum (words (part begin n bytes)) + sum (news (quoted ++ c ∷ [])) =
     sum-part-changed begin n (quoted ++ c ∷ []) bytes (omega arith)
-    (words-append begin n quoted (c ∷ []) (quoted_words begin n k at end new bytes room here all) ((1, omega arith, omega (arith, room.header, room.transport_start)), tt))
+    (words-append begin n quoted (c ∷ []) (quoted_words begin n k at end new bytes room here all)
+    ((1, omega arith, omega (arith, room.header, room.transport_start)), tt))
     (of-append quoted (c ∷ []) bytes (quoted_of_bytes at end new bytes) (refl, tt))
-    (apart-append (at + 10) (length bytes) (begin + 2) (begin + 4) quoted (c ∷ []) (quoted_apart at end new bytes room) (tt, tt) (quoted_within at end new bytes room) (omega arith, omega arith, tt) (inr (omega arith))) in
+    (apart-append (at + 10) (length bytes) (begin + 2) (begin + 4) quoted (c ∷ []) (quoted_apart at end new bytes room)
+    (tt, tt) (quoted_within at end new bytes room) (omega arith, omega arith, tt) (inr (omega arith))) in
     icmp_residue _ _ (word_at (begin + 2) bytes) (olds quoted) (news quoted)
-    (ap (λ (s : ℕ). sum (words (part begin n (changed (quoted ++ c ∷ []) bytes))) + s) (sym (sum-map-append (λ (d : Change). d.old) quoted c))
+    (ap (λ (s : ℕ). sum (words (part begin n (changed (quoted ++ c ∷ []) bytes))) + s)
+    (sym (sum-map-append (λ (d : Change). d.old) quoted c))
     ∙ total ∙ ap (λ (s : ℕ). sum (words (part begin n bytes)) + s) (sum-map-append (λ (d : Change). d.new) quoted c))
 
 -- what the checks say of an error
@@ -295,7 +415,8 @@ pub record PassesError (side : Side) (bytes : List ℕ) : Type 0 where
   pub inner_good : GoodInner side (inner_at bytes) bytes
   pub ports : has_zero_port (form_at (inner_at bytes) bytes) (transport (inner_at bytes) bytes) bytes ≡ false
 
-error_parts : (side : Side) (form : Form) (bytes : List ℕ) → form ≡ Error → refusal (message_checks form side bytes) ≡ None → refusal (error_checks side bytes) ≡ None
+error_parts : (side : Side) (form : Form) (bytes : List ℕ) → form ≡ Error → refusal (message_checks form side bytes)
+    ≡ None → refusal (error_checks side bytes) ≡ None
 error_parts side Udp bytes e h = cc
 error_parts side Tcp bytes e h = cc
 error_parts side Request bytes e h = cc
@@ -304,7 +425,9 @@ error_parts side Error bytes e h = h
 
 pub passes_error : (side : Side) (bytes : List ℕ) → Passes side bytes → form_at 0 bytes ≡ Error → PassesError side bytes
 passes_error side bytes p form_is =
-    let passed = three_passed (not (is_right (words (drop (transport 0 bytes) bytes)))) (has_bad_inner side (inner_at bytes) bytes) (has_zero_port (form_at (inner_at bytes) bytes) (transport (inner_at bytes) bytes) bytes) BadChecksum BadInner BadPort
+    let passed = three_passed (not (is_right (words (drop (transport 0 bytes) bytes))))
+    (has_bad_inner side (inner_at bytes) bytes) (has_zero_port (form_at (inner_at bytes) bytes)
+    (transport (inner_at bytes) bytes) bytes) BadChecksum BadInner BadPort
     (error_parts side (form_at 0 bytes) bytes form_is (message_passes side bytes p)) in
     record {
       passes = p;
@@ -314,13 +437,16 @@ passes_error side bytes p form_is =
       ports = passed.2;
     }
 
-three_pass : (a b c : Bool) → a ≡ false → b ≡ false → c ≡ false → refusal ((a, BadChecksum) ∷ (b, BadInner) ∷ (c, BadPort) ∷ []) ≡ None
+three_pass : (a b c : Bool) → a ≡ false → b ≡ false → c ≡ false →
+    refusal ((a, BadChecksum) ∷ (b, BadInner) ∷ (c, BadPort) ∷ []) ≡ None
 three_pass a b c ha hb hc = rw (ha, hb, hc) refl
 
-message_of_error : (side : Side) (form : Form) (bytes : List ℕ) → form ≡ Error → refusal (error_checks side bytes) ≡ None → refusal (message_checks form side bytes) ≡ None
+message_of_error : (side : Side) (form : Form) (bytes : List ℕ) → form ≡ Error → refusal (error_checks side bytes)
+    ≡ None → refusal (message_checks form side bytes) ≡ None
 message_of_error side form bytes e h = rw e h
 
-zero_port_kept : (form : Form) (start : ℕ) (old new : List ℕ) → KeepsBody form start old new → has_zero_port form start new ≡ false
+zero_port_kept : (form : Form) (start : ℕ) (old new : List ℕ) → KeepsBody form start old new →
+    has_zero_port form start new ≡ false
 zero_port_kept Udp start old new keeps = keeps.1
 zero_port_kept Tcp start old new keeps = keeps.2
 zero_port_kept Request start old new keeps = refl
@@ -335,57 +461,81 @@ number_same a b h = grind (arith, nat_tests)
 
 -- the two ways to see the words that are replaced: those of the quoted datagram first, those of the
 -- error's own header last
-pub inner_first : (quoted address : List Change) (c : Change) (bytes : List ℕ) → changed (quoted ++ c ∷ address) bytes ≡ changed (c ∷ address) (changed quoted bytes)
+pub inner_first : (quoted address : List Change) (c : Change) (bytes : List ℕ) → changed (quoted ++ c ∷ address) bytes
+    ≡ changed (c ∷ address) (changed quoted bytes)
 inner_first quoted address c bytes = changed-append quoted (c ∷ address) bytes
 
-pub outer_last : (quoted address : List Change) (c : Change) (bytes : List ℕ) → changed (quoted ++ c ∷ address) bytes ≡ changed address (changed (quoted ++ c ∷ []) bytes)
-outer_last quoted address c bytes = changed-append quoted (c ∷ address) bytes ∙ sym (ap (changed address) (changed-append quoted (c ∷ []) bytes))
+pub outer_last : (quoted address : List Change) (c : Change) (bytes : List ℕ) → changed (quoted ++ c ∷ address) bytes
+    ≡ changed address (changed (quoted ++ c ∷ []) bytes)
+outer_last quoted address c bytes = changed-append quoted (c ∷ address) bytes
+    ∙ sym (ap (changed address) (changed-append quoted (c ∷ []) bytes))
 
 -- the quoted datagram's source stays the error's destination
-ours_kept : (side : Side) (way : Way) (new : Endpoint) (c : Change) (bytes : List ℕ) → HasRoom 0 bytes → HasRoom (inner_at bytes) bytes →
+ours_kept : (side : Side) (way : Way) (new : Endpoint) (c : Change) (bytes : List ℕ) → HasRoom 0 bytes →
+    HasRoom (inner_at bytes) bytes →
     transport 0 bytes + 2 ≤ c.place → c.place + 2 ≤ transport 0 bytes + 4 →
     address (inner_at bytes) Source bytes ≡ address 0 Destination bytes →
-    address (inner_at bytes) Source (changed (end_changes (inner_at bytes) (inner_end way) new bytes ++ c ∷ address_changes 0 (outer_end way) new.address bytes) bytes)
-    ≡ address 0 Destination (changed (end_changes (inner_at bytes) (inner_end way) new bytes ++ c ∷ address_changes 0 (outer_end way) new.address bytes) bytes)
+    address (inner_at bytes) Source (changed (end_changes (inner_at bytes) (inner_end way) new bytes ++ c
+    ∷ address_changes 0 (outer_end way) new.address bytes) bytes)
+    ≡ address 0 Destination (changed (end_changes (inner_at bytes) (inner_end way) new bytes ++ c
+    ∷ address_changes 0 (outer_end way) new.address bytes) bytes)
 unfolding end_changes
 ours_kept side Incoming new c bytes room inner_room low high ours =
     let at : ℕ = inner_at bytes in
-    let numbers : List Change = number_changes (number_place (form_at at bytes) Source) (form_at at bytes) (transport at bytes) (end_at at Source bytes) new bytes in
+    let numbers : List Change = number_changes (number_place (form_at at bytes) Source) (form_at at bytes)
+    (transport at bytes) (end_at at Source bytes) new bytes in
     let addresses : List Change = address_changes at Source new.address bytes in
     let outer : List Change = address_changes 0 Destination new.address bytes in
-    let before : AreWithin 10 (transport 0 bytes + 4) (c ∷ outer) =
-    (omega (arith, low, room.header), high, within-wider 10 20 10 (transport 0 bytes + 4) outer (omega arith) (omega (arith, room.header)) (address-within 0 Destination new.address bytes)) in
+    let before : AreWithin 10 (transport 0 bytes + 4) (c ∷ outer) = (
+      omega (arith, low, room.header),
+      high,
+      within-wider 10 20 10 (transport 0 bytes + 4) outer (omega arith)
+          (omega (arith, room.header)) (address-within 0 Destination new.address bytes),
+    ) in
     let inner_is : address at Source (changed (numbers ++ addresses ++ c ∷ outer) bytes) ≡ new.address =
     ap (address at Source) (inner_first (numbers ++ addresses) outer c bytes)
-    ∙ long_other 10 (transport 0 bytes + 4) (at + 12) (c ∷ outer) (changed (numbers ++ addresses) bytes) before (inr (omega arith))
+    ∙ long_other 10 (transport 0 bytes + 4) (at + 12) (c ∷ outer) (changed (numbers ++ addresses) bytes) before
+    (inr (omega arith))
     ∙ ap (address at Source) (changed-append numbers addresses bytes)
-    ∙ address_read at Source new.address bytes (changed numbers bytes) (omega (arith, inner_room.header, inner_room.transport_start, length-changed numbers bytes)) in
+    ∙ address_read at Source new.address bytes (changed numbers bytes)
+    (omega (arith, inner_room.header, inner_room.transport_start, length-changed numbers bytes)) in
     let outer_is : address 0 Destination (changed (numbers ++ addresses ++ c ∷ outer) bytes) ≡ new.address =
     ap (address 0 Destination) (outer_last (numbers ++ addresses) outer c bytes)
-    ∙ address_read 0 Destination new.address bytes (changed (numbers ++ addresses ++ c ∷ []) bytes) (omega (arith, room.header, room.transport_start, length-changed (numbers ++ addresses ++ c ∷ []) bytes)) in
+    ∙ address_read 0 Destination new.address bytes (changed (numbers ++ addresses ++ c ∷ []) bytes)
+    (omega (arith, room.header, room.transport_start, length-changed (numbers ++ addresses ++ c ∷ []) bytes)) in
     inner_is ∙ sym outer_is
 ours_kept side Outgoing new c bytes room inner_room low high ours =
     let at : ℕ = inner_at bytes in
-    let numbers : List Change = number_changes (number_place (form_at at bytes) Destination) (form_at at bytes) (transport at bytes) (end_at at Destination bytes) new bytes in
+    let numbers : List Change = number_changes (number_place (form_at at bytes) Destination) (form_at at bytes)
+    (transport at bytes) (end_at at Destination bytes) new bytes in
     let addresses : List Change = address_changes at Destination new.address bytes in
     let outer : List Change = address_changes 0 Source new.address bytes in
-    let before : AreWithin 10 (transport 0 bytes + 4) (c ∷ outer) =
-    (omega (arith, low, room.header), high, within-wider 10 20 10 (transport 0 bytes + 4) outer (omega arith) (omega (arith, room.header)) (address-within 0 Source new.address bytes)) in
+    let before : AreWithin 10 (transport 0 bytes + 4) (c ∷ outer) = (
+      omega (arith, low, room.header),
+      high,
+      within-wider 10 20 10 (transport 0 bytes + 4) outer (omega arith)
+          (omega (arith, room.header)) (address-within 0 Source new.address bytes),
+    ) in
     let behind : AreWithin (transport 0 bytes) (length bytes) (numbers ++ addresses ++ c ∷ []) =
     within-append (transport 0 bytes) (length bytes) (numbers ++ addresses) (c ∷ [])
-    (within-wider (at + 10) (length bytes) (transport 0 bytes) (length bytes) (numbers ++ addresses) (omega arith) (omega arith) (quoted_within at Destination new bytes inner_room))
+    (within-wider (at + 10) (length bytes) (transport 0 bytes) (length bytes) (numbers ++ addresses) (omega arith)
+    (omega arith) (quoted_within at Destination new bytes inner_room))
     (omega (arith, low), omega (arith, high, inner_room.header, inner_room.transport_start), tt) in
     let inner_is : address at Source (changed (numbers ++ addresses ++ c ∷ outer) bytes) ≡ address at Source bytes =
     ap (address at Source) (inner_first (numbers ++ addresses) outer c bytes)
-    ∙ long_other 10 (transport 0 bytes + 4) (at + 12) (c ∷ outer) (changed (numbers ++ addresses) bytes) before (inr (omega arith))
+    ∙ long_other 10 (transport 0 bytes + 4) (at + 12) (c ∷ outer) (changed (numbers ++ addresses) bytes) before
+    (inr (omega arith))
     ∙ ap (address at Source) (changed-append numbers addresses bytes)
     ∙ source_stays at new.address bytes (changed numbers bytes)
     ∙ long_other (transport at bytes) (length bytes) (at + 12) numbers bytes
-    (number-there (form_at at bytes) Destination (transport at bytes) (end_at at Destination bytes) new bytes inner_room.transport_start) (inl (omega (arith, inner_room.header))) in
-    let outer_is : address 0 Destination (changed (numbers ++ addresses ++ c ∷ outer) bytes) ≡ address 0 Destination bytes =
+    (number-there (form_at at bytes) Destination (transport at bytes) (end_at at Destination bytes) new bytes
+    inner_room.transport_start) (inl (omega (arith, inner_room.header))) in
+    let outer_is : address 0 Destination (changed (numbers ++ addresses ++ c ∷ outer) bytes)
+    ≡ address 0 Destination bytes =
     ap (address 0 Destination) (outer_last (numbers ++ addresses) outer c bytes)
     ∙ destination_stays 0 new.address bytes (changed (numbers ++ addresses ++ c ∷ []) bytes)
-    ∙ long_other (transport 0 bytes) (length bytes) 16 (numbers ++ addresses ++ c ∷ []) bytes behind (inl (omega (arith, room.header))) in
+    ∙ long_other (transport 0 bytes) (length bytes) 16 (numbers ++ addresses ++ c ∷ []) bytes behind
+    (inl (omega (arith, room.header))) in
     inner_is ∙ ours ∙ sym outer_is
 
 -- what an error keeps
@@ -407,7 +557,8 @@ whole_part begin n bytes h =
     let size : n ≡ length (drop begin bytes) = omega (arith, length-drop begin bytes) in
     rw size (take-length (drop begin bytes))
 
-pub error_kept : (side : Side) (way : Way) (new : Endpoint) (bytes : List ℕ) → PassesError side bytes → Carries (form_at (inner_at bytes) bytes) new.number →
+pub error_kept : (side : Side) (way : Way) (new : Endpoint) (bytes : List ℕ) → PassesError side bytes →
+    Carries (form_at (inner_at bytes) bytes) new.number →
     KeepsError side bytes (changed (reverted_changes way new bytes) bytes)
 unfolding reverted_changes
 error_kept side way new bytes p carries =
@@ -419,29 +570,42 @@ error_kept side way new bytes p carries =
     let c : Change = change bytes (start + 2) (canon (word_at (start + 2) bytes) (olds quoted) (news quoted)) in
     let outer : List Change = address_changes 0 (outer_end way) new.address bytes in
     let after : List ℕ = changed (quoted ++ c ∷ outer) bytes in
-    let before : AreWithin 10 (start + 4) (c ∷ outer) =
-    (omega (arith, room.header), omega arith, within-wider 10 20 10 (start + 4) outer (omega arith) (omega (arith, room.header)) (address-within 0 (outer_end way) new.address bytes)) in
+    let before : AreWithin 10 (start + 4) (c ∷ outer) = (
+      omega (arith, room.header),
+      omega arith,
+      within-wider 10 20 10 (start + 4) outer (omega arith)
+          (omega (arith, room.header)) (address-within 0 (outer_end way) new.address bytes),
+    ) in
     let in_message : AreWithin (start + 2) (length bytes) (quoted ++ c ∷ []) =
     within-append (start + 2) (length bytes) quoted (c ∷ [])
-    (within-wider (at + 10) (length bytes) (start + 2) (length bytes) quoted (omega arith) (omega arith) (quoted_within at (inner_end way) new bytes inner_room))
+    (within-wider (at + 10) (length bytes) (start + 2) (length bytes) quoted (omega arith) (omega arith)
+    (quoted_within at (inner_end way) new bytes inner_room))
     (omega arith, omega (arith, room.transport_start), tt) in
-    let behind : AreWithin start (length bytes) (quoted ++ c ∷ []) = within-wider (start + 2) (length bytes) start (length bytes) (quoted ++ c ∷ []) (omega arith) (omega arith) in_message in
+    let behind : AreWithin start (length bytes) (quoted ++ c ∷ []) = within-wider (start + 2) (length bytes) start
+    (length bytes) (quoted ++ c ∷ []) (omega arith) (omega arith) in_message in
     let first = inner_first quoted outer c bytes in
     let last = outer_last quoted outer c bytes in
-    let header : KeepsHeader 0 bytes after = rw last (header_keeps 0 (outer_end way) new.address (quoted ++ c ∷ []) bytes room behind) in
+    let header : KeepsHeader 0 bytes after =
+    rw last (header_keeps 0 (outer_end way) new.address (quoted ++ c ∷ []) bytes room behind) in
     let type : slice_index after start ≡ slice_index bytes start =
     ap (λ (xs : List ℕ). slice_index xs start) last
-    ∙ slice_index-changed 10 20 start outer (changed (quoted ++ c ∷ []) bytes) (address-within 0 (outer_end way) new.address bytes) (inr room.header)
+    ∙ slice_index-changed 10 20 start outer (changed (quoted ++ c ∷ []) bytes)
+    (address-within 0 (outer_end way) new.address bytes) (inr room.header)
     ∙ slice_index-changed (start + 2) (length bytes) start (quoted ++ c ∷ []) bytes in_message (inl (omega arith)) in
     let body : KeepsBody (form_at 0 bytes) start bytes after = rw p.form_is type in
     let inner_header : KeepsHeader at bytes after =
-    rw first (header_beyond at 10 (start + 4) (c ∷ outer) bytes (changed quoted bytes) before (omega arith) (end_keeps_header at (inner_end way) new bytes inner_room)) in
+    rw first (header_beyond at 10 (start + 4) (c ∷ outer) bytes (changed quoted bytes) before (omega arith)
+    (end_keeps_header at (inner_end way) new bytes inner_room)) in
     let inner_body : KeepsBody (form_at at bytes) (transport at bytes) bytes after =
-    rw first (keeps_before (form_at at bytes) 10 (start + 4) (transport at bytes) (c ∷ outer) bytes (changed quoted bytes) before (omega (arith, inner_room.header))
+    rw first (keeps_before (form_at at bytes) 10 (start + 4) (transport at bytes) (c ∷ outer) bytes
+    (changed quoted bytes) before (omega (arith, inner_room.header))
     (end_keeps_body at (inner_end way) new bytes inner_room carries p.ports)) in
-    let same_form : form_at 0 after ≡ form_at 0 bytes = form_kept 0 bytes after (header.first 0 (omega arith)) (header.first 9 (omega arith)) body in
+    let same_form : form_at 0 after ≡ form_at 0 bytes = form_kept 0 bytes after (header.first 0 (omega arith))
+    (header.first 9 (omega arith)) body in
     let same_start : transport 0 after ≡ transport 0 bytes = rw (header.first 0 (omega arith)) refl in
-    let inner_form : form_at at after ≡ form_at at bytes = form_kept at bytes after (first_byte at bytes after inner_header) (inner_header.first 9 (omega arith)) inner_body in
+    let inner_form : form_at at after ≡ form_at at bytes =
+    form_kept at bytes after (first_byte at bytes after inner_header) (inner_header.first 9 (omega arith))
+    inner_body in
     let inner_start : transport at after ≡ transport at bytes = rw (first_byte at bytes after inner_header) refl in
     let word_next : slice_index after (at + 6 + 1) ≡ slice_index bytes (at + 6 + 1) =
     let next : at + 6 + 1 ≡ at + 7 = omega arith in
@@ -451,7 +615,8 @@ error_kept side way new bytes p carries =
     let message_right : sum (words (drop start after)) % 65535 ≡ 0 =
     ap (λ (xs : List ℕ). sum (words xs) % 65535)
     (sym (whole_part start n after (all ∙ sym header.long)) ∙ ap (part start n) last
-    ∙ part-changed_other start n 10 20 outer (changed (quoted ++ c ∷ []) bytes) (address-within 0 (outer_end way) new.address bytes) (inl room.header))
+    ∙ part-changed_other start n 10 20 outer (changed (quoted ++ c ∷ []) bytes)
+    (address-within 0 (outer_end way) new.address bytes) (inl room.header))
     ∙ message_residue start n at 4 (inner_end way) new bytes inner_room (omega arith) (omega arith) all
     ∙ ap (λ (xs : List ℕ). sum (words xs) % 65535) (whole_part start n bytes all) ∙ p.right in
     let good : GoodInner side at after = record {
@@ -460,30 +625,39 @@ error_kept side way new bytes p carries =
       long = rw (first_byte at bytes after inner_header) p.inner_good.long;
       room = rw (header.long, inner_start) p.inner_good.room;
       right = zero_residue (sum (words (part at (header_length at after) after)))
-          (rw (first_byte at bytes after inner_header) (inner_header.right ∙ residue_zero (sum (words (part at (header_length at bytes) bytes))) p.inner_good.right));
+          (rw (first_byte at bytes after inner_header) (inner_header.right
+          ∙ residue_zero (sum (words (part at (header_length at bytes) bytes))) p.inner_good.right));
       whole = rw (inner_header.first 6 (omega arith), word_next) p.inner_good.whole;
       known = rw (inner_header.first 9 (omega arith)) p.inner_good.known;
       quoted = rw inner_form p.inner_good.quoted;
       ours = number_same (address at Source after) (address 0 Destination after)
-          (ours_kept side way new c bytes room inner_room (omega arith) (omega arith) (same_number (address at Source bytes) (address 0 Destination bytes) p.inner_good.ours));
+          (ours_kept side way new c bytes room inner_room (omega arith) (omega arith)
+          (same_number (address at Source bytes) (address 0 Destination bytes) p.inner_good.ours));
     } in
     let errors : refusal (error_checks side after) ≡ None =
     rw same_start
-    (three_pass (not (is_right (words (drop start after)))) (has_bad_inner side at after) (has_zero_port (form_at at after) (transport at after) after)
+    (three_pass (not (is_right (words (drop start after)))) (has_bad_inner side at after)
+    (has_zero_port (form_at at after) (transport at after) after)
     (zero_residue (sum (words (drop start after))) message_right)
     (inner_good side at after good)
     (rw (inner_form, inner_start) (zero_port_kept (form_at at bytes) (transport at bytes) bytes after inner_body))) in
     record {
-      passes = passes_kept side bytes after p.passes header body (message_of_error side (form_at 0 bytes) after p.form_is errors);
+      passes = passes_kept side bytes after p.passes header body
+          (message_of_error side (form_at 0 bytes) after p.form_is errors);
       same_form = same_form;
       same_start = same_start;
       inner_form = inner_form;
       inner_start = inner_start;
-      inner_room = record { header = rw inner_start inner_room.header; transport_start = rw (inner_start, header.long) inner_room.transport_start };
+      inner_room = record {
+        header = rw inner_start inner_room.header;
+        transport_start =
+            rw (inner_start, header.long) inner_room.transport_start;
+      };
     }
 
 -- every word that is replaced is there
-pub error_there : (side : Side) (way : Way) (new : Endpoint) (bytes : List ℕ) → PassesError side bytes → AreThere (reverted_changes way new bytes) bytes
+pub error_there : (side : Side) (way : Way) (new : Endpoint) (bytes : List ℕ) → PassesError side bytes →
+    AreThere (reverted_changes way new bytes) bytes
 unfolding reverted_changes
 error_there side way new bytes p =
     let at : ℕ = inner_at bytes in
@@ -495,8 +669,13 @@ error_there side way new bytes p =
     let outer : List Change = address_changes 0 (outer_end way) new.address bytes in
     there-of_within 0 (quoted ++ c ∷ outer) bytes
     (within-append 0 (length bytes) quoted (c ∷ outer)
-    (within-wider (at + 10) (length bytes) 0 (length bytes) quoted (omega arith) (omega arith) (quoted_within at (inner_end way) new bytes inner_room))
-    (omega arith, omega (arith, room.transport_start), within-wider 10 20 0 (length bytes) outer (omega arith) (omega (arith, room.header, room.transport_start)) (address-within 0 (outer_end way) new.address bytes)))
+    (within-wider (at + 10) (length bytes) 0 (length bytes) quoted (omega arith) (omega arith)
+    (quoted_within at (inner_end way) new bytes inner_room)) (
+      omega arith,
+      omega (arith, room.transport_start),
+      within-wider 10 20 0 (length bytes) outer (omega arith)
+          (omega (arith, room.header, room.transport_start)) (address-within 0 (outer_end way) new.address bytes),
+    ))
 
 -- what the caller says of an error, and of its number
 error_form : (form : Form) (bytes : List ℕ) → is_error (kind_of form bytes) ≡ true → form ≡ Error
@@ -517,7 +696,8 @@ carries_quoted Request number h = tt
 carries_quoted Reply number h = tt
 carries_quoted Error number h = tt
 
-carries_kind : (form : Form) (bytes : List ℕ) (number : ℕ) → form ≡ Error → CanCarry (kind_of form bytes) number → Carries (form_at (inner_at bytes) bytes) number
+carries_kind : (form : Form) (bytes : List ℕ) (number : ℕ) → form ≡ Error → CanCarry (kind_of form bytes) number →
+    Carries (form_at (inner_at bytes) bytes) number
 unfolding inner
 carries_kind Udp bytes number e h = cc
 carries_kind Tcp bytes number e h = cc
@@ -525,22 +705,26 @@ carries_kind Request bytes number e h = cc
 carries_kind Reply bytes number e h = cc
 carries_kind Error bytes number e h = carries_quoted (form_at (inner_at bytes) bytes) number h
 
-pub carries_inner : (bytes : List ℕ) (number : ℕ) → form_at 0 bytes ≡ Error → CanCarry (kind bytes) number → Carries (form_at (inner_at bytes) bytes) number
+pub carries_inner : (bytes : List ℕ) (number : ℕ) → form_at 0 bytes ≡ Error → CanCarry (kind bytes) number →
+    Carries (form_at (inner_at bytes) bytes) number
 unfolding kind
 carries_inner bytes number e h = carries_kind (form_at 0 bytes) bytes number e h
 
 -- the body of an error says where what it quotes stands
-body_error : (form : Form) (bytes : List ℕ) (quoted : Quoted) → body_of form bytes ≡ bodies.Error quoted → (form ≡ Error) × (quoted ≡ quoted_of bytes)
+body_error : (form : Form) (bytes : List ℕ) (quoted : Quoted) → body_of form bytes ≡ bodies.Error quoted →
+    (form ≡ Error) × (quoted ≡ quoted_of bytes)
 body_error Udp bytes quoted h = cc
 body_error Tcp bytes quoted h = cc
 body_error Request bytes quoted h = cc
 body_error Reply bytes quoted h = cc
 body_error Error bytes quoted h = (refl, cc)
 
-pub quoted_form : (bytes : List ℕ) (start : ℕ) (body : Body) (quoted : Quoted) → IsFound bytes start body → body ≡ bodies.Error quoted → (form_at 0 bytes ≡ Error) × (quoted ≡ quoted_of bytes)
+pub quoted_form : (bytes : List ℕ) (start : ℕ) (body : Body) (quoted : Quoted) → IsFound bytes start body →
+    body ≡ bodies.Error quoted → (form_at 0 bytes ≡ Error) × (quoted ≡ quoted_of bytes)
 quoted_form bytes start body quoted found h = body_error (form_at 0 bytes) bytes quoted (sym found.body_is ∙ h)
 
-pub not_error : (bytes : List ℕ) (start : ℕ) (body : Body) → IsFound bytes start body → form_at 0 bytes ≡ Error → ((quoted : Quoted) → body ≡ bodies.Error quoted → ⊥) → ⊥
+pub not_error : (bytes : List ℕ) (start : ℕ) (body : Body) → IsFound bytes start body → form_at 0 bytes ≡ Error →
+    ((quoted : Quoted) → body ≡ bodies.Error quoted → ⊥) → ⊥
 not_error bytes start body found e h = h (quoted_of bytes) (found.body_is ∙ ap (λ (f : Form). body_of f bytes) e)
 
 pub error_found : (side : Side) (start : ℕ) (body : Body) (old new : List ℕ) →
@@ -553,7 +737,9 @@ error_found side start body old new found form_is keeps =
     }
 
 -- all of that for a packet that the caller knows to be an error
-pub error_kept_of : (side : Side) (way : Way) (new : Endpoint) (bytes : List ℕ) → is_error (kind bytes) ≡ true → CanCarry (kind bytes) new.number → reading side bytes ≡ Ok bytes →
+pub error_kept_of : (side : Side) (way : Way) (new : Endpoint) (bytes : List ℕ) → is_error (kind bytes) ≡ true →
+    CanCarry (kind bytes) new.number → reading side bytes ≡ Ok bytes →
     KeepsError side bytes (changed (reverted_changes way new bytes) bytes)
 error_kept_of side way new bytes error number h =
-    error_kept side way new bytes (passes_error side bytes (passes_of_read side bytes bytes h) (error_of bytes error)) (carries_inner bytes new.number (error_of bytes error) number)
+    error_kept side way new bytes (passes_error side bytes (passes_of_read side bytes bytes h) (error_of bytes error))
+    (carries_inner bytes new.number (error_of bytes error) number)

@@ -33,7 +33,8 @@ abbrev pub has_bad_transport : Form → List ℕ → Bool
 has_bad_transport Udp payload =
     nat_lt (length payload) 8 || nat_lt (word_at 4 payload) 8 || nat_lt (length payload) (word_at 4 payload)
 has_bad_transport Tcp payload =
-    nat_lt (length payload) 20 || nat_lt (byte_at 12 payload / 16) 5 || nat_lt (length payload) (4 * (byte_at 12 payload / 16))
+    nat_lt (length payload) 20 || nat_lt (byte_at 12 payload / 16) 5 || nat_lt (length payload)
+    (4 * (byte_at 12 payload / 16))
 has_bad_transport Request payload = nat_lt (length payload) 8
 has_bad_transport Reply payload = nat_lt (length payload) 8
 has_bad_transport Error payload = nat_lt (length payload) 8

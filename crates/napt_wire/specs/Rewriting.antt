@@ -69,7 +69,8 @@ number_changes (Some place) form start old new bytes =
 -- an end of the datagram at a place becomes another
 unfoldable pub end_changes : ℕ → End → Endpoint → List ℕ → List Change
 end_changes at end new bytes =
-    number_changes (number_place (form_at at bytes) end) (form_at at bytes) (transport at bytes) (end_at at end bytes) new bytes
+    number_changes (number_place (form_at at bytes) end) (form_at at bytes) (transport at bytes)
+    (end_at at end bytes) new bytes
     ++ address_changes at end new.address bytes
 
 unfoldable pub with_source : Endpoint → List ℕ → List ℕ

@@ -37,10 +37,12 @@ covered_by Tcp at bytes =
     then None else Some (pseudo_words at size bytes ++ message_words at size bytes)
 covered_by Request at bytes =
     let size : ℕ = message_length at bytes in
-    if nat_lt size 6 || nat_lt (length bytes) (transport at bytes + size) then None else Some (message_words at size bytes)
+    if nat_lt size 6 || nat_lt (length bytes) (transport at bytes + size) then None
+    else Some (message_words at size bytes)
 covered_by Reply at bytes =
     let size : ℕ = message_length at bytes in
-    if nat_lt size 6 || nat_lt (length bytes) (transport at bytes + size) then None else Some (message_words at size bytes)
+    if nat_lt size 6 || nat_lt (length bytes) (transport at bytes + size) then None
+    else Some (message_words at size bytes)
 covered_by Error at bytes = None
 
 -- whether the transport checksum of the datagram at a place is right, where it is there with all that it

@@ -96,7 +96,8 @@ impl Packet {
     #[tactic(auto, unfolding(crate::specs::Fields::source))]
     pub fn source(&self) -> Endpoint
         ensures value { result ≡ source self.now }
-        ensures carried { is_error (kind self.now) ≡ false → CanCarry (kind self.now) result.number }
+        ensures carried { is_error (kind self.now) ≡ false →
+            CanCarry (kind self.now) result.number }
     {
         self.end(End::Source)
     }
@@ -158,7 +159,8 @@ impl Packet {
         requires plain { is_error (kind self.old) ≡ false }
         requires number { CanCarry (kind self.old) source.number }
         ensures value { self.new ≡ with_source source self.old }
-        ensures reads { (side : Side) → reading side self.old ≡ Ok self.old → reading side self.new ≡ Ok self.new }
+        ensures reads { (side : Side) → reading side self.old ≡ Ok self.old → reading side self.new
+            ≡ Ok self.new }
         // A transport checksum that is there with all that it covers is right exactly where it was.
         ensures right { transport_right 0 self.new ≡ transport_right 0 self.old }
     {
@@ -172,7 +174,8 @@ impl Packet {
         requires plain { is_error (kind self.old) ≡ false }
         requires number { CanCarry (kind self.old) destination.number }
         ensures value { self.new ≡ with_destination destination self.old }
-        ensures reads { (side : Side) → reading side self.old ≡ Ok self.old → reading side self.new ≡ Ok self.new }
+        ensures reads { (side : Side) → reading side self.old ≡ Ok self.old → reading side self.new
+            ≡ Ok self.new }
         // A transport checksum that is there with all that it covers is right exactly where it was.
         ensures right { transport_right 0 self.new ≡ transport_right 0 self.old }
     {
@@ -188,10 +191,12 @@ impl Packet {
         requires error { is_error (kind self.old) ≡ true }
         requires number { CanCarry (kind self.old) end.number }
         ensures value { self.new ≡ reverted way end self.old }
-        ensures reads { (side : Side) → reading side self.old ≡ Ok self.old → reading side self.new ≡ Ok self.new }
+        ensures reads { (side : Side) → reading side self.old ≡ Ok self.old → reading side self.new
+            ≡ Ok self.new }
         // So is the quoted datagram's; its IP checksum, the error's own and the ICMP checksum stay right,
         // since the packet reads.
-        ensures right { transport_right (inner_at self.old) self.new ≡ transport_right (inner_at self.old) self.old }
+        ensures right { transport_right (inner_at self.old) self.new
+            ≡ transport_right (inner_at self.old) self.old }
     {
         let Body::Error(quoted) = self.body else {
             unreachable!();
@@ -221,7 +226,8 @@ impl Packet {
         requires plain { is_error (kind self.old) ≡ false }
         requires number { CanCarry (kind self.old) new.number }
         ensures value { self.new ≡ changed (end_changes 0 end new self.old) self.old }
-        ensures reads { (side : Side) → reading side self.old ≡ Ok self.old → reading side self.new ≡ Ok self.new }
+        ensures reads { (side : Side) → reading side self.old ≡ Ok self.old → reading side self.new
+            ≡ Ok self.new }
         ensures right { transport_right 0 self.new ≡ transport_right 0 self.old }
     {
         let form = self.body.form();

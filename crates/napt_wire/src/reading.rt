@@ -47,7 +47,8 @@ pub(crate) fn read_datagram(side: Side, bytes: &[u8]) -> Result<Found, Cause>
 fn read_length(bytes: &[u8]) -> Result<usize, Cause>
     ensures checks { result_err result ≡ refusal (length_checks bytes.now) }
     ensures length { IfOk result (λ length. length ≡ total_length 0 bytes.now) }
-    ensures header { IfOk result (λ length. (20 ≤ header_length 0 bytes.now) × (header_length 0 bytes.now ≤ length)) }
+    ensures header { IfOk result (λ length. (20 ≤ header_length 0 bytes.now)
+        × (header_length 0 bytes.now ≤ length)) }
     ensures whole { IfOk result (λ total. total ≤ length bytes.now) }
 {
     if bytes.len() < 20 {

@@ -96,7 +96,8 @@ impl AddressRewrite {
 
     /// A checksum that covers each of the words that are replaced.
     fn fix(&self, check: u16) -> u16
-        ensures { result ≡ canon check (olds (address_changes_of self.now)) (news (address_changes_of self.now)) }
+        ensures { result ≡ canon check (olds (address_changes_of self.now))
+            (news (address_changes_of self.now)) }
     {
         let fixed = self.header_check.fix(check);
         let fixed = self.high.fix(fixed);

@@ -7,4 +7,5 @@ pub returns-clause-set : goal.returns-clause-set
 returns-clause-set c = ap (λ (b : ℕ). b == 1) (bit_at_set_same w64 c.args.word c.args.k c.requires)
 
 pub returns-clause-others : goal.returns-clause-others
-returns-clause-others c i differs = ap (λ (b : ℕ). b == 1) (bit_at_set_other w64 c.args.word c.args.k c.requires i differs)
+returns-clause-others c i differs =
+    ap (λ (b : ℕ). b == 1) (bit_at_set_other w64 c.args.word c.args.k c.requires i differs)

@@ -7,4 +7,5 @@ pub returns-clause-clear : goal.returns-clause-clear
 returns-clause-clear c = ap (λ (b : ℕ). b == 1) (bit_at_clear_same w64 c.args.word c.args.k c.requires)
 
 pub returns-clause-others : goal.returns-clause-others
-returns-clause-others c i lt differs = ap (λ (b : ℕ). b == 1) (bit_at_clear_other w64 c.args.word c.args.k c.requires i lt differs)
+returns-clause-others c i lt differs =
+    ap (λ (b : ℕ). b == 1) (bit_at_clear_other w64 c.args.word c.args.k c.requires i lt differs)

@@ -8,17 +8,20 @@ use lib.Seq.{take-add, take-append-le}
 use Rattle.napt_capture.proofs.reading.fill.Goals as goal
 
 -- the first bytes, and those behind them up to b
-take_split : (a b : ℕ) (old new : List ℕ) → a ≤ b → take a new ≡ take a old → take a old ++ slice_range new a b ≡ take b new
+take_split : (a b : ℕ) (old new : List ℕ) → a ≤ b → take a new ≡ take a old → take a old ++ slice_range new a b
+    ≡ take b new
 take_split a b old new h front =
     let same : a + (b - a) ≡ b = omega arith in
     ap (λ l. l ++ slice_range new a b) (sym front) ∙ sym (take-add a (b - a) new) ∙ ap (λ n. take n new) same
 
 -- what was put from place a on stands there
-slice_range-put_mid : (a k n : ℕ) (xs ys : List ℕ) → a ≤ length xs → n ≤ length ys → slice_range (put_mid a k xs ys) a (a + n) ≡ take n ys
+slice_range-put_mid : (a k n : ℕ) (xs ys : List ℕ) → a ≤ length xs → n ≤ length ys →
+    slice_range (put_mid a k xs ys) a (a + n) ≡ take n ys
 slice_range-put_mid a k n xs ys within fits =
     let same : (a + n) - a ≡ n = omega arith in
     let after = post_of a k xs in
-    ap (take ((a + n) - a)) (drop_at (take a xs) (ys ++ after) a (length-take-le a xs within)) ∙ ap (λ m. take m (ys ++ after)) same ∙ take-append-le n ys after fits
+    ap (take ((a + n) - a)) (drop_at (take a xs) (ys ++ after) a (length-take-le a xs within))
+    ∙ ap (λ m. take m (ys ++ after)) same ∙ take-append-le n ys after fits
 
 pub loop-filled-preserved : goal.loop-filled-preserved
 loop-filled-preserved g c =
@@ -26,6 +29,13 @@ loop-filled-preserved g c =
     let room = length c.loop-filled.buffer - from in
     let count = c.in_ok-count.count in
     let within = c.loop-filled.invariant.0 in
-    let part = slice_range-put_mid from room count c.loop-filled.buffer c.read.new.buffer within c.in_ok-count.ensures.bound.0 in
-    let joined = take_split from (from + count) c.loop-filled.buffer (put_mid from room c.loop-filled.buffer c.read.new.buffer) (omega arith) (take-put_mid_below _ _ _ _ _ (le_refl _) within) in
-    (search rules, subst (Consumes _ _) (ap (λ l. take from c.loop-filled.buffer ++ l) (sym part) ∙ joined) (Consumes-trans _ _ _ _ _ c.loop-filled.invariant.1 c.in_ok-count.ensures.bytes.0), search rules)
+    let part = slice_range-put_mid from room count c.loop-filled.buffer c.read.new.buffer within
+    c.in_ok-count.ensures.bound.0 in
+    let joined = take_split from (from + count) c.loop-filled.buffer
+    (put_mid from room c.loop-filled.buffer c.read.new.buffer) (omega arith)
+    (take-put_mid_below _ _ _ _ _ (le_refl _) within) in (
+      search rules,
+      subst (Consumes _ _) (ap (λ l. take from c.loop-filled.buffer ++ l) (sym part) ∙ joined)
+          (Consumes-trans _ _ _ _ _ c.loop-filled.invariant.1 c.in_ok-count.ensures.bytes.0),
+      search rules,
+    )

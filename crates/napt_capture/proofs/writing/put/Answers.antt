@@ -11,18 +11,27 @@ use Rattle.napt_capture.specs.declared.device.DeviceFault.{DeviceFault}
 use Rattle.napt_capture.proofs.writing.put.Goals as goal
 
 -- a write of the rest that took some bytes
-takes_more : (r : Result ℕ DeviceFault) (old mid new : Option (List ℕ)) (bytes : List ℕ) (done count failed-0 failed-1 failed-2 : ℕ)
-    → count ≡ result_unwrap_or r 0 → (count ≡ 0 → ⊥) → WritesAtMost r (drop done bytes) → WriteAppends mid new r (drop done bytes)
+takes_more : (r : Result ℕ DeviceFault) (old mid new : Option (List ℕ)) (bytes : List ℕ)
+    (done count failed-0 failed-1 failed-2 : ℕ)
+    → count ≡ result_unwrap_or r 0 → (count ≡ 0 → ⊥) → WritesAtMost r (drop done bytes) →
+    WriteAppends mid new r (drop done bytes)
     → failed-2 ≡ failed-1 + failed_writes r (drop done bytes)
     → done ≤ length bytes → Appends old mid (take done bytes) → failed-1 ≡ failed-0
     → (done + count ≤ length bytes) × Appends old new (take (done + count) bytes) × (failed-2 ≡ failed-0)
-takes_more (Err _) old mid new bytes done count f0 f1 f2 is some most appended counted within before same = absurd (some is)
-takes_more (Ok zero) old mid new bytes done count f0 f1 f2 is some most appended counted within before same = absurd (some is)
+takes_more (Err _) old mid new bytes done count f0 f1 f2 is some most appended counted within before same =
+    absurd (some is)
+takes_more (Ok zero) old mid new bytes done count f0 f1 f2 is some most appended counted within before same =
+    absurd (some is)
 takes_more (Ok (suc n)) old mid new bytes done count f0 f1 f2 is some most appended counted within before same =
     let all : take done bytes ++ take (suc n) (drop done bytes) ≡ take (done + count) bytes =
     sym (take-add done (suc n) bytes) ∙ ap (λ m. take (done + m) bytes) (sym is) in
-    let none : failed_writes {E = DeviceFault} (Ok (suc n)) (drop done bytes) ≡ 0 = let isnt : nat_eq (suc n) 0 ≡ false = search rules in rw isnt refl in
-    (omega (arith, is, most, length-drop done bytes), subst (Appends old new) all (Appends-trans old mid new _ _ before appended), omega (arith, counted, none, same))
+    let none : failed_writes {E = DeviceFault} (Ok (suc n)) (drop done bytes) ≡ 0 = let isnt : nat_eq (suc n) 0
+    ≡ false = search rules in rw isnt refl in (
+      omega (arith, is, most, length-drop done bytes),
+      subst (Appends old new) all
+          (Appends-trans old mid new _ _ before appended),
+      omega (arith, counted, none, same),
+    )
 
 pub loop-done-preserved : goal.loop-done-preserved
 loop-done-preserved g c =
@@ -33,6 +42,8 @@ loop-done-preserved g c =
     let before = g.W.Sink.failed c.loop-done.writer in
     let after = g.W.Sink.failed c.write.new.self in
     let counted = subst (λ part. after ≡ before + failed_writes c.write.result part) rest call.count in
-    takes_more c.write.result _ _ _ bytes done c.unwrap_or-count.result _ _ _ c.unwrap_or-count.ensures c.if-count-eq0.false
-    (subst (WritesAtMost c.write.result) rest call.bound) (subst (WriteAppends _ _ c.write.result) rest call.bytes) counted
+    takes_more c.write.result _ _ _ bytes done c.unwrap_or-count.result _ _ _ c.unwrap_or-count.ensures
+    c.if-count-eq0.false
+    (subst (WritesAtMost c.write.result) rest call.bound) (subst (WriteAppends _ _ c.write.result) rest call.bytes)
+    counted
     c.loop-done.invariant.0 c.loop-done.invariant.1 c.loop-done.invariant.2

@@ -10,10 +10,13 @@ pub returns-in_err-written-clause-puts : goal.returns-in_err-written-clause-puts
 unfolding record_text
 returns-in_err-written-clause-puts g c =
     let p = err_from_is_err_and c.from_residual.result c.from_residual.ensures.1 in
-    rw (p.1, p.2, ← c.record_header.ensures) (PutsFront-longer c.record_header.result c.args.packet.now.bytes c.in_err-written.ensures.puts)
+    rw (p.1, p.2, ← c.record_header.ensures)
+    (PutsFront-longer c.record_header.result c.args.packet.now.bytes c.in_err-written.ensures.puts)
 
 pub returns-clause-puts : goal.returns-clause-puts
 unfolding record_text
 returns-clause-puts g c =
-    let bytes : c.deref.result.now ≡ c.args.packet.now.bytes = c.deref.ensures.value ∙ ap (λ (e : Entry). e.bytes) c.packet.view_is in
-    rw (← c.record_header.ensures, ← bytes) (Puts-append _ _ _ c.record_header.result c.deref.result.now c.put-2.result c.in_ok-written.ensures.puts c.put-2.ensures.puts)
+    let bytes : c.deref.result.now ≡ c.args.packet.now.bytes = c.deref.ensures.value
+    ∙ ap (λ (e : Entry). e.bytes) c.packet.view_is in
+    rw (← c.record_header.ensures, ← bytes) (Puts-append _ _ _ c.record_header.result c.deref.result.now c.put-2.result
+    c.in_ok-written.ensures.puts c.put-2.ensures.puts)

@@ -35,15 +35,18 @@ loop-packet-init g c = (c.in_ok-written.ensures.puts, search rules)
 
 pub put_record-requires-clause-room : goal.put_record-requires-clause-room
 put_record-requires-clause-room g c =
-    text_of_first-room c.loop-packet.packet-index c.args.records.now c.packet-item.result _ c.loop-packet-test.true c.packet-item.is c.requires.few c.requires.writable c.loop-packet.invariant.0.counted
+    text_of_first-room c.loop-packet.packet-index c.args.records.now c.packet-item.result _ c.loop-packet-test.true
+    c.packet-item.is c.requires.few c.requires.writable c.loop-packet.invariant.0.counted
 
 pub returns-in_err-written-2-clause-err : goal.returns-in_err-written-2-clause-err
 returns-in_err-written-2-clause-err g c =
     let i = c.loop-packet.packet-index in
     let all = c.args.records.now in
     let p = err_from_is_err_and c.from_residual-in_err-written-2.result c.from_residual-in_err-written-2.ensures.1 in
-    let both = PutsFront-append (text_of_first i all) (record_text c.packet-item.result) c.loop-packet.invariant.0 c.in_err-written-2.ensures.puts in
-    let more = PutsFront-same (text_of_first-more i all c.packet-item.result c.loop-packet-test.true c.packet-item.is) both in
+    let both = PutsFront-append (text_of_first i all) (record_text c.packet-item.result) c.loop-packet.invariant.0
+    c.in_err-written-2.ensures.puts in
+    let more = PutsFront-same (text_of_first-more i all c.packet-item.result c.loop-packet-test.true c.packet-item.is)
+    both in
     let front = PutsFront-same (sym (text-split (i + 1) all)) (PutsFront-longer (text_of_first (i + 1) all) _ more) in
     rw (p.1, p.2) (PutsFront-fault (text all) front)
 
@@ -51,17 +54,22 @@ pub loop-packet-preserved : goal.loop-packet-preserved
 loop-packet-preserved g c =
     let i = c.loop-packet.packet-index in
     let all = c.args.records.now in
-    let both = PutsAll-append (text_of_first i all) (record_text c.packet-item.result) c.loop-packet.invariant.0 c.in_ok-written-2.ensures.puts in
-    (PutsAll-same (text_of_first-more i all c.packet-item.result c.loop-packet-test.true c.packet-item.is) both, search rules)
+    let both = PutsAll-append (text_of_first i all) (record_text c.packet-item.result) c.loop-packet.invariant.0
+    c.in_ok-written-2.ensures.puts in (
+      PutsAll-same (text_of_first-more i all c.packet-item.result c.loop-packet-test.true c.packet-item.is) both,
+      search rules,
+    )
 
 pub returns-clause-ok : goal.returns-clause-ok
 returns-clause-ok g c =
     let all = c.args.records.now in
-    let whole = PutsAll-same (text_of_first-all c.loop-packet.packet-index all c.loop-packet-test.false) c.loop-packet.invariant.0 in
+    let whole = PutsAll-same (text_of_first-all c.loop-packet.packet-index all c.loop-packet-test.false)
+    c.loop-packet.invariant.0 in
     flushed_ok _ _ _ c.finish.result (text all) whole c.finish.ensures.bytes
 
 pub returns-clause-err : goal.returns-clause-err
 returns-clause-err g c =
     let all = c.args.records.now in
-    let whole = PutsAll-same (text_of_first-all c.loop-packet.packet-index all c.loop-packet-test.false) c.loop-packet.invariant.0 in
+    let whole = PutsAll-same (text_of_first-all c.loop-packet.packet-index all c.loop-packet-test.false)
+    c.loop-packet.invariant.0 in
     flushed_err _ _ _ c.finish.result (text all) whole c.finish.ensures.bytes c.finish.ensures.fault

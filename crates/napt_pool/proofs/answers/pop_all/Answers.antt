@@ -7,5 +7,6 @@ use Rattle.napt_pool.proofs.answers.pop_all.Goals as goal
 
 pub unreachable-requires : goal.unreachable-requires
 unreachable-requires g c =
-    let stopped : Stopped c.in_default.field-0 ∷ known_items c.pop_known.new.self ≡ map Done (answers_of (known_items c.loop.answers)) = cc in
+    let stopped : Stopped c.in_default.field-0 ∷ known_items c.pop_known.new.self
+    ≡ map Done (answers_of (known_items c.loop.answers)) = cc in
     no_stop c.in_default.field-0 (known_items c.pop_known.new.self) (answers_of (known_items c.loop.answers)) stopped

@@ -6,7 +6,8 @@ use Rattle.napt_pool.proofs.joining.close_all.Given as goal
 
 abbrev pub invariant-loop-worker : goal.invariant-loop-worker
 invariant-loop-worker g l =
-    let rest = into_iter_items l.worker-iterator in let all = into_iter_items l.initial.worker-iterator in let done = vec_items l.into in
+    let rest = into_iter_items l.worker-iterator in let all = into_iter_items l.initial.worker-iterator in let done =
+    vec_items l.into in
     record {
       room : vec_len l.into + into_iter_len l.worker-iterator ≤ vec_capacity l.into;
       machines : map closing_machine done ++ map machine_of rest ≡ map machine_of all;

@@ -6,7 +6,8 @@ use Rattle.napt_pool.proofs.starting.start_all.Given as goal
 
 abbrev pub invariant-loop-machine : goal.invariant-loop-machine
 invariant-loop-machine g l =
-    let rest = into_iter_items l.machine-iterator in let all = into_iter_items l.initial.machine-iterator in let done = vec_items l.workers in
+    let rest = into_iter_items l.machine-iterator in let all = into_iter_items l.initial.machine-iterator in let done =
+    vec_items l.workers in
     record {
       count : vec_len l.workers + into_iter_len l.machine-iterator ≡ into_iter_len l.initial.machine-iterator;
       room : vec_len l.workers + into_iter_len l.machine-iterator ≤ vec_capacity l.workers;

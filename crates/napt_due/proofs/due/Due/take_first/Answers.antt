@@ -6,4 +6,5 @@ pub returns-clause-some : goal.returns-clause-some
 returns-clause-some c = rw (← c.self.view_is) (IsPermutation-map (λ e. e.0) _ _ c.in_ok-entry.ensures.permutation)
 
 pub returns-clause-least : goal.returns-clause-least
-returns-clause-least c = rw (← c.self.view_is) (least_of c.in_ok-entry.field-0 _ (c.in_ok-entry.ensures.heap_order c.self.invariant).1)
+returns-clause-least c =
+    rw (← c.self.view_is) (least_of c.in_ok-entry.field-0 _ (c.in_ok-entry.ensures.heap_order c.self.invariant).1)

@@ -22,13 +22,16 @@ returns-then-not-is_told g c =
 
 pub settle-requires-clause-answered : goal.settle-requires-clause-answered
 settle-requires-clause-answered g c κs within =
-    known_on_ok g.M.Machine _ _ _ _ _ _ c.join-left-2.result.end c.join-left-2.ensures.served (c.slots_beside-2.ensures.fifo ∙ c.slots_beside-2.ensures.producer.1)
+    known_on_ok g.M.Machine _ _ _ _ _ _ c.join-left-2.result.end c.join-left-2.ensures.served
+    (c.slots_beside-2.ensures.fifo ∙ c.slots_beside-2.ensures.producer.1)
 
 pub settle-requires-clause-room : goal.settle-requires-clause-room
 settle-requires-clause-room g c κs within =
     room_on_ok g.M.Machine _ _ _ _ _ _ _ _ _ _ _ _ c.join-left-2.result.end c.join-left-2.ensures.served
-    c.slots_beside-3.ensures.looked.1 c.slots_beside-3.ensures.fifo (c.slots_beside-3.ensures.producer.1 ∙ c.args.self.closed (search rules))
-    c.slots_beside-2.ensures.looked.1 (c.slots_beside-2.ensures.fifo ∙ c.slots_beside-2.ensures.producer.1) c.args.self.in_room
+    c.slots_beside-3.ensures.looked.1 c.slots_beside-3.ensures.fifo (c.slots_beside-3.ensures.producer.1
+    ∙ c.args.self.closed (search rules))
+    c.slots_beside-2.ensures.looked.1 (c.slots_beside-2.ensures.fifo ∙ c.slots_beside-2.ensures.producer.1)
+    c.args.self.in_room
 
 pub returns : goal.returns
 returns g c =
@@ -41,11 +44,16 @@ returns g c =
     let fifo = c.slots_beside-3.ensures.fifo in
     let closed = c.slots_beside-3.ensures.producer.1 ∙ c.args.self.closed (search rules) in
     record {
-      machine_is = machine_if_ok g.M.Machine _ _ _ _ _ _ _ _ _ (λ e. e.machine) c.settle.result end is worked.served unmoved fifo closed c.settle.ensures.machine;
-      answers_are = answers_if_ok g.M.Machine _ _ _ _ _ _ _ _ _ (λ e. e.answers.items) _ _ _ c.settle.result end is worked.served unmoved fifo closed same looked
+      machine_is = machine_if_ok g.M.Machine _ _ _ _ _ _ _ _ _ (λ e. e.machine) c.settle.result end is worked.served
+          unmoved fifo closed c.settle.ensures.machine;
+      answers_are = answers_if_ok g.M.Machine _ _ _ _ _ _ _ _ _ (λ e. e.answers.items) _ _ _ c.settle.result end is
+          worked.served unmoved fifo closed same looked
           c.settle.ensures.answers;
       gate = λ is_open. gate_if_err _ _ c.settle.result end is (worked.gate is_open);
-      told = λ s heard. told_if_end _ c.settle.result end s is (told_end g.M.Machine _ _ _ _ _ _ _ end worked.served worked.stopped same looked s heard);
-      has_received = has_received_on_ok g.M.Machine g.G.Gate.is_open _ c.join-left-2.result c.settle.result _ _ _ _ worked is unmoved fifo closed;
-      has_broken_off = has_broken_off_if_err g.M.Machine g.G.Gate.is_open _ c.join-left-2.result c.settle.result worked is;
+      told = λ s heard. told_if_end _ c.settle.result end s is
+          (told_end g.M.Machine _ _ _ _ _ _ _ end worked.served worked.stopped same looked s heard);
+      has_received = has_received_on_ok g.M.Machine g.G.Gate.is_open _ c.join-left-2.result c.settle.result _ _ _ _
+          worked is unmoved fifo closed;
+      has_broken_off = has_broken_off_if_err g.M.Machine g.G.Gate.is_open _ c.join-left-2.result c.settle.result worked
+          is;
     }

@@ -17,10 +17,12 @@ returns-clause-heard g c = map-kept heard_of _ _ _ _ c.index_mut-worker.ensures.
 pub returns-clause-accepted : goal.returns-clause-accepted
 returns-clause-accepted g c =
     let below : c.args.w < length c.args.self.now.workers.items = grind (arith, common_steps) in
-    grown_on_ok accepted_of c.args.self.now.workers.items c.args.w c.offer.new.self c.index_mut-worker.result.now c.index_mut-worker.ensures.value
+    grown_on_ok accepted_of c.args.self.now.workers.items c.args.w c.offer.new.self c.index_mut-worker.result.now
+    c.index_mut-worker.ensures.value
     c.offer.result c.args.item below c.offer.ensures.accepted
 
 pub returns-clause-refused : goal.returns-clause-refused
 returns-clause-refused g c =
-    kept_if_err accepted_of c.args.self.now.workers.items c.args.w c.offer.new.self c.index_mut-worker.result.now c.index_mut-worker.ensures.value
+    kept_if_err accepted_of c.args.self.now.workers.items c.args.w c.offer.new.self c.index_mut-worker.result.now
+    c.index_mut-worker.ensures.value
     (λ e. item_back e ≡ c.args.item) c.offer.result c.offer.ensures.refused

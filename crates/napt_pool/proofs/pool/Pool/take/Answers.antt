@@ -15,18 +15,21 @@ pub returns-in-Ok-clause-accepts : goal.returns-in-Ok-clause-accepts
 returns-in-Ok-clause-accepts g c = map-kept accepted_of _ _ _ _ c.index_mut-worker.ensures.value c.take.ensures.accepted
 
 pub returns-in-Err-clause-accepts : goal.returns-in-Err-clause-accepts
-returns-in-Err-clause-accepts g c = map-kept accepted_of _ _ _ _ c.index_mut-worker.ensures.value c.take.ensures.accepted
+returns-in-Err-clause-accepts g c =
+    map-kept accepted_of _ _ _ _ c.index_mut-worker.ensures.value c.take.ensures.accepted
 
 pub returns-in-Ok-clause-some : goal.returns-in-Ok-clause-some
 returns-in-Ok-clause-some g c =
     let below : c.args.w < length c.args.self.now.workers.items = grind (arith, common_steps) in
-    grown_if_some taken_of c.args.self.now.workers.items c.args.w c.take.new.self c.index_mut-worker.result.now c.index_mut-worker.ensures.value
+    grown_if_some taken_of c.args.self.now.workers.items c.args.w c.take.new.self c.index_mut-worker.result.now
+    c.index_mut-worker.ensures.value
     (λ a. a) c.in-Ok.answer below c.in-Ok.ensures.some
 
 pub returns-in-Ok-clause-silent : goal.returns-in-Ok-clause-silent
 returns-in-Ok-clause-silent g c =
     let below : c.args.w < length c.args.self.now.workers.items = grind (arith, common_steps) in
-    grown_if_some heard_of c.args.self.now.workers.items c.args.w c.take.new.self c.index_mut-worker.result.now c.index_mut-worker.ensures.value
+    grown_if_some heard_of c.args.self.now.workers.items c.args.w c.take.new.self c.index_mut-worker.result.now
+    c.index_mut-worker.ensures.value
     (λ a. Done a) c.in-Ok.answer below c.in-Ok.ensures.heard
 
 pub returns-in-Err-clause-err : goal.returns-in-Err-clause-err
@@ -37,7 +40,8 @@ returns-in-Err-clause-told g c =
     let below : c.args.w < length c.args.self.now.workers.items = grind (arith, common_steps) in
     record {
       stop = c.in-Err.stop;
-      heard_is = map-grown heard_of c.args.self.now.workers.items c.args.w c.take.new.self c.index_mut-worker.result.now _ below
+      heard_is = map-grown heard_of c.args.self.now.workers.items c.args.w c.take.new.self c.index_mut-worker.result.now
+          _ below
           c.index_mut-worker.ensures.value c.in-Err.ensures.told;
       fault_is = c.of_worker.ensures;
     }

@@ -6,9 +6,11 @@ pub loop-preserved-in-Ok-Work : goal.loop-preserved-in-Ok-Work
 loop-preserved-in-Ok-Work g c = record {
   same_items = search rules;
   same_answers = search rules;
-  serving = Serving-step g.M.Machine _ _ _ _ _ _ _ c.in-Ok-Work.item c.loop.invariant.serving (search rules) (search rules) (search rules);
+  serving = Serving-step g.M.Machine _ _ _ _ _ _ _ c.in-Ok-Work.item c.loop.invariant.serving (search rules)
+      (search rules) (search rules);
 }
 
 pub returns-in_err-answer-in-Ok-Work-clause-stopped : goal.returns-in_err-answer-in-Ok-Work-clause-stopped
 returns-in_err-answer-in-Ok-Work-clause-stopped g c =
-    HasStopped-if_err g.M.Machine _ _ _ _ _ _ c.in-Ok-Work.item c.from_residual.result c.loop.invariant.serving (search rules) (search rules)
+    HasStopped-if_err g.M.Machine _ _ _ _ _ _ c.in-Ok-Work.item c.from_residual.result c.loop.invariant.serving
+    (search rules) (search rules)

@@ -9,7 +9,8 @@ pub read_ends-requires-clause-room : goal.read_ends-requires-clause-room
 read_ends-requires-clause-room c =
     let (side, reads) = c.self.invariant.reads in
     let bytes : List ℕ = c.self.inside.bytes.items in
-    let quoted = quoted_form bytes c.self.inside.start c.self.inside.body c.in-Error.field-0 c.self.invariant.found c.in-Error.is in
+    let quoted = quoted_form bytes c.self.inside.start c.self.inside.body c.in-Error.field-0 c.self.invariant.found
+    c.in-Error.is in
     let passes = passes_error side bytes (passes_of_read side bytes bytes reads) quoted.0 in
     rw (c.from-at.ensures, c.deref.ensures.value, c.self.invariant.found.start_is)
     (inner_room side (inner_at bytes) bytes passes.inner_good)
@@ -18,6 +19,13 @@ pub returns-in-Error : goal.returns-in-Error
 unfolding kind inner
 returns-in-Error c =
     let bytes : List ℕ = c.self.inside.bytes.items in
-    let quoted = quoted_form bytes c.self.inside.start c.self.inside.body c.in-Error.field-0 c.self.invariant.found c.in-Error.is in
-    rw (c.read_ends.ensures, c.from-at.ensures, c.deref.ensures.value, c.self.invariant.found.start_is, ← c.self.view_is)
+    let quoted = quoted_form bytes c.self.inside.start c.self.inside.body c.in-Error.field-0 c.self.invariant.found
+    c.in-Error.is in
+    rw (
+      c.read_ends.ensures,
+      c.from-at.ensures,
+      c.deref.ensures.value,
+      c.self.invariant.found.start_is,
+      ← c.self.view_is,
+    )
     (sym (ap (λ (form : Form). kind_of form bytes) quoted.0))

@@ -18,33 +18,42 @@ pub of-rewrite-requires-clause-room : goal.of-rewrite-requires-clause-room
 of-rewrite-requires-clause-room c = rw c.deref.ensures.value (room_of_packet _ c.self.invariant.reads)
 
 -- the packet passes as an error, before and after
-passes : (c : After-into-2) (side : Side) → reading side c.self.inside.bytes.items ≡ Ok c.self.inside.bytes.items → PassesError side c.self.inside.bytes.items
+passes : (c : After-into-2) (side : Side) → reading side c.self.inside.bytes.items ≡ Ok c.self.inside.bytes.items →
+    PassesError side c.self.inside.bytes.items
 passes c side h =
-    passes_error side c.self.inside.bytes.items (passes_of_read side c.self.inside.bytes.items c.self.inside.bytes.items h)
+    passes_error side c.self.inside.bytes.items (passes_of_read side c.self.inside.bytes.items c.self.inside.bytes.items
+    h)
     (error_of c.self.inside.bytes.items (rw c.self.view_is c.requires.error))
 
 pub of-rewrite-requires-clause-inner_room : goal.of-rewrite-requires-clause-inner_room
 of-rewrite-requires-clause-inner_room c =
-    rw c.deref.ensures.value (inner_room c.self.invariant.reads.0 _ _ (passes c c.self.invariant.reads.0 c.self.invariant.reads.1).inner_good)
+    rw c.deref.ensures.value (inner_room c.self.invariant.reads.0 _ _
+    (passes c c.self.invariant.reads.0 c.self.invariant.reads.1).inner_good)
 
 pub write-requires : goal.write-requires
 write-requires c =
-    let passed = passes_error c.self.invariant.reads.0 c.self.inside.bytes.items (passes_of_read c.self.invariant.reads.0 c.self.inside.bytes.items c.self.inside.bytes.items c.self.invariant.reads.1)
+    let passed = passes_error c.self.invariant.reads.0 c.self.inside.bytes.items
+    (passes_of_read c.self.invariant.reads.0 c.self.inside.bytes.items c.self.inside.bytes.items
+    c.self.invariant.reads.1)
     (error_of c.self.inside.bytes.items (rw c.self.view_is c.requires.error)) in
     rw (c.of-rewrite.ensures, c.deref_mut.ensures.value, c.deref.ensures.value)
     (error_there c.self.invariant.reads.0 c.args.way c.args.end c.self.inside.bytes.items passed)
 
 -- what the vector holds at the end
-held : (c : After-self-1) → take c.self.inside.bytes.len (c.write.new.bytes ++ drop (length c.write.new.bytes) c.self.inside.bytes.items)
+held : (c : After-self-1) →
+    take c.self.inside.bytes.len (c.write.new.bytes ++ drop (length c.write.new.bytes) c.self.inside.bytes.items)
     ≡ changed (reverted_changes c.args.way c.args.end c.self.inside.bytes.items) c.self.inside.bytes.items
 held c =
-    vec-changed c.self.inside.bytes.items c.write.new.bytes c.self.inside.bytes.len (reverted_changes c.args.way c.args.end c.self.inside.bytes.items)
+    vec-changed c.self.inside.bytes.items c.write.new.bytes c.self.inside.bytes.len
+    (reverted_changes c.args.way c.args.end c.self.inside.bytes.items)
     (sym (ap length c.deref.ensures.value) ∙ c.deref.ensures.len)
     (rw (c.write.ensures, c.of-rewrite.ensures, c.deref_mut.ensures.value, c.deref.ensures.value) refl)
 
 kept_for : (c : After-self-1) (side : Side) → reading side c.self.inside.bytes.items ≡ Ok c.self.inside.bytes.items →
-    KeepsError side c.self.inside.bytes.items (changed (reverted_changes c.args.way c.args.end c.self.inside.bytes.items) c.self.inside.bytes.items)
-kept_for c side h = error_kept_of side c.args.way c.args.end c.self.inside.bytes.items (rw c.self.view_is c.requires.error) (rw c.self.view_is c.requires.number) h
+    KeepsError side c.self.inside.bytes.items
+    (changed (reverted_changes c.args.way c.args.end c.self.inside.bytes.items) c.self.inside.bytes.items)
+kept_for c side h = error_kept_of side c.args.way c.args.end c.self.inside.bytes.items
+    (rw c.self.view_is c.requires.error) (rw c.self.view_is c.requires.number) h
 
 pub invariant_of-self : goal.invariant_of-self
 invariant_of-self c =
@@ -61,11 +70,13 @@ invariant_of-self c =
 
 pub returns-clause-value : goal.returns-clause-value
 unfolding reverted
-returns-clause-value c = held c ∙ ap (λ (bytes : List ℕ). changed (reverted_changes c.args.way c.args.end bytes) bytes) c.self.view_is
+returns-clause-value c = held c ∙ ap (λ (bytes : List ℕ). changed (reverted_changes c.args.way c.args.end bytes) bytes)
+    c.self.view_is
 
 pub returns-clause-reads : goal.returns-clause-reads
 returns-clause-reads c = λ side h.
-    rw (held c) (reads_of_passes side (changed (reverted_changes c.args.way c.args.end c.self.inside.bytes.items) c.self.inside.bytes.items) (kept_for c side (rw c.self.view_is h)).passes)
+    rw (held c) (reads_of_passes side (changed (reverted_changes c.args.way c.args.end c.self.inside.bytes.items)
+    c.self.inside.bytes.items) (kept_for c side (rw c.self.view_is h)).passes)
 
 pub returns-clause-right : goal.returns-clause-right
 returns-clause-right c =
@@ -73,5 +84,6 @@ returns-clause-right c =
     let form_is = error_of bytes (rw c.self.view_is c.requires.error) in
     rw (held c, ← c.self.view_is)
     (error_right c.self.invariant.reads.0 c.args.way c.args.end bytes
-    (passes_error c.self.invariant.reads.0 bytes (passes_of_read c.self.invariant.reads.0 bytes bytes c.self.invariant.reads.1) form_is)
+    (passes_error c.self.invariant.reads.0 bytes
+    (passes_of_read c.self.invariant.reads.0 bytes bytes c.self.invariant.reads.1) form_is)
     (carries_inner bytes c.args.end.number form_is (rw c.self.view_is c.requires.number)))

@@ -18,15 +18,19 @@ write-requires c =
     (end-there 0 c.args.end c.args.new c.self.inside.bytes.items (room_of_packet _ c.self.invariant.reads))
 
 -- what the vector holds at the end
-is_new : (c : goal.After-self-1) → take c.self.inside.bytes.len (c.write.new.bytes ++ drop (length c.write.new.bytes) c.self.inside.bytes.items)
+is_new : (c : goal.After-self-1) → take c.self.inside.bytes.len (c.write.new.bytes
+    ++ drop (length c.write.new.bytes) c.self.inside.bytes.items)
     ≡ changed (end_changes 0 c.args.end c.args.new c.self.inside.bytes.items) c.self.inside.bytes.items
 is_new c =
-    let new_is : c.write.new.bytes ≡ changed (end_changes 0 c.args.end c.args.new c.self.inside.bytes.items) c.self.inside.bytes.items =
+    let new_is : c.write.new.bytes ≡ changed (end_changes 0 c.args.end c.args.new c.self.inside.bytes.items)
+    c.self.inside.bytes.items =
     rw (c.write.ensures, c.of_end-rewrite.ensures, c.deref_mut.ensures.value, c.deref.ensures.value) refl in
     let long : length c.write.new.bytes ≡ c.self.inside.bytes.len =
-    ap length new_is ∙ length-changed (end_changes 0 c.args.end c.args.new c.self.inside.bytes.items) c.self.inside.bytes.items
+    ap length new_is ∙ length-changed (end_changes 0 c.args.end c.args.new c.self.inside.bytes.items)
+    c.self.inside.bytes.items
     ∙ sym (ap length c.deref.ensures.value) ∙ c.deref.ensures.len in
-    take_at c.write.new.bytes (drop (length c.write.new.bytes) c.self.inside.bytes.items) c.self.inside.bytes.len long ∙ new_is
+    take_at c.write.new.bytes (drop (length c.write.new.bytes) c.self.inside.bytes.items) c.self.inside.bytes.len long
+    ∙ new_is
 
 is_plain : (c : goal.After-self-1) → IsPlain (form_at 0 c.self.inside.bytes.items)
 is_plain c = plain_of c.self.inside.bytes.items (rw c.self.view_is c.requires.plain)
@@ -40,23 +44,31 @@ invariant_of-self c =
     let passes = passes_of_read side c.self.inside.bytes.items c.self.inside.bytes.items c.self.invariant.reads.1 in
     rw (is_new c)
     record {
-      reads = (side, reads_of_passes side _ (end_passes side c.args.end c.args.new c.self.inside.bytes.items passes (is_plain c) (carries c)));
-      found = end_found side c.args.end c.args.new c.self.inside.bytes.items _ _ passes (is_plain c) (carries c) c.self.invariant.found;
+      reads = (
+        side,
+        reads_of_passes side _ (end_passes side c.args.end c.args.new c.self.inside.bytes.items passes
+            (is_plain c) (carries c)),
+      );
+      found = end_found side c.args.end c.args.new c.self.inside.bytes.items _ _ passes (is_plain c)
+          (carries c) c.self.invariant.found;
     }
 
 pub returns-clause-value : goal.returns-clause-value
-returns-clause-value c = is_new c ∙ ap (λ (bytes : List ℕ). changed (end_changes 0 c.args.end c.args.new bytes) bytes) c.self.view_is
+returns-clause-value c = is_new c ∙ ap (λ (bytes : List ℕ). changed (end_changes 0 c.args.end c.args.new bytes) bytes)
+    c.self.view_is
 
 pub returns-clause-reads : goal.returns-clause-reads
 returns-clause-reads c = λ side h.
     rw (is_new c)
     (reads_of_passes side _
     (end_passes side c.args.end c.args.new c.self.inside.bytes.items
-    (passes_of_read side c.self.inside.bytes.items c.self.inside.bytes.items (rw c.self.view_is h)) (is_plain c) (carries c)))
+    (passes_of_read side c.self.inside.bytes.items c.self.inside.bytes.items (rw c.self.view_is h)) (is_plain c)
+    (carries c)))
 
 pub returns-clause-right : goal.returns-clause-right
 returns-clause-right c =
-    let passes = passes_of_read c.self.invariant.reads.0 c.self.inside.bytes.items c.self.inside.bytes.items c.self.invariant.reads.1 in
+    let passes = passes_of_read c.self.invariant.reads.0 c.self.inside.bytes.items c.self.inside.bytes.items
+    c.self.invariant.reads.1 in
     rw (is_new c, ← c.self.view_is)
     (end_right 0 c.args.end c.args.new c.self.inside.bytes.items (room_of_packet _ c.self.invariant.reads)
     (end_form c.self.invariant.reads.0 c.args.end c.args.new c.self.inside.bytes.items passes (carries c)))

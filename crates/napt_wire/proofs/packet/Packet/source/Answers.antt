@@ -10,4 +10,5 @@ unfolding source
 returns-clause-carried c = λ plain.
     let bytes : List ℕ = c.args.self.now in
     let (side, reads) = c.end.ensures.reads in
-    subst (λ (e : Endpoint). CanCarry (kind bytes) e.number) (sym c.end.ensures.value) (source-carried side bytes reads plain)
+    subst (λ (e : Endpoint). CanCarry (kind bytes) e.number) (sym c.end.ensures.value)
+    (source-carried side bytes reads plain)

@@ -5,4 +5,13 @@ use Rattle.napt_wire.proofs.rewrite.ErrorRewrite.of.Goals as goal
 pub returns : goal.returns
 unfolding reverted_changes
 returns c =
-    rw (c.of.ensures, c.of-2.ensures, c.fix-check.ensures, c.read_word.ensures, c.of_end-quoted.ensures, c.inner_end.ensures, c.outer_end.ensures, ← c.requires.start) refl
+    rw (
+      c.of.ensures,
+      c.of-2.ensures,
+      c.fix-check.ensures,
+      c.read_word.ensures,
+      c.of_end-quoted.ensures,
+      c.inner_end.ensures,
+      c.outer_end.ensures,
+      ← c.requires.start,
+    ) refl
