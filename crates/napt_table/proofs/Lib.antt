@@ -19,6 +19,7 @@ pub mod PartSteps
 pub mod TableSteps
 pub mod Opening
 pub mod Listed
+pub mod Hosts
 mod Slots
 mod Timed
 mod Manys
