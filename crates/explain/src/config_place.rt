@@ -344,7 +344,7 @@ fn expected_at(fault: ConfigFault, key: &str, field: &str) -> Option<&'static st
         (ConfigFault::BadAddress, "redirect", _) => Some("an endpoint, as `10.0.0.3:7000`"),
         (ConfigFault::BadAddress, _, _) => Some("an IPv4 address, as `203.0.113.1`"),
         (ConfigFault::BadNumber, "ring", _) => Some("1 to 4096"),
-        (ConfigFault::BadNumber, "quota", _) => Some("1 to 65535 (RFC 6888, REQ-4)"),
+        (ConfigFault::BadNumber, "quota", _) => Some("1 to 65535"),
         (ConfigFault::BadNumber, "redirect", _) => Some("a port, 1 to 65535"),
         (ConfigFault::BadNumber, _, _) => Some("0 to 1000000000 seconds"),
         (ConfigFault::BadWord, "filter", _) => Some("`independent`, `address` or `address-port`"),
