@@ -1,5 +1,6 @@
 pub mod Lists
 pub mod Locality
+pub mod Quotas
 pub mod StepsLocal
 pub mod Live
 pub mod Sound
