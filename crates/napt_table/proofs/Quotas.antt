@@ -1,6 +1,6 @@
 -- What is granted to a new binding is the choice, and needs the bindings of its address alone.
 use Rattle.std.proofs.Common.{◌≡◌, ℕ, Bool, true, false, not, ◌&&◌, cond, List, length, Option, Some, None, Result, Ok, Err, refl, ◌∙◌, ap, eqb}
-use Rattle.std.specs.Prelude.{filter, ok_or}
+use Rattle.std.specs.Prelude.{ok_or}
 use Rattle.std.proofs.lemmas.Bool.{and_parts}
 use Rattle.napt_wire.specs.declared.Protocol.{Protocol}
 use Rattle.napt_wire.specs.declared.Endpoint.{Endpoint}
