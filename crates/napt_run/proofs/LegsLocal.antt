@@ -30,11 +30,11 @@ pub record ActsAlike (rules : Rules) (address now : ℕ) (own whole : Acted) : T
 
 module _ (rules : Rules) (address now : ℕ) (own list : List Binding) (same : purge rules.timers now own ≡ of address (purge rules.timers now list)) where
   alike_out : (packet : List ℕ) (protocol : Protocol) (inside remote : Endpoint) (flags : Flags) →
-      (let o : List Binding → Out = λ l. out_purged address now protocol inside remote flags (purge rules.timers now l) in
+      (let o : List Binding → Out = λ l. out_purged rules.quota address now protocol inside remote flags (purge rules.timers now l) in
       ActsAlike rules address now (acted_out rules address packet (o own)) (acted_out rules address packet (o list)))
   alike_out packet protocol inside remote flags =
-      let e : out_purged address now protocol inside remote flags (purge rules.timers now own) ≡ record { number = (out_purged address now protocol inside remote flags (purge rules.timers now list)).number; list = of address (out_purged address now protocol inside remote flags (purge rules.timers now list)).list }
-      = ap (out_purged address now protocol inside remote flags) same ∙ out_local address now protocol inside remote flags (purge rules.timers now list) in
+      let e : out_purged rules.quota address now protocol inside remote flags (purge rules.timers now own) ≡ record { number = (out_purged rules.quota address now protocol inside remote flags (purge rules.timers now list)).number; list = of address (out_purged rules.quota address now protocol inside remote flags (purge rules.timers now list)).list }
+      = ap (out_purged rules.quota address now protocol inside remote flags) same ∙ out_local rules.quota address now protocol inside remote flags (purge rules.timers now list) in
       record {
         end = ap (λ (o : Out). (acted_out rules address packet o).end) e;
         list = record { same = ap (λ (o : Out). purge rules.timers now o.list) e };
@@ -84,9 +84,9 @@ alike rules address n own list agrees leg le =
 
 -- a leg at another address
 module _ (rules : Rules) (address now : ℕ) (list : List Binding) (other : ℕ) (differ : other ≢ address) where
-  kept_out : (protocol : Protocol) (inside remote : Endpoint) (flags : Flags) → purge rules.timers now (of other (out_purged address now protocol inside remote flags (purge rules.timers now list)).list) ≡ purge rules.timers now (of other list)
+  kept_out : (protocol : Protocol) (inside remote : Endpoint) (flags : Flags) → purge rules.timers now (of other (out_purged rules.quota address now protocol inside remote flags (purge rules.timers now list)).list) ≡ purge rules.timers now (of other list)
   kept_out protocol inside remote flags =
-      ap (purge rules.timers now) (out_other address now protocol inside remote flags other differ (purge rules.timers now list) ∙ of_purge rules.timers now other list)
+      ap (purge rules.timers now) (out_other rules.quota address now protocol inside remote flags other differ (purge rules.timers now list) ∙ of_purge rules.timers now other list)
       ∙ purge_purge rules.timers now now (omega arith) (of other list)
 
   kept_in : (protocol : Protocol) (number : ℕ) (remote : Endpoint) (flags : Flags) → purge rules.timers now (of other (in_purged (inbound_of rules) address now protocol number remote flags (purge rules.timers now list)).list) ≡ purge rules.timers now (of other list)

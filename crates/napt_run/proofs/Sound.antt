@@ -35,9 +35,9 @@ module _ (carry : PacketsCarryNumbers) (out_sound : OutStaysSound) (in_sound : I
   -- an outgoing leg at the address of its host's pairing, of a packet whose source has a number
   sound_out : (address now : ℕ) (packet : List ℕ) (list : List Binding) (kind : Kind) → address ≡ pair_of rules (local_of kind Outgoing packet).address → (is_error kind ≡ false → CanCarry kind (source packet).number) →
       IsSound (pair_of rules) list → IsSound (pair_of rules) (act_by rules address now packet list Outgoing kind).list
-  sound_out address now packet list Udp paired carried s = out_sound (pair_of rules) rules.timers address now protocols.Udp (source packet) (destination packet) no_flags list s paired (carried refl)
-  sound_out address now packet list (Tcp flags) paired carried s = out_sound (pair_of rules) rules.timers address now protocols.Tcp (source packet) (destination packet) flags list s paired (carried refl)
-  sound_out address now packet list Echo paired carried s = out_sound (pair_of rules) rules.timers address now protocols.Icmp (source packet) (destination packet) no_flags list s paired tt
+  sound_out address now packet list Udp paired carried s = out_sound (pair_of rules) rules.timers rules.quota address now protocols.Udp (source packet) (destination packet) no_flags list s paired (carried refl)
+  sound_out address now packet list (Tcp flags) paired carried s = out_sound (pair_of rules) rules.timers rules.quota address now protocols.Tcp (source packet) (destination packet) flags list s paired (carried refl)
+  sound_out address now packet list Echo paired carried s = out_sound (pair_of rules) rules.timers rules.quota address now protocols.Icmp (source packet) (destination packet) no_flags list s paired tt
   sound_out address now packet list (ErrorOf inner) paired carried s = s
 
   -- a first leg

@@ -12,5 +12,6 @@ invariant_of-result c =
       rules = c.pool.ensures.kept;
       address = ap (λ (t : TableState). t.address) shown ∙ ap (λ (p : List ℕ). slice_index p c.args.index) c.pool.ensures.addresses;
       timers = ap (λ (t : TableState). t.timers) shown;
+      quota = ap (λ (t : TableState). t.quota) shown;
       inbound = ap (λ (t : TableState). t.inbound) shown;
     }
