@@ -29,3 +29,4 @@ pub mod Timed
 pub mod Counts
 pub mod Many
 pub mod Kept
+pub mod Sent

@@ -12,22 +12,22 @@ pub returns-in-Some-clause-distinct : goal.returns-in-Some-clause-distinct
 returns-in-Some-clause-distinct c = distinct_set c.args.flows.now.items c.in-Some.i c.index.result.now c.used.result (ap (λ (f : Flow). f.remote) c.used.ensures ∙ ap (λ (f : Flow). f.remote) c.index.ensures) c.requires.distinct
 
 pub returns-in-Some-clause-ok : goal.returns-in-Some-clause-ok
-returns-in-Some-clause-ok c = rw (c.used.ensures, c.index.ensures) (flow_set c.args.timers c.requires.timers c.args.now c.args.protocol c.args.remote c.args.flags c.args.flows.now.items c.in-Some.i c.index.result.now (cc))
+returns-in-Some-clause-ok c = rw (c.used.ensures, c.index.ensures) (flow_set c.args.timers c.requires.timers c.args.sent.now c.args.sent.protocol c.args.sent.remote c.args.sent.flags c.args.flows.now.items c.in-Some.i c.index.result.now (cc))
 
 pub returns-in-Some-clause-live : goal.returns-in-Some-clause-live
-returns-in-Some-clause-live c = rw c.used.ensures (live_set c.args.timers c.requires.timers c.args.now c.args.protocol c.args.remote c.args.flags c.args.flows.now.items c.in-Some.i c.index.result.now (cc))
+returns-in-Some-clause-live c = rw c.used.ensures (live_set c.args.timers c.requires.timers c.args.sent.now c.args.sent.protocol c.args.sent.remote c.args.sent.flags c.args.flows.now.items c.in-Some.i c.index.result.now (cc))
 
 pub returns-clause-distinct : goal.returns-clause-distinct
 returns-clause-distinct c =
     let old : List Flow = c.args.flows.now.items in
-    let none : list_any (standing_flow_of c.args.timers c.args.now c.args.protocol c.args.remote) old ≡ false = any_nowhere (standing_flow_of c.args.timers c.args.now c.args.protocol c.args.remote) old (cc) in
-    rw (c.in-Ok.ensures.items, c.keep_standing.ensures.flows, c.in_ok-reserve.ensures.items, c.used-2.ensures, c.fresh-fresh.ensures)
-    (distinct_pushed (live_flows c.args.timers c.args.now c.args.protocol old) _ (none_left c.args.timers c.requires.timers c.args.now c.args.protocol c.args.remote c.args.flags old none)
-    (distinct_live c.args.timers c.args.now c.args.protocol old c.requires.distinct))
+    let none : list_any (standing_flow_of c.args.timers c.args.sent.now c.args.sent.protocol c.args.sent.remote) old ≡ false = any_nowhere (standing_flow_of c.args.timers c.args.sent.now c.args.sent.protocol c.args.sent.remote) old (cc) in
+    rw (c.in-Ok.ensures.items, c.keep_standing.ensures.flows, c.in_ok-reserve.ensures.items, c.begun.ensures)
+    (distinct_pushed (live_flows c.args.timers c.args.sent.now c.args.sent.protocol old) _ (none_left c.args.timers c.requires.timers c.args.sent.now c.args.sent.protocol c.args.sent.remote c.args.sent.flags old none)
+    (distinct_live c.args.timers c.args.sent.now c.args.sent.protocol old c.requires.distinct))
 
 pub returns-clause-ok : goal.returns-clause-ok
 returns-clause-ok c =
     let old : List Flow = c.args.flows.now.items in
-    let none : list_any (standing_flow_of c.args.timers c.args.now c.args.protocol c.args.remote) old ≡ false = any_nowhere (standing_flow_of c.args.timers c.args.now c.args.protocol c.args.remote) old (cc) in
-    rw (c.in-Ok.ensures.items, c.keep_standing.ensures.flows, c.in_ok-reserve.ensures.items, c.used-2.ensures, c.fresh-fresh.ensures)
-    (flow_begun c.args.timers c.requires.timers c.args.now c.args.protocol c.args.remote c.args.flags old none)
+    let none : list_any (standing_flow_of c.args.timers c.args.sent.now c.args.sent.protocol c.args.sent.remote) old ≡ false = any_nowhere (standing_flow_of c.args.timers c.args.sent.now c.args.sent.protocol c.args.sent.remote) old (cc) in
+    rw (c.in-Ok.ensures.items, c.keep_standing.ensures.flows, c.in_ok-reserve.ensures.items, c.begun.ensures)
+    (flow_begun c.args.timers c.requires.timers c.args.sent.now c.args.sent.protocol c.args.sent.remote c.args.sent.flags old none)

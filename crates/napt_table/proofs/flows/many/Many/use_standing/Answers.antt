@@ -9,25 +9,25 @@ use Rattle.napt_table.proofs.flows.many.Many.use_standing.Goals as goal
 
 pub returns-in_default-clause-none : goal.returns-in_default-clause-none
 returns-in_default-clause-none c given =
-    none_at_all c.args.timers c.requires.timers c.args.now c.args.protocol c.args.remote c.args.flags _
-    (not_found c.args.self.now c.args.remote c.requires.many (cc))
+    none_at_all c.args.timers c.requires.timers c.args.sent.now c.args.sent.protocol c.args.sent.remote c.args.sent.flags _
+    (not_found c.args.self.now c.args.sent.remote c.requires.many (cc))
 
 pub returns-then-not-is_standing-clause-none : goal.returns-then-not-is_standing-clause-none
 returns-then-not-is_standing-clause-none c given =
-    none_stands c.args.timers c.requires.timers c.args.now c.args.protocol c.args.remote c.args.flags c.args.self.now.slots.slots c.in-Some.place c.in-Some-get.flow c.in-Some-get.ensures.stands (search rules)
-    (one c.args.self.now c.args.remote c.in-Some.place c.requires.many (cc))
+    none_stands c.args.timers c.requires.timers c.args.sent.now c.args.sent.protocol c.args.sent.remote c.args.sent.flags c.args.self.now.slots.slots c.in-Some.place c.in-Some-get.flow c.in-Some-get.ensures.stands (search rules)
+    (one c.args.self.now c.args.sent.remote c.in-Some.place c.requires.many (cc))
 
 pub returns-clause-used : goal.returns-clause-used
 returns-clause-used c given =
-    let at : place_at c.args.self.now c.args.remote ≡ Some c.in-Some.place = cc in
+    let at : place_at c.args.self.now c.args.sent.remote ≡ Some c.in-Some.place = cc in
     rw (c.change.ensures.slots, c.used.ensures)
-    (flow_stood c.args.timers c.requires.timers c.args.now c.args.protocol c.args.remote c.args.flags c.args.self.now.slots.slots c.in-Some.place c.in-Some-get.flow c.in-Some-get.ensures.stands (search rules)
-    (place_of_is c.args.self.now c.args.remote c.in-Some.place c.in-Some-get.flow c.requires.many at c.in-Some-get.ensures.stands) (one c.args.self.now c.args.remote c.in-Some.place c.requires.many at))
+    (flow_stood c.args.timers c.requires.timers c.args.sent.now c.args.sent.protocol c.args.sent.remote c.args.sent.flags c.args.self.now.slots.slots c.in-Some.place c.in-Some-get.flow c.in-Some-get.ensures.stands (search rules)
+    (place_of_is c.args.self.now c.args.sent.remote c.in-Some.place c.in-Some-get.flow c.requires.many at c.in-Some-get.ensures.stands) (one c.args.self.now c.args.sent.remote c.in-Some.place c.requires.many at))
 
 pub returns-clause-live : goal.returns-clause-live
 returns-clause-live c given =
     rw (c.change.ensures.slots, c.used.ensures)
-    (live_stood c.args.timers c.requires.timers c.args.now c.args.protocol c.args.remote c.args.flags c.args.self.now.slots.slots c.in-Some.place c.in-Some-get.flow c.in-Some-get.ensures.stands)
+    (live_stood c.args.timers c.requires.timers c.args.sent.now c.args.sent.protocol c.args.sent.remote c.args.sent.flags c.args.self.now.slots.slots c.in-Some.place c.in-Some-get.flow c.in-Some-get.ensures.stands)
 
 pub change-requires-clause-stands : goal.change-requires-clause-stands
 change-requires-clause-stands c =
