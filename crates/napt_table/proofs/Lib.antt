@@ -4,7 +4,6 @@ pub mod StepsLocal
 pub mod Live
 pub mod Sound
 pub mod Standing
-pub mod Ones
 pub mod Named
 pub mod Tables
 pub mod Opened

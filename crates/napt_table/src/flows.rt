@@ -49,6 +49,8 @@ impl Model for Flows {
 
     ghost Value = { List Flow };
 
+    ghost use Rattle.napt_table.specs.Kept.{flows_of, IsKept};
+
     ghost view = { λ flows. flows_of flows.kept };
 
     ghost invariant = { λ flows. IsKept flows.kept };

@@ -2,6 +2,7 @@ use Rattle.std.proofs.Common.{◌≡◌, ◌∙◌, ap, refl, List, [], ◌∷�
 use Rattle.std.specs.List.{list_any}
 use Rattle.napt_wire.specs.declared.Way.TheVariants.{Outgoing}
 use Rattle.napt_table.specs.declared.Flow.{Flow}
+use Rattle.napt_table.specs.Marks.{no_marks}
 use Rattle.napt_table.specs.Life.{live_flows, is_live_flow}
 use Rattle.napt_table.specs.Live.{standing_flow_of}
 use Rattle.napt_table.specs.Slots.{somes}
@@ -34,4 +35,4 @@ returns-clause-live c =
     let live : List Flow = somes c.keep_standing.new.self.slots.slots in
     let is : somes c.put.new.self.slots.slots ≡ live ++ c.begun.result ∷ [] = put_next _ _ _ live c.begun.result c.put.ensures.slots refl refl in
     ap (list_any (is_live_flow c.args.timers c.args.sent.now)) (is ∙ ap (λ (f : Flow). live ++ f ∷ []) c.begun.ensures)
-    ∙ live_begun c.args.timers c.requires.timers c.args.sent.now c.args.sent.protocol c.args.sent.remote c.args.sent.flags live _
+    ∙ live_begun c.args.timers c.requires.timers c.args.sent.now c.args.sent.protocol c.args.sent.remote c.args.sent.flags live (record { remote = c.args.sent.remote; marks = no_marks; last = c.args.sent.now })
