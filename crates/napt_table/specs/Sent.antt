@@ -11,12 +11,16 @@ use Rattle.napt_table.specs.Steps.{is_flow_of, used, with_flow}
 
 -- the flow that begins with the packet
 abbrev pub begun_by : Sent → Flow
-begun_by sent = used sent.protocol Outgoing sent.flags sent.now (record { remote = sent.remote; marks = no_marks; last = sent.now })
+begun_by sent =
+    used sent.protocol Outgoing sent.flags sent.now
+    (record { remote = sent.remote; marks = no_marks; last = sent.now })
 
 -- the flows that stand when the packet goes out
 abbrev pub standing_at : Timers → Sent → List Flow → List Flow
 standing_at timers sent flows = live_flows timers sent.now sent.protocol flows
 
--- the flow of the packet's remote is used, where there is none after it began
+-- the flow of the packet's remote is used by it; where there is none, one begins
 abbrev pub used_by : Sent → List Flow → List Flow
-used_by sent flows = change_first (is_flow_of sent.remote) (used sent.protocol Outgoing sent.flags sent.now) (with_flow sent.remote sent.now flows)
+used_by sent flows =
+    change_first (is_flow_of sent.remote) (used sent.protocol Outgoing sent.flags sent.now)
+    (with_flow sent.remote sent.now flows)

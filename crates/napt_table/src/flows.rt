@@ -70,17 +70,13 @@ fn is_full(flows: &[Flow], timers: Timers, sent: Sent) -> bool
 }
 
 /// One flow, after a packet goes out: still one where it is of the packet's remote, or is dead.
-fn after_one(
-    alloc: Global,
-    timers: Timers,
-    sent: Sent,
-    flow: Flow,
-) -> Result<Kept, AllocError>
+fn after_one(alloc: Global, timers: Timers, sent: Sent, flow: Flow) -> Result<Kept, AllocError>
     requires { AreTimers timers }
     ensures kept { IfOk result IsKept }
     ensures flows { IfOk result (λ kept. packets.standing_at timers sent (flows_of kept)
         ≡ packets.used_by sent (packets.standing_at timers sent (flow ∷ []))) }
-    ensures live { IfOk result (λ kept. list_any (life.is_live_flow timers sent.now) (flows_of kept) ≡ true) }
+    ensures live { IfOk result (λ kept.
+        list_any (life.is_live_flow timers sent.now) (flows_of kept) ≡ true) }
 {
     if !flow.is_standing(timers, sent.now, sent.protocol) {
         return Ok(Kept::One(sent.begun()));

@@ -38,11 +38,11 @@ pub(super) fn flow_place(flows: &[Flow], remote: Endpoint) -> Option<usize>
 
 pub(super) fn standing_place(flows: &[Flow], timers: Timers, sent: Sent) -> Option<usize>
     requires { AreTimers timers }
-    ensures { result ≡ position (standing_flow_of timers sent.now sent.protocol sent.remote) flows.now }
+    ensures { result
+        ≡ position (standing_flow_of timers sent.now sent.protocol sent.remote) flows.now }
 {
-    flows
-        .iter()
-        .position(|flow| flow.is_standing(timers, sent.now, sent.protocol) && flow.is_of(sent.remote))
+    flows.iter().position(|flow| flow.is_standing(timers, sent.now, sent.protocol)
+        && flow.is_of(sent.remote))
 }
 
 /// The dead ones of these TCP flows go.
@@ -74,7 +74,8 @@ pub(super) fn use_flow(flows: &mut Vec<Flow>, timers: Timers, sent: Sent) -> Res
     ensures distinct { AreDistinct flows.new.items }
     ensures ok { OnOk result (packets.standing_at timers sent flows.new.items
         ≡ packets.used_by sent (packets.standing_at timers sent flows.old.items)) }
-    ensures live { OnOk result (list_any (life.is_live_flow timers sent.now) flows.new.items ≡ true) }
+    ensures live { OnOk result
+        (list_any (life.is_live_flow timers sent.now) flows.new.items ≡ true) }
     ensures err { OnErr result (flows.new.items ≡ flows.old.items) }
 {
     if let Some(i) = standing_place(flows, timers, sent) {

@@ -11,9 +11,9 @@ ghost use Rattle.napt_table.specs.Sent as packets;
 ghost use Rattle.napt_table.specs.Slots.{somes, Stands, AreDistinct};
 ghost use Rattle.napt_table.specs.Steps as steps;
 
-use crate::addresses::Addresses;
 use super::slots::Slots;
 use crate::Flow;
+use crate::addresses::Addresses;
 use crate::sent::Sent;
 use napt_config::Timers;
 use napt_wire::{Endpoint, Flags, Protocol, Way};
@@ -253,11 +253,15 @@ impl Many {
         requires timers { AreTimers timers }
         requires many { IsMany self.old }
         ensures many { IsMany self.new }
-        ensures used { result ≡ true → packets.standing_at timers sent (somes self.new.slots.slots)
+        ensures used { result ≡ true →
+            packets.standing_at timers sent (somes self.new.slots.slots)
             ≡ packets.used_by sent (packets.standing_at timers sent (somes self.old.slots.slots)) }
-        ensures live { result ≡ true → list_any (life.is_live_flow timers sent.now) (somes self.new.slots.slots) ≡ true }
+        ensures live { result ≡ true →
+            list_any (life.is_live_flow timers sent.now) (somes self.new.slots.slots) ≡ true }
         ensures same { result ≡ false → self.new.slots.slots ≡ self.old.slots.slots }
-        ensures none { result ≡ false → list_any (standing_flow_of timers sent.now sent.protocol sent.remote) (somes self.old.slots.slots) ≡ false }
+        ensures none { result ≡ false →
+            list_any (standing_flow_of timers sent.now sent.protocol sent.remote)
+            (somes self.old.slots.slots) ≡ false }
     {
         let Some(place) = self.place_of(sent.remote) else {
             return false;
@@ -284,7 +288,8 @@ impl Many {
         ensures many { IsMany self.new }
         ensures ok { OnOk result (packets.standing_at timers sent (somes self.new.slots.slots)
             ≡ packets.used_by sent (packets.standing_at timers sent (somes self.old.slots.slots))) }
-        ensures live { OnOk result (list_any (life.is_live_flow timers sent.now) (somes self.new.slots.slots) ≡ true) }
+        ensures live { OnOk result
+            (list_any (life.is_live_flow timers sent.now) (somes self.new.slots.slots) ≡ true) }
         ensures err { OnErr result (somes self.new.slots.slots ≡ somes self.old.slots.slots) }
     {
         if self.use_standing(timers, sent) {
