@@ -2,6 +2,8 @@
 //! 3.1), with a host of its own for each binding, all at 0 s, and then one host more. At last an echo identifier is asked for just
 //! before the bindings of echoes end, and when they do.
 //!
+//! `full_tables [udp] [tcp] [echo]`: with a word it fills the classes of these names alone, and ends.
+//!
 //! A line on standard output tells of each class how many of its hosts got the number in their turn, and what one more got, and one
 //! how many bindings there are. Statuses: 0 done, 1 a packet could not be sent, 5 memory, 6 a line is not written.
 #![tactic(auto)]
@@ -10,6 +12,8 @@ use napt_config::Config;
 use napt_table::Table;
 use napt_wire::{Cause, Endpoint, Flags, Protocol};
 use std::alloc::Global;
+use std::env;
+use std::env::Env;
 use std::process::ExitCode;
 
 /// 203.0.113.1
@@ -181,13 +185,26 @@ fn empty(alloc: Global) -> Result<Box<Table>, Stop> {
     Box::new(alloc, table).map_err(|_| Stop::Memory)
 }
 
-/// Fills all classes.
-fn filled<R: Print + AllocGlobal>(rt: &R) -> Result<(), Stop> {
+/// The words of the command line, the program's name first.
+fn words<R: Env + AllocGlobal>(rt: &R) -> Result<Vec<String>, Stop> {
+    let args = env::args(rt).map_err(|_| Stop::Memory)?;
+    args.collect(rt.alloc()).map_err(|_| Stop::Memory)
+}
+
+/// Fills the classes that the words name, or all.
+fn filled<R: Env + Print + AllocGlobal>(rt: &R) -> Result<(), Stop> {
     let alloc = rt.alloc();
+    let words = words(rt)?;
+    let is_all = words.len() < 2;
     let mut table = empty(alloc)?;
     let classes = classes();
     for class in classes {
-        tell_class(rt, alloc, &mut table, class)?;
+        if is_all || words.iter().any(|word| word.as_str() == class.name) {
+            tell_class(rt, alloc, &mut table, class)?;
+        }
+    }
+    if !is_all {
+        return Ok(());
     }
     tell_bindings(rt, alloc, &table, 0)?;
     let echo = classes[8];

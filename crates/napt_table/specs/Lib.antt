@@ -30,3 +30,4 @@ pub mod Timed
 pub mod Counts
 pub mod Many
 pub mod Kept
+pub mod Sent

@@ -2,11 +2,13 @@
 //!
 //! No call walks over more than a few of them.
 
-ghost use Rattle.std.specs.Prelude.{◌≡◌, ◌==◌, ◌≤◌, ℕ, Bool, true, filter, OnOk, OnErr, IfOk, []};
+ghost use Rattle.std.specs.Prelude.{◌≡◌, ◌==◌, ◌≤◌, ℕ, Bool, true, filter, OnOk, OnErr, IfOk, [], ◌∷◌};
 ghost use Rattle.std.specs.List.{list_any};
 ghost use Rattle.napt_config.specs.Rules.{AreTimers};
 ghost use Rattle.napt_table.specs.Life as life;
+ghost use Rattle.napt_table.specs.Kept.{flows_of, IsKept};
 ghost use Rattle.napt_table.specs.Lists.{change_first};
+ghost use Rattle.napt_table.specs.Sent as packets;
 ghost use Rattle.napt_table.specs.Slots.{AreDistinct, somes};
 ghost use Rattle.napt_table.specs.Many.{IsMany};
 ghost use Rattle.napt_table.specs.Steps as steps;
@@ -16,6 +18,7 @@ mod many;
 mod slots;
 
 use crate::Flow;
+use crate::sent::Sent;
 use many::Many;
 use napt_config::Timers;
 use napt_wire::{Endpoint, Flags, Protocol, Way};
@@ -25,9 +28,11 @@ use std::marker::Model;
 /// How many flows are kept without maps, and walked over at each packet.
 const FEW: usize = 8;
 
-/// How flows are kept.
+/// How flows are kept. Most bindings have one, and it takes no memory of its own.
 #[derive(Drop)]
 enum Kept {
+    Empty,
+    One(Flow),
     Few(Vec<Flow>),
     Many(Box<Many>),
 }
@@ -52,7 +57,7 @@ impl Model for Flows {
 }
 
 /// Whether so many flows of a binding stand that one more is kept with maps.
-fn is_full(flows: &[Flow], timers: Timers, now: u64, protocol: Protocol, remote: Endpoint) -> bool
+fn is_full(flows: &[Flow], timers: Timers, sent: Sent) -> bool
     requires { AreTimers timers }
 {
     if flows.len() < FEW {
@@ -60,23 +65,42 @@ fn is_full(flows: &[Flow], timers: Timers, now: u64, protocol: Protocol, remote:
     }
     let standing = flows
         .iter()
-        .filter(|flow| flow.is_standing(timers, now, protocol));
-    FEW <= standing.count() && few::standing_place(flows, timers, now, protocol, remote).is_none()
+        .filter(|flow| flow.is_standing(timers, sent.now, sent.protocol));
+    FEW <= standing.count() && few::standing_place(flows, timers, sent).is_none()
+}
+
+/// One flow, after a packet goes out: still one where it is of the packet's remote, or is dead.
+fn after_one(alloc: Global, timers: Timers, sent: Sent, flow: Flow) -> Result<Kept, AllocError>
+    requires { AreTimers timers }
+    ensures kept { IfOk result IsKept }
+    ensures flows { IfOk result (λ kept. packets.standing_at timers sent (flows_of kept)
+        ≡ packets.used_by sent (packets.standing_at timers sent (flow ∷ []))) }
+    ensures live { IfOk result (λ kept.
+        list_any (life.is_live_flow timers sent.now) (flows_of kept) ≡ true) }
+{
+    if !flow.is_standing(timers, sent.now, sent.protocol) {
+        return Ok(Kept::One(sent.begun()));
+    }
+    if flow.is_of(sent.remote) {
+        return Ok(Kept::One(sent.used(flow)));
+    }
+    let mut flows = Vec::new(alloc);
+    flows.push(flow)?;
+    flows.push(sent.begun())?;
+    Ok(Kept::Few(flows))
 }
 
 impl Flows {
     /// No flows. It takes no memory.
-    pub(crate) fn new(alloc: Global) -> Flows
+    pub(crate) fn new(_alloc: Global) -> Flows
         ensures { result ≡ [] }
     {
-        Flows {
-            kept: Kept::Few(Vec::new(alloc)),
-        }
+        Flows { kept: Kept::Empty }
     }
 
-    /// The flows of a binding through which a first packet goes out.
+    /// The flows of a binding through which a first packet goes out. They take no memory of their own.
     pub(crate) fn begun(
-        alloc: Global,
+        _alloc: Global,
         timers: Timers,
         now: u64,
         protocol: Protocol,
@@ -86,10 +110,14 @@ impl Flows {
         requires { AreTimers timers }
         ensures { IfOk result (λ flows. life.live_flows timers now protocol flows ≡ change_first (steps.is_flow_of remote) (steps.used protocol Way.Outgoing flags now) (steps.with_flow remote now [])) }
     {
-        let mut items = Vec::new(alloc);
-        few::use_flow(&mut items, timers, now, protocol, remote, flags)?;
+        let sent = Sent {
+            protocol,
+            remote,
+            flags,
+            now,
+        };
         Ok(Flows {
-            kept: Kept::Few(items),
+            kept: Kept::One(sent.begun()),
         })
     }
 
@@ -101,6 +129,8 @@ impl Flows {
         ensures lives { (t : ℕ) → t ≤ result → list_any (life.is_live_flow timers t) self.now ≡ true }
     {
         match &self.kept {
+            Kept::Empty => now,
+            Kept::One(flow) => flow.last_moment(timers).max(now),
             Kept::Few(flows) => few::last_moment_of(flows, timers, now),
             Kept::Many(many) => many.last_moment(timers, now),
         }
@@ -112,6 +142,8 @@ impl Flows {
         ensures { result ≡ list_any (life.is_live_flow timers now) self.now }
     {
         match &self.kept {
+            Kept::Empty => false,
+            Kept::One(flow) => flow.is_live(timers, now),
             Kept::Few(flows) => flows.iter().any(|flow| flow.is_live(timers, now)),
             Kept::Many(many) => many.has_live(timers, now),
         }
@@ -123,6 +155,12 @@ impl Flows {
         ensures { self.new ≡ filter (life.is_live_flow timers now) self.old }
     {
         match &mut self.kept {
+            Kept::Empty => {}
+            Kept::One(flow) => {
+                if !flow.is_live(timers, now) {
+                    self.kept = Kept::Empty;
+                }
+            }
             Kept::Few(flows) => few::keep_live(flows, timers, now),
             Kept::Many(many) => return many.keep_live(timers, now),
         }
@@ -133,6 +171,8 @@ impl Flows {
         ensures { result ≡ list_any (λ flow. flow.remote.address == address) self.now }
     {
         match &self.kept {
+            Kept::Empty => false,
+            Kept::One(flow) => flow.remote.address == address,
             Kept::Few(flows) => flows.iter().any(|flow| flow.remote.address == address),
             Kept::Many(many) => many.has_address(address),
         }
@@ -143,40 +183,45 @@ impl Flows {
         ensures { result ≡ list_any (steps.is_flow_of remote) self.now }
     {
         match &self.kept {
+            Kept::Empty => false,
+            Kept::One(flow) => flow.is_of(remote),
             Kept::Few(flows) => flows.iter().any(|flow| flow.is_of(remote)),
             Kept::Many(many) => many.has_remote(remote),
         }
     }
 
-    /// The flow of the remote is used now by an outgoing packet; where none lives, one begins. Where memory is refused nothing
-    /// is changed.
+    /// The flow of the packet's remote is used by it; where none lives, one begins. Where memory is refused nothing is changed.
     pub(crate) fn use_flow(
         &mut self,
         alloc: Global,
         timers: Timers,
-        now: u64,
-        protocol: Protocol,
-        remote: Endpoint,
-        flags: Flags,
+        sent: Sent,
     ) -> Result<(), AllocError>
         requires { AreTimers timers }
-        ensures ok { OnOk result (life.live_flows timers now protocol self.new ≡ change_first (steps.is_flow_of remote) (steps.used protocol Way.Outgoing flags now) (steps.with_flow remote now (life.live_flows timers now protocol self.old))) }
-        ensures live { OnOk result (list_any (life.is_live_flow timers now) self.new ≡ true) }
+        ensures ok { OnOk result (packets.standing_at timers sent self.new
+            ≡ packets.used_by sent (packets.standing_at timers sent self.old)) }
+        ensures live { OnOk result (list_any (life.is_live_flow timers sent.now) self.new ≡ true) }
         ensures err { OnErr result (self.new ≡ self.old) }
     {
         match &mut self.kept {
-            Kept::Many(many) => {
-                return many.use_flow(alloc, timers, now, protocol, remote, flags);
+            Kept::Empty => {
+                self.kept = Kept::One(sent.begun());
+                return Ok(());
+            }
+            Kept::One(flow) => {
+                self.kept = after_one(alloc, timers, sent, *flow)?;
+                return Ok(());
             }
             Kept::Few(flows) => {
-                if !is_full(flows, timers, now, protocol, remote) {
-                    return few::use_flow(flows, timers, now, protocol, remote, flags);
+                if !is_full(flows, timers, sent) {
+                    return few::use_flow(flows, timers, sent);
                 }
                 let mut many = Many::of(alloc, flows)?;
-                many.use_flow(alloc, timers, now, protocol, remote, flags)?;
+                many.use_flow(alloc, timers, sent)?;
                 self.kept = Kept::Many(Box::new(alloc, many)?);
                 return Ok(());
             }
+            Kept::Many(many) => return many.use_flow(alloc, timers, sent),
         }
     }
 
@@ -185,6 +230,12 @@ impl Flows {
         ensures { self.new ≡ change_first (steps.is_flow_of remote) (steps.used Protocol.Tcp Way.Incoming flags now) self.old }
     {
         match &mut self.kept {
+            Kept::Empty => {}
+            Kept::One(flow) => {
+                if flow.is_of(remote) {
+                    *flow = flow.used(Protocol::Tcp, Way::Incoming, flags, now);
+                }
+            }
             Kept::Few(flows) => few::refresh_flow(flows, now, remote, flags),
             Kept::Many(many) => return many.refresh_flow(now, remote, flags),
         }

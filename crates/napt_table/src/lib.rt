@@ -22,6 +22,7 @@ mod numbers;
 mod part;
 mod parts;
 mod rows;
+mod sent;
 mod session;
 mod table;
 mod traffic;

@@ -6,10 +6,12 @@ ghost use Rattle.napt_config.specs.Rules.{AreTimers};
 ghost use Rattle.napt_table.specs.Lists.{change_first};
 ghost use Rattle.napt_table.specs.Life as life;
 ghost use Rattle.napt_table.specs.Live.{standing_flow_of};
+ghost use Rattle.napt_table.specs.Sent as packets;
 ghost use Rattle.napt_table.specs.Slots.{AreDistinct};
 ghost use Rattle.napt_table.specs.Steps as steps;
 
 use crate::Flow;
+use crate::sent::Sent;
 use napt_config::Timers;
 use napt_wire::{Endpoint, Flags, Protocol, Way};
 use std::alloc::AllocError;
@@ -34,17 +36,13 @@ pub(super) fn flow_place(flows: &[Flow], remote: Endpoint) -> Option<usize>
     flows.iter().position(|flow| flow.is_of(remote))
 }
 
-pub(super) fn standing_place(
-    flows: &[Flow],
-    timers: Timers,
-    now: u64,
-    protocol: Protocol,
-    remote: Endpoint,
-) -> Option<usize>
+pub(super) fn standing_place(flows: &[Flow], timers: Timers, sent: Sent) -> Option<usize>
     requires { AreTimers timers }
-    ensures { result ≡ position (standing_flow_of timers now protocol remote) flows.now }
+    ensures { result
+        ≡ position (standing_flow_of timers sent.now sent.protocol sent.remote) flows.now }
 {
-    flows.iter().position(|flow| flow.is_standing(timers, now, protocol) && flow.is_of(remote))
+    flows.iter().position(|flow| flow.is_standing(timers, sent.now, sent.protocol)
+        && flow.is_of(sent.remote))
 }
 
 /// The dead ones of these TCP flows go.
@@ -69,30 +67,24 @@ fn keep_standing(flows: &mut Vec<Flow>, timers: Timers, now: u64, protocol: Prot
     }
 }
 
-/// The flow of the remote is used now by an outgoing packet; where none lives, one begins, and the dead ones go.
-pub(super) fn use_flow(
-    flows: &mut Vec<Flow>,
-    timers: Timers,
-    now: u64,
-    protocol: Protocol,
-    remote: Endpoint,
-    flags: Flags,
-) -> Result<(), AllocError>
+/// The flow of the packet's remote is used by it; where none lives, one begins, and the dead ones go.
+pub(super) fn use_flow(flows: &mut Vec<Flow>, timers: Timers, sent: Sent) -> Result<(), AllocError>
     requires timers { AreTimers timers }
     requires distinct { AreDistinct flows.old.items }
     ensures distinct { AreDistinct flows.new.items }
-    ensures ok { OnOk result (life.live_flows timers now protocol flows.new.items ≡ change_first (steps.is_flow_of remote) (steps.used protocol Way.Outgoing flags now) (steps.with_flow remote now (life.live_flows timers now protocol flows.old.items))) }
-    ensures live { OnOk result (list_any (life.is_live_flow timers now) flows.new.items ≡ true) }
+    ensures ok { OnOk result (packets.standing_at timers sent flows.new.items
+        ≡ packets.used_by sent (packets.standing_at timers sent flows.old.items)) }
+    ensures live { OnOk result
+        (list_any (life.is_live_flow timers sent.now) flows.new.items ≡ true) }
     ensures err { OnErr result (flows.new.items ≡ flows.old.items) }
 {
-    if let Some(i) = standing_place(flows, timers, now, protocol, remote) {
-        flows[i] = flows[i].used(protocol, Way::Outgoing, flags, now);
+    if let Some(i) = standing_place(flows, timers, sent) {
+        flows[i] = sent.used(flows[i]);
         return Ok(());
     }
     flows.reserve(1)?;
-    keep_standing(flows, timers, now, protocol);
-    let fresh = Flow::fresh(remote, now);
-    match flows.push(fresh.used(protocol, Way::Outgoing, flags, now)) {
+    keep_standing(flows, timers, sent.now, sent.protocol);
+    match flows.push(sent.begun()) {
         Ok(()) => {}
         Err(_) => unreachable!(),
     }

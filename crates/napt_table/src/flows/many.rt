@@ -7,12 +7,14 @@ ghost use Rattle.napt_table.specs.declared.Flow.{Flow};
 ghost use Rattle.napt_table.specs.Life as life;
 ghost use Rattle.napt_table.specs.Live.{standing_flow_of};
 ghost use Rattle.napt_table.specs.Lists.{change_first};
+ghost use Rattle.napt_table.specs.Sent as packets;
 ghost use Rattle.napt_table.specs.Slots.{somes, Stands, AreDistinct};
 ghost use Rattle.napt_table.specs.Steps as steps;
 
-use crate::addresses::Addresses;
 use super::slots::Slots;
 use crate::Flow;
+use crate::addresses::Addresses;
+use crate::sent::Sent;
 use napt_config::Timers;
 use napt_wire::{Endpoint, Flags, Protocol, Way};
 use std::alloc::{AllocError, Global};
@@ -246,60 +248,56 @@ impl Many {
         self.reserve()
     }
 
-    /// The flow of the remote is used now by an outgoing packet, if it stands; whether it does.
-    fn use_standing(
-        &mut self,
-        timers: Timers,
-        now: u64,
-        protocol: Protocol,
-        remote: Endpoint,
-        flags: Flags,
-    ) -> bool
+    /// The flow of the packet's remote is used by it, if it stands; whether it does.
+    fn use_standing(&mut self, timers: Timers, sent: Sent) -> bool
         requires timers { AreTimers timers }
         requires many { IsMany self.old }
         ensures many { IsMany self.new }
-        ensures used { result ≡ true → life.live_flows timers now protocol (somes self.new.slots.slots) ≡ change_first (steps.is_flow_of remote) (steps.used protocol Way.Outgoing flags now) (steps.with_flow remote now (life.live_flows timers now protocol (somes self.old.slots.slots))) }
-        ensures live { result ≡ true → list_any (life.is_live_flow timers now) (somes self.new.slots.slots) ≡ true }
+        ensures used { result ≡ true →
+            packets.standing_at timers sent (somes self.new.slots.slots)
+            ≡ packets.used_by sent (packets.standing_at timers sent (somes self.old.slots.slots)) }
+        ensures live { result ≡ true →
+            list_any (life.is_live_flow timers sent.now) (somes self.new.slots.slots) ≡ true }
         ensures same { result ≡ false → self.new.slots.slots ≡ self.old.slots.slots }
-        ensures none { result ≡ false → list_any (standing_flow_of timers now protocol remote) (somes self.old.slots.slots) ≡ false }
+        ensures none { result ≡ false →
+            list_any (standing_flow_of timers sent.now sent.protocol sent.remote)
+            (somes self.old.slots.slots) ≡ false }
     {
-        let Some(place) = self.place_of(remote) else {
+        let Some(place) = self.place_of(sent.remote) else {
             return false;
         };
         let Some(flow) = self.slots.get(place) else {
             return false;
         };
-        if !flow.is_standing(timers, now, protocol) {
+        if !flow.is_standing(timers, sent.now, sent.protocol) {
             return false;
         }
-        self.change(place, flow.used(protocol, Way::Outgoing, flags, now));
+        self.change(place, sent.used(flow));
         true
     }
 
-    /// The flow of the remote is used now by an outgoing packet; where none lives, one begins. Where memory is refused no flow
-    /// is changed.
+    /// The flow of the packet's remote is used by it; where none lives, one begins. Where memory is refused no flow is changed.
     pub(super) fn use_flow(
         &mut self,
         alloc: Global,
         timers: Timers,
-        now: u64,
-        protocol: Protocol,
-        remote: Endpoint,
-        flags: Flags,
+        sent: Sent,
     ) -> Result<(), AllocError>
         requires timers { AreTimers timers }
         requires many { IsMany self.old }
         ensures many { IsMany self.new }
-        ensures ok { OnOk result (life.live_flows timers now protocol (somes self.new.slots.slots) ≡ change_first (steps.is_flow_of remote) (steps.used protocol Way.Outgoing flags now) (steps.with_flow remote now (life.live_flows timers now protocol (somes self.old.slots.slots)))) }
-        ensures live { OnOk result (list_any (life.is_live_flow timers now) (somes self.new.slots.slots) ≡ true) }
+        ensures ok { OnOk result (packets.standing_at timers sent (somes self.new.slots.slots)
+            ≡ packets.used_by sent (packets.standing_at timers sent (somes self.old.slots.slots))) }
+        ensures live { OnOk result
+            (list_any (life.is_live_flow timers sent.now) (somes self.new.slots.slots) ≡ true) }
         ensures err { OnErr result (somes self.new.slots.slots ≡ somes self.old.slots.slots) }
     {
-        if self.use_standing(timers, now, protocol, remote, flags) {
+        if self.use_standing(timers, sent) {
             return Ok(());
         }
         self.make_room(alloc)?;
-        self.keep_standing(timers, now, protocol);
-        self.put(Flow::fresh(remote, now).used(protocol, Way::Outgoing, flags, now));
+        self.keep_standing(timers, sent.now, sent.protocol);
+        self.put(sent.begun());
         Ok(())
     }
 

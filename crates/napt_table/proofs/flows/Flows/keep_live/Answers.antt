@@ -4,5 +4,8 @@ use Rattle.napt_table.specs.Life as life
 use Rattle.napt_table.proofs.Distinct.{distinct_kept}
 use Rattle.napt_table.proofs.flows.Flows.keep_live.Goals as goal
 
-pub invariant_of-self-2 : goal.invariant_of-self-2
-invariant_of-self-2 c = rw c.keep_live.ensures.flows (distinct_kept (life.is_live_flow c.args.timers c.args.now) c.in-Few.flows.items (subst IsKept c.in-Few.is c.self.invariant))
+pub invariant_of-self-in-Few : goal.invariant_of-self-in-Few
+invariant_of-self-in-Few c =
+    rw c.keep_live.ensures.flows
+    (distinct_kept (life.is_live_flow c.args.timers c.args.now) c.in-Few.flows.items
+    (subst IsKept c.in-Few.is c.self.invariant))
