@@ -87,6 +87,18 @@ def conversation(draw, configuration):
     return inside, outside
 
 
+def newcomers(draw, configuration):
+    """Two hosts send from many ports under all protocols, with waits at the edges of the timers: of a quota more than it allows."""
+    traffic = packets.Traffic(draw, configuration.pool, configurations.HOSTS)
+    hosts = draw.sample(configurations.HOSTS, 2)
+    inside, now = [], 0
+    for _ in range(draw.choice((4, 8, 12))):
+        now += draw.choice(WAITS)
+        host = draw.choice((*hosts, hosts[0])), draw.choice(packets.PORTS[1:])
+        inside.append((now, traffic.of_protocol(draw.choice((packets.UDP, packets.TCP, packets.ICMP)), host, traffic.remote())))
+    return inside, []
+
+
 def session(draw, configuration):
     """A TCP session of two endpoints, and a segment of the remote near the end of its time."""
     traffic = packets.Traffic(draw, configuration.pool, configurations.HOSTS)
@@ -105,9 +117,10 @@ def session(draw, configuration):
 
 
 def full_class(draw, configuration):
-    """More hosts than the even numbers below 1024, each from the same port: the last ones find none left."""
+    """More hosts than the even numbers below 1024, each from the same port: the last ones find none left, nor does the first once more."""
     port = draw.choice((2, 512, 1022))
     sends = [packets.udp((0x0A000100 + n, port), (packets.REMOTES[0], 53)) for n in range(len(configuration.pool) * 511 + draw.randrange(3))]
+    sends.append(packets.udp((0x0A000100, 4), (packets.REMOTES[0], 53)))
     return [(SECOND, packet) for packet in sends], []
 
 
@@ -118,7 +131,8 @@ def of_captures(draw):
         configuration.entries = []
         inside, outside = full_class(draw, configuration)
     else:
-        inside, outside = draw.choice((side_packets, side_packets, side_packets, conversation, session))(draw, configuration)
+        kinds = (side_packets, side_packets, side_packets, conversation, session, newcomers)
+        inside, outside = draw.choice(kinds)(draw, configuration)
     files = {
         "napt.toml": configuration.text(),
         "inside.pcap": captures.drawn(draw, inside),

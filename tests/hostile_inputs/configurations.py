@@ -18,12 +18,12 @@ VALUES = (
     "{", "", "x", '"', "'", '"""', "\0", "\x7f", "# x",
 )
 KEYS = (
-    "pool", "inside", "filter", "refresh", "ring", "timers", "pair", "redirect", "udp", "tcp-established", "tcp-transitory", "icmp",
+    "pool", "inside", "filter", "refresh", "ring", "quota", "timers", "pair", "redirect", "udp", "tcp-established", "tcp-transitory", "icmp",
     "host", "external", "protocol", "x", "Pool", "\"pool\"", "'inside'", "\"po\\u006fl\"", "pool.x", "timers.udp", "", "a b", "é", "1", "-",
 )
 LINES = (
     "[timers]", "[[timers]]", "[pair]", "[[pair]]", "[redirect]", "[[redirect]]", "[pool]", "[]", "[[]]", "[x]", "[timers.udp]",
-    "[[pair.x]]", "[", "]", "=", "pool", "\0", "\xff", "\r", "# comment", "x = 1", "ring = 1", "udp = 300",
+    "[[pair.x]]", "[", "]", "=", "pool", "\0", "\xff", "\r", "# comment", "x = 1", "ring = 1", "quota = 1", "udp = 300",
 )
 
 
@@ -43,6 +43,7 @@ class Configuration:
         self.settings = draw.choice(("", 'filter = "independent"', 'filter = "address"', 'filter = "address-port"'))
         self.settings += draw.choice(("", "", '\nrefresh = "outbound"', '\nrefresh = "both"'))
         self.ring = draw.choice(("", "ring = 1", "ring = 2", "ring = 4096"))
+        self.quota = draw.choice(("", "", "quota = 1", "quota = 2", "quota = 65535"))
         self.timers = draw.choice(("", "[timers]", "[timers]\nudp = 120\ntcp-established = 7440\ntcp-transitory = 240\nicmp = 60"))
         self.entries = self.pairs(draw) + self.redirects(draw)
         others = draw.choice(([], ["172.16.0.0/12", "192.168.0.0/16"], [f"172.{16 + n}.0.0/16" for n in range(15)]))
@@ -65,6 +66,7 @@ class Configuration:
             f"inside = {quoted(self.prefixes)}",
             self.settings,
             self.ring,
+            self.quota,
             self.timers,
             *self.entries,
         ]
@@ -113,6 +115,7 @@ def many(draw):
             "[[" + "x." * depth + "x]]",
             'filter = "' + "x" * depth + '"',
             "ring = " + "9" * depth,
+            "quota = " + "9" * depth,
         )
     )
 

@@ -13,7 +13,7 @@ MOST_DEPTH = 80
 MOST_SECONDS = 1_000_000_000
 LEAST_SECONDS = {"udp": 120, "tcp-established": 7440, "tcp-transitory": 240, "icmp": 60}
 DEFAULT_SECONDS = LEAST_SECONDS | {"udp": 300}
-KEYS = {"pool", "inside", "filter", "refresh", "timers", "ring", "pair", "redirect"}
+KEYS = {"pool", "inside", "filter", "refresh", "timers", "ring", "quota", "pair", "redirect"}
 KEYS_OF_ENTRIES = {"pair": {"host", "external"}, "redirect": {"protocol", "inside", "external"}}
 
 
@@ -101,6 +101,8 @@ class Configured:
         want(self.refresh in ("outbound", "both"), "bad-word")
         self.timers = self.timers_of(table.get("timers", {}))
         want(1 <= number_in(table.get("ring", 64)) <= 4096, "bad-number")
+        self.quota = table.get("quota")
+        want("quota" not in table or 1 <= number_in(self.quota) <= 65535, "bad-number")
         self.pairs, self.redirects = {}, []
         for entry in entries_of(table, "pair", MOST_ENTRIES, is_required=False):
             self.add_pair(entry)

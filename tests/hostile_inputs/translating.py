@@ -1,4 +1,4 @@
-"""What a run leaves, worked out in the plainest way: one list of bindings, one packet after another (RFC 3022, 4787, 5382, 5508;
+"""What a run leaves, worked out in the plainest way: one list of bindings, one packet after another (RFC 3022, 4787, 5382, 5508, 6888;
 docs/REQUIREMENTS.md and docs/DEFINITIONS.md say what napt chose where they leave a choice)."""
 
 import struct
@@ -13,7 +13,8 @@ SECOND = captures.SECOND
 NAMES = {ICMP: "icmp", TCP: "tcp", UDP: "udp"}
 PROTOCOLS = {name: number for number, name in NAMES.items()}
 CAUSES = (
-    "truncated not-ipv4 bad-header bad-checksum fragment unsupported bad-inner bad-port spoofed not-ours no-binding filtered no-port"
+    "truncated not-ipv4 bad-header bad-checksum fragment unsupported bad-inner bad-port spoofed not-ours no-binding filtered over-quota "
+    "no-port"
 ).split()
 
 
@@ -194,7 +195,14 @@ class Translator:
                     return binding
         return None
 
+    def has_quota(self, address, host):
+        """Whether the host has all the bindings, of any protocol and not configured, that it may have (RFC 6888, REQ-4)."""
+        its = [binding for binding in self.bindings if (binding.external[0], binding.inside[0]) == (address, host) and not binding.is_fixed]
+        return self.rules.quota is not None and len(its) >= self.rules.quota
+
     def made(self, protocol, address, inside):
+        if self.has_quota(address, inside[0]):
+            raise Dropped("over-quota")
         taken = {binding.external[1] for binding in self.bindings if (binding.protocol, binding.external[0]) == (protocol, address)}
         number = next((number for number in candidates(protocol, inside[1]) if number not in taken), None)
         if number is None:

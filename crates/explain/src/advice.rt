@@ -2,23 +2,6 @@
 
 use napt_wire::Cause;
 
-/// All causes, in the order of the report.
-pub const CAUSES: [Cause; 13] = [
-    Cause::Truncated,
-    Cause::NotIpv4,
-    Cause::BadHeader,
-    Cause::BadChecksum,
-    Cause::Fragment,
-    Cause::Unsupported,
-    Cause::BadInner,
-    Cause::BadPort,
-    Cause::Spoofed,
-    Cause::NotOurs,
-    Cause::NoBinding,
-    Cause::Filtered,
-    Cause::NoPort,
-];
-
 /// A cause in words.
 pub fn meaning(cause: Cause) -> &'static str {
     match cause {
@@ -36,6 +19,7 @@ pub fn meaning(cause: Cause) -> &'static str {
         Cause::NotOurs => "the destination is not beyond the gateway",
         Cause::NoBinding => "nobody inside sent from there, or longer ago than the timer",
         Cause::Filtered => "the filter does not let this remote in: nothing was sent to it",
+        Cause::OverQuota => "the host has all the bindings that `quota` allows it",
         Cause::NoPort => "every number that may stand for it is taken at this external address",
     }
 }
@@ -65,6 +49,7 @@ pub fn advice(cause: Cause) -> Option<&'static str> {
         Cause::Filtered => Some(
             "the remotes were not sent to: `filter = \"independent\"` would let them in",
         ),
+        Cause::OverQuota => Some("raise `quota`, or leave it out: then there is no limit"),
         Cause::NoPort => Some("the pool is too small: add an address"),
         Cause::Fragment => Some("the path has a small MTU: capture where datagrams are whole"),
         Cause::Unsupported | Cause::BadInner | Cause::BadPort => None,

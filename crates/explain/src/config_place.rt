@@ -10,8 +10,8 @@ use std::alloc::{AllocError, Global};
 use toml::{Table, Value};
 
 /// The keys in the order in which they are judged.
-const KEYS: [&str; 8] = [
-    "pool", "inside", "filter", "refresh", "timers", "ring", "pair", "redirect",
+const KEYS: [&str; 9] = [
+    "pool", "inside", "filter", "refresh", "timers", "ring", "quota", "pair", "redirect",
 ];
 
 /// A prefix for a configuration of which the pool alone is judged.
@@ -318,7 +318,9 @@ fn shape_of(key: &str, entry: Option<usize>, field: Option<&String>) -> &'static
     match (key, entry, field.map_or("", |name| name.as_str())) {
         ("pool" | "inside", None, _) => "a list of 1 to 16 texts",
         ("timers", _, "") => "a table",
-        ("timers", _, _) | ("ring", _, _) | ("redirect", _, "external") => "a whole number",
+        ("timers", _, _) | ("ring" | "quota", _, _) | ("redirect", _, "external") => {
+            "a whole number"
+        }
         ("pair", None, _) => "a list of tables: each begins with a line `[[pair]]`",
         ("redirect", None, _) => "a list of tables: each begins with a line `[[redirect]]`",
         ("pair" | "redirect", _, "") => "a table",
@@ -342,6 +344,7 @@ fn expected_at(fault: ConfigFault, key: &str, field: &str) -> Option<&'static st
         (ConfigFault::BadAddress, "redirect", _) => Some("an endpoint, as `10.0.0.3:7000`"),
         (ConfigFault::BadAddress, _, _) => Some("an IPv4 address, as `203.0.113.1`"),
         (ConfigFault::BadNumber, "ring", _) => Some("1 to 4096"),
+        (ConfigFault::BadNumber, "quota", _) => Some("1 to 65535"),
         (ConfigFault::BadNumber, "redirect", _) => Some("a port, 1 to 65535"),
         (ConfigFault::BadNumber, _, _) => Some("0 to 1000000000 seconds"),
         (ConfigFault::BadWord, "filter", _) => Some("`independent`, `address` or `address-port`"),
@@ -353,7 +356,7 @@ fn expected_at(fault: ConfigFault, key: &str, field: &str) -> Option<&'static st
         (ConfigFault::UnknownKey, "pair", _) => Some("`host` or `external`"),
         (ConfigFault::UnknownKey, "redirect", _) => Some("`protocol`, `inside` or `external`"),
         (ConfigFault::UnknownKey, _, _) => {
-            Some("`pool`, `inside`, `filter`, `refresh`, `timers`, `ring`, `pair` or `redirect`")
+            Some("`pool`, `inside`, `filter`, `refresh`, `timers`, `ring`, `quota`, `pair` or `redirect`")
         }
         _ => None,
     }

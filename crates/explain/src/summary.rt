@@ -1,7 +1,7 @@
 //! The lines of an account.
 
 use crate::account::{Account, Note, rank};
-use crate::advice::{CAUSES, advice, meaning};
+use crate::advice::{advice, meaning};
 use crate::names::{cause_name, endpoint_text, protocol_name, side_name, time_text};
 use crate::options::{Choice, Options};
 use crate::shown::{arrival_text, has_address, packet_text};
@@ -146,7 +146,7 @@ pub fn tell_counts<R: Print + AllocGlobal>(rt: &R, account: &Account) -> Result<
     println!(rt; "packets: {}", outcomes.len())?;
     println!(rt; "  {} to the outside", count_to_outside(outcomes))?;
     println!(rt; "  {} to the inside", count_to_inside(outcomes))?;
-    for cause in CAUSES {
+    for cause in Cause::ALL {
         tell_cause(rt, cause, outcomes)?;
     }
     Ok(())

@@ -29,6 +29,7 @@ inside = ["10.0.0.0/8"]
 filter = "independent"
 refresh = "outbound"
 ring = 64
+quota = 512
 [timers]
 udp = 300
 tcp-established = 7440
@@ -58,6 +59,7 @@ external = 7000
     };
     assert_eq!(rt; config.timers(), timers);
     assert_eq!(rt; config.ring(), 64);
+    assert_eq!(rt; config.quota(), Some(512));
     assert_eq!(rt; config.pair(0x0A00_0005), 0xCB00_7102);
     let redirect = Redirect {
         tcp: false,
@@ -94,7 +96,25 @@ timers = { icmp = 61, tcp-transitory = 241, tcp-established = 7441, udp = 100000
     };
     assert_eq!(rt; config.timers(), timers);
     assert_eq!(rt; config.ring(), 4096);
+    assert_eq!(rt; config.quota(), None);
     assert!(rt; config.redirects().is_empty());
+    Ok(())
+}
+
+#[test]
+fn quotas(rt: HostRuntime) -> Result<(), Fail> {
+    let alloc = rt.alloc();
+    for (text, quota) in [
+        ("", None),
+        ("quota = 1\n", Some(1)),
+        ("quota = 2\n", Some(2)),
+        ("quota = 65535\n", Some(65535)),
+    ] {
+        let text = format!(in alloc; "{HEAD}{text}")?;
+        let config = Config::read(alloc, text.as_bytes())?;
+        assert_eq!(rt; config.quota(), quota, "{text}");
+        assert_eq!(rt; config.copy(alloc)?.quota(), quota, "{text}");
+    }
     Ok(())
 }
 
@@ -271,6 +291,25 @@ BadNumber
 ring = 4097
 ---
 BadShape
+quota = "2"
+---
+BadShape
+quota = 2.0
+---
+BadNumber
+quota = 0
+---
+BadNumber
+quota = 65536
+---
+BadNumber
+quota = -1
+---
+UnknownKey
+[timers]
+quota = 2
+---
+BadShape
 pair = ["10.0.0.5"]
 ---
 Missing
@@ -375,6 +414,27 @@ BadNumber
 ring = 0
 [pair]
 port = 1
+---
+BadShape
+quota = 0
+ring = "64"
+---
+BadNumber
+quota = "2"
+ring = 0
+---
+BadNumber
+quota = 0
+pair = 1
+---
+BadShape
+quota = "2"
+[[pair]]
+host = "10"
+---
+BadNumber
+quota = 0
+[[redirect]]
 ---
 BadShape
 [pair]
@@ -753,6 +813,7 @@ fn built_in_and_copy(rt: HostRuntime) -> Result<(), Fail> {
     }
     assert_eq!(rt; config.timers(), Timers::DEFAULT);
     assert_eq!(rt; config.ring(), 64);
+    assert_eq!(rt; config.quota(), None);
     assert_eq!(rt; config.filter(), Filter::Independent);
     assert_eq!(rt; config.refresh(), Refresh::Outbound);
     assert_eq!(rt; config.pair(7), 0xCB00_7101);
@@ -799,6 +860,10 @@ fn messages(rt: HostRuntime) -> Result<(), Fail> {
         (
             ConfigFault::NotInPool,
             "expected an `external` address that is in `pool`",
+        ),
+        (
+            ConfigFault::BadNumber,
+            "expected a timer of 0 to 1000000000 seconds, a `ring` of 1 to 4096, a `quota` of 1 to 65535, or an `external` port of 1 to 65535",
         ),
         (
             ConfigFault::BadWord,

@@ -2,7 +2,7 @@
 -- (this product's format).
 use Rattle.std.specs.Prelude.{ℕ, ◌==◌, Bool, true, false, List, [], ◌∷◌, ◌++◌, length, codes, count_by, decimal, flat_map}
 use Rattle.napt_wire.specs.declared.Cause.{Cause}
-use Rattle.napt_wire.specs.declared.Cause.TheVariants.{Truncated, NotIpv4, BadHeader, BadChecksum, Fragment, Unsupported, BadInner, BadPort, Spoofed, NotOurs, NoBinding, Filtered, NoPort}
+use Rattle.napt_wire.specs.declared.Cause.TheVariants.{Truncated, NotIpv4, BadHeader, BadChecksum, Fragment, Unsupported, BadInner, BadPort, Spoofed, NotOurs, NoBinding, Filtered, OverQuota, NoPort}
 use Rattle.napt_wire.specs.declared.Endpoint.{Endpoint}
 use Rattle.napt_wire.specs.declared.Protocol.{Protocol}
 use Rattle.napt_wire.specs.declared.Protocol.TheVariants.{Icmp, Tcp, Udp}
@@ -32,7 +32,7 @@ is_to_inside other = false
 abbrev pub causes : List Cause
 causes =
     Truncated ∷ NotIpv4 ∷ BadHeader ∷ BadChecksum ∷ Fragment ∷ Unsupported ∷ BadInner ∷ BadPort ∷ Spoofed ∷ NotOurs ∷ NoBinding ∷ Filtered
-    ∷ NoPort ∷ []
+    ∷ OverQuota ∷ NoPort ∷ []
 
 -- the place of a cause among them, from 0
 abbrev pub place_of : Cause → ℕ
@@ -48,7 +48,8 @@ place_of Spoofed = 8
 place_of NotOurs = 9
 place_of NoBinding = 10
 place_of Filtered = 11
-place_of NoPort = 12
+place_of OverQuota = 12
+place_of NoPort = 13
 
 abbrev pub cause_name : Cause → Text
 cause_name Truncated = codes "truncated"
@@ -63,6 +64,7 @@ cause_name Spoofed = codes "spoofed"
 cause_name NotOurs = codes "not-ours"
 cause_name NoBinding = codes "no-binding"
 cause_name Filtered = codes "filtered"
+cause_name OverQuota = codes "over-quota"
 cause_name NoPort = codes "no-port"
 
 abbrev pub is_dropped : Cause → Outcome → Bool

@@ -10,27 +10,10 @@ use napt_wire::{Cause, Endpoint, Protocol};
 use std::alloc::{AllocError, Global};
 use std::fmt;
 
-/// The causes of drops, in the order of their lines.
-const CAUSES: [Cause; 13] = [
-    Cause::Truncated,
-    Cause::NotIpv4,
-    Cause::BadHeader,
-    Cause::BadChecksum,
-    Cause::Fragment,
-    Cause::Unsupported,
-    Cause::BadInner,
-    Cause::BadPort,
-    Cause::Spoofed,
-    Cause::NotOurs,
-    Cause::NoBinding,
-    Cause::Filtered,
-    Cause::NoPort,
-];
-
-/// The place of a cause among them.
+/// The place of a cause's line among those of the drops, from 0: that of the cause in `Cause::ALL`.
 fn place_of(cause: Cause) -> usize
     ensures place { result ≡ model.place_of cause }
-    ensures below { result < 13 }
+    ensures below { result < 14 }
 {
     match cause {
         Cause::Truncated => 0,
@@ -45,7 +28,8 @@ fn place_of(cause: Cause) -> usize
         Cause::NotOurs => 9,
         Cause::NoBinding => 10,
         Cause::Filtered => 11,
-        Cause::NoPort => 12,
+        Cause::OverQuota => 12,
+        Cause::NoPort => 13,
     }
 }
 
@@ -65,6 +49,7 @@ fn cause_name(cause: Cause) -> &'static str
         Cause::NotOurs => "not-ours",
         Cause::NoBinding => "no-binding",
         Cause::Filtered => "filtered",
+        Cause::OverQuota => "over-quota",
         Cause::NoPort => "no-port",
     }
 }
@@ -85,7 +70,7 @@ struct Counts {
     to_outside: usize,
     to_inside: usize,
     /// Those that were dropped for each cause, at its place.
-    dropped: [usize; 13],
+    dropped: [usize; 14],
 }
 
 impl Counts {
@@ -114,7 +99,7 @@ fn counts_of(outcomes: &[Outcome]) -> Counts
     let mut counts = Counts {
         to_outside: 0,
         to_inside: 0,
-        dropped: [0; 13],
+        dropped: [0; 14],
     };
     for outcome in outcomes {
         counts.add(outcome);
@@ -154,7 +139,7 @@ fn push_drops(
     alloc: Global,
     report: &mut String,
     causes: &[Cause],
-    dropped: &[usize; 13],
+    dropped: &[usize; 14],
 ) -> Result<(), AllocError>
     ensures { OnOk result (string_bytes report.new ≡ string_bytes report.old ++ flat_map (λ cause. codes "drop " ++ model.count_line (model.cause_name cause) (slice_index dropped.now (model.place_of cause))) causes.now) }
 {
@@ -195,7 +180,7 @@ fn push_counts(alloc: Global, report: &mut String, outcomes: &[Outcome]) -> Resu
     push_count(alloc, report, "packets", outcomes.len())?;
     push_count(alloc, report, "to outside", counts.to_outside)?;
     push_count(alloc, report, "to inside", counts.to_inside)?;
-    push_drops(alloc, report, &CAUSES, &counts.dropped)?;
+    push_drops(alloc, report, &Cause::ALL, &counts.dropped)?;
     Ok(())
 }
 

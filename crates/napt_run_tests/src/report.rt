@@ -26,11 +26,12 @@ drop spoofed 0
 drop not-ours 0
 drop no-binding 0
 drop filtered 0
+drop over-quota 0
 drop no-port 0
 udp 10.0.0.2:5000 203.0.113.1:5000
 ";
 
-const ALL_LINES: &str = "packets 16
+const ALL_LINES: &str = "packets 17
 to outside 1
 to inside 2
 drop truncated 1
@@ -45,6 +46,7 @@ drop spoofed 1
 drop not-ours 1
 drop no-binding 1
 drop filtered 1
+drop over-quota 1
 drop no-port 1
 cut inside
 cut outside
@@ -101,22 +103,9 @@ fn all_lines(rt: HostRuntime) -> Result<(), Fail> {
     let alloc = rt.alloc();
     let mut outcomes = Vec::new(alloc);
     outcomes.push(Outcome::ToInside(packet(alloc)?))?;
-    for cause in [
-        Cause::NoPort,
-        Cause::Filtered,
-        Cause::NoBinding,
-        Cause::NotOurs,
-        Cause::Spoofed,
-        Cause::BadPort,
-        Cause::BadInner,
-        Cause::Unsupported,
-        Cause::Fragment,
-        Cause::BadChecksum,
-        Cause::BadHeader,
-        Cause::NotIpv4,
-        Cause::Truncated,
-    ] {
-        outcomes.push(Outcome::Dropped(cause))?;
+    // in the other order: the lines stand in that of the causes
+    for cause in Cause::ALL.iter().rev() {
+        outcomes.push(Outcome::Dropped(*cause))?;
     }
     outcomes.push(Outcome::ToOutside(packet(alloc)?))?;
     outcomes.push(Outcome::ToInside(packet(alloc)?))?;

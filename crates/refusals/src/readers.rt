@@ -17,7 +17,9 @@ const CONFIGURATION: &str = r#"
 pool = ["203.0.113.1", "203.0.113.2"]
 inside = ["10.0.0.0/8", "192.168.0.0/16"]
 filter = "address-port"
+refresh = "both"
 ring = 64
+quota = 512
 [timers]
 udp = 120
 tcp-established = 7440
