@@ -6,7 +6,7 @@ use Rattle.napt_config.specs.declared.fault.ConfigFault.TheVariants as Fault
 abbrev pub fault_message : ConfigFault → List ℕ
 fault_message Fault.NotToml = codes "expected TOML in UTF-8"
 fault_message Fault.UnknownKey =
-    codes "unknown key: expected `pool`, `inside`, `filter`, `refresh`, `timers`, `ring`, `pair` or `redirect`; "
+    codes "unknown key: expected `pool`, `inside`, `filter`, `refresh`, `timers`, `ring`, `quota`, `pair` or `redirect`; "
     ++ codes "in `timers` `udp`, `tcp-established`, `tcp-transitory` or `icmp`; in a `pair` `host` or "
     ++ codes "`external`; in a `redirect` `protocol`, `inside` or `external`"
 fault_message Fault.Missing =
@@ -22,8 +22,8 @@ fault_message Fault.BadAddress =
     ++ codes "without leading zeros"
 fault_message Fault.BadPrefix = codes "expected an IPv4 prefix, as `10.0.0.0/8`, whose bits past its length are 0"
 fault_message Fault.BadNumber =
-    codes "expected a timer of 0 to 1000000000 seconds, a `ring` of 1 to 4096, or an `external` port of 1 "
-    ++ codes "to 65535"
+    codes "expected a timer of 0 to 1000000000 seconds, a `ring` of 1 to 4096, a `quota` of 1 to 65535, "
+    ++ codes "or an `external` port of 1 to 65535"
 fault_message Fault.BadWord =
     codes "expected `independent`, `address` or `address-port` as `filter`, `outbound` or `both` as "
     ++ codes "`refresh`, or `udp` or `tcp` as `protocol`"

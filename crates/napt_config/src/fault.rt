@@ -54,7 +54,7 @@ impl fmt::Display for ConfigFault {
         match self {
             ConfigFault::NotToml => f.write_str("expected TOML in UTF-8"),
             ConfigFault::UnknownKey => f.write_str(
-                "unknown key: expected `pool`, `inside`, `filter`, `refresh`, `timers`, `ring`, `pair` or `redirect`; in `timers` `udp`, `tcp-established`, `tcp-transitory` or `icmp`; in a `pair` `host` or `external`; in a `redirect` `protocol`, `inside` or `external`",
+                "unknown key: expected `pool`, `inside`, `filter`, `refresh`, `timers`, `ring`, `quota`, `pair` or `redirect`; in `timers` `udp`, `tcp-established`, `tcp-transitory` or `icmp`; in a `pair` `host` or `external`; in a `redirect` `protocol`, `inside` or `external`",
             ),
             ConfigFault::Missing => f.write_str(
                 "expected `pool` and `inside` with at least one entry each, `host` and `external` in each `pair`, and `protocol`, `inside` and `external` in each `redirect`",
@@ -72,7 +72,7 @@ impl fmt::Display for ConfigFault {
                 "expected an IPv4 prefix, as `10.0.0.0/8`, whose bits past its length are 0",
             ),
             ConfigFault::BadNumber => f.write_str(
-                "expected a timer of 0 to 1000000000 seconds, a `ring` of 1 to 4096, or an `external` port of 1 to 65535",
+                "expected a timer of 0 to 1000000000 seconds, a `ring` of 1 to 4096, a `quota` of 1 to 65535, or an `external` port of 1 to 65535",
             ),
             ConfigFault::BadWord => f.write_str(
                 "expected `independent`, `address` or `address-port` as `filter`, `outbound` or `both` as `refresh`, or `udp` or `tcp` as `protocol`",

@@ -862,6 +862,10 @@ fn messages(rt: HostRuntime) -> Result<(), Fail> {
             "expected an `external` address that is in `pool`",
         ),
         (
+            ConfigFault::BadNumber,
+            "expected a timer of 0 to 1000000000 seconds, a `ring` of 1 to 4096, a `quota` of 1 to 65535, or an `external` port of 1 to 65535",
+        ),
+        (
             ConfigFault::BadWord,
             "expected `independent`, `address` or `address-port` as `filter`, `outbound` or `both` as `refresh`, or `udp` or `tcp` as `protocol`",
         ),
