@@ -15,6 +15,7 @@ pub mod Seats
 pub mod Sends
 pub mod Shown
 pub mod Sound
+pub mod QuotaKept
 pub mod Steps
 pub mod Texts
 pub mod Ledgers

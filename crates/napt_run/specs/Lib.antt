@@ -2,6 +2,7 @@ pub mod Inputs
 pub mod Sequential
 pub mod Seats
 pub mod Sound
+pub mod QuotaKept
 pub mod Laws
 pub mod Merge
 pub mod Taking

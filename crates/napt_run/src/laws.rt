@@ -3,9 +3,10 @@
 ghost use Rattle.napt_run.specs.Dispatching.{RightAnswersAreTheRuns, RunsGrow, AnswersTellOutcomes, OnwardIsForetold};
 ghost use Rattle.napt_run.specs.Laws.{LegsAnswerAlone, LegsLeaveTheirOwn, TranslatorsAnswerAlone, TranslatorsKeepTheirOwn};
 ghost use Rattle.napt_run.specs.Places.{AnswersFillPlaces, PlacesStandForLegs};
+ghost use Rattle.napt_run.specs.QuotaKept.{RunsKeepQuota};
 ghost use Rattle.napt_run.specs.Sound.{RunsAreSound, RunsStayApart};
 
-use napt_table::{opening_is_sound, steps_stay_sound};
+use napt_table::{no_host_exceeds_its_quota, opening_is_sound, steps_stay_sound};
 use napt_wire::{packets_carry_numbers, packets_keep_their_way};
 
 /// After any inputs no two bindings share an endpoint (RFC 4787, REQ-1 and REQ-3).
@@ -16,6 +17,13 @@ pub fn runs_are_sound()
     packets_carry_numbers();
     steps_stay_sound();
     opening_is_sound();
+}
+
+/// After any inputs no inside host has more bindings than the quota allows (RFC 6888, REQ-4).
+pub fn runs_keep_the_quota()
+    ensures { RunsKeepQuota }
+{
+    no_host_exceeds_its_quota();
 }
 
 /// The legs of each external address act on that address's bindings alone.

@@ -27,7 +27,8 @@ pub use dispatcher::dispatch;
 pub use fault::{Fault, RunFault, Which};
 pub use input::Input;
 pub use laws::{
-    legs_are_local, places_stand_for_legs, right_answers, runs_are_sound, translators_are_local,
+    legs_are_local, places_stand_for_legs, right_answers, runs_are_sound, runs_keep_the_quota,
+    translators_are_local,
 };
 pub use merge_laws::{merge_is_one, outputs_are_one};
 pub use merging::merge;
