@@ -28,7 +28,8 @@ taken_line app words m is matches none =
     let free : is_simple_and_free app ≡ true = ap is_simple_and_free is ∙ napt_is_free in
     let simple : is_simple app ≡ true = ap is_simple is ∙ napt_is_simple in
     let no_fault : fault_of napt_app words ≡ [] = ap (λ (a : App). fault_of a words) (sym is) ∙ none free in
-    let rows : rows_of (found_of m) ≡ matches_of napt_app words = (matches simple).0 ∙ ap (λ (a : App). matches_of a words) is in
+    let rows : rows_of (found_of m) ≡ matches_of napt_app words = (matches simple).0
+    ∙ ap (λ (a : App). matches_of a words) is in
     rw (no_fault, rows) refl
 
 -- a list of one kind at most, with this kind among them, is this kind alone
@@ -62,7 +63,8 @@ mistake_by _ rows h = refl
 
 -- and one that it refuses for another cause than memory is a mistake
 pub mistaken_line : (app : App) (words : List Text) (e : Error) → app ≡ napt_app
-    → (is_simple_and_free app ≡ true → HasKind (fault_of app words) e) → kind_of e ≢ kind.DisplayHelp → kind_of e ≢ kind.OutOfMemory
+    → (is_simple_and_free app ≡ true → HasKind (fault_of app words) e) → kind_of e ≢ kind.DisplayHelp →
+    kind_of e ≢ kind.OutOfMemory
     → line_of_words words ≡ mistake
 unfolding line_of_words
 mistaken_line app words e is fails shown memory =
@@ -74,8 +76,28 @@ pub files_read : (m : ArgMatches) (config inside outside to_outside to_inside re
     → outside ≡ first_value (found_of m) (codes "outside") → to_outside ≡ first_value (found_of m) (codes "to-outside")
     → to_inside ≡ first_value (found_of m) (codes "to-inside") → report ≡ first_value (found_of m) (codes "report")
     → files_in (rows_of (found_of m))
-    ≡ record { config = config; inside = inside; outside = outside; to_outside = to_outside; to_inside = to_inside; report = report }
+    ≡ record {
+      config = config;
+      inside = inside;
+      outside = outside;
+      to_outside = to_outside;
+      to_inside = to_inside;
+      report = report;
+    }
 files_read m config inside outside to_outside to_inside report a b c d e f =
     let read : (name : Text) → first_of name (rows_of (found_of m)) ≡ first_value (found_of m) name =
     λ name. sym (first_value-rows (found_of m) name) in
-    rw (read (codes "config"), read (codes "inside"), read (codes "outside"), read (codes "to-outside"), read (codes "to-inside"), read (codes "report"), a, b, c, d, e, f) refl
+    rw (
+      read (codes "config"),
+      read (codes "inside"),
+      read (codes "outside"),
+      read (codes "to-outside"),
+      read (codes "to-inside"),
+      read (codes "report"),
+      a,
+      b,
+      c,
+      d,
+      e,
+      f,
+    ) refl

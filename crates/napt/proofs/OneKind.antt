@@ -69,19 +69,22 @@ one-range least most n =
     let wrong : Kinds = if least == n then [] else kind.WrongNumberOfValues ∷ [] in
     let other : Kinds = if least == most then wrong else outside in
     one-if (nat_lt 0 least && n == 0) (kind.InvalidValue ∷ []) other (one_kind kind.InvalidValue)
-    (one-if (least == most) wrong outside (one-if (least == n) [] (kind.WrongNumberOfValues ∷ []) one_none (one_kind kind.WrongNumberOfValues))
+    (one-if (least == most) wrong outside (one-if (least == n) [] (kind.WrongNumberOfValues ∷ []) one_none
+    (one_kind kind.WrongNumberOfValues))
     (one-if (nat_lt n least) (kind.TooFewValues ∷ []) above (one_kind kind.TooFewValues)
     (one-if (nat_lt most n) (kind.TooManyValues ∷ []) [] (one_kind kind.TooManyValues) one_none)))
 
 one-set : (again : Bool) (a : Rule) (vs : List Text) (rows : List Row) → IsOne (set_fault again a vs rows)
-one-set again a vs rows = one-or_else (repeat_fault again a.id rows) (values_fault a vs) (one-if (has_row a.id rows && not again) (kind.ArgumentConflict ∷ []) [] (one_kind kind.ArgumentConflict) one_none)
+one-set again a vs rows = one-or_else (repeat_fault again a.id rows) (values_fault a vs)
+    (one-if (has_row a.id rows && not again) (kind.ArgumentConflict ∷ []) [] (one_kind kind.ArgumentConflict) one_none)
     (one-values a.ignore_case (parser_of_value a.parser) vs)
 
 one-count : (a : Rule) (vs : List Text) (rows : List Row) → IsOne (count_fault a vs rows)
 one-count a [] rows = one-value a.ignore_case (parser_of_value a.parser) (count_text (min (count_of a.id rows + 1) 255))
 one-count a (v ∷ vs) rows = one-values a.ignore_case (parser_of_value a.parser) (v ∷ vs)
 
-one-action : (x : ArgAction) (again : Bool) (a : Rule) (vs : List Text) (rows : List Row) → IsOne (action_fault x again a vs rows)
+one-action : (x : ArgAction) (again : Bool) (a : Rule) (vs : List Text) (rows : List Row) →
+    IsOne (action_fault x again a vs rows)
 one-action action.Set again a vs rows = one-set again a vs rows
 one-action action.SetTrue again a vs rows = one-set again a vs rows
 one-action action.SetFalse again a vs rows = one-set again a vs rows
@@ -96,35 +99,42 @@ one-use : (again : Bool) (a : Rule) (vs : List Text) (rows : List Row) → IsOne
 one-use again a vs rows = one-or_else
     (range_kinds (unwrap_or_range a.range).start_inclusive (most_values a) (length vs))
     (action_fault (action_of a) again a (values_or_missing a vs) rows)
-    (one-range (unwrap_or_range a.range).start_inclusive (most_values a) (length vs)) (one-action (action_of a) again a (values_or_missing a vs) rows)
+    (one-range (unwrap_or_range a.range).start_inclusive (most_values a) (length vs))
+    (one-action (action_of a) again a (values_or_missing a vs) rows)
 
 one-settle : (c : List Rule) (again : Bool) (h : Held) → IsOne (settle_fault c again h)
-one-settle c again h = one-option h.pending (λ p. option_map_or (λ a. use_fault again a p.1 h.rows) (arg_by_id c p.0) [])
+one-settle c again h = one-option h.pending (λ p. option_map_or (λ a. use_fault again a p.1 h.rows) (arg_by_id c p.0)
+    [])
     (λ p. one-option (arg_by_id c p.0) (λ a. use_fault again a p.1 h.rows) (λ a. one-use again a p.1 h.rows))
 
 one-react : (c : List Rule) (again : Bool) (a : Rule) (vs : List Text) (h : Held) → IsOne (react_fault c again a vs h)
 one-react c again a vs h = one-or_else (settle_fault c again h) (use_fault again a vs (settled c h).rows)
     (one-settle c again h) (one-use again a vs (settled c h).rows)
 
-one-attached : (c : List Rule) (again : Bool) (a : Rule) (v : Option Text) (h : Held) → IsOne (option_fault c again a v h)
+one-attached : (c : List Rule) (again : Bool) (a : Rule) (v : Option Text) (h : Held) →
+    IsOne (option_fault c again a v h)
 one-attached c again a (Some v) h = one-react c again a (v ∷ []) h
 one-attached c again a None h = one-settle c again h
 
-one-long : (c : List Rule) (again : Bool) (o : Option Rule) (v : Option Text) (h : Held) → IsOne (long_fault c again o v h)
+one-long : (c : List Rule) (again : Bool) (o : Option Rule) (v : Option Text) (h : Held) →
+    IsOne (long_fault c again o v h)
 one-long c again None v h = omega arith
 one-long c again (Some a) v h =
     let flag : Kinds = if is_some v then kind.TooManyValues ∷ [] else react_fault c again a [] h in
     one-if (takes_values a) (option_fault c again a v h) flag (one-attached c again a v h)
-    (one-if (is_some v) (kind.TooManyValues ∷ []) (react_fault c again a [] h) (one_kind kind.TooManyValues) (one-react c again a [] h))
+    (one-if (is_some v) (kind.TooManyValues ∷ []) (react_fault c again a [] h) (one_kind kind.TooManyValues)
+    (one-react c again a [] h))
 
 one-short : (c : List Rule) (again : Bool) (o : Option Rule) (rest : Text) (h : Held) (more : Held → Kinds)
     → ((g : Held) → IsOne (more g)) → IsOne (short_fault c again o rest h more)
 one-short c again None rest h more p = omega arith
 one-short c again (Some a) rest h more p = one-if (takes_values a) (option_fault c again a (attached_value rest) h)
     (or_else (react_fault c again a [] h) (more (reacted c a [] h))) (one-attached c again a (attached_value rest) h)
-    (one-or_else (react_fault c again a [] h) (more (reacted c a [] h)) (one-react c again a [] h) (p (reacted c a [] h)))
+    (one-or_else (react_fault c again a [] h) (more (reacted c a [] h)) (one-react c again a [] h)
+    (p (reacted c a [] h)))
 
-one-bundle_step : (c : List Rule) (again : Bool) (o : Option ℕ) (flags : Text) (skip : ℕ) (h : Held) (more : Text → ℕ → Held → Kinds)
+one-bundle_step : (c : List Rule) (again : Bool) (o : Option ℕ) (flags : Text) (skip : ℕ) (h : Held) (more : Text → ℕ →
+    Held → Kinds)
     → ((t : Text) (n : ℕ) (g : Held) → IsOne (more t n g)) → IsOne (bundle_step_fault c again o flags skip h more)
 one-bundle_step c again None flags skip h more p = one_none
 one-bundle_step c again (Some x) flags zero h more p =
@@ -132,21 +142,27 @@ one-bundle_step c again (Some x) flags zero h more p =
     one-short c again (arg_by_short c x) rest h (more rest 0) (p rest 0)
 one-bundle_step c again (Some x) flags (suc skip) h more p = p _ _ _
 
-one-flags : (c : List Rule) (again : Bool) (k : ℕ) (flags : Text) (skip : ℕ) (h : Held) → IsOne (flags_fault c again k flags skip h)
+one-flags : (c : List Rule) (again : Bool) (k : ℕ) (flags : Text) (skip : ℕ) (h : Held) →
+    IsOne (flags_fault c again k flags skip h)
 unfolding flags_fault
 one-flags c again zero flags skip h = one_none
 one-flags c again (suc k) flags skip h =
     one-bundle_step c again (slice_get (chars flags) 0) flags skip h (flags_fault c again k) (one-flags c again k)
 
-one-flag_word : (c : List Rule) (again : Bool) (o : Option (Text × Option Text)) (word : Text) (h : Held) → IsOne (flag_word_fault c again o word h)
+one-flag_word : (c : List Rule) (again : Bool) (o : Option (Text × Option Text)) (word : Text) (h : Held) →
+    IsOne (flag_word_fault c again o word h)
 one-flag_word c again (Some p) word h = one-long c again (arg_by_long c p.0) p.1 h
-one-flag_word c again None word h = one-option (short_of word) (λ flags. bundle_fault c again flags h) (λ flags. one-flags c again (length flags) flags h.skip (record h { skip = 0 }))
+one-flag_word c again None word h = one-option (short_of word) (λ flags. bundle_fault c again flags h) (λ flags.
+    one-flags c again (length flags) flags h.skip (record h { skip = 0 }))
 
-one-word : (s : Shape) (is_trailing : Bool) (w : Waiting) (word : Text) (h : Held) → IsOne (word_fault s [] is_trailing w word h)
-one-word s is_trailing w word h = one-if is_trailing [] (other_fault s (subcommand_met [] w word) word h) one_none (go w)
+one-word : (s : Shape) (is_trailing : Bool) (w : Waiting) (word : Text) (h : Held) →
+    IsOne (word_fault s [] is_trailing w word h)
+one-word s is_trailing w word h = one-if is_trailing [] (other_fault s (subcommand_met [] w word) word h) one_none
+    (go w)
   where
     other : IsOne (other_fault s None word h)
-    other = one-if (bytes_eq word (45 ∷ 45 ∷ [])) [] (flag_word_fault s.rules s.args_override_self (long_of word) word h)
+    other = one-if (bytes_eq word (45 ∷ 45 ∷ [])) [] (flag_word_fault s.rules s.args_override_self
+        (long_of word) word h)
         one_none (one-flag_word s.rules s.args_override_self (long_of word) word h)
 
     go : (v : Waiting) → IsOne (other_fault s (subcommand_met [] v word) word h)
@@ -163,15 +179,19 @@ one-step s leaf position h value = go (arg_by_index s.rules position)
     stray : IsOne (stray_fault s)
     stray = rw leaf (omega arith)
 
-    go : (o : Option Rule) → IsOne (option_map_or (λ a. positional_fault s.rules s.args_override_self a h) o (stray_fault s))
+    go : (o : Option Rule) → IsOne (option_map_or (λ a. positional_fault s.rules s.args_override_self a h) o
+        (stray_fault s))
     go None = stray
-    go (Some a) = one-if (is_pending a h.pending && takes_several a) [] (settle_fault s.rules s.args_override_self h) one_none (one-settle s.rules s.args_override_self h)
+    go (Some a) = one-if (is_pending a h.pending && takes_several a) [] (settle_fault s.rules s.args_override_self h)
+        one_none (one-settle s.rules s.args_override_self h)
 
 one-turn : (s : Shape) → s.is_leaf ≡ true → (w : Walk) (word : Text) → IsOne (turn_fault s [] w word)
 one-turn s leaf w word =
     let met = word_met s.rules [] w.is_trailing w.waiting w.position word w.held in
-    let parts : Kinds = or_else (word_fault s [] w.is_trailing w.waiting word w.held) (step_fault s w.position met.0 met.1) in
-    one-if (is_some w.stopped) [] parts one_none (one-or_else (word_fault s [] w.is_trailing w.waiting word w.held) (step_fault s w.position met.0 met.1)
+    let parts : Kinds = or_else (word_fault s [] w.is_trailing w.waiting word w.held)
+    (step_fault s w.position met.0 met.1) in
+    one-if (is_some w.stopped) [] parts one_none (one-or_else (word_fault s [] w.is_trailing w.waiting word w.held)
+    (step_fault s w.position met.0 met.1)
     (one-word s w.is_trailing w.waiting word w.held) (one-step s leaf w.position met.0 met.1))
 
 one-walk : (s : Shape) → s.is_leaf ≡ true → (w : Walk) (words : List Text) → IsOne (walk_fault s [] w words)
@@ -181,7 +201,8 @@ one-walk s leaf w (word ∷ rest) = one-or_else (turn_fault s [] w word) (walk_f
     (one-turn s leaf w word) (one-walk s leaf (walked s.rules [] w word) rest)
 
 one-default : (rows : List Row) (a : Rule) → IsOne (default_fault rows a)
-one-default rows a = one-if (has_row a.id rows || is_empty a.defaults) [] (or_else (request_kinds (action_of a)) (values_fault a a.defaults)) one_none (one-or_else (request_kinds (action_of a)) (values_fault a a.defaults)
+one-default rows a = one-if (has_row a.id rows || is_empty a.defaults) [] (or_else (request_kinds (action_of a))
+    (values_fault a a.defaults)) one_none (one-or_else (request_kinds (action_of a)) (values_fault a a.defaults)
     (one-request (action_of a)) (one-values a.ignore_case (parser_of_value a.parser) a.defaults))
 
 one-defaults : (rows : List Row) (c : List Rule) → IsOne (defaults_fault rows c)
@@ -213,19 +234,22 @@ one-level s leaf h words sub below p =
     (one-walk s leaf (walk_from h) words)
     (one-or_else below (or_else settling (or_else filling checking)) p
     (one-or_else settling (or_else filling checking) (one-settle s.rules s.args_override_self end)
-    (one-or_else filling checking (one-defaults (settled s.rules end).rows s.rules) (one-check s (finished s.rules end) sub))))
+    (one-or_else filling checking (one-defaults (settled s.rules end).rows s.rules)
+    (one-check s (finished s.rules end) sub))))
 
 -- a command with no subcommand enters none
 one-entered : (a : App) → a.subs ≡ [] → (stop : Option (Text × List Text)) → IsOne (entered_fault a stop)
 one-entered a none None = one_none
 one-entered a none (Some p) = rw none one_none
 
-one-built : (a : App) → a.top.is_leaf ≡ true → a.subs ≡ [] → (h : Held) (words : List Text) → IsOne (built_fault a h words)
+one-built : (a : App) → a.top.is_leaf ≡ true → a.subs ≡ [] → (h : Held) (words : List Text) →
+    IsOne (built_fault a h words)
 one-built a leaf none h words =
     let names : names_of a ≡ [] = rw none refl in
     let stop = (walk a.top.rules [] h words).stopped in
     rw names (one-level a.top leaf h words (is_some (entered a stop)) (entered_fault a stop) (one-entered a none stop))
 
 -- so a kind among those of a command with no subcommand is the only one
-pub one_fault : (a : App) → (built a).top.is_leaf ≡ true → (built a).subs ≡ [] → (words : List Text) → length (fault_of a words) ≤ 1
+pub one_fault : (a : App) → (built a).top.is_leaf ≡ true → (built a).subs ≡ [] → (words : List Text) →
+    length (fault_of a words) ≤ 1
 one_fault a leaf none words = one-built (built a) leaf none nothing_held (argument_words a words)

@@ -18,7 +18,8 @@ with_options a [] = a
 with_options a (name ∷ more) = with_options (with_rule a (file_option name)) more
 
 abbrev pub option_names : List Text
-option_names = codes "config" ∷ codes "inside" ∷ codes "outside" ∷ codes "to-outside" ∷ codes "to-inside" ∷ codes "report" ∷ []
+option_names = codes "config" ∷ codes "inside" ∷ codes "outside" ∷ codes "to-outside" ∷ codes "to-inside"
+    ∷ codes "report" ∷ []
 
 -- the program's command; clap adds `-h` and `--help` to it
 abbrev pub napt_app : App

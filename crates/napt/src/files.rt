@@ -67,7 +67,8 @@ pub fn source_over<D: Read + Drop>(
 ) -> Result<Option<Watched<BufReader<D>>>, Stop>
     ensures fresh { IfOk result (λ made. IfSome made (λ source. failed_of source ≡ 0)) }
     ensures given { IfOk result (λ made. is_some made ≡ is_some device) }
-    ensures tells { IfOk result (λ made. option_map (bytes_left D.remaining) made ≡ option_map D.remaining device) }
+    ensures tells { IfOk result (λ made. option_map (bytes_left D.remaining) made
+        ≡ option_map D.remaining device) }
     ensures refused { IfErr result (λ stop. stop ≡ MEMORY) }
 {
     match device {
@@ -95,7 +96,8 @@ pub fn sink_over<D: Write + Drop>(
 ) -> Result<Option<Watched<BufWriter<D>>>, Stop>
     ensures fresh { IfOk result (λ made. IfSome made (λ sink. failed_of sink ≡ 0)) }
     ensures given { IfOk result (λ made. is_some made ≡ is_some device) }
-    ensures shows { IfOk result (λ made. option_map (bytes_written D.contents) made ≡ option_map D.contents device) }
+    ensures shows { IfOk result (λ made. option_map (bytes_written D.contents) made
+        ≡ option_map D.contents device) }
     ensures refused { IfErr result (λ stop. stop ≡ MEMORY) }
 {
     match device {

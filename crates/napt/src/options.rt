@@ -135,7 +135,8 @@ impl From<AllocError> for LineFault {
 /// once. A value begins with `-` only where it is `-` alone, or follows `=`. `-h` and `--help` ask
 /// for help, and there is no `--version`. `Memory` may come in place of any other answer.
 pub fn parse_words(alloc: Global, words: Vec<String>) -> Result<Options, LineFault>
-    ensures ok { IfOk result (λ o. line_of_words (map string_bytes words.items) ≡ files (files_of o)) }
+    ensures ok { IfOk result (λ o. line_of_words (map string_bytes words.items)
+        ≡ files (files_of o)) }
     ensures help { IfErr result (λ fault. IsHelp fault
         → line_of_words (map string_bytes words.items) ≡ help) }
     ensures usage { result ≡ Err LineFault.Usage

@@ -7,11 +7,13 @@ use Rattle.napt_config.specs.declared.fault.ConfigFault.{ConfigFault}
 use Rattle.napt_config.specs.Fault.{◌>>=◌, ◌>>◌, must}
 use Rattle.napt_config.specs.Configured.{each_in_order, item_count, optional}
 
-pub reads : {A B P : Type 0} (r : Result A ConfigFault) (f : A → Result B ConfigFault) (y : B) → r >>= f ≡ Ok y → ((x : A) → r ≡ Ok x → f x ≡ Ok y → P) → P
+pub reads : {A B P : Type 0} (r : Result A ConfigFault) (f : A → Result B ConfigFault) (y : B) → r >>= f ≡ Ok y →
+    ((x : A) → r ≡ Ok x → f x ≡ Ok y → P) → P
 reads (Ok x) f y e then = then x refl e
 reads (Err fault) f y e then = cc
 
-pub holds : {B P : Type 0} (rule : Bool) (fault : ConfigFault) (r : Result B ConfigFault) (y : B) → must rule fault >> r ≡ Ok y → (rule ≡ true → r ≡ Ok y → P) → P
+pub holds : {B P : Type 0} (rule : Bool) (fault : ConfigFault) (r : Result B ConfigFault) (y : B) → must rule fault >> r
+    ≡ Ok y → (rule ≡ true → r ≡ Ok y → P) → P
 holds true fault r y e then = then refl e
 holds false fault r y e then = cc
 
@@ -19,26 +21,31 @@ pub ok_or_ok : {A : Type 0} (o : Option A) (fault : ConfigFault) (x : A) → ok_
 ok_or_ok None fault x e = cc
 ok_or_ok (Some y) fault x e = cc
 
-option_reads : {A : Type 0} (P : A → Type 0) (o : Option Data) (default : A) (reading : Data → Result A ConfigFault) (x : A) → option_map_or reading o (Ok default) ≡ Ok x
+option_reads : {A : Type 0} (P : A → Type 0) (o : Option Data) (default : A) (reading : Data → Result A ConfigFault)
+    (x : A) → option_map_or reading o (Ok default) ≡ Ok x
     → P default → ((d : Data) (y : A) → reading d ≡ Ok y → P y) → P x
 option_reads P None default reading x e at_default at_value = let same : default ≡ x = cc in subst P same at_default
 option_reads P (Some d) default reading x e at_default at_value = at_value d x e
 
 -- what holds of the default and of each value that is read holds of what a key gives
-pub optional_reads : {A : Type 0} (P : A → Type 0) (key : List ℕ) (default : A) (reading : Data → Result A ConfigFault) (table : Members) (x : A) → optional key default reading table ≡ Ok x
+pub optional_reads : {A : Type 0} (P : A → Type 0) (key : List ℕ) (default : A) (reading : Data → Result A ConfigFault)
+    (table : Members) (x : A) → optional key default reading table ≡ Ok x
     → P default → ((d : Data) (y : A) → reading d ≡ Ok y → P y) → P x
-optional_reads P key default reading table x e at_default at_value = option_reads P (get_member key table) default reading x e at_default at_value
+optional_reads P key default reading table x e at_default at_value =
+    option_reads P (get_member key table) default reading x e at_default at_value
 
 module _ {A : Type 0} (step : A → Data → Result A ConfigFault) where
   -- what each step keeps is kept
-  pub each_keeps : (P : A → Type 0) → ((now next : A) (d : Data) → P now → step now d ≡ Ok next → P next) → (now last : A) (entries : Items) → P now → each_in_order step now entries ≡ Ok last → P last
+  pub each_keeps : (P : A → Type 0) → ((now next : A) (d : Data) → P now → step now d ≡ Ok next → P next) →
+      (now last : A) (entries : Items) → P now → each_in_order step now entries ≡ Ok last → P last
   each_keeps P kept now last no_items start e = let same : now ≡ last = cc in subst P same start
   each_keeps P kept now last (item d rest) start e =
       reads (step now d) (λ n. each_in_order step n rest) last e λ next stepped more.
       each_keeps P kept next last rest (kept now next d start stepped) more
 
   -- where each step adds one, all add their number
-  pub each_adds : (size : A → ℕ) → ((now next : A) (d : Data) → step now d ≡ Ok next → size next ≡ size now + 1) → (now last : A) (entries : Items)
+  pub each_adds : (size : A → ℕ) → ((now next : A) (d : Data) → step now d ≡ Ok next → size next ≡ size now + 1) →
+      (now last : A) (entries : Items)
       → each_in_order step now entries ≡ Ok last → size last ≡ size now + item_count entries
   each_adds size adds now last no_items e = let same : now ≡ last = cc in rw (← same) (omega arith)
   each_adds size adds now last (item d rest) e =

@@ -26,9 +26,11 @@ use Rattle.napt_config.proofs.RedirectEntries.{redirects_in-keeps}
 
 -- ---- texts
 
-network_at-is : (address bits : ℕ) (network : Network) → address < 2 ^ 32 → bits ≤ 32 → network_at address bits ≡ Some network → IsNetwork network
+network_at-is : (address bits : ℕ) (network : Network) → address < 2 ^ 32 → bits ≤ 32 → network_at address bits
+    ≡ Some network → IsNetwork network
 network_at-is address bits network small few is =
-    let (test, same) = cond_some (address % 2 ^ (32 - bits) == 0) (record { address = address; bits = bits }) network is in
+    let (test, same) = cond_some (address % 2 ^ (32 - bits) == 0) (record { address = address; bits = bits }) network
+    is in
     subst IsNetwork same (record { address = small; bits = few; no_host_bits = eqb-true _ _ test })
 
 network_of-is : (text : List ℕ) (network : Network) → network_of text ≡ Some network → IsNetwork network
@@ -40,7 +42,8 @@ network_of-is text network is =
 
 -- ---- lists
 
-short_list-counts : (key : List ℕ) (table : Members) (entries : Items) → short_list key table ≡ Ok entries → (1 ≤ item_count entries) × (item_count entries ≤ 16)
+short_list-counts : (key : List ℕ) (table : Members) (entries : Items) → short_list key table ≡ Ok entries →
+    (1 ≤ item_count entries) × (item_count entries ≤ 16)
 unfolding short_list
 short_list-counts key table entries is =
     reads (required key table) _ entries is λ value _ listed.
@@ -102,18 +105,25 @@ pool_in-keeps table pool is =
     reads (short_list (codes "pool") table) _ pool is λ entries listed more.
     let counts = short_list-counts (codes "pool") table entries listed in
     let long = each_adds with_address length pool_adds [] pool entries more in
-    record { some = omega (arith, counts); few = omega (arith, counts); kept = each_keeps with_address PoolSoFar pool_keeps [] pool entries nothing_yet more }
+    record {
+      some = omega (arith, counts);
+      few = omega (arith, counts);
+      kept =
+          each_keeps with_address PoolSoFar pool_keeps [] pool entries nothing_yet more;
+    }
 
 -- ---- inside
 
-inside_step : (now next : List Network) (entry : Data) → with_prefix now entry ≡ Ok next → (network : Network) × IsNetwork network × (next ≡ now ++ network ∷ [])
+inside_step : (now next : List Network) (entry : Data) → with_prefix now entry ≡ Ok next → (network : Network)
+    × IsNetwork network × (next ≡ now ++ network ∷ [])
 unfolding with_prefix
 inside_step now next entry is =
     reads (text_in entry) _ next is λ text _ read.
     reads (ok_or (network_of text) BadPrefix) _ next read λ network found last.
     (network, network_of-is text network (ok_or_ok _ _ _ found), cc)
 
-inside_keeps : (now next : List Network) (entry : Data) → All IsNetwork now → with_prefix now entry ≡ Ok next → All IsNetwork next
+inside_keeps : (now next : List Network) (entry : Data) → All IsNetwork now → with_prefix now entry ≡ Ok next →
+    All IsNetwork next
 inside_keeps now next entry start is =
     let (network, is_network, made) = inside_step now next entry is in
     subst (All IsNetwork) (sym made) (All-push IsNetwork now network start is_network)
@@ -129,16 +139,24 @@ prefixes_in-keeps table inside is =
     reads (short_list (codes "inside") table) _ inside is λ entries listed more.
     let counts = short_list-counts (codes "inside") table entries listed in
     let long = each_adds with_prefix length inside_adds [] inside entries more in
-    record { some = omega (arith, counts); few = omega (arith, counts); networks = each_keeps with_prefix (All IsNetwork) inside_keeps [] inside entries (All-nil _) more }
+    record {
+      some = omega (arith, counts);
+      few = omega (arith, counts);
+      networks =
+          each_keeps with_prefix (All IsNetwork) inside_keeps [] inside entries (All-nil _) more;
+    }
 
-not_there : (test : ℕ → Bool) (xs : List ℕ) (i d : ℕ) (b : Bool) → list_any test xs ≡ false → i < length xs → test (get_or xs i d) ≡ b → b ≡ false
+not_there : (test : ℕ → Bool) (xs : List ℕ) (i d : ℕ) (b : Bool) → list_any test xs ≡ false → i < length xs →
+    test (get_or xs i d) ≡ b → b ≡ false
 not_there test xs i d true none lt is = sym (list_any_at test xs i d lt is) ∙ none
 not_there test xs i d false none lt is = refl
 
-all_outside : (inside : List Network) (pool : List ℕ) → list_any (have_address inside) pool ≡ false → All (λ address. have_address inside address ≡ false) pool
+all_outside : (inside : List Network) (pool : List ℕ) → list_any (have_address inside) pool ≡ false →
+    All (λ address. have_address inside address ≡ false) pool
 all_outside inside pool none = λ i d lt. not_there (have_address inside) pool i d _ none lt refl
 
-pub inside_in-keeps : (pool : List ℕ) (table : Members) (inside : List Network) → inside_in pool table ≡ Ok inside → IsInside inside × All (λ address. have_address inside address ≡ false) pool
+pub inside_in-keeps : (pool : List ℕ) (table : Members) (inside : List Network) → inside_in pool table ≡ Ok inside →
+    IsInside inside × All (λ address. have_address inside address ≡ false) pool
 unfolding inside_in
 inside_in-keeps pool table inside is =
     reads (prefixes_in table) _ inside is λ read found ruled.
@@ -155,10 +173,16 @@ timer_at-keeps least seconds value is =
     reads (ok_or (between 0 1_000_000_000 number) BadNumber) _ seconds read λ found ranged ruled.
     holds (nat_le least found) TimerTooShort _ seconds ruled λ long last.
     let same : found ≡ seconds = cc in
-    subst (IsTimer least) same (record { low = leb-true _ _ long; high = (between-range 0 1_000_000_000 found number (ok_or_ok _ _ _ ranged)).1 })
+    subst (IsTimer least) same (record {
+      low = leb-true _ _ long;
+      high =
+          (between-range 0 1_000_000_000 found number (ok_or_ok _ _ _ ranged)).1;
+    })
 
-timer-keeps : (key : List ℕ) (least default seconds : ℕ) (table : Members) → IsTimer least default → optional key default (timer_at least) table ≡ Ok seconds → IsTimer least seconds
-timer-keeps key least default seconds table fine is = optional_reads (IsTimer least) key default (timer_at least) table seconds is fine (λ value y read. timer_at-keeps least y value read)
+timer-keeps : (key : List ℕ) (least default seconds : ℕ) (table : Members) → IsTimer least default →
+    optional key default (timer_at least) table ≡ Ok seconds → IsTimer least seconds
+timer-keeps key least default seconds table fine is = optional_reads (IsTimer least) key default
+    (timer_at least) table seconds is fine (λ value y read. timer_at-keeps least y value read)
 
 defaults_are_timers : AreTimers default_timers
 defaults_are_timers = record {
@@ -173,21 +197,25 @@ unfolding timers_at
 timers_at-keeps timers value is =
     reads (table_in value) _ timers is λ keys _ rest.
     reads (optional (codes "udp") 300 (timer_at 120) keys) _ timers rest λ udp udp_is rest₁.
-    reads (optional (codes "tcp-established") 7440 (timer_at 7440) keys) _ timers rest₁ λ established established_is rest₂.
+    reads (optional (codes "tcp-established") 7440 (timer_at 7440) keys) _ timers rest₁ λ established established_is
+    rest₂.
     reads (optional (codes "tcp-transitory") 240 (timer_at 240) keys) _ timers rest₂ λ transitory transitory_is rest₃.
     reads (optional (codes "icmp") 60 (timer_at 60) keys) _ timers rest₃ λ icmp icmp_is last.
     let made : Timers = record { udp = udp; established = established; transitory = transitory; icmp = icmp } in
     let same : made ≡ timers = cc in
     subst AreTimers same (record {
       udp = timer-keeps (codes "udp") 120 300 udp keys defaults_are_timers.udp udp_is;
-      established = timer-keeps (codes "tcp-established") 7440 7440 established keys defaults_are_timers.established established_is;
-      transitory = timer-keeps (codes "tcp-transitory") 240 240 transitory keys defaults_are_timers.transitory transitory_is;
+      established = timer-keeps (codes "tcp-established") 7440 7440 established keys defaults_are_timers.established
+          established_is;
+      transitory = timer-keeps (codes "tcp-transitory") 240 240 transitory keys defaults_are_timers.transitory
+          transitory_is;
       icmp = timer-keeps (codes "icmp") 60 60 icmp keys defaults_are_timers.icmp icmp_is;
     })
 
 pub timers_in-keeps : (timers : Timers) (table : Members) → timers_in table ≡ Ok timers → AreTimers timers
 unfolding timers_in
-timers_in-keeps timers table is = optional_reads AreTimers (codes "timers") default_timers timers_at table timers is defaults_are_timers (λ value y read. timers_at-keeps y value read)
+timers_in-keeps timers table is = optional_reads AreTimers (codes "timers") default_timers timers_at table timers is
+    defaults_are_timers (λ value y read. timers_at-keeps y value read)
 
 abbrev pub IsRing : ℕ → Type 0
 IsRing slots = (1 ≤ slots) × (slots ≤ 4096)
@@ -200,7 +228,8 @@ ring_at-keeps slots value is =
 
 pub ring_in-keeps : (slots : ℕ) (table : Members) → ring_in table ≡ Ok slots → IsRing slots
 unfolding ring_in
-ring_in-keeps slots table is = optional_reads IsRing (codes "ring") 64 ring_at table slots is (omega arith, omega arith) (λ value y read. ring_at-keeps y value read)
+ring_in-keeps slots table is = optional_reads IsRing (codes "ring") 64 ring_at table slots is (omega arith, omega arith)
+    (λ value y read. ring_at-keeps y value read)
 
 quota_at-keeps : (quota : Option ℕ) (value : Data) → quota_at value ≡ Ok quota → IfSome quota IsQuota
 unfolding quota_at
@@ -213,7 +242,8 @@ quota_at-keeps quota value is =
 pub quota_in-keeps : (quota : Option ℕ) (table : Members) → quota_in table ≡ Ok quota → IfSome quota IsQuota
 unfolding quota_in
 quota_in-keeps quota table is =
-    optional_reads (λ q. IfSome q IsQuota) (codes "quota") None quota_at table quota is tt (λ value y read. quota_at-keeps y value read)
+    optional_reads (λ q. IfSome q IsQuota) (codes "quota") None quota_at table quota is tt (λ value y read.
+    quota_at-keeps y value read)
 
 -- ---- pairs
 
@@ -225,7 +255,8 @@ pub record PairStep (pool : List ℕ) (inside : List Network) (now next : Pairs)
   pub new : is_some (paired_with now host) ≡ false
   pub is : next ≡ insert_entry nat_cmp now host external
 
-pair_step : (pool : List ℕ) (inside : List Network) (now next : Pairs) (entry : Data) → with_pair pool inside now entry ≡ Ok next → PairStep pool inside now next
+pair_step : (pool : List ℕ) (inside : List Network) (now next : Pairs) (entry : Data) → with_pair pool inside now entry
+    ≡ Ok next → PairStep pool inside now next
 unfolding with_pair
 pair_step pool inside now next entry is =
     reads (table_in entry) _ next is λ keys _ rest.
@@ -234,23 +265,35 @@ pair_step pool inside now next entry is =
     reads (address_in (codes "external") keys) _ next rest₁ λ external _ ruled₁.
     holds (has pool external) NotInPool _ next ruled₁ λ external_in_pool ruled₂.
     holds (not (is_some (paired_with now host))) DoublePair _ next ruled₂ λ new last.
-    record { host = host; external = external; host_inside = host_inside; external_in_pool = external_in_pool; new = not-true _ new; is = cc }
+    record {
+      host = host;
+      external = external;
+      host_inside = host_inside;
+      external_in_pool = external_in_pool;
+      new =
+          not-true _ new;
+      is = cc;
+    }
 
 pub record PairsSoFar (pool : List ℕ) (inside : List Network) (pairs : Pairs) : Type 0 where
   pub ordered : IsStrictlySortedBy nat_cmp (keys_of pairs)
   pub hosts : All (λ host. have_address inside host ≡ true) (keys_of pairs)
   pub externals : All (λ external. has pool external ≡ true) (values_of pairs)
 
-pairs_keep : (pool : List ℕ) (inside : List Network) (now next : Pairs) (entry : Data) → PairsSoFar pool inside now → with_pair pool inside now entry ≡ Ok next → PairsSoFar pool inside next
+pairs_keep : (pool : List ℕ) (inside : List Network) (now next : Pairs) (entry : Data) → PairsSoFar pool inside now →
+    with_pair pool inside now entry ≡ Ok next → PairsSoFar pool inside next
 pairs_keep pool inside now next entry start is =
     let step = pair_step pool inside now next entry is in
     subst (PairsSoFar pool inside) (sym step.is) (record {
       ordered = sorted_inserted now step.host step.external start.ordered;
-      hosts = All-keys-insert_entry nat_cmp step.host step.external (λ host. have_address inside host ≡ true) now start.hosts step.host_inside;
-      externals = All-values-insert_entry nat_cmp step.host step.external (λ external. has pool external ≡ true) now start.externals step.external_in_pool;
+      hosts = All-keys-insert_entry nat_cmp step.host step.external (λ host. have_address inside host
+          ≡ true) now start.hosts step.host_inside;
+      externals = All-values-insert_entry nat_cmp step.host step.external (λ external. has pool external
+          ≡ true) now start.externals step.external_in_pool;
     })
 
-pairs_add : (pool : List ℕ) (inside : List Network) (now next : Pairs) (entry : Data) → with_pair pool inside now entry ≡ Ok next → length next ≡ length now + 1
+pairs_add : (pool : List ℕ) (inside : List Network) (now next : Pairs) (entry : Data) → with_pair pool inside now entry
+    ≡ Ok next → length next ≡ length now + 1
 pairs_add pool inside now next entry is =
     let step = pair_step pool inside now next entry is in
     ap length step.is ∙ one_more now step.host step.external step.new
@@ -259,23 +302,32 @@ no_pairs : (pool : List ℕ) (inside : List Network) → PairsSoFar pool inside 
 unfolding IsStrictlySortedBy
 no_pairs pool inside = record { ordered = tt; hosts = All-nil _; externals = All-nil _ }
 
-pairs_at-keeps : (pool : List ℕ) (inside : List Network) (value : Data) (pairs : Pairs) → pairs_at pool inside value ≡ Ok pairs → ArePairs pool inside pairs
+pairs_at-keeps : (pool : List ℕ) (inside : List Network) (value : Data) (pairs : Pairs) → pairs_at pool inside value
+    ≡ Ok pairs → ArePairs pool inside pairs
 unfolding pairs_at
 pairs_at-keeps pool inside value pairs is =
     reads (list_in value) _ pairs is λ entries _ ruled.
     holds (nat_le (item_count entries) 256) TooMany _ pairs ruled λ few more.
     let most = leb-true (item_count entries) 256 few in
     let long = each_adds (with_pair pool inside) length (pairs_add pool inside) [] pairs entries more in
-    let kept = each_keeps (with_pair pool inside) (PairsSoFar pool inside) (pairs_keep pool inside) [] pairs entries (no_pairs pool inside) more in
+    let kept = each_keeps (with_pair pool inside) (PairsSoFar pool inside) (pairs_keep pool inside) [] pairs entries
+    (no_pairs pool inside) more in
     record { few = omega (arith, most, long); ordered = kept.ordered; hosts = kept.hosts; externals = kept.externals }
 
 none_are_pairs : (pool : List ℕ) (inside : List Network) → ArePairs pool inside []
-none_are_pairs pool inside = let none = no_pairs pool inside in record { few = omega arith; ordered = none.ordered; hosts = none.hosts; externals = none.externals }
+none_are_pairs pool inside = let none = no_pairs pool inside in record {
+  few = omega arith;
+  ordered = none.ordered;
+  hosts = none.hosts;
+  externals = none.externals;
+}
 
-pub pairs_in-keeps : (pool : List ℕ) (inside : List Network) (table : Members) (pairs : Pairs) → pairs_in pool inside table ≡ Ok pairs → ArePairs pool inside pairs
+pub pairs_in-keeps : (pool : List ℕ) (inside : List Network) (table : Members) (pairs : Pairs) →
+    pairs_in pool inside table ≡ Ok pairs → ArePairs pool inside pairs
 unfolding pairs_in
 pairs_in-keeps pool inside table pairs is =
-    optional_reads (ArePairs pool inside) (codes "pair") [] (pairs_at pool inside) table pairs is (none_are_pairs pool inside) (λ value y read. pairs_at-keeps pool inside value y read)
+    optional_reads (ArePairs pool inside) (codes "pair") [] (pairs_at pool inside) table pairs is
+    (none_are_pairs pool inside) (λ value y read. pairs_at-keeps pool inside value y read)
 
 -- ---- the whole
 
@@ -293,14 +345,31 @@ configured-keeps table rules is =
     reads (quota_in table) _ rules rest₆ λ quota quota_is rest₇.
     reads (pairs_in pool inside table) _ rules rest₇ λ pairs pairs_is rest₈.
     reads (redirects_in inside (paired pool pairs) table) _ rules rest₈ λ redirects redirects_are last.
-    let made : Rules = record { pool = pool; inside = inside; filter = filter; refresh = refresh; timers = timers; ring = ring; quota = quota; pairs = pairs; redirects = redirects } in
+    let made : Rules = record {
+      pool = pool;
+      inside = inside;
+      filter = filter;
+      refresh = refresh;
+      timers = timers;
+      ring = ring;
+      quota = quota;
+      pairs = pairs;
+      redirects = redirects;
+    } in
     let same : made ≡ rules = cc in
     let of_pool = pool_in-keeps table pool pool_is in
     let (of_inside, outside) = inside_in-keeps pool table inside inside_is in
     let of_ring = ring_in-keeps ring table ring_is in
     let of_redirects = redirects_in-keeps inside (paired pool pairs) table redirects redirects_are in
     subst KeepsRules same (record {
-      pool = record { some = of_pool.some; few = of_pool.few; addresses = of_pool.kept.addresses; distinct = of_pool.kept.distinct; outside = outside };
+      pool = record {
+        some = of_pool.some;
+        few = of_pool.few;
+        addresses = of_pool.kept.addresses;
+        distinct =
+            of_pool.kept.distinct;
+        outside = outside;
+      };
       inside = of_inside;
       timers = timers_in-keeps timers table timers_is;
       ring_low = of_ring.0;

@@ -16,7 +16,8 @@ digits_model = numerals_by_value _ (search rules)
 
 are_digits : (text : List ℕ) → is_number text ≡ true → list_all is_ascii_digit text ≡ true
 are_digits text number =
-    let outer = and_parts (nat_lt 0 (length text) && list_all is_ascii_digit text) (not (nat_lt 1 (length text) && (get_or text 0 0 == 48))) number in
+    let outer = and_parts (nat_lt 0 (length text) && list_all is_ascii_digit text)
+    (not (nat_lt 1 (length text) && (get_or text 0 0 == 48))) number in
     (and_parts (nat_lt 0 (length text)) (list_all is_ascii_digit text) outer.0).1
 
 some_digits : (text : List ℕ) → is_number text ≡ true → 0 < length text
@@ -28,10 +29,15 @@ unfolding number_of
 too_large least most text large = grind (arith, nat_tests)
 
 -- a number that `parse` refuses
-pub number_of-unread : {E : Type 0} (e : E) (least most : ℕ) (text : List ℕ) → most < 2 ^ 32 → is_number text ≡ true → ParsesUnsigned 32 10 text (Err e) → number_of least most text ≡ None
+pub number_of-unread : {E : Type 0} (e : E) (least most : ℕ) (text : List ℕ) → most < 2 ^ 32 → is_number text ≡ true →
+    ParsesUnsigned 32 10 text (Err e) → number_of least most text ≡ None
 number_of-unread e least most text bound number refused =
     let unread = parse_digits digits_model 32 text (Err e) refused (are_digits text number) in
-    elim (cases_lt (digits_value 10 text) (2 ^ 32)) [ inl fits ↦ absurd (unread (some_digits text number, fits)) | inr large ↦ too_large least most text (omega arith) ]
+    elim (cases_lt (digits_value 10 text) (2 ^ 32)) [
+      | inl fits ↦ absurd (unread (some_digits text number, fits))
+      | inr
+          large ↦ too_large least most text (omega arith)
+    ]
 
 -- no text, no number
 pub number_of-nothing : (least most : ℕ) → number_of least most [] ≡ None

@@ -11,7 +11,8 @@ use Rattle.std.proofs.lemmas.List.{get_or_append_left}
 use Rattle.std.proofs.lemmas.Map.Views.{IfSome-lookup_from_All}
 use Rattle.napt_config.specs.Rules.{has, paired, paired_with}
 
-first_or_later : (b later : Bool) (n m : ℕ) → (b || later) ≡ true → (later ≡ true → n < m) → cond (not b) (1 + n) 0 < suc m
+first_or_later : (b later : Bool) (n m : ℕ) → (b || later) ≡ true → (later ≡ true → n < m) → cond (not b) (1 + n) 0
+    < suc m
 first_or_later true later n m some more = omega arith
 first_or_later false later n m some more = omega (arith, more some)
 
@@ -20,7 +21,8 @@ found p [] none = cc
 found p (x ∷ xs) some = first_or_later (p x) (list_any p xs) (position_or_len p xs) (length xs) some (found p xs)
 
 -- an address of the pool has a place
-pub position_of_member : (pool : List ℕ) (address : ℕ) → has pool address ≡ true → IsSome (position (λ other. other == address) pool)
+pub position_of_member : (pool : List ℕ) (address : ℕ) → has pool address ≡ true →
+    IsSome (position (λ other. other == address) pool)
 position_of_member pool address member = rw (lt-ltb _ _ (found (λ other. other == address) pool member))
 
 pub has-at : (pool : List ℕ) (i d : ℕ) → i < length pool → has pool (get_or pool i d) ≡ true
@@ -33,7 +35,8 @@ AreDistinct pool = (i j : ℕ) → i < length pool → j < length pool → get_o
 not_again : (pool : List ℕ) (address i : ℕ) → has pool address ≡ false → i < length pool → get_or pool i 0 ≡ address → ⊥
 not_again pool address i new lt same = false≢true (sym new ∙ rw (← same) (has-at pool i 0 lt))
 
-pub AreDistinct-push : (pool : List ℕ) (address : ℕ) → AreDistinct pool → has pool address ≡ false → AreDistinct (pool ++ address ∷ [])
+pub AreDistinct-push : (pool : List ℕ) (address : ℕ) → AreDistinct pool → has pool address ≡ false →
+    AreDistinct (pool ++ address ∷ [])
 AreDistinct-push pool address distinct new i j i_in j_in same =
     let long : length (pool ++ address ∷ []) ≡ length pool + 1 = length-append pool (address ∷ []) in
     let last : get_or (pool ++ address ∷ []) (length pool) 0 ≡ address = get_or-append_seam pool address [] 0 in
@@ -49,17 +52,22 @@ AreDistinct-push pool address distinct new i j i_in j_in same =
       | inr i_last ↦
           let i_is : i ≡ length pool = omega arith in
           elim (cases_lt j (length pool)) [
-            | inl j_old ↦ absurd (not_again pool address j new j_old (sym (get_or_append_left pool (address ∷ []) 0 j j_old) ∙ sym same ∙ rw i_is last))
+            | inl j_old ↦ absurd
+                (not_again pool address j new j_old (sym (get_or_append_left pool (address ∷ []) 0 j j_old) ∙ sym same
+                ∙ rw i_is last))
             | inr j_last ↦ omega arith
           ]
     ]
 
-has_either : (pool : List ℕ) (own : Option ℕ) (other : ℕ) → IfSome own (λ external. has pool external ≡ true) → has pool other ≡ true → has pool (unwrap_or own other) ≡ true
+has_either : (pool : List ℕ) (own : Option ℕ) (other : ℕ) → IfSome own (λ external. has pool external ≡ true) →
+    has pool other ≡ true → has pool (unwrap_or own other) ≡ true
 has_either pool None other of_own of_other = of_other
 has_either pool (Some external) other of_own of_other = of_own
 
 -- the external address of a host is in the pool
-pub paired_in_pool : (pool : List ℕ) (pairs : List (ℕ × ℕ)) (host : ℕ) → 1 ≤ length pool → All (λ external. has pool external ≡ true) (values_of pairs) → has pool (paired pool pairs host) ≡ true
+pub paired_in_pool : (pool : List ℕ) (pairs : List (ℕ × ℕ)) (host : ℕ) → 1 ≤ length pool →
+    All (λ external. has pool external ≡ true) (values_of pairs) → has pool (paired pool pairs host) ≡ true
 paired_in_pool pool pairs host some externals =
-    has_either pool (paired_with pairs host) _ (IfSome-lookup_from_All (λ external. has pool external ≡ true) (is_at (nat_cmp host)) pairs externals)
+    has_either pool (paired_with pairs host) _ (IfSome-lookup_from_All (λ external. has pool external ≡ true)
+    (is_at (nat_cmp host)) pairs externals)
     (has-at pool (host % length pool) 0 (omega (arith, some)))

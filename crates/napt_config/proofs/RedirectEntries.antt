@@ -29,7 +29,8 @@ socket_of-port text socket is =
     let is : record { address = address; port = port } ≡ socket = cc in
     subst P is low
 
-endpoint_in-port : (key : List ℕ) (keys : Members) (socket : Socket) → endpoint_in key keys ≡ Ok socket → 0 < socket.port
+endpoint_in-port : (key : List ℕ) (keys : Members) (socket : Socket) → endpoint_in key keys ≡ Ok socket →
+    0 < socket.port
 unfolding endpoint_in
 endpoint_in-port key keys socket is =
     reads (required key keys) _ socket is λ value _ read.
@@ -43,7 +44,8 @@ port_in-some key keys port is =
     reads (number_in value) _ port read λ number _ ranged.
     omega (arith, (between-range 1 65535 port number (ok_or_ok _ _ _ ranged)).0)
 
-redirect_in-is : (inside : List Network) (entry : Data) (redirect : Redirect) → redirect_in inside entry ≡ Ok redirect → IsRedirect inside redirect
+redirect_in-is : (inside : List Network) (entry : Data) (redirect : Redirect) → redirect_in inside entry ≡ Ok redirect →
+    IsRedirect inside redirect
 unfolding redirect_in
 redirect_in-is inside entry redirect is =
     reads (table_in entry) _ redirect is λ keys _ rest.
@@ -77,7 +79,8 @@ module _ (inside : List Network) (pair : ℕ → ℕ) where
     pub new : have_double pair now redirect ≡ false
     pub is : next ≡ now ++ redirect ∷ []
 
-  redirect_step : (now next : List Redirect) (entry : Data) → with_redirect inside pair now entry ≡ Ok next → RedirectStep now next
+  redirect_step : (now next : List Redirect) (entry : Data) → with_redirect inside pair now entry ≡ Ok next →
+      RedirectStep now next
   unfolding with_redirect
   redirect_step now next entry is =
       reads (redirect_in inside entry) _ next is λ redirect read ruled.
@@ -88,7 +91,8 @@ module _ (inside : List Network) (pair : ℕ → ℕ) where
     pub redirects : All (IsRedirect inside) read
     pub single : AreSingle pair read
 
-  redirects_keep : (now next : List Redirect) (entry : Data) → RedirectsSoFar now → with_redirect inside pair now entry ≡ Ok next → RedirectsSoFar next
+  redirects_keep : (now next : List Redirect) (entry : Data) → RedirectsSoFar now → with_redirect inside pair now entry
+      ≡ Ok next → RedirectsSoFar next
   redirects_keep now next entry start is =
       let step = redirect_step now next entry is in
       subst RedirectsSoFar (sym step.is) (record {
@@ -96,7 +100,8 @@ module _ (inside : List Network) (pair : ℕ → ℕ) where
         single = AreSingle-push pair now step.redirect start.single step.new;
       })
 
-  redirects_add : (now next : List Redirect) (entry : Data) → with_redirect inside pair now entry ≡ Ok next → length next ≡ length now + 1
+  redirects_add : (now next : List Redirect) (entry : Data) → with_redirect inside pair now entry ≡ Ok next →
+      length next ≡ length now + 1
   redirects_add now next entry is =
       let step = redirect_step now next entry is in
       ap length step.is ∙ length-append now (step.redirect ∷ [])
@@ -108,16 +113,22 @@ module _ (inside : List Network) (pair : ℕ → ℕ) where
   no_redirects : RedirectsSoFar []
   no_redirects = record { redirects = All-nil _; single = tt }
 
-  redirects_at-keeps : (value : Data) (redirects : List Redirect) → redirects_at inside pair value ≡ Ok redirects → RedirectRules redirects
+  redirects_at-keeps : (value : Data) (redirects : List Redirect) → redirects_at inside pair value ≡ Ok redirects →
+      RedirectRules redirects
   unfolding redirects_at
   redirects_at-keeps value redirects is =
       reads (list_in value) _ redirects is λ entries _ ruled.
       holds (nat_le (item_count entries) 256) TooMany _ redirects ruled λ few more.
       let most = leb-true (item_count entries) 256 few in
       let long = each_adds (with_redirect inside pair) length redirects_add [] redirects entries more in
-      record { few = omega (arith, most, long); kept = each_keeps (with_redirect inside pair) RedirectsSoFar redirects_keep [] redirects entries no_redirects more }
+      record {
+        few = omega (arith, most, long);
+        kept =
+            each_keeps (with_redirect inside pair) RedirectsSoFar redirects_keep [] redirects entries no_redirects more;
+      }
 
-  pub redirects_in-keeps : (table : Members) (redirects : List Redirect) → redirects_in inside pair table ≡ Ok redirects → RedirectRules redirects
+  pub redirects_in-keeps : (table : Members) (redirects : List Redirect) → redirects_in inside pair table
+      ≡ Ok redirects → RedirectRules redirects
   unfolding redirects_in
   redirects_in-keeps table redirects is =
       optional_reads RedirectRules (codes "redirect") [] (redirects_at inside pair) table redirects is

@@ -29,10 +29,20 @@ dotted : (address : ℕ) → IsDotted (address_text address) (to_be_bytes w32 ad
 unfolding address_text
 dotted address =
     let o = to_be_bytes w32 address in
-    record { a = get_or o 0 0; b = get_or o 1 0; c = get_or o 2 0; d = get_or o 3 0; fit = (omega arith, omega arith, omega arith, omega arith); value = refl; spelled = refl }
+    record {
+      a = get_or o 0 0;
+      b = get_or o 1 0;
+      c = get_or o 2 0;
+      d = get_or o 3 0;
+      fit =
+          (omega arith, omega arith, omega arith, omega arith);
+      value = refl;
+      spelled = refl;
+    }
 
 pub address_of-text : (address : ℕ) → address < 2 ^ 32 → address_of (address_text address) ≡ Some address
-address_of-text address small = address_of-dotted _ _ (dotted address) ∙ ap Some (from_be_bytes-to_be_bytes_4 address small)
+address_of-text address small = address_of-dotted _ _ (dotted address)
+    ∙ ap Some (from_be_bytes-to_be_bytes_4 address small)
 
 four_bytes : (a b c d i : ℕ) → a < 256 → b < 256 → c < 256 → d < 256 → get_or (a ∷ b ∷ c ∷ d ∷ []) i 0 < 256
 four_bytes a b c d zero fa fb fc fd = fa
@@ -48,7 +58,8 @@ address_text-of text address is =
     let bytes = spelled.a ∷ spelled.b ∷ spelled.c ∷ spelled.d ∷ [] in
     let fit = spelled.fit in
     let number : address ≡ from_be_bytes w32 bytes = sym value ∙ ap (from_be_bytes w32) spelled.value in
-    let same : to_be_bytes w32 address ≡ bytes = be_bytes_4 bytes address refl (λ i. four_bytes _ _ _ _ i fit.0 fit.1 fit.2 fit.3) number in
+    let same : to_be_bytes w32 address ≡ bytes =
+    be_bytes_4 bytes address refl (λ i. four_bytes _ _ _ _ i fit.0 fit.1 fit.2 fit.3) number in
     spelled.spelled ∙ sym (ap ipv4_text same)
 
 -- ---- numbers
@@ -66,17 +77,20 @@ is_number-decimal n small =
     ] in
     and_from _ _ (and_from _ _ (lt-ltb 0 _ numeral.0) digits) (not_from_false _ first)
 
-pub number_of-decimal : (least most n : ℕ) → least ≤ n → n ≤ most → most < 2 ^ 64 → number_of least most (decimal n) ≡ Some n
+pub number_of-decimal : (least most n : ℕ) → least ≤ n → n ≤ most → most < 2 ^ 64 → number_of least most (decimal n)
+    ≡ Some n
 unfolding number_of
 number_of-decimal least most n low high bound =
     let small : n < 2 ^ 64 = omega arith in
     let value = (decimal_is_IsNumeral n small).1 in
     let v = digits_value 10 (decimal n) in
-    let range : (nat_le least v && nat_le v most) ≡ true = and_from _ _ (le-leb least v (omega arith)) (le-leb v most (omega arith)) in
+    let range : (nat_le least v && nat_le v most) ≡ true = and_from _ _ (le-leb least v (omega arith))
+    (le-leb v most (omega arith)) in
     let test = and_from _ _ (is_number-decimal n small) range in
     subst (λ b. cond b (Some v) None ≡ Some n) (sym test) (ap Some value)
 
-pub decimal-number_of : (least most n : ℕ) (text : List ℕ) → most < 2 ^ 64 → number_of least most text ≡ Some n → text ≡ decimal n
+pub decimal-number_of : (least most n : ℕ) (text : List ℕ) → most < 2 ^ 64 → number_of least most text ≡ Some n →
+    text ≡ decimal n
 unfolding number_of
 decimal-number_of least most n text bound is =
     let (tests, value) = cond_some _ _ n is in
@@ -89,45 +103,63 @@ decimal-number_of least most n text bound is =
       | inl more ↦ absurd (both_ways _ (not-true _ first) (and_from _ _ (lt-ltb _ _ more) (eq-eqb _ _ zero_first)))
       | inr one ↦ omega (arith, ltb-true 0 (length text) some)
     ] in
-    sym (decimal-digits_value digits_model text digits (ltb-true 0 (length text) some) alone (omega (arith, leb-true (digits_value 10 text) most high))) ∙ ap decimal value
+    sym (decimal-digits_value digits_model text digits (ltb-true 0 (length text) some) alone
+    (omega (arith, leb-true (digits_value 10 text) most high))) ∙ ap decimal value
 
 -- ---- separators
 
-none_among_digits : (p : ℕ → Bool) (text : List ℕ) → ((c : ℕ) → is_ascii_digit c ≡ true → p c ≡ false) → list_all is_ascii_digit text ≡ true → list_any p text ≡ false
+none_among_digits : (p : ℕ → Bool) (text : List ℕ) → ((c : ℕ) → is_ascii_digit c ≡ true → p c ≡ false) →
+    list_all is_ascii_digit text ≡ true → list_any p text ≡ false
 none_among_digits p [] other digits = refl
 none_among_digits p (c ∷ text) other digits =
     let (here, more) = and_parts (is_ascii_digit c) (list_all is_ascii_digit text) digits in
     rw (other c here, none_among_digits p text other more)
 
-none_in_dotted : (p : ℕ → Bool) (a b c d : ℕ) → list_any p (decimal a) ≡ false → list_any p (decimal b) ≡ false → list_any p (decimal c) ≡ false → list_any p (decimal d) ≡ false → p 46 ≡ false
+none_in_dotted : (p : ℕ → Bool) (a b c d : ℕ) → list_any p (decimal a) ≡ false → list_any p (decimal b) ≡ false →
+    list_any p (decimal c) ≡ false → list_any p (decimal d) ≡ false → p 46 ≡ false
     → list_any p (dotted_text a b c d) ≡ false
 none_in_dotted p a b c d of_a of_b of_c of_d dot = simp (list_any-append, of_a, of_b, of_c, of_d, dot)
 
-none_in_address : (p : ℕ → Bool) (address : ℕ) → ((c : ℕ) → is_ascii_digit c ≡ true → p c ≡ false) → p 46 ≡ false → list_any p (address_text address) ≡ false
+none_in_address : (p : ℕ → Bool) (address : ℕ) → ((c : ℕ) → is_ascii_digit c ≡ true → p c ≡ false) → p 46 ≡ false →
+    list_any p (address_text address) ≡ false
 unfolding address_text
 none_in_address p address other dot =
-    let none : (n : ℕ) → n < 256 → list_any p (decimal n) ≡ false = λ n small. none_among_digits p (decimal n) other (digits_decimal digits_model n (omega arith)) in
+    let none : (n : ℕ) → n < 256 → list_any p (decimal n) ≡ false = λ n small. none_among_digits p (decimal n) other
+    (digits_decimal digits_model n (omega arith)) in
     let o = to_be_bytes w32 address in
-    none_in_dotted p (get_or o 0 0) (get_or o 1 0) (get_or o 2 0) (get_or o 3 0) (none _ (omega arith)) (none _ (omega arith)) (none _ (omega arith)) (none _ (omega arith)) dot
+    none_in_dotted p (get_or o 0 0) (get_or o 1 0) (get_or o 2 0) (get_or o 3 0) (none _ (omega arith))
+    (none _ (omega arith)) (none _ (omega arith)) (none _ (omega arith)) dot
 
-later_by_one : (b later : Bool) (n m : ℕ) → (b || later) ≡ false → (later ≡ false → n ≡ m) → cond (not b) (1 + n) 0 ≡ suc m
+later_by_one : (b later : Bool) (n m : ℕ) → (b || later) ≡ false → (later ≡ false → n ≡ m) → cond (not b) (1 + n) 0
+    ≡ suc m
 later_by_one true later n m none more = cc
 later_by_one false later n m none more = omega (arith, more none)
 
-place_of_mark : (p : ℕ → Bool) (front : List ℕ) (mark : ℕ) (rest : List ℕ) → list_any p front ≡ false → p mark ≡ true → position_or_len p (front ++ mark ∷ rest) ≡ length front
+place_of_mark : (p : ℕ → Bool) (front : List ℕ) (mark : ℕ) (rest : List ℕ) → list_any p front ≡ false → p mark ≡ true →
+    position_or_len p (front ++ mark ∷ rest) ≡ length front
 place_of_mark p [] mark rest none here = rw here
-place_of_mark p (c ∷ front) mark rest none here = later_by_one (p c) (list_any p front) _ (length front) none (λ none_later. place_of_mark p front mark rest none_later here)
+place_of_mark p (c ∷ front) mark rest none here = later_by_one (p c) (list_any p front) _ (length front) none
+    (λ none_later. place_of_mark p front mark rest none_later here)
 
-before_mark : (p : ℕ → Bool) (front : List ℕ) (mark : ℕ) (rest : List ℕ) → list_any p front ≡ false → p mark ≡ true → before_first p (front ++ mark ∷ rest) ≡ front
-before_mark p front mark rest none here = ap (λ at. take at (front ++ mark ∷ rest)) (place_of_mark p front mark rest none here) ∙ take-append_seam front (mark ∷ rest)
+before_mark : (p : ℕ → Bool) (front : List ℕ) (mark : ℕ) (rest : List ℕ) → list_any p front ≡ false → p mark ≡ true →
+    before_first p (front ++ mark ∷ rest) ≡ front
+before_mark p front mark rest none here = ap (λ at. take at (front ++ mark ∷ rest))
+    (place_of_mark p front mark rest none here) ∙ take-append_seam front (mark ∷ rest)
 
-after_mark : (p : ℕ → Bool) (front : List ℕ) (mark : ℕ) (rest : List ℕ) → list_any p front ≡ false → p mark ≡ true → after_first p (front ++ mark ∷ rest) ≡ rest
-after_mark p front mark rest none here = ap (λ at. drop (at + 1) (front ++ mark ∷ rest)) (place_of_mark p front mark rest none here) ∙ drop-append-add front (mark ∷ rest) 1
+after_mark : (p : ℕ → Bool) (front : List ℕ) (mark : ℕ) (rest : List ℕ) → list_any p front ≡ false → p mark ≡ true →
+    after_first p (front ++ mark ∷ rest) ≡ rest
+after_mark p front mark rest none here = ap (λ at. drop (at + 1) (front ++ mark ∷ rest))
+    (place_of_mark p front mark rest none here) ∙ drop-append-add front (mark ∷ rest) 1
 
-rejoined : (p : ℕ → Bool) (text : List ℕ) → position_or_len p text < length text → (mark : ℕ) × (p mark ≡ true) × (text ≡ before_first p text ++ mark ∷ after_first p text)
+rejoined : (p : ℕ → Bool) (text : List ℕ) → position_or_len p text < length text → (mark : ℕ) × (p mark ≡ true)
+    × (text ≡ before_first p text ++ mark ∷ after_first p text)
 rejoined p text lt =
-    let at = position_or_len p text in
-    (get_or text at 0, not-false _ (prefix_len_stops (λ c. not (p c)) text 0 lt), sym (take-append-drop at text) ∙ ap (λ rest. take at text ++ rest) (drop_more text at 0 lt))
+    let at = position_or_len p text in (
+      get_or text at 0,
+      not-false _ (prefix_len_stops (λ c. not (p c)) text 0 lt),
+      sym (take-append-drop at text)
+          ∙ ap (λ rest. take at text ++ rest) (drop_more text at 0 lt),
+    )
 
 no_digit_is_slash : (c : ℕ) → is_ascii_digit c ≡ true → is_slash c ≡ false
 no_digit_is_slash c digit = grind (arith, nat_tests)
@@ -136,23 +168,27 @@ no_digit_is_colon : (c : ℕ) → is_ascii_digit c ≡ true → is_colon c ≡ f
 no_digit_is_colon c digit = grind (arith, nat_tests)
 
 -- what is read after a separator is not empty, so the separator is there
-separated : (p : ℕ → Bool) (least most n : ℕ) (text : List ℕ) → number_of least most (after_first p text) ≡ Some n → position_or_len p text < length text
+separated : (p : ℕ → Bool) (least most n : ℕ) (text : List ℕ) → number_of least most (after_first p text) ≡ Some n →
+    position_or_len p text < length text
 separated p least most n text read =
     elim (cases_lt (position_or_len p text) (length text)) [
       | inl lt ↦ lt
       | inr past ↦
           let nothing : after_first p text ≡ [] = drop_all (position_or_len p text + 1) text (omega arith) in
-          let none : number_of least most (after_first p text) ≡ None = ap (number_of least most) nothing ∙ number_of-nothing least most in
+          let none : number_of least most (after_first p text) ≡ None = ap (number_of least most) nothing
+          ∙ number_of-nothing least most in
           let apart : Some n ≡ None = sym read ∙ none in
           cc
     ]
 
 -- ---- prefixes and endpoints
 
-same_join : (front back a d : List ℕ) (mark at : ℕ) → front ≡ a → back ≡ d → mark ≡ at → front ++ mark ∷ back ≡ a ++ at ∷ d
+same_join : (front back a d : List ℕ) (mark at : ℕ) → front ≡ a → back ≡ d → mark ≡ at → front ++ mark ∷ back ≡ a ++ at
+    ∷ d
 same_join front back a d mark at same_front same_back same_mark = rw (same_front, same_back, same_mark)
 
-both_read : {A : Type 0} (f : ℕ → ℕ → Option A) (first second : Option ℕ) (x y : ℕ) (r : Option A) → first ≡ Some x → second ≡ Some y → f x y ≡ r → option_and_then (λ x. option_and_then (f x) second) first ≡ r
+both_read : {A : Type 0} (f : ℕ → ℕ → Option A) (first second : Option ℕ) (x y : ℕ) (r : Option A) → first ≡ Some x →
+    second ≡ Some y → f x y ≡ r → option_and_then (λ x. option_and_then (f x) second) first ≡ r
 both_read f first second x y r first_is second_is made = rw (first_is, second_is) made
 
 pub network_text-of : (text : List ℕ) (network : Network) → network_of text ≡ Some network → text ≡ network_text network
@@ -160,11 +196,13 @@ unfolding network_of network_text
 network_text-of text network is =
     option_and_then_some _ (address_of (before_first is_slash text)) network is λ address found more.
     option_and_then_some _ (number_of 0 32 (after_first is_slash text)) network more λ bits counted made.
-    let (_, same) = cond_some (address % 2 ^ (32 - bits) == 0) (record { address = address; bits = bits }) network made in
+    let (_, same) = cond_some (address % 2 ^ (32 - bits) == 0) (record { address = address; bits = bits }) network
+    made in
     let (mark, is_mark, joined) = rejoined is_slash text (separated is_slash 0 32 bits text counted) in
     let front = address_text-of _ address found in
     let back = decimal-number_of 0 32 bits _ (omega arith) counted in
-    joined ∙ same_join _ _ _ _ mark 47 front back (eqb-true mark 47 is_mark) ∙ sym (append_assoc (address_text address) (47 ∷ []) (decimal bits)) ∙ ap network_text same
+    joined ∙ same_join _ _ _ _ mark 47 front back (eqb-true mark 47 is_mark)
+    ∙ sym (append_assoc (address_text address) (47 ∷ []) (decimal bits)) ∙ ap network_text same
 
 pub network_of-text : (network : Network) → IsNetwork network → network_of (network_text network) ≡ Some network
 unfolding network_of network_text
@@ -173,10 +211,13 @@ network_of-text network fine =
     let D = decimal network.bits in
     let none = none_in_address is_slash network.address no_digit_is_slash refl in
     let regrouped : network_text network ≡ A ++ 47 ∷ D = append_assoc A (47 ∷ []) D in
-    let front : before_first is_slash (network_text network) ≡ A = ap (before_first is_slash) regrouped ∙ before_mark is_slash A 47 D none refl in
-    let back : after_first is_slash (network_text network) ≡ D = ap (after_first is_slash) regrouped ∙ after_mark is_slash A 47 D none refl in
+    let front : before_first is_slash (network_text network) ≡ A = ap (before_first is_slash) regrouped
+    ∙ before_mark is_slash A 47 D none refl in
+    let back : after_first is_slash (network_text network) ≡ D = ap (after_first is_slash) regrouped
+    ∙ after_mark is_slash A 47 D none refl in
     let made : network_at network.address network.bits ≡ Some network = rw (eq-eqb _ _ fine.no_host_bits) refl in
-    both_read network_at _ _ network.address network.bits _ (ap address_of front ∙ address_of-text network.address fine.address)
+    both_read network_at _ _ network.address network.bits _ (ap address_of front
+    ∙ address_of-text network.address fine.address)
     (ap (number_of 0 32) back ∙ number_of-decimal 0 32 network.bits (omega arith) fine.bits (omega arith)) made
 
 pub socket_text-of : (text : List ℕ) (socket : Socket) → socket_of text ≡ Some socket → text ≡ socket_text socket
@@ -189,7 +230,8 @@ socket_text-of text socket is =
     let (mark, is_mark, joined) = rejoined is_colon text (separated is_colon 1 65535 port text counted) in
     let front = address_text-of _ address found in
     let back = decimal-number_of 1 65535 port _ (omega arith) counted in
-    joined ∙ same_join _ _ _ _ mark 58 front back (eqb-true mark 58 is_mark) ∙ sym (append_assoc (address_text address) (58 ∷ []) (decimal port)) ∙ ap socket_text same
+    joined ∙ same_join _ _ _ _ mark 58 front back (eqb-true mark 58 is_mark)
+    ∙ sym (append_assoc (address_text address) (58 ∷ []) (decimal port)) ∙ ap socket_text same
 
 pub socket_of-text : (socket : Socket) → IsSocket socket → socket_of (socket_text socket) ≡ Some socket
 unfolding socket_of socket_text
@@ -198,29 +240,48 @@ socket_of-text socket fine =
     let D = decimal socket.port in
     let none = none_in_address is_colon socket.address no_digit_is_colon refl in
     let regrouped : socket_text socket ≡ A ++ 58 ∷ D = append_assoc A (58 ∷ []) D in
-    let front : before_first is_colon (socket_text socket) ≡ A = ap (before_first is_colon) regrouped ∙ before_mark is_colon A 58 D none refl in
-    let back : after_first is_colon (socket_text socket) ≡ D = ap (after_first is_colon) regrouped ∙ after_mark is_colon A 58 D none refl in
-    both_read socket_at _ _ socket.address socket.port _ (ap address_of front ∙ address_of-text socket.address fine.address)
-    (ap (number_of 1 65535) back ∙ number_of-decimal 1 65535 socket.port fine.low (omega (arith, fine.high)) (omega arith)) refl
+    let front : before_first is_colon (socket_text socket) ≡ A = ap (before_first is_colon) regrouped
+    ∙ before_mark is_colon A 58 D none refl in
+    let back : after_first is_colon (socket_text socket) ≡ D = ap (after_first is_colon) regrouped
+    ∙ after_mark is_colon A 58 D none refl in
+    both_read socket_at _ _ socket.address socket.port _ (ap address_of front
+    ∙ address_of-text socket.address fine.address)
+    (ap (number_of 1 65535) back ∙ number_of-decimal 1 65535 socket.port fine.low (omega (arith, fine.high))
+    (omega arith)) refl
 
 -- ---- whole results
 
-read_back : {A : Type 0} (spelling : A → List ℕ) (IsValue : A → Type 0) (fault : ConfigFault) (text : List ℕ) (o : Option A)
-    → ((x : A) → o ≡ Some x → text ≡ spelling x) → ((x : A) → IsValue x → text ≡ spelling x → o ≡ Some x) → IsReadBack spelling IsValue fault text (ok_or o fault)
-read_back spelling IsValue fault text None spelled only = record { spelled = tt; only = λ x fine is. absurd (none-some x (only x fine is)); refused = refl }
-read_back spelling IsValue fault text (Some y) spelled only = record { spelled = spelled y refl; only = λ x fine is. let same : Some y ≡ Some x = only x fine is in cc; refused = tt }
+read_back : {A : Type 0} (spelling : A → List ℕ) (IsValue : A → Type 0) (fault : ConfigFault) (text : List ℕ)
+    (o : Option A)
+    → ((x : A) → o ≡ Some x → text ≡ spelling x) → ((x : A) → IsValue x → text ≡ spelling x → o ≡ Some x) →
+    IsReadBack spelling IsValue fault text (ok_or o fault)
+read_back spelling IsValue fault text None spelled only = record {
+  spelled = tt;
+  only = λ x fine is.
+      absurd (none-some x (only x fine is));
+  refused = refl;
+}
+read_back spelling IsValue fault text (Some y) spelled only = record {
+  spelled = spelled y refl;
+  only = λ x fine is.
+      let same : Some y ≡ Some x = only x fine is in cc;
+  refused = tt;
+}
 
-pub networks_read_back : (fault : ConfigFault) (text : List ℕ) → IsReadBack network_text IsNetwork fault text (ok_or (network_of text) fault)
+pub networks_read_back : (fault : ConfigFault) (text : List ℕ) → IsReadBack network_text IsNetwork fault text
+    (ok_or (network_of text) fault)
 networks_read_back fault text =
     read_back network_text IsNetwork fault text (network_of text) (λ network is. network_text-of text network is)
     (λ network fine is. ap network_of is ∙ network_of-text network fine)
 
-pub sockets_read_back : (fault : ConfigFault) (text : List ℕ) → IsReadBack socket_text IsSocket fault text (ok_or (socket_of text) fault)
+pub sockets_read_back : (fault : ConfigFault) (text : List ℕ) → IsReadBack socket_text IsSocket fault text
+    (ok_or (socket_of text) fault)
 sockets_read_back fault text =
     read_back socket_text IsSocket fault text (socket_of text) (λ socket is. socket_text-of text socket is)
     (λ socket fine is. ap socket_of is ∙ socket_of-text socket fine)
 
-pub address_reads_back : (text : List ℕ) (address x : ℕ) → address_of text ≡ Some address → x < 2 ^ 32 → text ≡ address_text x → x ≡ address
+pub address_reads_back : (text : List ℕ) (address x : ℕ) → address_of text ≡ Some address → x < 2 ^ 32 →
+    text ≡ address_text x → x ≡ address
 address_reads_back text address x read small is =
     let again : Some x ≡ Some address = sym (ap address_of is ∙ address_of-text x small) ∙ read in
     cc

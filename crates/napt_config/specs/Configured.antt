@@ -38,7 +38,8 @@ only_keys_in_each names no_items = true
 only_keys_in_each names (item entry rest) = only_keys_in names entry && only_keys_in_each names rest
 
 abbrev pub top_keys : List (List ℕ)
-top_keys = codes "pool" ∷ codes "inside" ∷ codes "filter" ∷ codes "refresh" ∷ codes "timers" ∷ codes "ring" ∷ codes "quota" ∷ codes "pair" ∷ codes "redirect" ∷ []
+top_keys = codes "pool" ∷ codes "inside" ∷ codes "filter" ∷ codes "refresh" ∷ codes "timers" ∷ codes "ring"
+    ∷ codes "quota" ∷ codes "pair" ∷ codes "redirect" ∷ []
 
 abbrev pub timer_keys : List (List ℕ)
 timer_keys = codes "udp" ∷ codes "tcp-established" ∷ codes "tcp-transitory" ∷ codes "icmp" ∷ []
@@ -64,7 +65,8 @@ knows_redirect_keys table = option_map_or (only_keys_in_list redirect_keys) (get
 
 -- whether each key, in `timers` and in each entry of `pair` and `redirect` too, is one that a configuration knows
 unfoldable pub knows_all_keys : Members → Bool
-knows_all_keys table = ((only_keys top_keys table && knows_timer_keys table) && knows_pair_keys table) && knows_redirect_keys table
+knows_all_keys table = ((only_keys top_keys table && knows_timer_keys table) && knows_pair_keys table)
+    && knows_redirect_keys table
 
 -- ---- values
 
@@ -322,7 +324,18 @@ configured table = do
   quota ← quota_in table
   pairs ← pairs_in pool inside table
   redirects ← redirects_in inside (paired pool pairs) table
-  Ok (record { pool = pool; inside = inside; filter = filter; refresh = refresh; timers = timers; ring = ring; quota = quota; pairs = pairs; redirects = redirects })
+  Ok (record {
+    pool = pool;
+    inside = inside;
+    filter = filter;
+    refresh = refresh;
+    timers = timers;
+    ring = ring;
+    quota =
+        quota;
+    pairs = pairs;
+    redirects = redirects;
+  })
 
 -- the table that a text reads as: it is UTF-8, and TOML
 unfoldable pub document_of : List ℕ → Option Members

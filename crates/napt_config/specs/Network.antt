@@ -23,7 +23,8 @@ have_address networks address = list_any (λ network. has_address network addres
 
 -- 10.0.0.0/8, 172.16.0.0/12 and 192.168.0.0/16 (RFC 1918, section 3)
 abbrev pub private_networks : List Network
-private_networks = record { address = 0x0A000000; bits = 8 } ∷ record { address = 0xAC100000; bits = 12 } ∷ record { address = 0xC0A80000; bits = 16 } ∷ []
+private_networks = record { address = 0x0A000000; bits = 8 } ∷ record { address = 0xAC100000; bits = 12 }
+    ∷ record { address = 0xC0A80000; bits = 16 } ∷ []
 
 -- an address and a port, which is not 0
 pub record Socket : Type 0 where

@@ -107,7 +107,8 @@ is_double pair a b = beq a.tcp b.tcp && (share_inside a b || share_external pair
 -- no two are double
 abbrev pub AreSingle : (ℕ → ℕ) → List Redirect → Type 0
 AreSingle pair [] = Unit {0}
-AreSingle pair (redirect ∷ redirects) = (list_any (is_double pair redirect) redirects ≡ false) × AreSingle pair redirects
+AreSingle pair (redirect ∷ redirects) = (list_any (is_double pair redirect) redirects ≡ false)
+    × AreSingle pair redirects
 
 -- the rules that each configuration keeps
 pub record KeepsRules (rules : Rules) : Type 0 where

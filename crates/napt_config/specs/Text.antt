@@ -23,12 +23,14 @@ socket_text socket = address_text socket.address ++ codes ":" ++ decimal socket.
 
 -- at least one ASCII digit and nothing else, with no 0 in front of another digit
 abbrev pub is_number : List ℕ → Bool
-is_number text = (nat_lt 0 (length text) && list_all is_ascii_digit text) && not (nat_lt 1 (length text) && (slice_index text 0 == 48))
+is_number text = (nat_lt 0 (length text) && list_all is_ascii_digit text)
+    && not (nat_lt 1 (length text) && (slice_index text 0 == 48))
 
 -- the number in decimal that the text is, from least to most
 unfoldable pub number_of : ℕ → ℕ → List ℕ → Option ℕ
 number_of least most text =
-    if is_number text && (nat_le least (digits_value 10 text) && nat_le (digits_value 10 text) most) then Some (digits_value 10 text) else None
+    if is_number text && (nat_le least (digits_value 10 text) && nat_le (digits_value 10 text) most)
+    then Some (digits_value 10 text) else None
 
 -- the four bytes, with nothing after them, as a number
 abbrev pub whole_address : List ℕ → List ℕ → Option ℕ
@@ -48,7 +50,8 @@ is_colon byte = byte == 58
 
 -- the network, where the bits past its leading ones are 0
 abbrev pub network_at : ℕ → ℕ → Option Network
-network_at address bits = if address % 2 ^ (32 - bits) == 0 then Some (record { address = address; bits = bits }) else None
+network_at address bits = if address % 2 ^ (32 - bits) == 0 then Some (record { address = address; bits = bits })
+    else None
 
 -- the prefix that the text is: the one whose `network_text` it is, where there is one
 unfoldable pub network_of : List ℕ → Option Network
@@ -68,7 +71,8 @@ socket_of text =
     (address_of (before_first is_colon text))
 
 -- What a text reads as: the value whose spelling it is, and no other; the fault, where it spells no value.
-pub record IsReadBack {A : Type 0} (spelling : A → List ℕ) (IsValue : A → Type 0) (fault : ConfigFault) (text : List ℕ) (r : Result A ConfigFault) : Type 0 where
+pub record IsReadBack {A : Type 0} (spelling : A → List ℕ) (IsValue : A → Type 0) (fault : ConfigFault) (text : List ℕ)
+    (r : Result A ConfigFault) : Type 0 where
   pub spelled : IfOk r (λ x. text ≡ spelling x)
   pub only : (x : A) → IsValue x → text ≡ spelling x → r ≡ Ok x
   pub refused : IfErr r (λ e. e ≡ fault)

@@ -35,7 +35,8 @@ fn only_keys_in(value: &Value, names: &[&str]) -> bool
 }
 
 fn only_keys_in_each(entries: &[Value], names: &[&str]) -> bool
-    ensures { result ≡ only_keys_in_each (map (λ name. name.now) names.now) (items_view entries.now) }
+    ensures { result ≡ only_keys_in_each (map (λ name. name.now) names.now)
+        (items_view entries.now) }
 {
     for entry in entries {
         if !only_keys_in(entry, names) {

@@ -33,7 +33,8 @@ pub(crate) const DEFAULT_SLOTS: usize = 64;
 /// The list at a required key, of 1 to 16 entries.
 #[tactic(auto, unfolding(crate::specs::Configured::short_list), using(crate::proofs::Entries::items_are_counted))]
 fn short_list<'a>(table: &'a Table, key: &str) -> Result<&'a [Value], ConfigFault>
-    ensures { Gives (λ entries. items_view entries.now) result (short_list key.now (table_view table.now)) }
+    ensures { Gives (λ entries. items_view entries.now) result
+        (short_list key.now (table_view table.now)) }
 {
     let entries = list_in(required(table, key)?)?;
     if entries.is_empty() {
@@ -196,7 +197,8 @@ fn timer_at(value: &Value, least: u64) -> Result<u64, ConfigFault>
 
 /// The seconds at a key, or those that stand for it where it is absent.
 fn timer(table: &Table, key: &str, least: u64, default: u64) -> Result<u64, ConfigFault>
-    ensures { Gives (λ seconds. seconds) result (optional key.now default (timer_at least) (table_view table.now)) }
+    ensures { Gives (λ seconds. seconds) result (optional key.now default (timer_at least)
+        (table_view table.now)) }
 {
     match value_at(table, key) {
         Some(value) => timer_at(value, least),
@@ -292,7 +294,8 @@ fn add_pair(
     pool: &[u32],
     inside: &[Prefix],
 ) -> Result<(), ConfigFault>
-    ensures { Gives (λ _. pairs.new.entries) result (with_pair pool.now inside.now pairs.old.entries (view entry.now)) }
+    ensures { Gives (λ _. pairs.new.entries) result (with_pair pool.now inside.now pairs.old.entries
+        (view entry.now)) }
 {
     let table = table_in(entry)?;
     let host = address_in(table, "host")?;
@@ -317,7 +320,8 @@ fn pairs_of(
     pool: &[u32],
     inside: &[Prefix],
 ) -> Result<BTreeMap<u32, u32>, ConfigFault>
-    ensures { Gives (λ pairs. pairs.entries) result (each_in_order (with_pair pool.now inside.now) [] (items_view entries.now)) }
+    ensures { Gives (λ pairs. pairs.entries) result (each_in_order (with_pair pool.now inside.now)
+        [] (items_view entries.now)) }
 {
     let mut pairs = BTreeMap::new(alloc);
     for entry in entries {
@@ -350,7 +354,8 @@ pub(crate) fn pairs(
     pool: &[u32],
     inside: &[Prefix],
 ) -> Result<BTreeMap<u32, u32>, ConfigFault>
-    ensures { Gives (λ pairs. pairs.entries) result (pairs_in pool.now inside.now (table_view table.now)) }
+    ensures { Gives (λ pairs. pairs.entries) result (pairs_in pool.now inside.now
+        (table_view table.now)) }
 {
     match value_at(table, "pair") {
         Some(value) => pairs_at(alloc, value, pool, inside),

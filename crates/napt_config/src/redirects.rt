@@ -119,7 +119,9 @@ fn add_redirect(
     pairs: &BTreeMap<u32, u32>,
 ) -> Result<(), ConfigFault>
     requires some { 1 ≤ length pool.now }
-    ensures { Gives (λ _. redirects.new.items) result (with_redirect inside.now (paired pool.now pairs.now.entries) redirects.old.items (view entry.now)) }
+    ensures { Gives (λ _. redirects.new.items) result
+        (with_redirect inside.now (paired pool.now pairs.now.entries) redirects.old.items
+        (view entry.now)) }
 {
     let redirect = redirect_in(entry, inside)?;
     if have_double(redirects, &redirect, pool, pairs) {
@@ -138,7 +140,9 @@ fn redirects_of(
     pairs: &BTreeMap<u32, u32>,
 ) -> Result<Vec<Redirect>, ConfigFault>
     requires some { 1 ≤ length pool.now }
-    ensures { Gives (λ redirects. redirects.items) result (each_in_order (with_redirect inside.now (paired pool.now pairs.now.entries)) [] (items_view entries.now)) }
+    ensures { Gives (λ redirects. redirects.items) result
+        (each_in_order (with_redirect inside.now (paired pool.now pairs.now.entries)) []
+        (items_view entries.now)) }
 {
     let mut redirects = Vec::new(alloc);
     for entry in entries {
@@ -156,7 +160,8 @@ fn redirects_at(
     pairs: &BTreeMap<u32, u32>,
 ) -> Result<Vec<Redirect>, ConfigFault>
     requires some { 1 ≤ length pool.now }
-    ensures { Gives (λ redirects. redirects.items) result (redirects_at inside.now (paired pool.now pairs.now.entries) (view value.now)) }
+    ensures { Gives (λ redirects. redirects.items) result
+        (redirects_at inside.now (paired pool.now pairs.now.entries) (view value.now)) }
 {
     let entries = list_in(value)?;
     if entries.len() > MOST_REDIRECTS {
@@ -176,7 +181,8 @@ pub(crate) fn redirects(
     pairs: &BTreeMap<u32, u32>,
 ) -> Result<Vec<Redirect>, ConfigFault>
     requires some { 1 ≤ length pool.now }
-    ensures { Gives (λ redirects. redirects.items) result (redirects_in inside.now (paired pool.now pairs.now.entries) (table_view table.now)) }
+    ensures { Gives (λ redirects. redirects.items) result
+        (redirects_in inside.now (paired pool.now pairs.now.entries) (table_view table.now)) }
 {
     match value_at(table, "redirect") {
         Some(value) => redirects_at(alloc, value, inside, pool, pairs),

@@ -33,7 +33,8 @@ get_last (x ∷ xs) y (suc i) e = get_last xs y i (omega arith)
 last_is : {X : Type 0} (x y : X) → Some x ≡ Some y → y ≡ x
 last_is x y e = cc
 
-pub fresh_more : (rules : Rules) (seats : List Seat) (place : ℕ) → length seats ≡ place → AreFresh rules seats → (seat : Seat) → seat ≡ fresh rules place → AreFresh rules (seats ++ seat ∷ [])
+pub fresh_more : (rules : Rules) (seats : List Seat) (place : ℕ) → length seats ≡ place → AreFresh rules seats →
+    (seat : Seat) → seat ≡ fresh rules place → AreFresh rules (seats ++ seat ∷ [])
 fresh_more rules seats place many are seat is = λ i s sits.
     let long : length (seats ++ seat ∷ []) ≡ length seats + 1 = length-append seats (seat ∷ []) in
     let within : i < length (seats ++ seat ∷ []) = slice_get_within (seats ++ seat ∷ []) i s sits in
@@ -44,7 +45,8 @@ fresh_more rules seats place many are seat is = λ i s sits.
           last_is seat s (sym (get_last seats seat i here) ∙ sits) ∙ (is ∙ ap (fresh rules) (sym (here ∙ many)))
     ]
 
-pub begin_seats : (rules : Rules) (seats : List Seat) → length seats ≡ length rules.pool → AreFresh rules seats → AreSeats rules (moment_of rules []) seats
+pub begin_seats : (rules : Rules) (seats : List Seat) → length seats ≡ length rules.pool → AreFresh rules seats →
+    AreSeats rules (moment_of rules []) seats
 begin_seats rules seats many are = record {
   many = many;
   each = λ place address seat at sits.
@@ -54,7 +56,8 @@ begin_seats rules seats many are = record {
         own = own;
         translator =
             let is : seat ≡ fresh rules place = are place seat sits in
-            ap (λ (s : Seat). s.translator) is ∙ ap (λ (a : ℕ). with_kept (begun place rules) (record { list = of a (opening rules); at = 0 })) here;
+            ap (λ (s : Seat). s.translator) is
+            ∙ ap (λ (a : ℕ). with_kept (begun place rules) (record { list = of a (opening rules); at = 0 })) here;
         at_once = record { agrees = record { same = refl }; past = omega arith };
         legs = ap (λ (s : Seat). s.legs) (are place seat sits);
       };
@@ -65,16 +68,20 @@ begin_seats rules seats many are = record {
 abbrev pub SameAt : {X Y Z : Type 0} → (X → Z) → (Y → Z) → List X → List Y → Type 0
 SameAt f g xs ys = (i : ℕ) (x : _) (y : _) → slice_get xs i ≡ Some x → slice_get ys i ≡ Some y → f x ≡ g y
 
-pub map_alike : {X Y Z : Type 0} (f : X → Z) (g : Y → Z) (xs : List X) (ys : List Y) → length xs ≡ length ys → SameAt f g xs ys → map f xs ≡ map g ys
+pub map_alike : {X Y Z : Type 0} (f : X → Z) (g : Y → Z) (xs : List X) (ys : List Y) → length xs ≡ length ys →
+    SameAt f g xs ys → map f xs ≡ map g ys
 map_alike f g [] [] long same = refl
 map_alike f g [] (y ∷ ys) long same = absurd (omega arith)
 map_alike f g (x ∷ xs) [] long same = absurd (omega arith)
 map_alike f g (x ∷ xs) (y ∷ ys) long same =
-    ap (λ z. z ∷ map f xs) (same 0 x y refl refl) ∙ ap (λ (zs : List _). g y ∷ zs) (map_alike f g xs ys (omega arith) (λ i a b p q. same (suc i) a b p q))
+    ap (λ z. z ∷ map f xs) (same 0 x y refl refl) ∙ ap (λ (zs : List _). g y ∷ zs)
+    (map_alike f g xs ys (omega arith) (λ i a b p q. same (suc i) a b p q))
 
-pub flat_alike : {X Y Z : Type 0} (f : X → List Z) (g : Y → List Z) (xs : List X) (ys : List Y) → length xs ≡ length ys → SameAt f g xs ys → flat_map f xs ≡ flat_map g ys
+pub flat_alike : {X Y Z : Type 0} (f : X → List Z) (g : Y → List Z) (xs : List X) (ys : List Y) →
+    length xs ≡ length ys → SameAt f g xs ys → flat_map f xs ≡ flat_map g ys
 flat_alike f g [] [] long same = refl
 flat_alike f g [] (y ∷ ys) long same = absurd (omega arith)
 flat_alike f g (x ∷ xs) [] long same = absurd (omega arith)
 flat_alike f g (x ∷ xs) (y ∷ ys) long same =
-    ap (λ (z : List _). z ++ flat_map f xs) (same 0 x y refl refl) ∙ ap (λ (zs : List _). g y ++ zs) (flat_alike f g xs ys (omega arith) (λ i a b p q. same (suc i) a b p q))
+    ap (λ (z : List _). z ++ flat_map f xs) (same 0 x y refl refl) ∙ ap (λ (zs : List _). g y ++ zs)
+    (flat_alike f g xs ys (omega arith) (λ i a b p q. same (suc i) a b p q))

@@ -27,36 +27,48 @@ use Rattle.napt_run.proofs.Ended.{zip_index, length_started, started_at}
 
 -- LISTS
 
-zip_long : {X Y Z : Type 0} (f : X → Y → Z) (xs : List X) (ys : List Y) → length xs ≡ length ys → length (zip_with f xs ys) ≡ length ys
+zip_long : {X Y Z : Type 0} (f : X → Y → Z) (xs : List X) (ys : List Y) → length xs ≡ length ys →
+    length (zip_with f xs ys) ≡ length ys
 zip_long f [] [] e = refl
 zip_long f [] (y ∷ ys) e = absurd (omega arith)
 zip_long f (x ∷ xs) [] e = absurd (omega arith)
 zip_long f (x ∷ xs) (y ∷ ys) e = ap suc (zip_long f xs ys (omega arith))
 
-map_index : {X : Type 0} (f : ℕ → List X) (pool : List ℕ) (w : ℕ) → w < length pool → of_worker (map f pool) w ≡ f (slice_index pool w)
+map_index : {X : Type 0} (f : ℕ → List X) (pool : List ℕ) (w : ℕ) → w < length pool → of_worker (map f pool) w
+    ≡ f (slice_index pool w)
 map_index f [] w lt = absurd (omega arith)
 map_index f (a ∷ pool) zero lt = refl
 map_index f (a ∷ pool) (suc w) lt = map_index f pool w (omega arith)
 
-flat_each : (h : TranslatorState → List Row) (k : ℕ → List Row) (xs : List TranslatorState) (pool : List ℕ) (d : TranslatorState) → length xs ≡ length pool → ((w : ℕ) → w < length pool → h (slice_index_or xs w d) ≡ k (slice_index pool w)) → flat_map h xs ≡ flat_map k pool
+flat_each : (h : TranslatorState → List Row) (k : ℕ → List Row) (xs : List TranslatorState) (pool : List ℕ)
+    (d : TranslatorState) → length xs ≡ length pool → ((w : ℕ) → w < length pool → h (slice_index_or xs w d)
+    ≡ k (slice_index pool w)) → flat_map h xs ≡ flat_map k pool
 flat_each h k [] [] d e same = refl
 flat_each h k [] (a ∷ pool) d e same = absurd (omega arith)
 flat_each h k (x ∷ xs) [] d e same = absurd (omega arith)
 flat_each h k (x ∷ xs) (a ∷ pool) d e same =
-    ap (λ (r : List Row). r ++ flat_map h xs) (same zero (omega arith)) ∙ ap (λ (r : List Row). k a ++ r) (flat_each h k xs pool d (omega arith) (λ w lt. same (suc w) (omega arith)))
+    ap (λ (r : List Row). r ++ flat_map h xs) (same zero (omega arith)) ∙ ap (λ (r : List Row). k a ++ r)
+    (flat_each h k xs pool d (omega arith) (λ w lt. same (suc w) (omega arith)))
 
 -- WORKERS
 
 latest : (last clock at : ℕ) → last ≡ clock → at ≤ clock → max last at ≡ clock
 latest last clock at e le = omega arith
 
-module _ (g : Ghosts TranslatorState Leg Answer) (stepped_is : (s : TranslatorState) (leg : Leg) → g.stepped s leg ≡ left_by leg s) where
-  after_kept : (s : TranslatorState) (legs : List Leg) → after g s legs ≡ with_kept s (kept_after_all s.rules s.table.address legs (kept_of s.table))
+module _ (g : Ghosts TranslatorState Leg Answer) (stepped_is : (s : TranslatorState) (leg : Leg) → g.stepped s leg
+    ≡ left_by leg s) where
+  after_kept : (s : TranslatorState) (legs : List Leg) → after g s legs
+      ≡ with_kept s (kept_after_all s.rules s.table.address legs (kept_of s.table))
   after_kept s [] = refl
-  after_kept s (leg ∷ legs) = ap (λ (m : TranslatorState). after g m legs) (stepped_is s leg) ∙ after_kept (left_by leg s) legs
+  after_kept s (leg ∷ legs) = ap (λ (m : TranslatorState). after g m legs) (stepped_is s leg)
+      ∙ after_kept (left_by leg s) legs
 
-  pub workers_shown : (rules : Rules) (inputs : List Arrival) (starts : List TranslatorState) (accepts : List (List Leg)) (machines : List TranslatorState) (outcomes : List Outcome) (numbers : List ℕ) (last : ℕ) (bindings : List Row) →
-      starts ≡ started rules (length rules.pool) → machines ≡ zip_with (after g) starts accepts → IsDispatched rules inputs accepts outcomes numbers → last ≡ last_clock 0 inputs → bindings ≡ flat_map (rows_after last) machines →
+  pub workers_shown : (rules : Rules) (inputs : List Arrival) (starts : List TranslatorState)
+      (accepts : List (List Leg)) (machines : List TranslatorState) (outcomes : List Outcome) (numbers : List ℕ)
+      (last : ℕ) (bindings : List Row) →
+      starts ≡ started rules (length rules.pool) → machines ≡ zip_with (after g) starts accepts →
+      IsDispatched rules inputs accepts outcomes numbers → last ≡ last_clock 0 inputs →
+      bindings ≡ flat_map (rows_after last) machines →
       (let r : Ran = record { outcomes = outcomes; bindings = bindings; legs = numbers } in r ≡ ran rules inputs)
   unfolding ran
   workers_shown rules inputs starts accepts machines outcomes numbers last bindings began left done clock shown =
@@ -64,18 +76,23 @@ module _ (g : Ghosts TranslatorState Leg Answer) (stepped_is : (s : TranslatorSt
       let course : Course = run rules inputs (opening rules) in
       let give : List (List Leg) = map (λ (address : ℕ). legs_at address course.acts) rules.pool in
       let states : List TranslatorState = zip_with (after g) (started rules n) give in
-      let states_are : machines ≡ states = left ∙ (ap (λ (s : List TranslatorState). zip_with (after g) s accepts) began ∙ ap (zip_with (after g) (started rules n)) done.legs) in
+      let states_are : machines ≡ states = left ∙ (ap (λ (s : List TranslatorState). zip_with (after g) s accepts) began
+      ∙ ap (zip_with (after g) (started rules n)) done.legs) in
       let long : length (started rules n) ≡ n = length_started rules n in
       let long_give : length give ≡ n = length-map rules.pool (λ (address : ℕ). legs_at address course.acts) in
-      let at_last : List Row = flat_map (λ (address : ℕ). rows rules.timers (last_clock 0 inputs) (of address course.list)) rules.pool in
+      let at_last : List Row =
+      flat_map (λ (address : ℕ). rows rules.timers (last_clock 0 inputs) (of address course.list)) rules.pool in
       let all : flat_map (rows_after last) machines ≡ at_last =
       ap (flat_map (rows_after last)) states_are
-      ∙ flat_each (rows_after last) (λ (address : ℕ). rows rules.timers (last_clock 0 inputs) (of address course.list)) states rules.pool (begun 0 rules) (zip_long (after g) (started rules n) give (long ∙ sym long_give) ∙ long_give)
+      ∙ flat_each (rows_after last) (λ (address : ℕ). rows rules.timers (last_clock 0 inputs) (of address course.list))
+      states rules.pool (begun 0 rules) (zip_long (after g) (started rules n) give (long ∙ sym long_give)
+      ∙ long_give)
       (λ w lt.
       let address : ℕ = slice_index rules.pool w in
       let legs : List Leg = legs_at address course.acts in
       let kept : Kept = kept_after_all rules address legs (fresh rules address) in
-      let once : IsAtOnce rules address (last_clock 0 inputs) kept course.list = (seen rules inputs (opening rules) address).leaves in
+      let once : IsAtOnce rules address (last_clock 0 inputs) kept course.list =
+      (seen rules inputs (opening rules) address).leaves in
       let state_is : slice_index_or states w (begun 0 rules) ≡ with_kept (begun w rules) kept =
       zip_index (after g) (started rules n) give w (begun 0 rules) (begun 0 rules) (omega arith) (omega arith)
       ∙ (ap (λ (s : TranslatorState). after g s (of_worker give w)) (started_at rules n w (begun 0 rules) lt)
@@ -91,13 +108,15 @@ started_more rules n = let e : n + 1 ≡ suc n = omega arith in ap (started rule
 
 -- FAULTS
 
-pub not_too_many : {X : Type 0} (gate : Bool) (r : Result X RunFault) → IfErr r (IsFaultUnder gate) → r ≢ Err faults.TooMany
+pub not_too_many : {X : Type 0} (gate : Bool) (r : Result X RunFault) → IfErr r (IsFaultUnder gate) →
+    r ≢ Err faults.TooMany
 not_too_many gate (Ok x) h e = cc
 not_too_many gate (Err faults.Memory) h e = cc
 not_too_many gate (Err faults.TooMany) h e = h
 not_too_many gate (Err (faults.Pool fault)) h e = cc
 
-pub not_shut : {X : Type 0} (gate : Bool) (r : Result X RunFault) → IfErr r (IsFaultUnder gate) → gate ≡ true → IfErr r (λ fault. is_gate_fault fault ≡ false)
+pub not_shut : {X : Type 0} (gate : Bool) (r : Result X RunFault) → IfErr r (IsFaultUnder gate) → gate ≡ true →
+    IfErr r (λ fault. is_gate_fault fault ≡ false)
 not_shut gate (Ok x) h e = tt
 not_shut gate (Err faults.Memory) h e = refl
 not_shut gate (Err faults.TooMany) h e = refl
@@ -108,7 +127,8 @@ IsOkay (Ok done) = Unit {0}
 IsOkay (Err fault) = ⊥
 
 abbrev AreBoth : {D C : Type 0} → D → C → Result (D × C) RunFault → Type 0
-AreBoth {D} {C} made left (Ok both) = (◌≡◌ {A = Result D RunFault} (Ok made) (Ok both.0)) × (◌≡◌ {A = Result C PoolFault} (Ok left) (Ok both.1))
+AreBoth {D} {C} made left (Ok both) = (◌≡◌ {A = Result D RunFault} (Ok made) (Ok both.0))
+    × (◌≡◌ {A = Result C PoolFault} (Ok left) (Ok both.1))
 AreBoth made left (Err fault) = ⊥
 
 pub on_ok_at : {T E P : Type 0} (result : Result T E) (value : T) → result ≡ Ok value → OnOk result P → P

@@ -22,7 +22,8 @@ use Rattle.napt_run.specs.Devices.{some_bytes}
 use Rattle.napt_run.specs.Captures.{AreOutputs, AreRead, Explains, Gets, GetsOf, IfKnown, IsReadAsOutside, IsReadFrom, AreTooMany, IsUnread, IsWriteFaultOf, Receives, Share, whole, front, nothing, WasRead, failed_readings, failed_writings, share_of, text_of}
 
 IfKnown-more : {P Q : List ℕ → Option (List ℕ) → Type 0} (inside : Option (List ℕ)) (outside : Option (Option (List ℕ)))
-    → ((bytes : List ℕ) (others : Option (List ℕ)) → P bytes others → Q bytes others) → IfKnown inside outside P → IfKnown inside outside Q
+    → ((bytes : List ℕ) (others : Option (List ℕ)) → P bytes others → Q bytes others) → IfKnown inside outside P →
+    IfKnown inside outside Q
 IfKnown-more None outside more holds = tt
 IfKnown-more (Some bytes) None more holds = tt
 IfKnown-more (Some bytes) (Some others) more holds = more bytes others holds
@@ -36,7 +37,8 @@ both_read (Some bytes) None captures first second = tt
 both_read (Some bytes) (Some others) captures first second = record { inside_capture = first; outside_capture = second }
 
 -- of the outside capture where there is one
-pub outside_read : (known : Option (List ℕ)) (contents : Contents) → IsReadFrom known contents → IsReadAsOutside (option_map some_bytes known) contents
+pub outside_read : (known : Option (List ℕ)) (contents : Contents) → IsReadFrom known contents →
+    IsReadAsOutside (option_map some_bytes known) contents
 outside_read None contents is = tt
 outside_read (Some bytes) contents is = is
 
@@ -51,7 +53,8 @@ outside_unread known (Write which fault) inside first is = absurd is
 -- READING
 
 pub unread : (side : Side) (known : Option (List ℕ)) (fault : CaptureFault)
-    → IfSome known (λ bytes. let answer : Result Contents CaptureFault = Err fault in Answers bytes answer) → IsUnread side known (Capture side fault)
+    → IfSome known (λ bytes. let answer : Result Contents CaptureFault = Err fault in Answers bytes answer) →
+    IsUnread side known (Capture side fault)
 unread sides.Inside known fault is = is
 unread sides.Outside known fault is = is
 
@@ -64,10 +67,14 @@ own_readings sides.Outside fault old new more = more
 -- THE RUN'S FAULT
 
 pub refused : (inside : Option (List ℕ)) (outside : Option (Option (List ℕ))) (captures : Captures) (fault : RunFault)
-    → IsReadFrom inside captures.inside → IsReadAsOutside outside captures.outside → (fault ≡ TooMany → AreTooMany captures)
+    → IsReadFrom inside captures.inside → IsReadAsOutside outside captures.outside →
+    (fault ≡ TooMany → AreTooMany captures)
     → Explains inside outside (Run fault)
-refused inside outside captures TooMany first second are =
-    (((captures.inside, first), (captures.outside, second)), IfKnown-more inside outside (λ bytes others read. (captures, read, are refl)) (both_read inside outside captures first second))
+refused inside outside captures TooMany first second are = (
+  ((captures.inside, first), (captures.outside, second)),
+  IfKnown-more inside outside (λ bytes others read.
+      (captures, read, are refl)) (both_read inside outside captures first second),
+)
 refused inside outside captures Memory first second are = ((captures.inside, first), (captures.outside, second))
 refused inside outside captures (Pool fault) first second are = ((captures.inside, first), (captures.outside, second))
 
@@ -79,7 +86,8 @@ before_inside (Write Report fault) is = absurd is
 before_inside (Capture side fault) is = absurd is
 before_inside (Run fault) is = absurd is
 
-pub before_report : (fault : Fault) → IsWriteFaultOf Report fault → (share_of Outside (Err fault) ≡ whole) × (share_of Inside (Err fault) ≡ whole)
+pub before_report : (fault : Fault) → IsWriteFaultOf Report fault → (share_of Outside (Err fault) ≡ whole)
+    × (share_of Inside (Err fault) ≡ whole)
 before_report (Write Report fault) is = (refl, refl)
 before_report (Write Outside fault) is = absurd is
 before_report (Write Inside fault) is = absurd is
@@ -88,12 +96,15 @@ before_report (Run fault) is = absurd is
 
 -- THE OUTPUTS
 
-pub gets : (rules : Rules) (which : Which) (share : Share) (inside : Option (List ℕ)) (outside : Option (Option (List ℕ))) (old new : Option (List ℕ)) (captures : Captures)
+pub gets : (rules : Rules) (which : Which) (share : Share) (inside : Option (List ℕ))
+    (outside : Option (Option (List ℕ))) (old new : Option (List ℕ)) (captures : Captures)
     → IfKnown inside outside (λ bytes others. AreRead bytes others captures) → GetsOf rules captures which share old new
     → Gets rules which share inside outside old new
 gets rules which nothing inside outside old new captures read got = got
-gets rules which whole inside outside old new captures read got = IfKnown-more inside outside (λ bytes others are. (captures, are, got)) read
-gets rules which (front written) inside outside old new captures read got = IfKnown-more inside outside (λ bytes others are. (captures, are, got)) read
+gets rules which whole inside outside old new captures read got = IfKnown-more inside outside (λ bytes others are.
+    (captures, are, got)) read
+gets rules which (front written) inside outside old new captures read got =
+    IfKnown-more inside outside (λ bytes others are. (captures, are, got)) read
 
 -- the text of an output that was made
 abbrev pub text_made : Which → Outputs → List ℕ
@@ -101,31 +112,46 @@ text_made Outside outputs = text outputs.to_outside.items
 text_made Inside outputs = text outputs.to_inside.items
 text_made Report outputs = string_bytes outputs.report
 
-text_is : (which : Which) (rules : Rules) (captures : Captures) (outputs : Outputs) (made : AreOutputs rules captures outputs)
+text_is : (which : Which) (rules : Rules) (captures : Captures) (outputs : Outputs)
+    (made : AreOutputs rules captures outputs)
     → text_made which outputs ≡ text_of rules which captures made.arrivals
 text_is Outside rules captures outputs made = ap text made.to_outside
 text_is Inside rules captures outputs made = ap text made.to_inside
 text_is Report rules captures outputs made = made.report
 
-gets_made : (which : Which) (share : Share) (rules : Rules) (captures : Captures) (outputs : Outputs) (old new : Option (List ℕ))
-    → AreOutputs rules captures outputs → Receives share (text_made which outputs) old new → GetsOf rules captures which share old new
-gets_made which whole rules captures outputs old new made got =
-    (made.arrivals, made.merged, subst (λ (l : List ℕ). Receives whole l old new) (text_is which rules captures outputs made) got)
-gets_made which (front written) rules captures outputs old new made got =
-    (made.arrivals, made.merged, subst (λ (l : List ℕ). Receives (front written) l old new) (text_is which rules captures outputs made) got)
+gets_made : (which : Which) (share : Share) (rules : Rules) (captures : Captures) (outputs : Outputs)
+    (old new : Option (List ℕ))
+    → AreOutputs rules captures outputs → Receives share (text_made which outputs) old new →
+    GetsOf rules captures which share old new
+gets_made which whole rules captures outputs old new made got = (
+  made.arrivals,
+  made.merged,
+  subst (λ (l : List ℕ). Receives whole l old new)
+      (text_is which rules captures outputs made) got,
+)
+gets_made which (front written) rules captures outputs old new made got = (
+  made.arrivals,
+  made.merged,
+  subst (λ (l : List ℕ). Receives (front written) l old new)
+      (text_is which rules captures outputs made) got,
+)
 gets_made which nothing rules captures outputs old new made got = got
 
 -- what was received of the text that was made
-pub received : (which : Which) (share : Share) (rules : Rules) (inside : Option (List ℕ)) (outside : Option (Option (List ℕ))) (captures : Captures) (outputs : Outputs)
-    (told : List ℕ) (old new : Option (List ℕ)) → IsReadFrom inside captures.inside → IsReadAsOutside outside captures.outside → AreOutputs rules captures outputs
+pub received : (which : Which) (share : Share) (rules : Rules) (inside : Option (List ℕ))
+    (outside : Option (Option (List ℕ))) (captures : Captures) (outputs : Outputs)
+    (told : List ℕ) (old new : Option (List ℕ)) → IsReadFrom inside captures.inside →
+    IsReadAsOutside outside captures.outside → AreOutputs rules captures outputs
     → told ≡ text_made which outputs → Receives share told old new → Gets rules which share inside outside old new
 received which share rules inside outside captures outputs told old new first second made is got =
     gets rules which share inside outside old new captures (both_read inside outside captures first second)
-    (gets_made which share rules captures outputs old new made (subst (λ (l : List ℕ). Receives share l old new) is got))
+    (gets_made which share rules captures outputs old new made
+    (subst (λ (l : List ℕ). Receives share l old new) is got))
 
 -- DEVICES THAT ARE HANDED IN OR NOT
 
-pub none_or_some : {D : Type 0} (device : Option (MutBor D)) → (device ≡ None) ⊎ ((given : MutBor D) × (device ≡ Some given))
+pub none_or_some : {D : Type 0} (device : Option (MutBor D)) →
+    (device ≡ None) ⊎ ((given : MutBor D) × (device ≡ Some given))
 none_or_some None = inl refl
 none_or_some (Some given) = inr (given, refl)
 
@@ -138,7 +164,8 @@ own_share Outside fault text old new got = got
 own_share Inside fault text old new got = got
 own_share Report fault text old new got = got
 
-pub own_writings : (which : Which) (fault : WriteFault) (old new : ℕ) → new ≡ old + 1 → new ≡ old + failed_writings which (Err (Write which fault))
+pub own_writings : (which : Which) (fault : WriteFault) (old new : ℕ) → new ≡ old + 1 →
+    new ≡ old + failed_writings which (Err (Write which fault))
 own_writings Outside fault old new more = more
 own_writings Inside fault old new more = more
 own_writings Report fault old new more = more

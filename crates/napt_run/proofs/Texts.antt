@@ -4,15 +4,19 @@ use Rattle.std.proofs.Common.{◌≡◌, ℕ, List, [], ◌∷◌, ◌++◌, ◌
 pub two_pieces : (old a b first second : List ℕ) → first ≡ old ++ a → second ≡ first ++ b → second ≡ old ++ (a ++ b)
 two_pieces old a b first second is then = then ∙ ap (λ (t : List ℕ). t ++ b) is ∙ append_assoc old a b
 
-pub three_pieces : (old a b c first second third : List ℕ) → first ≡ old ++ a → second ≡ first ++ b → third ≡ second ++ c → third ≡ old ++ ((a ++ b) ++ c)
-three_pieces old a b c first second third is then last = two_pieces old (a ++ b) c second third (two_pieces old a b first second is then) last
+pub three_pieces : (old a b c first second third : List ℕ) → first ≡ old ++ a → second ≡ first ++ b → third ≡ second
+    ++ c → third ≡ old ++ ((a ++ b) ++ c)
+three_pieces old a b c first second third is then last = two_pieces old (a ++ b) c second third
+    (two_pieces old a b first second is then) last
 
-pub four_pieces : (old a b c d first second third fourth : List ℕ) → first ≡ old ++ a → second ≡ first ++ b → third ≡ second ++ c → fourth ≡ third ++ d
+pub four_pieces : (old a b c d first second third fourth : List ℕ) → first ≡ old ++ a → second ≡ first ++ b →
+    third ≡ second ++ c → fourth ≡ third ++ d
     → fourth ≡ old ++ (((a ++ b) ++ c) ++ d)
 four_pieces old a b c d first second third fourth is then after last =
     two_pieces old ((a ++ b) ++ c) d third fourth (three_pieces old a b c first second third is then after) last
 
 -- texts of pieces that are the same one by one
-pub same_pieces : {X : Type 0} (f g : X → List ℕ) → ((x : X) → f x ≡ g x) → (xs : List X) → flat_map f xs ≡ flat_map g xs
+pub same_pieces : {X : Type 0} (f g : X → List ℕ) → ((x : X) → f x ≡ g x) → (xs : List X) → flat_map f xs
+    ≡ flat_map g xs
 same_pieces f g same [] = refl
 same_pieces f g same (x ∷ xs) = rw (same x) (ap (λ (rest : List ℕ). g x ++ rest) (same_pieces f g same xs))

@@ -15,36 +15,50 @@ use Rattle.napt_run.specs.Merge.{IsMerged, is_from, of_input, of_record}
 use Rattle.napt_run.proofs.OutputsAreOne.{HaveOneAnswer, captures-one}
 
 -- each input is of one side
-sides_long : (inputs : List Arrival) → length (filter (is_from Inside) inputs) + length (filter (is_from Outside) inputs) ≡ length inputs
+sides_long : (inputs : List Arrival) → length (filter (is_from Inside) inputs)
+    + length (filter (is_from Outside) inputs) ≡ length inputs
 sides_long [] = refl
-sides_long (input ∷ inputs) = elim input.side as (λ v. input.side ≡ v → length (filter (is_from Inside) (input ∷ inputs)) + length (filter (is_from Outside) (input ∷ inputs)) ≡ suc (length inputs)) [
-  | Inside ↦ λ e. rw e (omega (arith, sides_long inputs))
-  | Outside ↦ λ e. rw e (omega (arith, sides_long inputs))
-] refl
+sides_long (input ∷ inputs) = elim input.side as (λ v. input.side ≡ v →
+    length (filter (is_from Inside) (input ∷ inputs)) + length (filter (is_from Outside) (input ∷ inputs))
+    ≡ suc (length inputs)) [
+      | Inside ↦ λ e. rw e (omega (arith, sides_long inputs))
+      | Outside ↦ λ e. rw e (omega (arith, sides_long inputs))
+    ] refl
 
 -- a merged list has all records of both captures
-pub merged_long : (insides outsides : List Entry) (inputs : List Arrival) → IsMerged insides outsides inputs → length inputs ≡ length insides + length outsides
+pub merged_long : (insides outsides : List Entry) (inputs : List Arrival) → IsMerged insides outsides inputs →
+    length inputs ≡ length insides + length outsides
 merged_long insides outsides inputs merged =
-    let first : length (filter (is_from Inside) inputs) ≡ length insides = sym (length-map (filter (is_from Inside) inputs) of_input) ∙ (ap length merged.inside ∙ length-map insides of_record) in
-    let second : length (filter (is_from Outside) inputs) ≡ length outsides = sym (length-map (filter (is_from Outside) inputs) of_input) ∙ (ap length merged.outside ∙ length-map outsides of_record) in
+    let first : length (filter (is_from Inside) inputs) ≡ length insides =
+    sym (length-map (filter (is_from Inside) inputs) of_input)
+    ∙ (ap length merged.inside ∙ length-map insides of_record) in
+    let second : length (filter (is_from Outside) inputs) ≡ length outsides =
+    sym (length-map (filter (is_from Outside) inputs) of_input)
+    ∙ (ap length merged.outside ∙ length-map outsides of_record) in
     sym (sides_long inputs) ∙ ap₂ (λ (i o : ℕ). i + o) first second
 
 -- not too many records are so many inputs as their numbers can count
-pub merged_few : (insides outsides : List Entry) (inputs : List Arrival) → IsMerged insides outsides inputs → (2 ^ 32 ≤ length insides + length outsides → ⊥) → length inputs < 2 ^ 32
-merged_few insides outsides inputs merged few = subst (λ (n : ℕ). n < 2 ^ 32) (sym (merged_long insides outsides inputs merged)) (lt_of_not-le few)
+pub merged_few : (insides outsides : List Entry) (inputs : List Arrival) → IsMerged insides outsides inputs →
+    (2 ^ 32 ≤ length insides + length outsides → ⊥) → length inputs < 2 ^ 32
+merged_few insides outsides inputs merged few =
+    subst (λ (n : ℕ). n < 2 ^ 32) (sym (merged_long insides outsides inputs merged)) (lt_of_not-le few)
 
 -- WHAT IS TOLD
 
 -- of the captures that were read
-pub too_many_told : HaveOneAnswer → (inside : Option (List ℕ)) (outside : Option (Option (List ℕ))) (captures : Captures) (result : Result (Unit {0}) Fault)
-    → IsReadFrom inside captures.inside → IsReadAsOutside outside captures.outside → (AreTooMany captures → TellsTooMany result) → TooManyAreTold inside outside result
+pub too_many_told : HaveOneAnswer → (inside : Option (List ℕ)) (outside : Option (Option (List ℕ)))
+    (captures : Captures) (result : Result (Unit {0}) Fault)
+    → IsReadFrom inside captures.inside → IsReadAsOutside outside captures.outside →
+    (AreTooMany captures → TellsTooMany result) → TooManyAreTold inside outside result
 too_many_told unique None outside captures result first second told = tt
 too_many_told unique (Some bytes) None captures result first second told = tt
 too_many_told unique (Some bytes) (Some others) captures result first second told = λ read are many.
-    told (subst AreTooMany (captures-one unique bytes others read captures are (record { inside_capture = first; outside_capture = second })) many)
+    told (subst AreTooMany (captures-one unique bytes others read captures are
+    (record { inside_capture = first; outside_capture = second })) many)
 
 -- whatever the captures are
-pub always_told : (inside : Option (List ℕ)) (outside : Option (Option (List ℕ))) (result : Result (Unit {0}) Fault) → TellsTooMany result → TooManyAreTold inside outside result
+pub always_told : (inside : Option (List ℕ)) (outside : Option (Option (List ℕ))) (result : Result (Unit {0}) Fault) →
+    TellsTooMany result → TooManyAreTold inside outside result
 always_told None outside result told = tt
 always_told (Some bytes) None result told = tt
 always_told (Some bytes) (Some others) result told = λ read are many. told

@@ -1,4 +1,5 @@
--- What a run over captures leaves on its devices. Where the bytes of a reader or a writer are not known, nothing is claimed of them.
+-- What a run over captures leaves on its devices. Where the bytes of a reader or a writer are not known, nothing is
+-- claimed of them.
 use Rattle.std.specs.Prelude.{◌≡◌, ℕ, ◌+◌, ◌≤◌, ◌^◌, List, [], length, take, Bool, false, IfSome, string_bytes, Option, Some, None, Result, Ok, Err}
 use Rattle.std.specs.Io.KnownBytes.{Appends}
 use Rattle.napt_wire.specs.declared.Side.{Side}
@@ -89,10 +90,12 @@ GetsOf rules captures which share old new =
     × Receives share (text_of rules which captures arrivals) old new
 
 -- and of the captures' bytes
-abbrev pub Gets : Rules → Which → Share → Option (List ℕ) → Option (Option (List ℕ)) → Option (List ℕ) → Option (List ℕ) → Type 0
+abbrev pub Gets : Rules → Which → Share → Option (List ℕ) → Option (Option (List ℕ)) → Option (List ℕ) →
+    Option (List ℕ) → Type 0
 Gets rules which nothing inside outside old new = new ≡ old
 Gets rules which share inside outside old new =
-    IfKnown inside outside (λ bytes others. (captures : Captures) × AreRead bytes others captures × GetsOf rules captures which share old new)
+    IfKnown inside outside (λ bytes others. (captures : Captures) × AreRead bytes others captures
+    × GetsOf rules captures which share old new)
 
 -- THE FAULT
 
@@ -113,10 +116,13 @@ WereRead inside outside = WasRead inside × ((contents : Contents) × IsReadAsOu
 
 -- what a fault says of the captures' bytes; the inside one is read first, and the run begins with both
 abbrev pub Explains : Option (List ℕ) → Option (Option (List ℕ)) → Fault → Type 0
-Explains inside outside (Capture sides.Inside fault) = IfSome inside (λ bytes. let answer : Result Contents CaptureFault = Err fault in Answers bytes answer)
-Explains inside outside (Capture sides.Outside fault) = WasRead inside × IfSome outside (λ others. IsOutsideFault others fault)
+Explains inside outside (Capture sides.Inside fault) =
+    IfSome inside (λ bytes. let answer : Result Contents CaptureFault = Err fault in Answers bytes answer)
+Explains inside outside (Capture sides.Outside fault) = WasRead inside × IfSome outside (λ others.
+    IsOutsideFault others fault)
 Explains inside outside (Run TooMany) =
-    WereRead inside outside × IfKnown inside outside (λ bytes others. (captures : Captures) × AreRead bytes others captures × AreTooMany captures)
+    WereRead inside outside × IfKnown inside outside (λ bytes others. (captures : Captures)
+    × AreRead bytes others captures × AreTooMany captures)
 Explains inside outside (Run Memory) = WereRead inside outside
 Explains inside outside (Run (Pool fault)) = WereRead inside outside
 Explains inside outside (Write which fault) = WereRead inside outside
@@ -130,7 +136,8 @@ TellsTooMany other = ⊥
 -- once both captures are read, too many records are told before anything else
 abbrev pub TooManyAreTold : Option (List ℕ) → Option (Option (List ℕ)) → Result (Unit {0}) Fault → Type 0
 TooManyAreTold inside outside result =
-    IfKnown inside outside (λ bytes others. (captures : Captures) → AreRead bytes others captures → AreTooMany captures → TellsTooMany result)
+    IfKnown inside outside (λ bytes others. (captures : Captures) → AreRead bytes others captures →
+    AreTooMany captures → TellsTooMany result)
 
 -- whether a fault says that the gate was shut
 abbrev pub tells_shut_gate : Fault → Bool
@@ -141,8 +148,10 @@ tells_shut_gate (Write which fault) = false
 -- how many reads of a side's capture failed, and how many writes of an output
 abbrev pub failed_readings : {T : Type 0} → Side → Result T Fault → ℕ
 failed_readings side (Ok done) = 0
-failed_readings sides.Inside (Err (Capture sides.Inside fault)) = let answer : Result Contents CaptureFault = Err fault in failed_reads answer
-failed_readings sides.Outside (Err (Capture sides.Outside fault)) = let answer : Result Contents CaptureFault = Err fault in failed_reads answer
+failed_readings sides.Inside (Err (Capture sides.Inside fault)) = let answer : Result Contents CaptureFault =
+    Err fault in failed_reads answer
+failed_readings sides.Outside (Err (Capture sides.Outside fault)) = let answer : Result Contents CaptureFault =
+    Err fault in failed_reads answer
 failed_readings side other = 0
 
 abbrev pub failed_writings : Which → Result (Unit {0}) Fault → ℕ
@@ -156,8 +165,10 @@ failed_writings which other = 0
 
 -- the capture of a side was not read
 abbrev pub IsUnread : Side → Option (List ℕ) → Fault → Type 0
-IsUnread sides.Inside known (Capture sides.Inside fault) = IfSome known (λ bytes. let answer : Result Contents CaptureFault = Err fault in Answers bytes answer)
-IsUnread sides.Outside known (Capture sides.Outside fault) = IfSome known (λ bytes. let answer : Result Contents CaptureFault = Err fault in Answers bytes answer)
+IsUnread sides.Inside known (Capture sides.Inside fault) =
+    IfSome known (λ bytes. let answer : Result Contents CaptureFault = Err fault in Answers bytes answer)
+IsUnread sides.Outside known (Capture sides.Outside fault) =
+    IfSome known (λ bytes. let answer : Result Contents CaptureFault = Err fault in Answers bytes answer)
 IsUnread side known other = ⊥
 
 -- the outputs that were made for these captures

@@ -108,7 +108,9 @@ first_fault (Ok dispatched) (Err fault) = Err (faults.Pool fault)
 first_fault (Ok dispatched) (Ok ended) = Ok (dispatched, ended)
 
 -- what a run over the inputs gives, told by a dispatcher
-pub record IsDispatched (rules : Rules) (inputs : List Arrival) (offered : List (List Leg)) (outcomes : List Outcome) (numbers : List ℕ) : Type 0 where
+pub record IsDispatched (rules : Rules) (inputs : List Arrival) (offered : List (List Leg)) (outcomes : List Outcome)
+    (numbers : List ℕ) : Type 0 where
   pub legs : offered ≡ map (λ address. legs_at address (run rules inputs (opening rules)).acts) rules.pool
   pub outcomes_are : outcomes ≡ (run rules inputs (opening rules)).outcomes
-  pub numbers_are : numbers ≡ map (λ address. length (legs_at address (run rules inputs (opening rules)).acts)) rules.pool
+  pub numbers_are : numbers ≡ map (λ address. length (legs_at address (run rules inputs (opening rules)).acts))
+      rules.pool

@@ -1,4 +1,5 @@
--- Laws of runs for a dispatcher, which hands each leg to the translator of its address and takes the answers one by one.
+-- Laws of runs for a dispatcher, which hands each leg to the translator of its address and takes the answers one by
+-- one.
 use Rattle.std.specs.Prelude.{◌≡◌, ℕ, max, List, [], ◌∷◌, ◌++◌, length, Option, Some, None, IfSome, Ok}
 use Rattle.std.specs.List.{slice_get}
 use Rattle.napt_wire.specs.declared.Side.{Side}
@@ -24,21 +25,31 @@ use Rattle.napt_run.specs.Laws.{answers_at}
 abbrev pub IsFront : {X : Type 0} → List X → List X → Type 0
 IsFront {X} xs ys = (rest : List X) × (xs ++ rest ≡ ys)
 
--- where a translator was given a front of its address's legs, and answered some of them as it does, these are the run's answers
+-- where a translator was given a front of its address's legs, and answered some of them as it does, these are the run's
+-- answers
 abbrev pub RightAnswersAreTheRuns : Type 0
-RightAnswersAreTheRuns = (rules : Rules) (inputs : List Arrival) (list : List Binding) (address : ℕ) (given : List Leg) (taken : List Answer) →
+RightAnswersAreTheRuns = (rules : Rules) (inputs : List Arrival) (list : List Binding) (address : ℕ) (given : List Leg)
+    (taken : List Answer) →
     let course : Course = run rules inputs list in
-    IsFront given (legs_at address course.acts) → IsFront taken (kept_replies rules address given (record { list = of address list; at = 0 })) → IsFront taken (answers_at address course.acts)
+    IsFront given (legs_at address course.acts) →
+    IsFront taken (kept_replies rules address given (record { list = of address list; at = 0 })) →
+    IsFront taken (answers_at address course.acts)
 
 -- a course, and the step of one input more
 abbrev pub joined : Course → Stepped → Course
-joined course next = record { outcomes = course.outcomes ++ next.outcome ∷ []; acts = course.acts ++ next.acts; list = next.list }
+joined course next = record {
+  outcomes = course.outcomes ++ next.outcome ∷ [];
+  acts = course.acts ++ next.acts;
+  list =
+      next.list;
+}
 
 -- a run over one input more is the run, and the step of that input
 abbrev pub RunsGrow : Type 0
 RunsGrow = (rules : Rules) (inputs : List Arrival) (input : Arrival) (list : List Binding) →
     let course : Course = run rules inputs list in
-    run rules (inputs ++ input ∷ []) list ≡ joined course (step rules (length inputs) (max (last_clock 0 inputs) input.clock) input course.list)
+    run rules (inputs ++ input ∷ []) list
+    ≡ joined course (step rules (length inputs) (max (last_clock 0 inputs) input.clock) input course.list)
 
 -- the outcome that the end of a leg tells, where it is the last
 abbrev pub told : End → Option Outcome
@@ -63,5 +74,6 @@ pub record IsForetold (rules : Rules) (leg : Leg) (place : ℕ) (packet : List �
   pub kept : (destination packet).address ≡ (destination leg.packet).address
 
 abbrev pub OnwardIsForetold : Type 0
-OnwardIsForetold = (rules : Rules) (address : ℕ) (leg : Leg) (list : List Binding) (place : ℕ) (packet : List ℕ) (side : Side) → reading side leg.packet ≡ Ok leg.packet →
+OnwardIsForetold = (rules : Rules) (address : ℕ) (leg : Leg) (list : List Binding) (place : ℕ) (packet : List ℕ)
+    (side : Side) → reading side leg.packet ≡ Ok leg.packet →
     (act rules address leg list).end ≡ Onward place packet → IsForetold rules leg place packet

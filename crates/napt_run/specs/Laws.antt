@@ -1,4 +1,5 @@
--- The legs of one external address, on that address's bindings alone, are answered as in the whole run, and leave what the run
+-- The legs of one external address, on that address's bindings alone, are answered as in the whole run, and leave what
+-- the run
 -- leaves there: so each address can have a translator of its own.
 use Rattle.std.specs.Prelude.{◌≡◌, ℕ, ◌≤◌, List, [], ◌∷◌, map}
 use Rattle.napt_config.specs.Rules.{Rules}
@@ -36,9 +37,11 @@ LegsAnswerAlone = (rules : Rules) (inputs : List Arrival) (list : List Binding) 
 
 -- purged at any time from the last clock on
 abbrev pub LegsLeaveTheirOwn : Type 0
-LegsLeaveTheirOwn = (rules : Rules) (inputs : List Arrival) (list : List Binding) (address now : ℕ) → last_clock 0 inputs ≤ now →
+LegsLeaveTheirOwn = (rules : Rules) (inputs : List Arrival) (list : List Binding) (address now : ℕ) →
+    last_clock 0 inputs ≤ now →
     let course : Course = run rules inputs list in
-    purge rules.timers now (after rules address (legs_at address course.acts) (of address list)) ≡ purge rules.timers now (of address course.list)
+    purge rules.timers now (after rules address (legs_at address course.acts) (of address list))
+    ≡ purge rules.timers now (of address course.list)
 
 -- THE SAME OF A TRANSLATOR, which has a time of its own
 
@@ -46,11 +49,14 @@ LegsLeaveTheirOwn = (rules : Rules) (inputs : List Arrival) (list : List Binding
 abbrev pub TranslatorsAnswerAlone : Type 0
 TranslatorsAnswerAlone = (rules : Rules) (inputs : List Arrival) (list : List Binding) (address : ℕ) →
     let course : Course = run rules inputs list in
-    kept_replies rules address (legs_at address course.acts) (record { list = of address list; at = 0 }) ≡ answers_at address course.acts
+    kept_replies rules address (legs_at address course.acts) (record { list = of address list; at = 0 })
+    ≡ answers_at address course.acts
 
 -- and is left with that address's bindings of the run
 abbrev pub TranslatorsKeepTheirOwn : Type 0
-TranslatorsKeepTheirOwn = (rules : Rules) (inputs : List Arrival) (list : List Binding) (address now : ℕ) → last_clock 0 inputs ≤ now →
+TranslatorsKeepTheirOwn = (rules : Rules) (inputs : List Arrival) (list : List Binding) (address now : ℕ) →
+    last_clock 0 inputs ≤ now →
     let course : Course = run rules inputs list in
-    purge rules.timers now (kept_after_all rules address (legs_at address course.acts) (record { list = of address list; at = 0 })).list
+    purge rules.timers now (kept_after_all rules address (legs_at address course.acts)
+    (record { list = of address list; at = 0 })).list
     ≡ purge rules.timers now (of address course.list)

@@ -1,4 +1,5 @@
--- The inputs of a run: the records of both captures, merged by their arrival times (this product's profile). Neither capture is sorted.
+-- The inputs of a run: the records of both captures, merged by their arrival times (this product's profile). Neither
+-- capture is sorted.
 use Rattle.std.specs.Prelude.{◌≡◌, ℕ, ◌+◌, ◌≤◌, ◌<◌, ◌↔◌, max, Bool, true, false, List, [], ◌∷◌, map, filter, take, slice_get, Some}
 use Rattle.napt_wire.specs.declared.Side.{Side}
 use Rattle.napt_wire.specs.declared.Side.TheVariants.{Inside, Outside}
@@ -37,15 +38,18 @@ clock_at place inputs = latest (take (place + 1) inputs)
 abbrev pub reach : Side → ℕ → List Arrival → ℕ
 reach side place inputs = latest (filter (is_from side) (take (place + 1) inputs))
 
--- an inside input stands before an outside one exactly where the greatest time of the inside up to the one is at most that of the
+-- an inside input stands before an outside one exactly where the greatest time of the inside up to the one is at most
+-- that of the
 -- outside up to the other
 abbrev pub AreInOrder : List Arrival → Type 0
 AreInOrder inputs =
-    (i o : ℕ) (a b : Arrival) → slice_get inputs i ≡ Some a → slice_get inputs o ≡ Some b → a.side ≡ Inside → b.side ≡ Outside
+    (i o : ℕ) (a b : Arrival) → slice_get inputs i ≡ Some a → slice_get inputs o ≡ Some b → a.side ≡ Inside →
+    b.side ≡ Outside
     → (i < o) ↔ (reach Inside i inputs ≤ reach Outside o inputs)
 
 abbrev pub HaveClocks : List Arrival → Type 0
-HaveClocks inputs = (place : ℕ) (input : Arrival) → slice_get inputs place ≡ Some input → input.clock ≡ clock_at place inputs
+HaveClocks inputs = (place : ℕ) (input : Arrival) → slice_get inputs place ≡ Some input →
+    input.clock ≡ clock_at place inputs
 
 -- each side's inputs are its records in their order, and both are in order
 pub record IsMerged (insides outsides : List Entry) (inputs : List Arrival) : Type 0 where

@@ -1,4 +1,5 @@
--- The records that a run writes: the outcomes to a side in the order of their inputs, each with the arrival time of its input.
+-- The records that a run writes: the outcomes to a side in the order of their inputs, each with the arrival time of its
+-- input.
 use Rattle.std.specs.Prelude.{ℕ, ◌*◌, ◌<◌, ◌^◌, List, length, filter_map, zip, Option, Some, None}
 use Rattle.napt_wire.specs.declared.Side.{Side}
 use Rattle.napt_wire.specs.declared.Side.TheVariants.{Inside, Outside}

@@ -1,4 +1,5 @@
--- The second legs of hairpins (RFC 4787, REQ-9) by the number of their input, before the answer of its first leg is known.
+-- The second legs of hairpins (RFC 4787, REQ-9) by the number of their input, before the answer of its first leg is
+-- known.
 use Rattle.std.specs.Prelude.{◌≡◌, ℕ, ◌==◌, max, cond, List, [], ◌∷◌, ◌++◌, length, map, filter, Ok}
 use Rattle.napt_wire.specs.declared.Way.TheVariants.{Outgoing, Incoming}
 use Rattle.napt_wire.specs.declared.Side.TheVariants.{Inside}
@@ -48,7 +49,13 @@ AnswersFillPlaces = (rules : Rules) (inputs : List Arrival) (list : List Binding
 abbrev pub PlacesStandForLegs : Type 0
 PlacesStandForLegs = (rules : Rules) (done rest : List Arrival) (input : Arrival) (packet : List ℕ) →
     input.side ≡ Inside → admission rules input ≡ Ok packet → IsPacket packet → (address : ℕ) →
-    let leg : Leg = record { number = length done; now = max (last_clock 0 done) input.clock; way = Outgoing; packet = packet } in
+    let leg : Leg = record {
+      number = length done;
+      now = max (last_clock 0 done) input.clock;
+      way = Outgoing;
+      packet =
+          packet;
+    } in
     let all : Course = run rules ((done ++ input ∷ []) ++ rest) (opening rules) in
     legs_at address (run rules (done ++ input ∷ []) (opening rules)).acts
     ≡ legs_at address (run rules done (opening rules)).acts

@@ -1,4 +1,5 @@
--- The report of a run, a line for each fact: how many packets came and what became of them, which captures were cut, and the bindings
+-- The report of a run, a line for each fact: how many packets came and what became of them, which captures were cut,
+-- and the bindings
 -- (this product's format).
 use Rattle.std.specs.Prelude.{ℕ, ◌==◌, Bool, true, false, List, [], ◌∷◌, ◌++◌, length, codes, count_by, decimal, flat_map}
 use Rattle.napt_wire.specs.declared.Cause.{Cause}
@@ -31,7 +32,8 @@ is_to_inside other = false
 -- the causes, in the order of their lines
 abbrev pub causes : List Cause
 causes =
-    Truncated ∷ NotIpv4 ∷ BadHeader ∷ BadChecksum ∷ Fragment ∷ Unsupported ∷ BadInner ∷ BadPort ∷ Spoofed ∷ NotOurs ∷ NoBinding ∷ Filtered
+    Truncated ∷ NotIpv4 ∷ BadHeader ∷ BadChecksum ∷ Fragment ∷ Unsupported ∷ BadInner ∷ BadPort ∷ Spoofed ∷ NotOurs
+    ∷ NoBinding ∷ Filtered
     ∷ OverQuota ∷ NoPort ∷ []
 
 -- the place of a cause among them, from 0
@@ -97,7 +99,8 @@ fixed_text false = []
 
 abbrev pub row_line : Row → Text
 row_line row =
-    protocol_name row.protocol ++ codes " " ++ endpoint_text row.inside ++ codes " " ++ endpoint_text row.external ++ fixed_text row.fixed
+    protocol_name row.protocol ++ codes " " ++ endpoint_text row.inside ++ codes " " ++ endpoint_text row.external
+    ++ fixed_text row.fixed
     ++ codes "\n"
 
 -- ALL
@@ -113,4 +116,5 @@ abbrev pub cuts_text : Bool → Bool → Text
 cuts_text inside outside = cut_line (codes "inside") inside ++ cut_line (codes "outside") outside
 
 unfoldable pub report_text : Bool → Bool → Ran → Text
-report_text cut_inside cut_outside ran = counts_text ran.outcomes ++ cuts_text cut_inside cut_outside ++ flat_map row_line ran.bindings
+report_text cut_inside cut_outside ran = counts_text ran.outcomes ++ cuts_text cut_inside cut_outside
+    ++ flat_map row_line ran.bindings

@@ -1,4 +1,5 @@
--- The translators of a sequential run, one for each external address in the order of the pool, beside the one list that they
+-- The translators of a sequential run, one for each external address in the order of the pool, beside the one list that
+-- they
 -- stand for.
 use Rattle.std.specs.Prelude.{◌≡◌, ℕ, ◌+◌, ◌<◌, ◌≤◌, ◌^◌, max, length, List, [], ◌∷◌, ◌++◌, Some}
 use Rattle.std.specs.List.{slice_get}
@@ -42,13 +43,18 @@ pub record IsSeat (rules : Rules) (place address : ℕ) (moment : Moment) (seat 
 
 pub record AreSeats (rules : Rules) (moment : Moment) (seats : List Seat) : Type 0 where
   pub many : length seats ≡ length rules.pool
-  pub each : (place address : ℕ) (seat : Seat) → slice_get rules.pool place ≡ Some address → slice_get seats place ≡ Some seat → IsSeat rules place address moment seat
+  pub each : (place address : ℕ) (seat : Seat) → slice_get rules.pool place ≡ Some address → slice_get seats place
+      ≡ Some seat → IsSeat rules place address moment seat
 
 -- after a leg at an address
 abbrev pub moment_after : Rules → ℕ → Leg → Moment → Moment
 moment_after rules address leg moment =
     let acted : Acted = act rules address leg moment.list in
-    record { clock = leg.now; acts = moment.acts ++ record { address = address; leg = leg; end = acted.end } ∷ []; list = acted.list }
+    record {
+      clock = leg.now;
+      acts = moment.acts ++ record { address = address; leg = leg; end = acted.end } ∷ [];
+      list = acted.list;
+    }
 
 -- after an input at a time
 abbrev pub moment_then : ℕ → Stepped → Moment → Moment
@@ -56,7 +62,8 @@ moment_then now stepped moment = record { clock = now; acts = moment.acts ++ ste
 
 -- how a leg ends at a seat, and the seat after it
 abbrev pub end_at : Leg → Seat → End
-end_at leg seat = (kept_answer seat.translator.rules seat.translator.table.address leg (kept_of seat.translator.table)).end
+end_at leg seat =
+    (kept_answer seat.translator.rules seat.translator.table.address leg (kept_of seat.translator.table)).end
 
 abbrev pub seat_after : Leg → Seat → Seat
 seat_after leg seat = record { translator = left_by leg seat.translator; legs = seat.legs + 1 }
@@ -67,11 +74,13 @@ rows_at now seat = rows seat.translator.rules.timers (max now seat.translator.ta
 
 -- the seats stand for some moment up to a time, at which so many more legs can be counted
 abbrev pub StandBy : Rules → ℕ → ℕ → List Seat → Type 0
-StandBy rules now more seats = (moment : Moment) × AreSeats rules moment seats × (moment.clock ≤ now) × (length moment.acts + more < 2 ^ 64)
+StandBy rules now more seats = (moment : Moment) × AreSeats rules moment seats × (moment.clock ≤ now)
+    × (length moment.acts + more < 2 ^ 64)
 
 -- the outcome is that of a step, and the seats stand for the list after it
 abbrev pub Follows : Rules → ℕ → Stepped → Moment → List Seat → Outcome → Type 0
-Follows rules now stepped moment seats outcome = (outcome ≡ stepped.outcome) × AreSeats rules (moment_then now stepped moment) seats
+Follows rules now stepped moment seats outcome = (outcome ≡ stepped.outcome)
+    × AreSeats rules (moment_then now stepped moment) seats
 
 -- after these inputs, and before any
 abbrev pub moment_of : Rules → List Arrival → Moment

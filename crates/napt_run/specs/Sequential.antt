@@ -1,7 +1,9 @@
 -- The sequential translator: what a run over a list of inputs gives, on one list of bindings.
 --
--- Each input is read, judged by its side, and taken through the bindings of the external address that serves it (RFC 3022,
--- sections 4.1 to 4.3). What an inside host sends to an external address of the pool comes in again there at once (RFC 4787,
+-- Each input is read, judged by its side, and taken through the bindings of the external address that serves it (RFC
+-- 3022,
+-- sections 4.1 to 4.3). What an inside host sends to an external address of the pool comes in again there at once (RFC
+-- 4787,
 -- REQ-9, hairpinning). A run's time is the greatest clock so far, so it never goes back.
 use Rattle.std.specs.Prelude.{ℕ, ◌+◌, ◌==◌, max, length, List, [], ◌∷◌, ◌++◌, map, filter, flat_map, Option, Some, None, Result, Ok, Err}
 use Rattle.napt_wire.specs.declared.Side.{Side}
@@ -87,7 +89,8 @@ judged rules number now way packet None list =
 
 abbrev pub read_as : Rules → ℕ → ℕ → Side → Result (List ℕ) Cause → List Binding → Stepped
 read_as rules number now side (Err cause) list = refused cause list
-read_as rules number now side (Ok packet) list = judged rules number now (way_from side) packet (refusal rules side packet) list
+read_as rules number now side (Ok packet) list = judged rules number now (way_from side) packet
+    (refusal rules side packet) list
 
 -- the input of a number, at a time
 abbrev pub step : Rules → ℕ → ℕ → Arrival → List Binding → Stepped

@@ -9,11 +9,13 @@ use Rattle.napt_run.specs.Sequential.{run}
 
 -- under every configuration, since its redirects are single (RFC 4787, REQ-1 and REQ-3)
 abbrev pub RunsAreSound : Type 0
-RunsAreSound = (rules : Rules) → KeepsRules rules → (inputs : List Arrival) → IsSound (pair_of rules) (run rules inputs (opening rules)).list
+RunsAreSound = (rules : Rules) → KeepsRules rules → (inputs : List Arrival) →
+    IsSound (pair_of rules) (run rules inputs (opening rules)).list
 
 -- the same in words of two bindings
 abbrev pub RunsStayApart : Type 0
-RunsStayApart = (rules : Rules) → KeepsRules rules → (inputs : List Arrival) → AllPairs AreApart (run rules inputs (opening rules)).list
+RunsStayApart = (rules : Rules) → KeepsRules rules → (inputs : List Arrival) →
+    AllPairs AreApart (run rules inputs (opening rules)).list
 
 -- two rows of one protocol have neither one external nor one inside endpoint
 abbrev pub AreRowsApart : Row → Row → Type 0

@@ -1,7 +1,9 @@
 -- What stands while a dispatcher hands out the legs of a run.
 --
--- For each worker: what it was offered, followed by what is held for it, are its legs of the run over the inputs that were read.
--- A place among what is held stands for a second leg (RFC 4787, REQ-9) that the answer of the first will tell. That the answers
+-- For each worker: what it was offered, followed by what is held for it, are its legs of the run over the inputs that
+-- were read.
+-- A place among what is held stands for a second leg (RFC 4787, REQ-9) that the answer of the first will tell. That the
+-- answers
 -- are right is a premise until the workers are joined, which then tells it.
 use Rattle.std.specs.Prelude.{◌≡◌, ℕ, ◌<◌, max, List, [], ◌∷◌, ◌++◌, map, flat_map, length, slice_index, slice_set, slice_get, Option, Some, None}
 use Rattle.napt_wire.specs.declared.Way.{Way}
@@ -49,7 +51,8 @@ pub record Popped {X : Type 0} (w : ℕ) (x : X) (lists later : List (List X)) :
 
 -- WHAT A DISPATCHER KEEPS
 
--- of each worker the number of legs that it was offered, the legs whose answers it owes, and what is held for it; of each input
+-- of each worker the number of legs that it was offered, the legs whose answers it owes, and what is held for it; of
+-- each input
 -- what is known
 pub record Parts : Type 0 where
   pub counts : List ℕ
@@ -105,15 +108,18 @@ next_leg number now packet = record { number = number; now = now; way = Incoming
 abbrev pub IsKnown : Course → ℕ → Progress → Type 0
 IsKnown course number Awaited = Unit {0}
 IsKnown course number (Onward now packet) = second_legs number course.acts ≡ next_leg number now packet ∷ []
-IsKnown course number (EndedOut outcome) = (slice_get course.outcomes number ≡ Some outcome) × (second_legs number course.acts ≡ [])
+IsKnown course number (EndedOut outcome) = (slice_get course.outcomes number ≡ Some outcome)
+    × (second_legs number course.acts ≡ [])
 IsKnown course number (EndedIn outcome) = slice_get course.outcomes number ≡ Some outcome
 
 -- where the answers are right
 pub record Reaches (rules : Rules) (done all : List Arrival) (ledger : Ledger) : Type 0 where
   pub reached : (w : ℕ) → w < length rules.pool →
-      of_worker ledger.offered w ++ flat_map (resolved (run rules all (opening rules)).acts) (of_worker ledger.parts.held w)
+      of_worker ledger.offered w ++ flat_map (resolved (run rules all (opening rules)).acts)
+      (of_worker ledger.parts.held w)
       ≡ legs_at (slice_index rules.pool w) (run rules done (opening rules)).acts
-  pub known : (i : ℕ) (p : Progress) → slice_get ledger.parts.progress i ≡ Some p → IsKnown (run rules all (opening rules)) i p
+  pub known : (i : ℕ) (p : Progress) → slice_get ledger.parts.progress i ≡ Some p →
+      IsKnown (run rules all (opening rules)) i p
 
 -- after the first inputs of all
 pub record Stands (rules : Rules) (done all : List Arrival) (ledger : Ledger) : Type 0 where
@@ -123,18 +129,24 @@ pub record Stands (rules : Rules) (done all : List Arrival) (ledger : Ledger) : 
   pub offered_many : length ledger.offered ≡ length rules.pool
   pub taken_many : length ledger.taken ≡ length rules.pool
   pub counts_are : ledger.parts.counts ≡ map length ledger.offered
-  pub owes : (w : ℕ) → w < length rules.pool → IsOwed (of_worker ledger.offered w) (of_worker ledger.taken w) (of_worker ledger.parts.owed w)
+  pub owes : (w : ℕ) → w < length rules.pool → IsOwed (of_worker ledger.offered w) (of_worker ledger.taken w)
+      (of_worker ledger.parts.owed w)
   pub reaches : Right rules ledger.offered ledger.taken → Reaches rules done all ledger
 
 -- what stood still stands, with no input more
 abbrev pub Keeps : Ledger → Ledger → Type 0
-Keeps ledger later = (rules : Rules) (done all : List Arrival) → Stands rules done all ledger → Stands rules done all later
+Keeps ledger later = (rules : Rules) (done all : List Arrival) → Stands rules done all ledger →
+    Stands rules done all later
 
 -- whatever the workers were offered and answered
 abbrev pub KeepsParts : Parts → Parts → Type 0
 KeepsParts parts later =
     (offered : List (List Leg)) (taken : List (List Answer)) →
-    Keeps (record { offered = offered; taken = taken; parts = parts }) (record { offered = offered; taken = taken; parts = later })
+    Keeps (record { offered = offered; taken = taken; parts = parts }) (record {
+      offered = offered;
+      taken = taken;
+      parts = later;
+    })
 
 -- STEPS
 
@@ -172,7 +184,8 @@ pub record Noted (w : ℕ) (answer : Answer) (parts later : Parts) : Type 0 wher
 -- the second leg of an input, as far as it is known
 abbrev pub IsSecond : ℕ → List Progress → List Progress → Second → Type 0
 IsSecond number progress later seconds.Unknown = later ≡ progress
-IsSecond number progress later seconds.Never = (later ≡ progress) × (outcome : Outcome) × (slice_get progress number ≡ Some (EndedOut outcome))
+IsSecond number progress later seconds.Never = (later ≡ progress) × (outcome : Outcome)
+    × (slice_get progress number ≡ Some (EndedOut outcome))
 IsSecond number progress later (seconds.Known leg) =
     (later ≡ slice_set progress number Awaited)
     × (slice_get progress number ≡ Some (Onward leg.now leg.packet)) × (leg ≡ next_leg number leg.now leg.packet)
@@ -183,19 +196,27 @@ IsFirst w parts later firsts.Waits = KeepsParts parts later
 IsFirst w parts later firsts.Gone = KeepsParts parts later
 IsFirst w parts later (firsts.Next leg) =
     (offered : List (List Leg)) (taken : List (List Answer)) →
-    Keeps (record { offered = offered; taken = taken; parts = parts }) (with_first w leg (record { offered = offered; taken = taken; parts = later }))
+    Keeps (record { offered = offered; taken = taken; parts = parts })
+    (with_first w leg (record { offered = offered; taken = taken; parts = later }))
 
 -- one input more was read
 abbrev pub Admits : Rules → ℕ → ℕ → Arrival → Parts → Parts → Type 0
 Admits rules number now input parts later =
-    (offered : List (List Leg)) (taken : List (List Answer)) (done rest : List Arrival) → length done ≡ number → max (last_clock 0 done) input.clock ≡ now →
+    (offered : List (List Leg)) (taken : List (List Answer)) (done rest : List Arrival) → length done ≡ number →
+    max (last_clock 0 done) input.clock ≡ now →
     Stands rules done ((done ++ input ∷ []) ++ rest) (record { offered = offered; taken = taken; parts = parts }) →
-    Stands rules (done ++ input ∷ []) ((done ++ input ∷ []) ++ rest) (record { offered = offered; taken = taken; parts = later })
+    Stands rules (done ++ input ∷ []) ((done ++ input ∷ []) ++ rest) (record {
+      offered = offered;
+      taken = taken;
+      parts =
+          later;
+    })
 
 abbrev pub AdmitsIn : Rules → ℕ → ℕ → Arrival → Ledger → Ledger → Type 0
 AdmitsIn rules number now input ledger later =
     (done rest : List Arrival) → length done ≡ number → max (last_clock 0 done) input.clock ≡ now →
-    Stands rules done ((done ++ input ∷ []) ++ rest) ledger → Stands rules (done ++ input ∷ []) ((done ++ input ∷ []) ++ rest) later
+    Stands rules done ((done ++ input ∷ []) ++ rest) ledger → Stands rules (done ++ input ∷ []) ((done ++ input ∷ [])
+    ++ rest) later
 
 -- nothing is held and nothing owed
 pub record IsDone (parts : Parts) : Type 0 where

@@ -14,8 +14,10 @@ is_outside_next (first ∷ ins) (other ∷ outs) = nat_lt other.time first.time
 -- the record that is taken, and what is left on each side
 abbrev pub Takes : List Entry → List Entry → Option (Side × Entry) → List Entry → List Entry → Type 0
 Takes ins outs None ins_left outs_left = (ins ≡ []) × (outs ≡ [])
-Takes ins outs (Some (Inside, entry)) ins_left outs_left = (ins ≡ entry ∷ ins_left) × (outs ≡ outs_left) × (is_outside_next ins outs ≡ false)
-Takes ins outs (Some (Outside, entry)) ins_left outs_left = (outs ≡ entry ∷ outs_left) × (ins ≡ ins_left) × (is_outside_next ins outs ≡ true)
+Takes ins outs (Some (Inside, entry)) ins_left outs_left = (ins ≡ entry ∷ ins_left) × (outs ≡ outs_left)
+    × (is_outside_next ins outs ≡ false)
+Takes ins outs (Some (Outside, entry)) ins_left outs_left = (outs ≡ entry ∷ outs_left) × (ins ≡ ins_left)
+    × (is_outside_next ins outs ≡ true)
 
 -- the input that a record becomes
 abbrev pub input_of : Side → ℕ → Entry → Arrival

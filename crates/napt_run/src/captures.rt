@@ -127,7 +127,8 @@ fn write_report<W: Sink>(output: &mut W, report: &str) -> Result<(), Fault>
         (W.contents output.old) (W.contents output.new) }
     ensures flushed { OnOk result (W.is_flushed output.new) }
     ensures fault { IfErr result (IsWriteFaultOf Which.Report) }
-    ensures count { W.failed output.new ≡ W.failed output.old + failed_writings Which.Report result }
+    ensures count { W.failed output.new ≡ W.failed output.old
+        + failed_writings Which.Report result }
 {
     match write_text(output, report.as_bytes()) {
         Ok(()) => Ok(()),

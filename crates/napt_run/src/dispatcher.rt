@@ -88,7 +88,8 @@ impl Dispatcher {
     /// Holds a leg or a place for worker `w`, behind all that is held.
     fn hold(&mut self, w: u32, held: Held) -> Result<(), AllocError>
         requires { w < length (parts_of self.old).held }
-        ensures { OnOk result (parts_of self.new ≡ with_held (pushed w held (parts_of self.old).held) (parts_of self.old)) }
+        ensures { OnOk result (parts_of self.new
+            ≡ with_held (pushed w held (parts_of self.old).held) (parts_of self.old)) }
     {
         push_back(&mut self.held, w, held)?;
         self.many_held = self.many_held.saturating_add(1);
@@ -98,7 +99,8 @@ impl Dispatcher {
     /// Puts what could not be offered to worker `w` back to the front.
     fn put_back(&mut self, w: u32, leg: Leg) -> Result<(), AllocError>
         requires { w < length (parts_of self.old).held }
-        ensures { OnOk result (parts_of self.new ≡ with_held (put_first w (Ready leg) (parts_of self.old).held) (parts_of self.old)) }
+        ensures { OnOk result (parts_of self.new
+            ≡ with_held (put_first w (Ready leg) (parts_of self.old).held) (parts_of self.old)) }
     {
         push_front(&mut self.held, w, Held::Ready(leg))?;
         self.many_held = self.many_held.saturating_add(1);
@@ -108,7 +110,8 @@ impl Dispatcher {
     /// Takes out what stands first for worker `w`, where it can be offered.
     fn first(&mut self, w: u32) -> Result<First, AllocError>
         requires place { w < length (parts_of self.old).held }
-        ensures sized { OnOk result ((count : ℕ) → IsSized count (parts_of self.old) → IsSized count (parts_of self.new)) }
+        ensures sized { OnOk result ((count : ℕ) → IsSized count (parts_of self.old) →
+            IsSized count (parts_of self.new)) }
         ensures first { IfOk result (IsFirst w (parts_of self.old) (parts_of self.new)) }
     {
         match pop_front(&mut self.held, w) {
@@ -137,7 +140,10 @@ impl Dispatcher {
     /// Counts a leg that was offered to worker `w`. A count is at most `u64::MAX`.
     fn count_offer(&mut self, w: u32) -> Result<(), Stranger>
         requires { w < length self.old.offered.items }
-        ensures { OnOk result (parts_of self.new ≡ record (parts_of self.old) { counts = slice_set self.old.offered.items w (slice_index self.old.offered.items w + 1) }) }
+        ensures { OnOk result (parts_of self.new ≡ record (parts_of self.old) {
+          counts =
+              slice_set self.old.offered.items w (slice_index self.old.offered.items w + 1);
+        }) }
     {
         let count = &mut self.offered[w as usize];
         *count = count.checked_add(1).ok_or(Stranger)?;
@@ -180,7 +186,8 @@ impl Dispatcher {
         requires sized { IsSized (length (starts pool.old)) (parts_of self.old) }
         ensures starts { starts pool.new ≡ starts pool.old }
         ensures sized { OnOk result (IsSized (length (starts pool.new)) (parts_of self.new)) }
-        ensures keeps { OnOk result (Keeps (with_first w leg (ledger_of pool.old self.old)) (ledger_of pool.new self.new)) }
+        ensures keeps { OnOk result (Keeps (with_first w leg (ledger_of pool.old self.old))
+            (ledger_of pool.new self.new)) }
         ensures fault { IfErr result (IsFaultUnder G.is_open) }
     {
         let owed = Owed {
@@ -485,7 +492,12 @@ impl Dispatcher {
     fn hold_first(&mut self, w: u32, leg: Leg, to: Option<u32>) -> Result<(), AllocError>
         requires place { w < length (parts_of self.old).held }
         requires to { IfSome to (λ v. v < length (parts_of self.old).held) }
-        ensures { OnOk result (MatchOption to (parts_of self.new ≡ with_held (pushed w (Ready leg) (parts_of self.old).held) (parts_of self.old)) (λ v. parts_of self.new ≡ with_held (pushed v (Place leg.number) (pushed w (Ready leg) (parts_of self.old).held)) (parts_of self.old))) }
+        ensures { OnOk result
+            (MatchOption to (parts_of self.new
+            ≡ with_held (pushed w (Ready leg) (parts_of self.old).held) (parts_of self.old)) (λ v.
+            parts_of self.new
+            ≡ with_held (pushed v (Place leg.number)
+            (pushed w (Ready leg) (parts_of self.old).held)) (parts_of self.old))) }
     {
         let number = leg.number;
         self.hold(w, Held::Ready(leg))?;
@@ -507,7 +519,8 @@ impl Dispatcher {
         requires sized { IsSized (length config.now.pool) (parts_of self.old) }
         ensures sized { OnOk result (IsSized (length config.now.pool) (parts_of self.new)) }
         ensures place { IfOk result (λ found. IfSome found (λ w. w < length config.now.pool)) }
-        ensures admits { OnOk result (Admits config.now number now input (parts_of self.old) (parts_of self.new)) }
+        ensures admits { OnOk result (Admits config.now number now input (parts_of self.old)
+            (parts_of self.new)) }
         ensures fault { (open_gate : Bool) → IfErr result (IsFaultUnder open_gate) }
     {
         right_answers();
@@ -571,7 +584,8 @@ impl Dispatcher {
         requires sized { IsSized (length (starts pool.old)) (parts_of self.old) }
         ensures starts { starts pool.new ≡ starts pool.old }
         ensures sized { OnOk result (IsSized (length (starts pool.new)) (parts_of self.new)) }
-        ensures served { OnOk result (Stands config.now [] inputs.items (ledger_of pool.old self.old) → Stands config.now inputs.items inputs.items (ledger_of pool.new self.new)) }
+        ensures served { OnOk result (Stands config.now [] inputs.items (ledger_of pool.old self.old) →
+            Stands config.now inputs.items inputs.items (ledger_of pool.new self.new)) }
         ensures fault { IfErr result (IsFaultUnder G.is_open) }
     {
         let count = config.pool().len();
@@ -595,8 +609,10 @@ impl Dispatcher {
 
 /// The place in the pool at which a first leg may be answered onward.
 fn second_place(config: &Config, side: Side, packet: &Packet) -> Option<u32>
-    ensures some { IfSome result (λ place. (side ≡ InsideSide) × (place_of config.now (destination packet.now).address ≡ Some place)) }
-    ensures none { result ≡ None → side ≡ InsideSide → place_of config.now (destination packet.now).address ≡ None }
+    ensures some { IfSome result (λ place. (side ≡ InsideSide)
+        × (place_of config.now (destination packet.now).address ≡ Some place)) }
+    ensures none { result ≡ None → side ≡ InsideSide →
+        place_of config.now (destination packet.now).address ≡ None }
     ensures reads { IsPacket packet.now }
 {
     let _bytes = packet.bytes();
@@ -609,8 +625,11 @@ fn second_place(config: &Config, side: Side, packet: &Packet) -> Option<u32>
 /// The packet that an input from a side is and the place in the pool where it is served, or why it is dropped.
 fn judge(config: &Config, side: Side, bytes: Vec<u8>) -> Result<(u32, Packet), Cause>
     requires keeps { KeepsRules config.now }
-    ensures admitted { IfOk result (λ first. (admission_as config.now side (reading side bytes.items) ≡ Ok first.1) × (slice_get config.now.pool first.0 ≡ Some (served_at config.now (way_from side) first.1))) }
-    ensures refused { IfErr result (λ cause. admission_as config.now side (reading side bytes.items) ≡ Err cause) }
+    ensures admitted { IfOk result (λ first. (admission_as config.now side (reading side bytes.items)
+        ≡ Ok first.1) × (slice_get config.now.pool first.0
+        ≡ Some (served_at config.now (way_from side) first.1))) }
+    ensures refused { IfErr result (λ cause. admission_as config.now side (reading side bytes.items)
+        ≡ Err cause) }
 {
     match Packet::read(side, bytes) {
         Ok(packet) => match route(config, side, &packet) {
@@ -639,7 +658,9 @@ pub fn dispatch<R: Wait, G: Gate>(
     requires untaken { takes pool.old ≡ replicate (length config.now.pool) [] }
     ensures starts { starts pool.new ≡ starts pool.old }
     ensures settled { OnOk result (map length (takes pool.new) ≡ map length (accepts pool.new)) }
-    ensures run { IfOk result (λ done. takes pool.new ≡ zip_with (replies ⟦<Worker as Machine>⟧) (starts pool.new) (accepts pool.new) → IsDispatched config.now inputs.now (accepts pool.new) done.0.items done.1.items) }
+    ensures run { IfOk result (λ done. takes pool.new ≡ zip_with (replies ⟦<Worker as Machine>⟧)
+        (starts pool.new) (accepts pool.new) → IsDispatched config.now inputs.now
+        (accepts pool.new) done.0.items done.1.items) }
     ensures fault { IfErr result (IsFaultUnder G.is_open) }
 {
     let Ok(inputs) = copies(alloc, inputs) else {
@@ -662,7 +683,9 @@ pub(crate) fn dispatch_owned<R: Wait, G: Gate>(
     requires untaken { takes pool.old ≡ replicate (length config.now.pool) [] }
     ensures starts { starts pool.new ≡ starts pool.old }
     ensures settled { OnOk result (map length (takes pool.new) ≡ map length (accepts pool.new)) }
-    ensures run { IfOk result (λ done. takes pool.new ≡ zip_with (replies ⟦<Worker as Machine>⟧) (starts pool.new) (accepts pool.new) → IsDispatched config.now inputs.items (accepts pool.new) done.0.items done.1.items) }
+    ensures run { IfOk result (λ done. takes pool.new ≡ zip_with (replies ⟦<Worker as Machine>⟧)
+        (starts pool.new) (accepts pool.new) → IsDispatched config.now inputs.items
+        (accepts pool.new) done.0.items done.1.items) }
     ensures fault { IfErr result (IsFaultUnder G.is_open) }
 {
     let count = config.pool().len();

@@ -46,7 +46,8 @@ fn push_input(
     clock: u64,
     record: Record,
 ) -> Result<(), AllocError>
-    ensures { OnOk result (inputs.new.items ≡ inputs.old.items ++ input_of side clock «record» ∷ []) }
+    ensures { OnOk result (inputs.new.items ≡ inputs.old.items ++ input_of side clock «record»
+        ∷ []) }
 {
     inputs.push(Input {
         side,
@@ -66,7 +67,8 @@ pub fn merge(
     outside: Vec<Record>,
 ) -> Result<Vec<Input>, AllocError>
     ensures merged { IfOk result (λ inputs. IsMerged inside.items outside.items inputs.items) }
-    ensures timely { All IsWritable inside.items → All IsWritable outside.items → IfOk result (λ inputs. All IsTimely inputs.items) }
+    ensures timely { All IsWritable inside.items → All IsWritable outside.items →
+        IfOk result (λ inputs. All IsTimely inputs.items) }
 {
     let mut inputs = Vec::with_capacity(alloc, inside.len().saturating_add(outside.len()))?;
     let mut inside = VecDeque::from(inside);

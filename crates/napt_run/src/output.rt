@@ -19,7 +19,8 @@ pub(crate) struct Sent {
 /// Adds the record of a packet that arrived at a time, in ns.
 fn push_record(records: &mut Vec<Record>, time: u64, packet: Packet) -> Result<(), AllocError>
     requires { time < 2 ^ 32 * 1000000000 }
-    ensures pushed { OnOk result (records.new.items ≡ records.old.items ++ sent_at time packet ∷ []) }
+    ensures pushed { OnOk result (records.new.items ≡ records.old.items ++ sent_at time packet
+        ∷ []) }
     ensures writable { OnOk result (IsWritable (sent_at time packet)) }
 {
     let bytes = packet.into_bytes();
@@ -35,10 +36,14 @@ fn push_record(records: &mut Vec<Record>, time: u64, packet: Packet) -> Result<(
 /// Adds the packet of an outcome to the records of its side.
 fn push_outcome(sent: &mut Sent, time: u64, outcome: Outcome) -> Result<(), AllocError>
     requires { time < 2 ^ 32 * 1000000000 }
-    ensures to_outside { OnOk result (sent.new.to_outside.items ≡ sent.old.to_outside.items ++ option_to_list (record_at time (packet_to sides.Outside outcome))) }
-    ensures to_inside { OnOk result (sent.new.to_inside.items ≡ sent.old.to_inside.items ++ option_to_list (record_at time (packet_to sides.Inside outcome))) }
-    ensures outside_writable { All IsWritable sent.old.to_outside.items → OnOk result (All IsWritable sent.new.to_outside.items) }
-    ensures inside_writable { All IsWritable sent.old.to_inside.items → OnOk result (All IsWritable sent.new.to_inside.items) }
+    ensures to_outside { OnOk result (sent.new.to_outside.items ≡ sent.old.to_outside.items
+        ++ option_to_list (record_at time (packet_to sides.Outside outcome))) }
+    ensures to_inside { OnOk result (sent.new.to_inside.items ≡ sent.old.to_inside.items
+        ++ option_to_list (record_at time (packet_to sides.Inside outcome))) }
+    ensures outside_writable { All IsWritable sent.old.to_outside.items →
+        OnOk result (All IsWritable sent.new.to_outside.items) }
+    ensures inside_writable { All IsWritable sent.old.to_inside.items →
+        OnOk result (All IsWritable sent.new.to_inside.items) }
 {
     match outcome {
         Outcome::ToOutside(packet) => push_record(&mut sent.to_outside, time, packet),
@@ -54,8 +59,10 @@ pub(crate) fn records_sent(
     outcomes: Vec<Outcome>,
 ) -> Result<Sent, AllocError>
     requires { All IsTime times.now }
-    ensures to_outside { IfOk result (λ sent. sent.to_outside.items ≡ records_at sides.Outside times.now outcomes.items) }
-    ensures to_inside { IfOk result (λ sent. sent.to_inside.items ≡ records_at sides.Inside times.now outcomes.items) }
+    ensures to_outside { IfOk result (λ sent. sent.to_outside.items
+        ≡ records_at sides.Outside times.now outcomes.items) }
+    ensures to_inside { IfOk result (λ sent. sent.to_inside.items
+        ≡ records_at sides.Inside times.now outcomes.items) }
     ensures outside_writable { IfOk result (λ sent. All IsWritable sent.to_outside.items) }
     ensures inside_writable { IfOk result (λ sent. All IsWritable sent.to_inside.items) }
     ensures outside_few { IfOk result (λ sent. length sent.to_outside.items ≤ length times.now) }

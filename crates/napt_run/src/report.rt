@@ -78,10 +78,15 @@ impl Counts {
     fn add(&mut self, outcome: &Outcome)
         requires outside_fits { self.old.to_outside < 2 ^ 64 - 1 }
         requires inside_fits { self.old.to_inside < 2 ^ 64 - 1 }
-        requires dropped_fit { (cause : Cause) → slice_index self.old.dropped (model.place_of cause) < 2 ^ 64 - 1 }
-        ensures to_outside { self.new.to_outside ≡ self.old.to_outside + count_by model.is_to_outside (outcome.now ∷ []) }
-        ensures to_inside { self.new.to_inside ≡ self.old.to_inside + count_by model.is_to_inside (outcome.now ∷ []) }
-        ensures dropped { (cause : Cause) → slice_index self.new.dropped (model.place_of cause) ≡ slice_index self.old.dropped (model.place_of cause) + count_by (model.is_dropped cause) (outcome.now ∷ []) }
+        requires dropped_fit { (cause : Cause) → slice_index self.old.dropped (model.place_of cause)
+            < 2 ^ 64 - 1 }
+        ensures to_outside { self.new.to_outside ≡ self.old.to_outside
+            + count_by model.is_to_outside (outcome.now ∷ []) }
+        ensures to_inside { self.new.to_inside ≡ self.old.to_inside + count_by model.is_to_inside
+            (outcome.now ∷ []) }
+        ensures dropped { (cause : Cause) → slice_index self.new.dropped (model.place_of cause)
+            ≡ slice_index self.old.dropped (model.place_of cause)
+            + count_by (model.is_dropped cause) (outcome.now ∷ []) }
     {
         match outcome {
             Outcome::ToOutside(_) => self.to_outside += 1,
@@ -94,7 +99,8 @@ impl Counts {
 fn counts_of(outcomes: &[Outcome]) -> Counts
     ensures to_outside { result.to_outside ≡ count_by model.is_to_outside outcomes.now }
     ensures to_inside { result.to_inside ≡ count_by model.is_to_inside outcomes.now }
-    ensures dropped { (cause : Cause) → slice_index result.dropped (model.place_of cause) ≡ count_by (model.is_dropped cause) outcomes.now }
+    ensures dropped { (cause : Cause) → slice_index result.dropped (model.place_of cause)
+        ≡ count_by (model.is_dropped cause) outcomes.now }
 {
     let mut counts = Counts {
         to_outside: 0,
@@ -128,7 +134,8 @@ fn push_count(
     name: &str,
     count: usize,
 ) -> Result<(), AllocError>
-    ensures { OnOk result (string_bytes report.new ≡ string_bytes report.old ++ model.count_line name.now count) }
+    ensures { OnOk result (string_bytes report.new ≡ string_bytes report.old
+        ++ model.count_line name.now count) }
 {
     let line = format!(in alloc; "{name} {count}\n")?;
     report.push_str(&line)
@@ -141,7 +148,9 @@ fn push_drops(
     causes: &[Cause],
     dropped: &[usize; 14],
 ) -> Result<(), AllocError>
-    ensures { OnOk result (string_bytes report.new ≡ string_bytes report.old ++ flat_map (λ cause. codes "drop " ++ model.count_line (model.cause_name cause) (slice_index dropped.now (model.place_of cause))) causes.now) }
+    ensures { OnOk result (string_bytes report.new ≡ string_bytes report.old ++ flat_map (λ cause.
+        codes "drop " ++ model.count_line (model.cause_name cause)
+        (slice_index dropped.now (model.place_of cause))) causes.now) }
 {
     for cause in causes {
         report.push_str("drop ")?;
@@ -164,7 +173,8 @@ fn push_row(alloc: Global, report: &mut String, row: Row) -> Result<(), AllocErr
 
 /// Adds the lines of the bindings.
 fn push_rows(alloc: Global, report: &mut String, rows: &[Row]) -> Result<(), AllocError>
-    ensures { OnOk result (string_bytes report.new ≡ string_bytes report.old ++ flat_map model.row_line rows.now) }
+    ensures { OnOk result (string_bytes report.new ≡ string_bytes report.old
+        ++ flat_map model.row_line rows.now) }
 {
     for row in rows {
         push_row(alloc, report, *row)?;
@@ -174,7 +184,8 @@ fn push_rows(alloc: Global, report: &mut String, rows: &[Row]) -> Result<(), All
 
 /// Adds the lines that count the packets.
 fn push_counts(alloc: Global, report: &mut String, outcomes: &[Outcome]) -> Result<(), AllocError>
-    ensures { OnOk result (string_bytes report.new ≡ string_bytes report.old ++ model.counts_text outcomes.now) }
+    ensures { OnOk result (string_bytes report.new ≡ string_bytes report.old
+        ++ model.counts_text outcomes.now) }
 {
     let counts = counts_of(outcomes);
     push_count(alloc, report, "packets", outcomes.len())?;
@@ -186,7 +197,8 @@ fn push_counts(alloc: Global, report: &mut String, outcomes: &[Outcome]) -> Resu
 
 /// Adds the lines of the captures that were cut.
 fn push_cuts(report: &mut String, cut_inside: bool, cut_outside: bool) -> Result<(), AllocError>
-    ensures { OnOk result (string_bytes report.new ≡ string_bytes report.old ++ model.cuts_text cut_inside cut_outside) }
+    ensures { OnOk result (string_bytes report.new ≡ string_bytes report.old
+        ++ model.cuts_text cut_inside cut_outside) }
 {
     if cut_inside {
         report.push_str("cut inside\n")?;
@@ -208,7 +220,8 @@ pub fn report_text(
     cut_inside: bool,
     cut_outside: bool,
 ) -> Result<String, AllocError>
-    ensures { IfOk result (λ report. string_bytes report ≡ model.report_text cut_inside cut_outside run.now) }
+    ensures { IfOk result (λ report. string_bytes report
+        ≡ model.report_text cut_inside cut_outside run.now) }
 {
     let mut report = String::new(alloc);
     push_counts(alloc, &mut report, &run.outcomes)?;

@@ -31,8 +31,15 @@ fn take(
     requires keeps { KeepsRules config.now }
     requires within { place < length config.now.pool }
     requires stand { standing.StandBy config.now leg.now 1 seats.old }
-    ensures end { (moment : standing.Moment) (address : ℕ) → standing.AreSeats config.now moment seats.old → moment.clock ≤ leg.now → slice_get config.now.pool place ≡ Some address → IfOk result (λ end. end ≡ (act config.now address leg moment.list).end) }
-    ensures left { (moment : standing.Moment) (address : ℕ) → standing.AreSeats config.now moment seats.old → moment.clock ≤ leg.now → slice_get config.now.pool place ≡ Some address → OnOk result (standing.AreSeats config.now (standing.moment_after config.now address leg moment) seats.new) }
+    ensures end { (moment : standing.Moment) (address : ℕ) →
+        standing.AreSeats config.now moment seats.old → moment.clock ≤ leg.now →
+        slice_get config.now.pool place ≡ Some address →
+        IfOk result (λ end. end ≡ (act config.now address leg moment.list).end) }
+    ensures left { (moment : standing.Moment) (address : ℕ) →
+        standing.AreSeats config.now moment seats.old → moment.clock ≤ leg.now →
+        slice_get config.now.pool place ≡ Some address →
+        OnOk result (standing.AreSeats config.now
+        (standing.moment_after config.now address leg moment) seats.new) }
 {
     seats[place as usize].take(alloc, leg)
 }
@@ -58,7 +65,11 @@ fn follow(
     requires keeps { KeepsRules config.now }
     requires within { place < length config.now.pool }
     requires stand { standing.StandBy config.now leg.now 2 seats.old }
-    ensures { (moment : standing.Moment) (address : ℕ) → standing.AreSeats config.now moment seats.old → moment.clock ≤ leg.now → slice_get config.now.pool place ≡ Some address → IfOk result (standing.Follows config.now leg.now (model.admitted config.now address leg moment.list) moment seats.new) }
+    ensures { (moment : standing.Moment) (address : ℕ) →
+        standing.AreSeats config.now moment seats.old → moment.clock ≤ leg.now →
+        slice_get config.now.pool place ≡ Some address →
+        IfOk result (standing.Follows config.now leg.now
+        (model.admitted config.now address leg moment.list) moment seats.new) }
 {
     let number = leg.number;
     let now = leg.now;
@@ -100,7 +111,10 @@ fn step(
 ) -> Result<Outcome, AllocError>
     requires keeps { KeepsRules config.now }
     requires stand { standing.StandBy config.now now 2 seats.old }
-    ensures { (moment : standing.Moment) → standing.AreSeats config.now moment seats.old → moment.clock ≤ now → IfOk result (standing.Follows config.now now (model.step config.now number now input.now moment.list) moment seats.new) }
+    ensures { (moment : standing.Moment) → standing.AreSeats config.now moment seats.old →
+        moment.clock ≤ now →
+        IfOk result (standing.Follows config.now now
+        (model.step config.now number now input.now moment.list) moment seats.new) }
 {
     let bytes = Vec::from_slice(alloc, &input.bytes)?;
     let packet = match Packet::read(input.side, bytes) {
@@ -123,7 +137,8 @@ fn step(
 /// The translators of all external addresses before any leg, in the order of the pool.
 fn begin(alloc: Global, config: &Config) -> Result<Vec<Seat>, AllocError>
     ensures kept { KeepsRules config.now }
-    ensures seats { IfOk result (λ seats. standing.AreSeats config.now (standing.moment_of config.now []) seats.items) }
+    ensures seats { IfOk result (λ seats. standing.AreSeats config.now (standing.moment_of config.now [])
+        seats.items) }
 {
     let many = config.pool().len() as u32;
     let mut seats = Vec::new(alloc);
@@ -147,9 +162,11 @@ fn step_all(
     requires keeps { KeepsRules config.now }
     requires few { length inputs.now < 2 ^ 32 }
     requires fresh { standing.AreSeats config.now (standing.moment_of config.now []) seats.old }
-    ensures outcomes { IfOk result (λ all. all.0.items ≡ (model.run config.now inputs.now (opening config.now)).outcomes) }
+    ensures outcomes { IfOk result (λ all. all.0.items
+        ≡ (model.run config.now inputs.now (opening config.now)).outcomes) }
     ensures last { IfOk result (λ all. all.1 ≡ model.last_clock 0 inputs.now) }
-    ensures seats { OnOk result (standing.AreSeats config.now (standing.moment_of config.now inputs.now) seats.new) }
+    ensures seats { OnOk result (standing.AreSeats config.now (standing.moment_of config.now inputs.now)
+        seats.new) }
 {
     let mut outcomes = Vec::new(alloc);
     let mut clock = 0u64;

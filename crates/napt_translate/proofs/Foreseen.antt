@@ -25,29 +25,39 @@ dropped_is : (found : Option ℕ) (cause : Cause) → IsForeseen found (Dropped 
 dropped_is None cause = tt
 dropped_is (Some place) cause = tt
 
-module _ (rules : Rules) (p : List ℕ) (sources : (end : Endpoint) → (destination (with_source end p)).address ≡ (destination p).address)
-    (errors : is_error (kind p) ≡ true → (end : Endpoint) → (destination (reverted Outgoing end p)).address ≡ (destination p).address) where
-  gone : (q : List ℕ) → (destination q).address ≡ (destination p).address → IsForeseen (place_of rules (destination p).address) (gone_out rules q)
-  gone q same = subst (λ (a : ℕ). IsForeseen (place_of rules a) (gone_out rules q)) same (by_place q (place_of rules (destination q).address))
+module _ (rules : Rules) (p : List ℕ) (sources : (end : Endpoint) → (destination (with_source end p)).address
+    ≡ (destination p).address)
+    (errors : is_error (kind p) ≡ true → (end : Endpoint) → (destination (reverted Outgoing end p)).address
+    ≡ (destination p).address) where
+  gone : (q : List ℕ) → (destination q).address ≡ (destination p).address →
+      IsForeseen (place_of rules (destination p).address) (gone_out rules q)
+  gone q same = subst (λ (a : ℕ). IsForeseen (place_of rules a) (gone_out rules q)) same
+      (by_place q (place_of rules (destination q).address))
 
-  sent : (address : ℕ) (number : Result ℕ Cause) → IsForeseen (place_of rules (destination p).address) (end_out rules address p number)
-  sent address (Ok number) = let end : Endpoint = record { address = address; number = number } in gone (with_source end p) (sources end)
+  sent : (address : ℕ) (number : Result ℕ Cause) → IsForeseen (place_of rules (destination p).address)
+      (end_out rules address p number)
+  sent address (Ok number) = let end : Endpoint = record { address = address; number = number } in
+      gone (with_source end p) (sources end)
   sent address (Err cause) = dropped_is (place_of rules (destination p).address) cause
 
-  error_sent : is_error (kind p) ≡ true → (found : Option Binding) → IsForeseen (place_of rules (destination p).address) (error_out rules p found)
+  error_sent : is_error (kind p) ≡ true → (found : Option Binding) → IsForeseen (place_of rules (destination p).address)
+      (error_out rules p found)
   error_sent is (Some binding) = gone (reverted Outgoing binding.external p) (errors is binding.external)
   error_sent is None = dropped_is (place_of rules (destination p).address) _
 
-  leg_sent : (address now : ℕ) (list : List Binding) (k : Kind) → kind p ≡ k → IsForeseen (place_of rules (destination p).address) (act_by rules address now p list Outgoing k).end
+  leg_sent : (address now : ℕ) (list : List Binding) (k : Kind) → kind p ≡ k →
+      IsForeseen (place_of rules (destination p).address) (act_by rules address now p list Outgoing k).end
   leg_sent address now list Udp is = sent address _
   leg_sent address now list (Tcp flags) is = sent address _
   leg_sent address now list Echo is = sent address _
   leg_sent address now list (ErrorOf inner) is = error_sent (ap is_error is) _
 
-pub foresees : SourcesLeaveDestinations → ErrorsLeaveDestinations → (rules : Rules) (packet : List ℕ) → IsPacket packet → Foresees rules packet (place_of rules (destination packet).address)
+pub foresees : SourcesLeaveDestinations → ErrorsLeaveDestinations → (rules : Rules) (packet : List ℕ) →
+    IsPacket packet → Foresees rules packet (place_of rules (destination packet).address)
 foresees packets errors rules packet is address leg kept way same =
     let found : Option ℕ = place_of rules (destination packet).address in
     let now : ℕ = max leg.now kept.at in
     subst (λ (q : List ℕ). IsForeseen found (act_by rules address now q kept.list leg.way (kind q)).end) (sym same)
     (subst (λ (w : Way). IsForeseen found (act_by rules address now packet kept.list w (kind packet)).end) (sym way)
-    (leg_sent rules packet (packets is.0 packet is.1) (errors is.0 packet is.1) address now kept.list (kind packet) refl))
+    (leg_sent rules packet (packets is.0 packet is.1) (errors is.0 packet is.1) address now kept.list
+    (kind packet) refl))

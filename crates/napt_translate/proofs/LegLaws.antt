@@ -15,7 +15,12 @@ use Rattle.napt_translate.specs.Legs.{Kept, act_by, onward_by, gone_out, end_out
 -- ERRORS
 
 module _ (rules : Rules) (address now at : ℕ) (packet : List ℕ) (list : List Binding) where
-  error_keeps : (way : Way) (k : Kind) → is_error k ≡ true → (let kept : Kept = record { list = (act_by rules address now packet list way k).list; at = time_after k at now } in kept ≡ record { list = list; at = at })
+  error_keeps : (way : Way) (k : Kind) → is_error k ≡ true →
+      (let kept : Kept = record {
+        list = (act_by rules address now packet list way k).list;
+        at =
+            time_after k at now;
+      } in kept ≡ record { list = list; at = at })
   error_keeps Outgoing (ErrorOf inner) h = refl
   error_keeps Incoming (ErrorOf inner) h = refl
   error_keeps way Udp h = cc
@@ -23,19 +28,22 @@ module _ (rules : Rules) (address now at : ℕ) (packet : List ℕ) (list : List
   error_keeps way Echo h = cc
 
 pub errors_change_nothing : ErrorsChangeNothing
-errors_change_nothing rules address leg kept h = error_keeps rules address (max leg.now kept.at) kept.at leg.packet kept.list leg.way (kind leg.packet) h
+errors_change_nothing rules address leg kept h = error_keeps rules address (max leg.now kept.at) kept.at leg.packet
+    kept.list leg.way (kind leg.packet) h
 
 -- SIDES
 
 module _ (rules : Rules) where
-  onward_side : (packet : List ℕ) (place : Option ℕ) → place_of rules (destination packet).address ≡ place → IsToItsSide rules (onward_by place packet)
+  onward_side : (packet : List ℕ) (place : Option ℕ) → place_of rules (destination packet).address ≡ place →
+      IsToItsSide rules (onward_by place packet)
   onward_side packet None h = h
   onward_side packet (Some place) h = h
 
   out_side : (packet : List ℕ) → IsToItsSide rules (gone_out rules packet)
   out_side packet = onward_side packet (place_of rules (destination packet).address) refl
 
-  sent_side : (address : ℕ) (packet : List ℕ) (number : Result ℕ Cause) → IsToItsSide rules (end_out rules address packet number)
+  sent_side : (address : ℕ) (packet : List ℕ) (number : Result ℕ Cause) →
+      IsToItsSide rules (end_out rules address packet number)
   sent_side address packet (Ok number) = out_side _
   sent_side address packet (Err cause) = tt
 
@@ -51,7 +59,8 @@ module _ (rules : Rules) where
   error_came_side packet (Some binding) = tt
   error_came_side packet None = tt
 
-  leg_side : (address now : ℕ) (packet : List ℕ) (list : List Binding) (way : Way) (k : Kind) → IsToItsSide rules (act_by rules address now packet list way k).end
+  leg_side : (address now : ℕ) (packet : List ℕ) (list : List Binding) (way : Way) (k : Kind) →
+      IsToItsSide rules (act_by rules address now packet list way k).end
   leg_side address now packet list Outgoing Udp = sent_side _ _ _
   leg_side address now packet list Outgoing (Tcp flags) = sent_side _ _ _
   leg_side address now packet list Outgoing Echo = sent_side _ _ _
@@ -62,7 +71,8 @@ module _ (rules : Rules) where
   leg_side address now packet list Incoming (ErrorOf inner) = error_came_side _ _
 
 pub legs_end_at_their_side : LegsEndAtTheirSide
-legs_end_at_their_side rules address leg kept = leg_side rules address (max leg.now kept.at) leg.packet kept.list leg.way (kind leg.packet)
+legs_end_at_their_side rules address leg kept =
+    leg_side rules address (max leg.now kept.at) leg.packet kept.list leg.way (kind leg.packet)
 
 -- IN
 
@@ -74,7 +84,8 @@ error_came_in : (packet : List ℕ) (found : Option Binding) → is_in_or_droppe
 error_came_in packet (Some binding) = refl
 error_came_in packet None = refl
 
-leg_in : (rules : Rules) (address now : ℕ) (packet : List ℕ) (list : List Binding) (k : Kind) → is_in_or_dropped (act_by rules address now packet list Incoming k).end ≡ true
+leg_in : (rules : Rules) (address now : ℕ) (packet : List ℕ) (list : List Binding) (k : Kind) →
+    is_in_or_dropped (act_by rules address now packet list Incoming k).end ≡ true
 leg_in rules address now packet list Udp = came_in _ _
 leg_in rules address now packet list (Tcp flags) = came_in _ _
 leg_in rules address now packet list Echo = came_in _ _
@@ -82,5 +93,6 @@ leg_in rules address now packet list (ErrorOf inner) = error_came_in _ _
 
 pub in_stays_in : InStaysIn
 in_stays_in rules address leg kept way =
-    ap (λ (w : Way). is_in_or_dropped (act_by rules address (max leg.now kept.at) leg.packet kept.list w (kind leg.packet)).end) way
+    ap (λ (w : Way). is_in_or_dropped (act_by rules address (max leg.now kept.at) leg.packet kept.list w
+    (kind leg.packet)).end) way
     ∙ leg_in rules address (max leg.now kept.at) leg.packet kept.list (kind leg.packet)

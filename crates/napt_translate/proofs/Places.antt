@@ -6,14 +6,17 @@ use Rattle.std.proofs.lemmas.Option.{slice_get-get_or}
 use Rattle.std.proofs.lemmas.List.Quantifiers.{position-Some}
 use Rattle.napt_wire.specs.declared.Cause.{Cause}
 
-has_it : (pool : List ℕ) (address place : ℕ) → position (λ other. other == address) pool ≡ Some place → slice_get pool place ≡ Some address
+has_it : (pool : List ℕ) (address place : ℕ) → position (λ other. other == address) pool ≡ Some place →
+    slice_get pool place ≡ Some address
 has_it pool address place at =
     let found = position-Some (λ other. other == address) pool place 0 at in
     slice_get-get_or pool place 0 found.0 ∙ ap (λ (n : ℕ). let o : Option ℕ = Some n in o) (eqb-true _ _ found.1)
 
-at_found : (pool : List ℕ) (address : ℕ) (cause : Cause) (found : Option ℕ) → position (λ other. other == address) pool ≡ found → IfOk (ok_or found cause) (λ place. slice_get pool place ≡ Some address)
+at_found : (pool : List ℕ) (address : ℕ) (cause : Cause) (found : Option ℕ) → position (λ other. other == address) pool
+    ≡ found → IfOk (ok_or found cause) (λ place. slice_get pool place ≡ Some address)
 at_found pool address cause None at = tt
 at_found pool address cause (Some place) at = has_it pool address place at
 
-pub place_has : (pool : List ℕ) (address : ℕ) (cause : Cause) → IfOk (ok_or (position (λ other. other == address) pool) cause) (λ place. slice_get pool place ≡ Some address)
+pub place_has : (pool : List ℕ) (address : ℕ) (cause : Cause) →
+    IfOk (ok_or (position (λ other. other == address) pool) cause) (λ place. slice_get pool place ≡ Some address)
 place_has pool address cause = at_found pool address cause (position (λ other. other == address) pool) refl

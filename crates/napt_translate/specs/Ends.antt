@@ -10,7 +10,8 @@ use Rattle.napt_translate.specs.declared.translator.End.TheVariants.{ToOutside, 
 
 -- an ICMP error changes no binding and no time (RFC 4787, REQ-12; RFC 5508, REQ-6)
 abbrev pub ErrorsChangeNothing : Type 0
-ErrorsChangeNothing = (rules : Rules) (address : ℕ) (leg : Leg) (kept : Kept) → is_error (kind leg.packet) ≡ true → kept_after rules address leg kept ≡ kept
+ErrorsChangeNothing = (rules : Rules) (address : ℕ) (leg : Leg) (kept : Kept) → is_error (kind leg.packet) ≡ true →
+    kept_after rules address leg kept ≡ kept
 
 -- what leaves goes to no external address of the pool, and what goes onward to the one at that place (RFC 4787, REQ-9)
 abbrev pub IsToItsSide : Rules → End → Type 0
@@ -20,7 +21,8 @@ IsToItsSide rules (ToInside packet) = Unit {0}
 IsToItsSide rules (Dropped cause) = Unit {0}
 
 abbrev pub LegsEndAtTheirSide : Type 0
-LegsEndAtTheirSide = (rules : Rules) (address : ℕ) (leg : Leg) (kept : Kept) → IsToItsSide rules (kept_answer rules address leg kept).end
+LegsEndAtTheirSide = (rules : Rules) (address : ℕ) (leg : Leg) (kept : Kept) →
+    IsToItsSide rules (kept_answer rules address leg kept).end
 
 -- to the inside, or dropped
 abbrev pub is_in_or_dropped : End → Bool
@@ -30,11 +32,13 @@ is_in_or_dropped (ToOutside packet) = false
 is_in_or_dropped (Onward place packet) = false
 
 abbrev pub InStaysIn : Type 0
-InStaysIn = (rules : Rules) (address : ℕ) (leg : Leg) (kept : Kept) → leg.way ≡ Incoming → is_in_or_dropped (kept_answer rules address leg kept).end ≡ true
+InStaysIn = (rules : Rules) (address : ℕ) (leg : Leg) (kept : Kept) → leg.way ≡ Incoming →
+    is_in_or_dropped (kept_answer rules address leg kept).end ≡ true
 
 -- HAIRPINS (RFC 4787, REQ-9)
 
--- a packet whose destination has this place in the pool, or none: it goes onward there or is dropped, or never goes onward
+-- a packet whose destination has this place in the pool, or none: it goes onward there or is dropped, or never goes
+-- onward
 abbrev pub IsForeseen : Option ℕ → End → Type 0
 IsForeseen (Some place) (Onward to packet) = to ≡ place
 IsForeseen (Some place) (Dropped cause) = Unit {0}
@@ -48,4 +52,5 @@ IsForeseen None (ToInside packet) = Unit {0}
 -- however a packet goes out, whatever the bindings
 abbrev pub Foresees : Rules → List ℕ → Option ℕ → Type 0
 Foresees rules packet found =
-    (address : ℕ) (leg : Leg) (kept : Kept) → leg.way ≡ Outgoing → leg.packet ≡ packet → IsForeseen found (kept_answer rules address leg kept).end
+    (address : ℕ) (leg : Leg) (kept : Kept) → leg.way ≡ Outgoing → leg.packet ≡ packet →
+    IsForeseen found (kept_answer rules address leg kept).end

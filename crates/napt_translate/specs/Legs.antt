@@ -1,7 +1,9 @@
 -- A leg: one packet on one way through the bindings of one external address, at one time.
 --
--- RFC 3022, sections 2.2 and 4.1 to 4.3: out, the source becomes the external endpoint of its binding; in, the destination becomes the inside
--- endpoint. RFC 5508, REQ-3 to REQ-6: an ICMP error is translated by the datagram that it quotes and changes no binding. RFC 4787, REQ-9: a
+-- RFC 3022, sections 2.2 and 4.1 to 4.3: out, the source becomes the external endpoint of its binding; in, the
+-- destination becomes the inside
+-- endpoint. RFC 5508, REQ-3 to REQ-6: an ICMP error is translated by the datagram that it quotes and changes no
+-- binding. RFC 4787, REQ-9: a
 -- packet that goes out to an external address of the pool goes back in at that address.
 use Rattle.std.specs.Prelude.{ℕ, max, false, List, [], ◌∷◌, Option, Some, None, Result, Ok, Err}
 use Rattle.napt_wire.specs.declared.Protocol.TheVariants as protocols
@@ -43,7 +45,8 @@ gone_out rules packet = onward_by (place_of rules (destination packet).address) 
 -- OUT
 
 abbrev pub end_out : Rules → ℕ → List ℕ → Result ℕ Cause → End
-end_out rules address packet (Ok number) = gone_out rules (with_source (record { address = address; number = number }) packet)
+end_out rules address packet (Ok number) =
+    gone_out rules (with_source (record { address = address; number = number }) packet)
 end_out rules address packet (Err cause) = Dropped cause
 
 abbrev pub acted_out : Rules → ℕ → List ℕ → Out → Acted
@@ -70,14 +73,35 @@ error_in packet None = Dropped NoBinding
 
 -- by what the packet is
 abbrev pub act_by : Rules → ℕ → ℕ → List ℕ → List Binding → Way → Kind → Acted
-act_by rules address now packet list Outgoing Udp = acted_out rules address packet (step_out rules.timers rules.quota address now protocols.Udp (source packet) (destination packet) no_flags list)
-act_by rules address now packet list Outgoing (Tcp flags) = acted_out rules address packet (step_out rules.timers rules.quota address now protocols.Tcp (source packet) (destination packet) flags list)
-act_by rules address now packet list Outgoing Echo = acted_out rules address packet (step_out rules.timers rules.quota address now protocols.Icmp (source packet) (destination packet) no_flags list)
-act_by rules address now packet list Outgoing (ErrorOf inner) = record { end = error_out rules packet (by_inside rules.timers address now inner.protocol inner.destination list); list = list }
-act_by rules address now packet list Incoming Udp = acted_in packet (step_in rules.timers (inbound_of rules) address now protocols.Udp (destination packet).number (source packet) no_flags list)
-act_by rules address now packet list Incoming (Tcp flags) = acted_in packet (step_in rules.timers (inbound_of rules) address now protocols.Tcp (destination packet).number (source packet) flags list)
-act_by rules address now packet list Incoming Echo = acted_in packet (step_in rules.timers (inbound_of rules) address now protocols.Icmp (destination packet).number (source packet) no_flags list)
-act_by rules address now packet list Incoming (ErrorOf inner) = record { end = error_in packet (by_number rules.timers address now inner.protocol inner.source.number list); list = list }
+act_by rules address now packet list Outgoing Udp =
+    acted_out rules address packet (step_out rules.timers rules.quota address now protocols.Udp (source packet)
+    (destination packet) no_flags list)
+act_by rules address now packet list Outgoing (Tcp flags) =
+    acted_out rules address packet (step_out rules.timers rules.quota address now protocols.Tcp (source packet)
+    (destination packet) flags list)
+act_by rules address now packet list Outgoing Echo =
+    acted_out rules address packet (step_out rules.timers rules.quota address now protocols.Icmp (source packet)
+    (destination packet) no_flags list)
+act_by rules address now packet list Outgoing (ErrorOf inner) =
+    record {
+      end = error_out rules packet (by_inside rules.timers address now inner.protocol inner.destination list);
+      list = list;
+    }
+act_by rules address now packet list Incoming Udp =
+    acted_in packet (step_in rules.timers (inbound_of rules) address now protocols.Udp (destination packet).number
+    (source packet) no_flags list)
+act_by rules address now packet list Incoming (Tcp flags) =
+    acted_in packet (step_in rules.timers (inbound_of rules) address now protocols.Tcp (destination packet).number
+    (source packet) flags list)
+act_by rules address now packet list Incoming Echo =
+    acted_in packet (step_in rules.timers (inbound_of rules) address now protocols.Icmp (destination packet).number
+    (source packet) no_flags list)
+act_by rules address now packet list Incoming (ErrorOf inner) =
+    record {
+      end = error_in packet (by_number rules.timers address now inner.protocol inner.source.number list);
+      list =
+          list;
+    }
 
 -- a leg at an address
 abbrev pub act : Rules → ℕ → Leg → List Binding → Acted
@@ -96,17 +120,23 @@ time_after (Tcp flags) at now = now
 time_after Echo at now = now
 
 abbrev pub kept_act : Rules → ℕ → Leg → Kept → Acted
-kept_act rules address leg kept = act_by rules address (max leg.now kept.at) leg.packet kept.list leg.way (kind leg.packet)
+kept_act rules address leg kept = act_by rules address (max leg.now kept.at) leg.packet kept.list leg.way
+    (kind leg.packet)
 
 abbrev pub kept_after : Rules → ℕ → Leg → Kept → Kept
-kept_after rules address leg kept = record { list = (kept_act rules address leg kept).list; at = time_after (kind leg.packet) kept.at (max leg.now kept.at) }
+kept_after rules address leg kept = record {
+  list = (kept_act rules address leg kept).list;
+  at =
+      time_after (kind leg.packet) kept.at (max leg.now kept.at);
+}
 
 abbrev pub kept_answer : Rules → ℕ → Leg → Kept → Answer
 kept_answer rules address leg kept = record { number = leg.number; end = (kept_act rules address leg kept).end }
 
 abbrev pub kept_replies : Rules → ℕ → List Leg → Kept → List Answer
 kept_replies rules address [] kept = []
-kept_replies rules address (leg ∷ legs) kept = kept_answer rules address leg kept ∷ kept_replies rules address legs (kept_after rules address leg kept)
+kept_replies rules address (leg ∷ legs) kept = kept_answer rules address leg kept ∷ kept_replies rules address legs
+    (kept_after rules address leg kept)
 
 abbrev pub kept_after_all : Rules → ℕ → List Leg → Kept → Kept
 kept_after_all rules address [] kept = kept

@@ -41,7 +41,9 @@ left_by leg state = with_kept state (kept_after state.rules state.table.address 
 
 -- a packet's step out at a time, and in
 abbrev pub out_at : TranslatorState → ℕ → Protocol → Flags → List ℕ → Out
-out_at state now protocol flags packet = step_out state.rules.timers state.rules.quota state.table.address now protocol (source packet) (destination packet) flags state.table.list
+out_at state now protocol flags packet = step_out state.rules.timers state.rules.quota state.table.address now protocol
+    (source packet) (destination packet) flags state.table.list
 
 abbrev pub in_at : TranslatorState → ℕ → Protocol → Flags → List ℕ → In
-in_at state now protocol flags packet = step_in state.rules.timers (inbound_of state.rules) state.table.address now protocol (destination packet).number (source packet) flags state.table.list
+in_at state now protocol flags packet = step_in state.rules.timers (inbound_of state.rules) state.table.address now
+    protocol (destination packet).number (source packet) flags state.table.list

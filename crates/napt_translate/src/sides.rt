@@ -16,7 +16,8 @@ use napt_wire::{Cause, Kind, Packet, Protocol, Side, Way, packets_keep_their_way
 #[tactic(auto, unfolding(crate::specs::Sides::route))]
 pub fn route(config: &Config, side: Side, packet: &Packet) -> Result<u32, Cause>
     ensures place { result ≡ sides.route config.now side packet.now }
-    ensures in_pool { IfOk result (λ place. slice_get config.now.pool place ≡ Some (sides.served_at config.now (sides.way_from side) packet.now)) }
+    ensures in_pool { IfOk result (λ place. slice_get config.now.pool place
+        ≡ Some (sides.served_at config.now (sides.way_from side) packet.now)) }
 {
     if let Some(cause) = refusal(config, side, packet) {
         return Err(cause);

@@ -93,7 +93,8 @@ impl Translator {
     ///
     /// Where memory is refused nothing is changed, and the leg is spent.
     pub fn translate(&mut self, alloc: Global, leg: Leg) -> Result<Answer, AllocError>
-        ensures answer { IfOk result (λ answer. answer ≡ legs.kept_answer self.old.rules self.old.table.address leg (translators.kept_of self.old.table)) }
+        ensures answer { IfOk result (λ answer. answer ≡ legs.kept_answer self.old.rules self.old.table.address
+            leg (translators.kept_of self.old.table)) }
         ensures left { OnOk result (self.new ≡ translators.left_by leg self.old) }
         ensures refused { OnErr result (self.new ≡ self.old) }
     {
@@ -126,7 +127,8 @@ impl Translator {
     /// The live bindings at a time, in ns, sorted by protocol and external number; a time before that of the last leg
     /// counts as that one.
     pub fn bindings(&self, alloc: Global, now: u64) -> Result<Vec<Row>, AllocError>
-        ensures { IfOk result (λ made. made.items ≡ rows self.now.rules.timers (max now self.now.table.at) self.now.table.list) }
+        ensures { IfOk result (λ made. made.items ≡ rows self.now.rules.timers
+            (max now self.now.table.at) self.now.table.list) }
     {
         self.table.bindings(alloc, now.max(self.table.at()))
     }
@@ -142,8 +144,15 @@ impl Translator {
     ) -> Result<End, AllocError>
         requires later { self.old.table.at ≤ now }
         requires carried { carried_by (kind packet) ≡ Some protocol }
-        ensures end { IfOk result (λ end. end ≡ (legs.acted_out self.old.rules self.old.table.address packet (translators.out_at self.old now protocol flags packet)).end) }
-        ensures left { OnOk result (self.new ≡ translators.with_kept self.old (record { list = (translators.out_at self.old now protocol flags packet).list; at = now })) }
+        ensures end { IfOk result (λ end.
+            end ≡ (legs.acted_out self.old.rules self.old.table.address packet
+            (translators.out_at self.old now protocol flags packet)).end) }
+        ensures left { OnOk result (self.new ≡ translators.with_kept self.old
+            (record {
+              list = (translators.out_at self.old now protocol flags packet).list;
+              at =
+                  now;
+            })) }
         ensures refused { OnErr result (self.new ≡ self.old) }
     {
         let source = packet.source();
@@ -167,8 +176,14 @@ impl Translator {
     fn deliver(&mut self, now: u64, protocol: Protocol, flags: Flags, mut packet: Packet) -> End
         requires later { self.old.table.at ≤ now }
         requires carried { carried_by (kind packet) ≡ Some protocol }
-        ensures end { result ≡ (legs.acted_in packet (translators.in_at self.old now protocol flags packet)).end }
-        ensures left { self.new ≡ translators.with_kept self.old (record { list = (translators.in_at self.old now protocol flags packet).list; at = now }) }
+        ensures end { result
+            ≡ (legs.acted_in packet (translators.in_at self.old now protocol flags packet)).end }
+        ensures left { self.new ≡ translators.with_kept self.old
+            (record {
+              list = (translators.in_at self.old now protocol flags packet).list;
+              at =
+                  now;
+            }) }
     {
         let number = packet.destination().number;
         let remote = packet.source();
@@ -186,7 +201,9 @@ impl Translator {
     fn revert_out(&self, now: u64, inner: Inner, mut packet: Packet) -> End
         requires later { self.now.table.at ≤ now }
         requires error { kind packet ≡ Kind.ErrorOf inner }
-        ensures { result ≡ legs.error_out self.now.rules packet (steps.by_inside self.now.rules.timers self.now.table.address now inner.protocol inner.destination self.now.table.list) }
+        ensures { result ≡ legs.error_out self.now.rules packet
+            (steps.by_inside self.now.rules.timers self.now.table.address now inner.protocol
+            inner.destination self.now.table.list) }
     {
         match self.table.by_inside(now, inner.protocol, inner.destination) {
             Some(number) => {
@@ -207,7 +224,9 @@ impl Translator {
     fn revert_in(&self, now: u64, inner: Inner, mut packet: Packet) -> End
         requires later { self.now.table.at ≤ now }
         requires error { kind packet ≡ Kind.ErrorOf inner }
-        ensures { result ≡ legs.error_in packet (steps.by_number self.now.rules.timers self.now.table.address now inner.protocol inner.source.number self.now.table.list) }
+        ensures { result ≡ legs.error_in packet
+            (steps.by_number self.now.rules.timers self.now.table.address now inner.protocol
+            inner.source.number self.now.table.list) }
     {
         match self
             .table

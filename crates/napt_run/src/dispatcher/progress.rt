@@ -139,7 +139,8 @@ pub(crate) fn all_known(
     all: Vec<Progress>,
     count: usize,
 ) -> Result<Option<Vec<Outcome>>, AllocError>
-    ensures known { IfOk result (λ found. IfSome found (λ outcomes. map outcome_in all.items ≡ map Some outcomes.items)) }
+    ensures known { IfOk result (λ found. IfSome found (λ outcomes. map outcome_in all.items
+        ≡ map Some outcomes.items)) }
     ensures many { IfOk result (λ found. IfSome found (λ outcomes. length all.items ≡ count)) }
 {
     if all.len() != count {

@@ -10,7 +10,8 @@ use std::collections::VecDeque;
 /// So many empty queues.
 pub(crate) fn empty<T: Drop>(alloc: Global, count: usize) -> Result<Vec<VecDeque<T>>, AllocError>
     ensures many { IfOk result (λ queues. length queues.items ≡ count) }
-    ensures none { IfOk result (λ queues. (w : ℕ) → of_worker (map (λ q. q.items) queues.items) w ≡ []) }
+    ensures none { IfOk result (λ queues. (w : ℕ) → of_worker (map (λ q. q.items) queues.items) w
+        ≡ []) }
 {
     let mut queues = Vec::with_capacity(alloc, count)?;
     for _ in 0..count {
@@ -26,7 +27,8 @@ pub(crate) fn push_back<T: Drop>(
     item: T,
 ) -> Result<(), AllocError>
     requires { w < length (map (λ q. q.items) queues.old.items) }
-    ensures { OnOk result (map (λ q. q.items) queues.new.items ≡ pushed w item (map (λ q. q.items) queues.old.items)) }
+    ensures { OnOk result (map (λ q. q.items) queues.new.items
+        ≡ pushed w item (map (λ q. q.items) queues.old.items)) }
 {
     let queue = &mut queues[w as usize];
     queue.push_back(item)?;
@@ -40,7 +42,8 @@ pub(crate) fn push_front<T: Drop>(
     item: T,
 ) -> Result<(), AllocError>
     requires { w < length (map (λ q. q.items) queues.old.items) }
-    ensures { OnOk result (map (λ q. q.items) queues.new.items ≡ put_first w item (map (λ q. q.items) queues.old.items)) }
+    ensures { OnOk result (map (λ q. q.items) queues.new.items
+        ≡ put_first w item (map (λ q. q.items) queues.old.items)) }
 {
     let queue = &mut queues[w as usize];
     queue.push_front(item)?;
@@ -50,7 +53,9 @@ pub(crate) fn push_front<T: Drop>(
 /// Takes the first item of the queue of worker `w`, where there is one.
 pub(crate) fn pop_front<T>(queues: &mut Vec<VecDeque<T>>, w: u32) -> Option<T>
     requires { w < length (map (λ q. q.items) queues.old.items) }
-    ensures { MatchOption result (map (λ q. q.items) queues.new.items ≡ map (λ q. q.items) queues.old.items) (λ item. Popped w item (map (λ q. q.items) queues.old.items) (map (λ q. q.items) queues.new.items)) }
+    ensures { MatchOption result (map (λ q. q.items) queues.new.items
+        ≡ map (λ q. q.items) queues.old.items) (λ item.
+        Popped w item (map (λ q. q.items) queues.old.items) (map (λ q. q.items) queues.new.items)) }
 {
     let queue = &mut queues[w as usize];
     queue.pop_front()

@@ -5,4 +5,5 @@ use Rattle.napt_config.proofs.KnownKeys.{texts}
 use Rattle.napt_config.proofs.keys.only_keys_in_each.Given as goal
 
 abbrev pub invariant-loop-entry : goal.invariant-loop-entry
-invariant-loop-entry l = only_keys_in_each (texts l.names) (items_view (drop l.entry-index l.entries)) ≡ only_keys_in_each (texts l.names) (items_view l.entries)
+invariant-loop-entry l = only_keys_in_each (texts l.names) (items_view (drop l.entry-index l.entries))
+    ≡ only_keys_in_each (texts l.names) (items_view l.entries)

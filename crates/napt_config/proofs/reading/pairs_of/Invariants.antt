@@ -4,4 +4,5 @@ use Rattle.napt_config.specs.Configured.{each_in_order, with_pair}
 use Rattle.napt_config.proofs.reading.pairs_of.Given as goal
 
 abbrev pub invariant-loop-entry : goal.invariant-loop-entry
-invariant-loop-entry l = each_in_order (with_pair l.pool l.inside) l.pairs.entries (items_view (drop l.entry-index l.entries)) ≡ each_in_order (with_pair l.pool l.inside) [] (items_view l.entries)
+invariant-loop-entry l = each_in_order (with_pair l.pool l.inside) l.pairs.entries
+    (items_view (drop l.entry-index l.entries)) ≡ each_in_order (with_pair l.pool l.inside) [] (items_view l.entries)

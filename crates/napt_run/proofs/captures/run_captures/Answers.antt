@@ -41,7 +41,8 @@ returns-in_err-outside-in-Some-clause-report g c =
 
 pub returns-in_err-outside-in-Some-clause-outside_readings : goal.returns-in_err-outside-in-Some-clause-outside_readings
 returns-in_err-outside-in-Some-clause-outside_readings g c =
-    let p = err_from_is_err_and c.from_residual-in_err-outside-in-Some.result c.from_residual-in_err-outside-in-Some.ensures.1 in
+    let p = err_from_is_err_and c.from_residual-in_err-outside-in-Some.result
+    c.from_residual-in_err-outside-in-Some.ensures.1 in
     rw (p.1, p.2, c.in-Some.is) c.in_err-outside-in-Some.ensures.count
 
 pub returns-in_err-outside-in-Some-clause-inside_writings : goal.returns-in_err-outside-in-Some-clause-inside_writings
@@ -66,10 +67,12 @@ returns-in_err-outputs-clause-fault g c =
     let captures : Captures = record { inside = c.in_ok-inside.inside; outside = c.match-outside.outside2 } in
     let second : IsReadAsOutside (bytes_in g.Q.Source.remaining c.args.outside) captures.outside =
     elim c.match-outside.branch [
-      | in-Some+in_ok-outside-in-Some w ↦ rw (w.in-Some.is, w.outside2-is) (outside_read _ _ w.in_ok-outside-in-Some.ensures.ok)
+      | in-Some+in_ok-outside-in-Some w ↦ rw (w.in-Some.is, w.outside2-is)
+          (outside_read _ _ w.in_ok-outside-in-Some.ensures.ok)
       | in-None w ↦ rw (w.in-None.is, w.outside2-is) w.no_capture-outside.ensures
     ] in
-    rw (p.1, p.2) (refused (g.R.Source.remaining c.args.inside.now) (bytes_in g.Q.Source.remaining c.args.outside) captures _ c.in_ok-inside.ensures.ok second (λ is. c.in_err-outputs.ensures.too_many.0 (ap Err is)))
+    rw (p.1, p.2) (refused (g.R.Source.remaining c.args.inside.now) (bytes_in g.Q.Source.remaining c.args.outside)
+    captures _ c.in_ok-inside.ensures.ok second (λ is. c.in_err-outputs.ensures.too_many.0 (ap Err is)))
 
 pub returns-in_err-outputs-clause-outside_readings : goal.returns-in_err-outputs-clause-outside_readings
 returns-in_err-outputs-clause-outside_readings g c =
@@ -88,15 +91,20 @@ returns-in_err-outputs-clause-report_writings g c =
 
 pub returns-in_err-write_records-clause-to_outside : goal.returns-in_err-write_records-clause-to_outside
 returns-in_err-write_records-clause-to_outside g c =
-    let p = err_from_is_err_and c.from_residual-in_err-write_records.result c.from_residual-in_err-write_records.ensures.1 in
+    let p = err_from_is_err_and c.from_residual-in_err-write_records.result
+    c.from_residual-in_err-write_records.ensures.1 in
     let captures : Captures = record { inside = c.in_ok-inside.inside; outside = c.match-outside.outside2 } in
     let second : IsReadAsOutside (bytes_in g.Q.Source.remaining c.args.outside) captures.outside =
     elim c.match-outside.branch [
-      | in-Some+in_ok-outside-in-Some w ↦ rw (w.in-Some.is, w.outside2-is) (outside_read _ _ w.in_ok-outside-in-Some.ensures.ok)
+      | in-Some+in_ok-outside-in-Some w ↦ rw (w.in-Some.is, w.outside2-is)
+          (outside_read _ _ w.in_ok-outside-in-Some.ensures.ok)
       | in-None w ↦ rw (w.in-None.is, w.outside2-is) w.no_capture-outside.ensures
     ] in
-    rw (p.1, p.2) (received Outside (share_of Outside (Err c.in_err-write_records.field-0.0)) c.args.config.now (g.R.Source.remaining c.args.inside.now) (bytes_in g.Q.Source.remaining c.args.outside) captures _
-    (text c.deref.result.now) (g.W.Sink.contents c.args.to_outside.now) (g.W.Sink.contents c.write_records.new.output) c.in_ok-inside.ensures.ok second c.in_ok-outputs.ensures.ok (ap text c.deref.ensures.value) c.in_err-write_records.ensures.bytes)
+    rw (p.1, p.2) (received Outside (share_of Outside (Err c.in_err-write_records.field-0.0)) c.args.config.now
+    (g.R.Source.remaining c.args.inside.now) (bytes_in g.Q.Source.remaining c.args.outside) captures _
+    (text c.deref.result.now) (g.W.Sink.contents c.args.to_outside.now) (g.W.Sink.contents c.write_records.new.output)
+    c.in_ok-inside.ensures.ok second c.in_ok-outputs.ensures.ok (ap text c.deref.ensures.value)
+    c.in_err-write_records.ensures.bytes)
 
 pub returns-in_err-write_records-clause-to_inside : goal.returns-in_err-write_records-clause-to_inside
 returns-in_err-write_records-clause-to_inside g c =
@@ -123,27 +131,40 @@ returns-in_err-write_records-clause-report_writings g c =
 
 pub returns-in_err-write_records-2-clause-to_outside : goal.returns-in_err-write_records-2-clause-to_outside
 returns-in_err-write_records-2-clause-to_outside g c =
-    let p = err_from_is_err_and c.from_residual-in_err-write_records-2.result c.from_residual-in_err-write_records-2.ensures.1 in
+    let p = err_from_is_err_and c.from_residual-in_err-write_records-2.result
+    c.from_residual-in_err-write_records-2.ensures.1 in
     let captures : Captures = record { inside = c.in_ok-inside.inside; outside = c.match-outside.outside2 } in
     let second : IsReadAsOutside (bytes_in g.Q.Source.remaining c.args.outside) captures.outside =
     elim c.match-outside.branch [
-      | in-Some+in_ok-outside-in-Some w ↦ rw (w.in-Some.is, w.outside2-is) (outside_read _ _ w.in_ok-outside-in-Some.ensures.ok)
+      | in-Some+in_ok-outside-in-Some w ↦ rw (w.in-Some.is, w.outside2-is)
+          (outside_read _ _ w.in_ok-outside-in-Some.ensures.ok)
       | in-None w ↦ rw (w.in-None.is, w.outside2-is) w.no_capture-outside.ensures
     ] in
-    rw (p.1, p.2, before_inside c.in_err-write_records-2.field-0.0 c.in_err-write_records-2.ensures.fault) (received Outside whole c.args.config.now (g.R.Source.remaining c.args.inside.now) (bytes_in g.Q.Source.remaining c.args.outside) captures _
-    (text c.deref.result.now) (g.W.Sink.contents c.args.to_outside.now) (g.W.Sink.contents c.write_records.new.output) c.in_ok-inside.ensures.ok second c.in_ok-outputs.ensures.ok (ap text c.deref.ensures.value) c.in_ok-write_records.ensures.bytes)
+    rw (p.1, p.2, before_inside c.in_err-write_records-2.field-0.0 c.in_err-write_records-2.ensures.fault)
+    (received Outside whole c.args.config.now (g.R.Source.remaining c.args.inside.now)
+    (bytes_in g.Q.Source.remaining c.args.outside) captures _
+    (text c.deref.result.now) (g.W.Sink.contents c.args.to_outside.now) (g.W.Sink.contents c.write_records.new.output)
+    c.in_ok-inside.ensures.ok second c.in_ok-outputs.ensures.ok (ap text c.deref.ensures.value)
+    c.in_ok-write_records.ensures.bytes)
 
 pub returns-in_err-write_records-2-clause-to_inside : goal.returns-in_err-write_records-2-clause-to_inside
 returns-in_err-write_records-2-clause-to_inside g c =
-    let p = err_from_is_err_and c.from_residual-in_err-write_records-2.result c.from_residual-in_err-write_records-2.ensures.1 in
+    let p = err_from_is_err_and c.from_residual-in_err-write_records-2.result
+    c.from_residual-in_err-write_records-2.ensures.1 in
     let captures : Captures = record { inside = c.in_ok-inside.inside; outside = c.match-outside.outside2 } in
     let second : IsReadAsOutside (bytes_in g.Q.Source.remaining c.args.outside) captures.outside =
     elim c.match-outside.branch [
-      | in-Some+in_ok-outside-in-Some w ↦ rw (w.in-Some.is, w.outside2-is) (outside_read _ _ w.in_ok-outside-in-Some.ensures.ok)
+      | in-Some+in_ok-outside-in-Some w ↦ rw (w.in-Some.is, w.outside2-is)
+          (outside_read _ _ w.in_ok-outside-in-Some.ensures.ok)
       | in-None w ↦ rw (w.in-None.is, w.outside2-is) w.no_capture-outside.ensures
     ] in
-    rw (p.1, p.2, c.in-Some-to_inside.is) (received Inside (share_of Inside (Err c.in_err-write_records-2.field-0.0)) c.args.config.now (g.R.Source.remaining c.args.inside.now) (bytes_in g.Q.Source.remaining c.args.outside) captures _
-    (text c.deref-in-Some-to_inside.result.now) (g.V.Sink.contents c.in-Some-to_inside.to_inside.now) (g.V.Sink.contents c.write_records-in-Some-to_inside.new.output) c.in_ok-inside.ensures.ok second c.in_ok-outputs.ensures.ok (ap text c.deref-in-Some-to_inside.ensures.value) c.in_err-write_records-2.ensures.bytes)
+    rw (p.1, p.2, c.in-Some-to_inside.is) (received Inside (share_of Inside (Err c.in_err-write_records-2.field-0.0))
+    c.args.config.now (g.R.Source.remaining c.args.inside.now) (bytes_in g.Q.Source.remaining c.args.outside)
+    captures _
+    (text c.deref-in-Some-to_inside.result.now) (g.V.Sink.contents c.in-Some-to_inside.to_inside.now)
+    (g.V.Sink.contents c.write_records-in-Some-to_inside.new.output) c.in_ok-inside.ensures.ok second
+    c.in_ok-outputs.ensures.ok (ap text c.deref-in-Some-to_inside.ensures.value)
+    c.in_err-write_records-2.ensures.bytes)
 
 pub returns-in_err-write_records-2-clause-report : goal.returns-in_err-write_records-2-clause-report
 returns-in_err-write_records-2-clause-report g c =
@@ -158,7 +179,8 @@ returns-in_err-write_records-2-clause-outside_readings g c =
 
 pub returns-in_err-write_records-2-clause-inside_writings : goal.returns-in_err-write_records-2-clause-inside_writings
 returns-in_err-write_records-2-clause-inside_writings g c =
-    let p = err_from_is_err_and c.from_residual-in_err-write_records-2.result c.from_residual-in_err-write_records-2.ensures.1 in
+    let p = err_from_is_err_and c.from_residual-in_err-write_records-2.result
+    c.from_residual-in_err-write_records-2.ensures.1 in
     rw (p.1, p.2, c.in-Some-to_inside.is) c.in_err-write_records-2.ensures.count
 
 pub returns-in_err-write_records-2-clause-report_writings : goal.returns-in_err-write_records-2-clause-report_writings
@@ -167,42 +189,66 @@ returns-in_err-write_records-2-clause-report_writings g c =
 
 pub returns-in_err-write_report-clause-to_outside : goal.returns-in_err-write_report-clause-to_outside
 returns-in_err-write_report-clause-to_outside g c =
-    let p = err_from_is_err_and c.from_residual-in_err-write_report.result c.from_residual-in_err-write_report.ensures.1 in
+    let p = err_from_is_err_and c.from_residual-in_err-write_report.result
+    c.from_residual-in_err-write_report.ensures.1 in
     let captures : Captures = record { inside = c.in_ok-inside.inside; outside = c.match-outside.outside2 } in
     let second : IsReadAsOutside (bytes_in g.Q.Source.remaining c.args.outside) captures.outside =
     elim c.match-outside.branch [
-      | in-Some+in_ok-outside-in-Some w ↦ rw (w.in-Some.is, w.outside2-is) (outside_read _ _ w.in_ok-outside-in-Some.ensures.ok)
+      | in-Some+in_ok-outside-in-Some w ↦ rw (w.in-Some.is, w.outside2-is)
+          (outside_read _ _ w.in_ok-outside-in-Some.ensures.ok)
       | in-None w ↦ rw (w.in-None.is, w.outside2-is) w.no_capture-outside.ensures
     ] in
-    rw (p.1, p.2, (before_report c.in_err-write_report.field-0.0 c.in_err-write_report.ensures.fault).0) (received Outside whole c.args.config.now (g.R.Source.remaining c.args.inside.now) (bytes_in g.Q.Source.remaining c.args.outside) captures _
-    (text c.deref.result.now) (g.W.Sink.contents c.args.to_outside.now) (g.W.Sink.contents c.write_records.new.output) c.in_ok-inside.ensures.ok second c.in_ok-outputs.ensures.ok (ap text c.deref.ensures.value) c.in_ok-write_records.ensures.bytes)
+    rw (p.1, p.2, (before_report c.in_err-write_report.field-0.0 c.in_err-write_report.ensures.fault).0)
+    (received Outside whole c.args.config.now (g.R.Source.remaining c.args.inside.now)
+    (bytes_in g.Q.Source.remaining c.args.outside) captures _
+    (text c.deref.result.now) (g.W.Sink.contents c.args.to_outside.now) (g.W.Sink.contents c.write_records.new.output)
+    c.in_ok-inside.ensures.ok second c.in_ok-outputs.ensures.ok (ap text c.deref.ensures.value)
+    c.in_ok-write_records.ensures.bytes)
 
 pub returns-in_err-write_report-clause-to_inside : goal.returns-in_err-write_report-clause-to_inside
 returns-in_err-write_report-clause-to_inside g c =
-    let p = err_from_is_err_and c.from_residual-in_err-write_report.result c.from_residual-in_err-write_report.ensures.1 in
+    let p = err_from_is_err_and c.from_residual-in_err-write_report.result
+    c.from_residual-in_err-write_report.ensures.1 in
     let captures : Captures = record { inside = c.in_ok-inside.inside; outside = c.match-outside.outside2 } in
     let second : IsReadAsOutside (bytes_in g.Q.Source.remaining c.args.outside) captures.outside =
     elim c.match-outside.branch [
-      | in-Some+in_ok-outside-in-Some w ↦ rw (w.in-Some.is, w.outside2-is) (outside_read _ _ w.in_ok-outside-in-Some.ensures.ok)
+      | in-Some+in_ok-outside-in-Some w ↦ rw (w.in-Some.is, w.outside2-is)
+          (outside_read _ _ w.in_ok-outside-in-Some.ensures.ok)
       | in-None w ↦ rw (w.in-None.is, w.outside2-is) w.no_capture-outside.ensures
     ] in
     elim c.match-to_inside.branch [
-      | in-Some-to_inside+in_ok-write_records-2 w ↦ rw (p.1, p.2, (before_report c.in_err-write_report.field-0.0 c.in_err-write_report.ensures.fault).1, w.to_inside-is, w.in-Some-to_inside.is) (received Inside whole c.args.config.now (g.R.Source.remaining c.args.inside.now) (bytes_in g.Q.Source.remaining c.args.outside) captures _
-          (text w.deref-in-Some-to_inside.result.now) (g.V.Sink.contents w.in-Some-to_inside.to_inside.now) (g.V.Sink.contents w.write_records-in-Some-to_inside.new.output) c.in_ok-inside.ensures.ok second c.in_ok-outputs.ensures.ok (ap text w.deref-in-Some-to_inside.ensures.value) w.in_ok-write_records-2.ensures.bytes)
+      | in-Some-to_inside+in_ok-write_records-2 w ↦ rw (
+        p.1,
+        p.2,
+        (before_report c.in_err-write_report.field-0.0 c.in_err-write_report.ensures.fault).1,
+        w.to_inside-is,
+        w.in-Some-to_inside.is,
+      ) (received Inside whole c.args.config.now
+          (g.R.Source.remaining c.args.inside.now) (bytes_in g.Q.Source.remaining c.args.outside) captures _
+          (text w.deref-in-Some-to_inside.result.now) (g.V.Sink.contents w.in-Some-to_inside.to_inside.now)
+          (g.V.Sink.contents w.write_records-in-Some-to_inside.new.output) c.in_ok-inside.ensures.ok second
+          c.in_ok-outputs.ensures.ok (ap text w.deref-in-Some-to_inside.ensures.value)
+          w.in_ok-write_records-2.ensures.bytes)
       | in_default w ↦ rw (w.to_inside-is, w.in_default.is) tt
     ]
 
 pub returns-in_err-write_report-clause-report : goal.returns-in_err-write_report-clause-report
 returns-in_err-write_report-clause-report g c =
-    let p = err_from_is_err_and c.from_residual-in_err-write_report.result c.from_residual-in_err-write_report.ensures.1 in
+    let p = err_from_is_err_and c.from_residual-in_err-write_report.result
+    c.from_residual-in_err-write_report.ensures.1 in
     let captures : Captures = record { inside = c.in_ok-inside.inside; outside = c.match-outside.outside2 } in
     let second : IsReadAsOutside (bytes_in g.Q.Source.remaining c.args.outside) captures.outside =
     elim c.match-outside.branch [
-      | in-Some+in_ok-outside-in-Some w ↦ rw (w.in-Some.is, w.outside2-is) (outside_read _ _ w.in_ok-outside-in-Some.ensures.ok)
+      | in-Some+in_ok-outside-in-Some w ↦ rw (w.in-Some.is, w.outside2-is)
+          (outside_read _ _ w.in_ok-outside-in-Some.ensures.ok)
       | in-None w ↦ rw (w.in-None.is, w.outside2-is) w.no_capture-outside.ensures
     ] in
-    rw (p.1, p.2, c.in-Some-report.is) (received Report (share_of Report (Err c.in_err-write_report.field-0.0)) c.args.config.now (g.R.Source.remaining c.args.inside.now) (bytes_in g.Q.Source.remaining c.args.outside) captures _
-    c.deref-in-Some-report.result.now (g.U.Sink.contents c.in-Some-report.report.now) (g.U.Sink.contents c.write_report.new.output) c.in_ok-inside.ensures.ok second c.in_ok-outputs.ensures.ok c.deref-in-Some-report.ensures c.in_err-write_report.ensures.bytes)
+    rw (p.1, p.2, c.in-Some-report.is) (received Report (share_of Report (Err c.in_err-write_report.field-0.0))
+    c.args.config.now (g.R.Source.remaining c.args.inside.now) (bytes_in g.Q.Source.remaining c.args.outside)
+    captures _
+    c.deref-in-Some-report.result.now (g.U.Sink.contents c.in-Some-report.report.now)
+    (g.U.Sink.contents c.write_report.new.output) c.in_ok-inside.ensures.ok second c.in_ok-outputs.ensures.ok
+    c.deref-in-Some-report.ensures c.in_err-write_report.ensures.bytes)
 
 pub returns-in_err-write_report-clause-outside_readings : goal.returns-in_err-write_report-clause-outside_readings
 returns-in_err-write_report-clause-outside_readings g c =
@@ -220,7 +266,8 @@ returns-in_err-write_report-clause-inside_writings g c =
 
 pub returns-in_err-write_report-clause-report_writings : goal.returns-in_err-write_report-clause-report_writings
 returns-in_err-write_report-clause-report_writings g c =
-    let p = err_from_is_err_and c.from_residual-in_err-write_report.result c.from_residual-in_err-write_report.ensures.1 in
+    let p = err_from_is_err_and c.from_residual-in_err-write_report.result
+    c.from_residual-in_err-write_report.ensures.1 in
     rw (p.1, p.2, c.in-Some-report.is) c.in_err-write_report.ensures.count
 
 pub returns-clause-to_outside : goal.returns-clause-to_outside
@@ -228,23 +275,33 @@ returns-clause-to_outside g c =
     let captures : Captures = record { inside = c.in_ok-inside.inside; outside = c.match-outside.outside2 } in
     let second : IsReadAsOutside (bytes_in g.Q.Source.remaining c.args.outside) captures.outside =
     elim c.match-outside.branch [
-      | in-Some+in_ok-outside-in-Some w ↦ rw (w.in-Some.is, w.outside2-is) (outside_read _ _ w.in_ok-outside-in-Some.ensures.ok)
+      | in-Some+in_ok-outside-in-Some w ↦ rw (w.in-Some.is, w.outside2-is)
+          (outside_read _ _ w.in_ok-outside-in-Some.ensures.ok)
       | in-None w ↦ rw (w.in-None.is, w.outside2-is) w.no_capture-outside.ensures
     ] in
-    received Outside whole c.args.config.now (g.R.Source.remaining c.args.inside.now) (bytes_in g.Q.Source.remaining c.args.outside) captures _
-    (text c.deref.result.now) (g.W.Sink.contents c.args.to_outside.now) (g.W.Sink.contents c.write_records.new.output) c.in_ok-inside.ensures.ok second c.in_ok-outputs.ensures.ok (ap text c.deref.ensures.value) c.in_ok-write_records.ensures.bytes
+    received Outside whole c.args.config.now (g.R.Source.remaining c.args.inside.now)
+    (bytes_in g.Q.Source.remaining c.args.outside) captures _
+    (text c.deref.result.now) (g.W.Sink.contents c.args.to_outside.now) (g.W.Sink.contents c.write_records.new.output)
+    c.in_ok-inside.ensures.ok second c.in_ok-outputs.ensures.ok (ap text c.deref.ensures.value)
+    c.in_ok-write_records.ensures.bytes
 
 pub returns-clause-to_inside : goal.returns-clause-to_inside
 returns-clause-to_inside g c =
     let captures : Captures = record { inside = c.in_ok-inside.inside; outside = c.match-outside.outside2 } in
     let second : IsReadAsOutside (bytes_in g.Q.Source.remaining c.args.outside) captures.outside =
     elim c.match-outside.branch [
-      | in-Some+in_ok-outside-in-Some w ↦ rw (w.in-Some.is, w.outside2-is) (outside_read _ _ w.in_ok-outside-in-Some.ensures.ok)
+      | in-Some+in_ok-outside-in-Some w ↦ rw (w.in-Some.is, w.outside2-is)
+          (outside_read _ _ w.in_ok-outside-in-Some.ensures.ok)
       | in-None w ↦ rw (w.in-None.is, w.outside2-is) w.no_capture-outside.ensures
     ] in
     elim c.match-to_inside.branch [
-      | in-Some-to_inside+in_ok-write_records-2 w ↦ rw (w.to_inside-is, w.in-Some-to_inside.is) (received Inside whole c.args.config.now (g.R.Source.remaining c.args.inside.now) (bytes_in g.Q.Source.remaining c.args.outside) captures _
-          (text w.deref-in-Some-to_inside.result.now) (g.V.Sink.contents w.in-Some-to_inside.to_inside.now) (g.V.Sink.contents w.write_records-in-Some-to_inside.new.output) c.in_ok-inside.ensures.ok second c.in_ok-outputs.ensures.ok (ap text w.deref-in-Some-to_inside.ensures.value) w.in_ok-write_records-2.ensures.bytes)
+      | in-Some-to_inside+in_ok-write_records-2 w ↦ rw (w.to_inside-is, w.in-Some-to_inside.is)
+          (received Inside whole c.args.config.now (g.R.Source.remaining c.args.inside.now)
+          (bytes_in g.Q.Source.remaining c.args.outside) captures _
+          (text w.deref-in-Some-to_inside.result.now) (g.V.Sink.contents w.in-Some-to_inside.to_inside.now)
+          (g.V.Sink.contents w.write_records-in-Some-to_inside.new.output) c.in_ok-inside.ensures.ok second
+          c.in_ok-outputs.ensures.ok (ap text w.deref-in-Some-to_inside.ensures.value)
+          w.in_ok-write_records-2.ensures.bytes)
       | in_default w ↦ rw (w.to_inside-is, w.in_default.is) tt
     ]
 
@@ -253,12 +310,17 @@ returns-clause-report g c =
     let captures : Captures = record { inside = c.in_ok-inside.inside; outside = c.match-outside.outside2 } in
     let second : IsReadAsOutside (bytes_in g.Q.Source.remaining c.args.outside) captures.outside =
     elim c.match-outside.branch [
-      | in-Some+in_ok-outside-in-Some w ↦ rw (w.in-Some.is, w.outside2-is) (outside_read _ _ w.in_ok-outside-in-Some.ensures.ok)
+      | in-Some+in_ok-outside-in-Some w ↦ rw (w.in-Some.is, w.outside2-is)
+          (outside_read _ _ w.in_ok-outside-in-Some.ensures.ok)
       | in-None w ↦ rw (w.in-None.is, w.outside2-is) w.no_capture-outside.ensures
     ] in
     elim c.match-report.branch [
-      | in-Some-report+in_ok-write_report w ↦ rw (w.report-is, w.in-Some-report.is) (received Report whole c.args.config.now (g.R.Source.remaining c.args.inside.now) (bytes_in g.Q.Source.remaining c.args.outside) captures _
-          w.deref-in-Some-report.result.now (g.U.Sink.contents w.in-Some-report.report.now) (g.U.Sink.contents w.write_report.new.output) c.in_ok-inside.ensures.ok second c.in_ok-outputs.ensures.ok w.deref-in-Some-report.ensures w.in_ok-write_report.ensures.bytes)
+      | in-Some-report+in_ok-write_report w ↦ rw (w.report-is, w.in-Some-report.is)
+          (received Report whole c.args.config.now (g.R.Source.remaining c.args.inside.now)
+          (bytes_in g.Q.Source.remaining c.args.outside) captures _
+          w.deref-in-Some-report.result.now (g.U.Sink.contents w.in-Some-report.report.now)
+          (g.U.Sink.contents w.write_report.new.output) c.in_ok-inside.ensures.ok second c.in_ok-outputs.ensures.ok
+          w.deref-in-Some-report.ensures w.in_ok-write_report.ensures.bytes)
       | in_default-report w ↦ rw (w.report-is, w.in_default-report.is) tt
     ]
 
@@ -303,46 +365,61 @@ returns-in_err-outputs-clause-too_many g c =
     let captures : Captures = record { inside = c.in_ok-inside.inside; outside = c.match-outside.outside2 } in
     let second : IsReadAsOutside (bytes_in g.Q.Source.remaining c.args.outside) captures.outside =
     elim c.match-outside.branch [
-      | in-Some+in_ok-outside-in-Some w ↦ rw (w.in-Some.is, w.outside2-is) (outside_read _ _ w.in_ok-outside-in-Some.ensures.ok)
+      | in-Some+in_ok-outside-in-Some w ↦ rw (w.in-Some.is, w.outside2-is)
+          (outside_read _ _ w.in_ok-outside-in-Some.ensures.ok)
       | in-None w ↦ rw (w.in-None.is, w.outside2-is) w.no_capture-outside.ensures
     ] in
-    rw (p.1, p.2) (too_many_told c.one_answer.ensures.unique (g.R.Source.remaining c.args.inside.now) (bytes_in g.Q.Source.remaining c.args.outside) captures (Err (Run c.in_err-outputs.field-0.0)) c.in_ok-inside.ensures.ok second
+    rw (p.1, p.2) (too_many_told c.one_answer.ensures.unique (g.R.Source.remaining c.args.inside.now)
+    (bytes_in g.Q.Source.remaining c.args.outside) captures (Err (Run c.in_err-outputs.field-0.0))
+    c.in_ok-inside.ensures.ok second
     (λ many. fault_told _ (err_is _ _ (c.in_err-outputs.ensures.too_many.1 many))))
 
 pub returns-in_err-write_records-clause-too_many : goal.returns-in_err-write_records-clause-too_many
 returns-in_err-write_records-clause-too_many g c =
-    let p = err_from_is_err_and c.from_residual-in_err-write_records.result c.from_residual-in_err-write_records.ensures.1 in
+    let p = err_from_is_err_and c.from_residual-in_err-write_records.result
+    c.from_residual-in_err-write_records.ensures.1 in
     let captures : Captures = record { inside = c.in_ok-inside.inside; outside = c.match-outside.outside2 } in
     let second : IsReadAsOutside (bytes_in g.Q.Source.remaining c.args.outside) captures.outside =
     elim c.match-outside.branch [
-      | in-Some+in_ok-outside-in-Some w ↦ rw (w.in-Some.is, w.outside2-is) (outside_read _ _ w.in_ok-outside-in-Some.ensures.ok)
+      | in-Some+in_ok-outside-in-Some w ↦ rw (w.in-Some.is, w.outside2-is)
+          (outside_read _ _ w.in_ok-outside-in-Some.ensures.ok)
       | in-None w ↦ rw (w.in-None.is, w.outside2-is) w.no_capture-outside.ensures
     ] in
-    rw (p.1, p.2) (too_many_told c.one_answer.ensures.unique (g.R.Source.remaining c.args.inside.now) (bytes_in g.Q.Source.remaining c.args.outside) captures (Err c.in_err-write_records.field-0.0) c.in_ok-inside.ensures.ok second
+    rw (p.1, p.2) (too_many_told c.one_answer.ensures.unique (g.R.Source.remaining c.args.inside.now)
+    (bytes_in g.Q.Source.remaining c.args.outside) captures (Err c.in_err-write_records.field-0.0)
+    c.in_ok-inside.ensures.ok second
     (λ many. absurd (not_too_many c.in_ok-outputs.outputs (c.in_ok-outputs.ensures.too_many.1 many))))
 
 pub returns-in_err-write_records-2-clause-too_many : goal.returns-in_err-write_records-2-clause-too_many
 returns-in_err-write_records-2-clause-too_many g c =
-    let p = err_from_is_err_and c.from_residual-in_err-write_records-2.result c.from_residual-in_err-write_records-2.ensures.1 in
+    let p = err_from_is_err_and c.from_residual-in_err-write_records-2.result
+    c.from_residual-in_err-write_records-2.ensures.1 in
     let captures : Captures = record { inside = c.in_ok-inside.inside; outside = c.match-outside.outside2 } in
     let second : IsReadAsOutside (bytes_in g.Q.Source.remaining c.args.outside) captures.outside =
     elim c.match-outside.branch [
-      | in-Some+in_ok-outside-in-Some w ↦ rw (w.in-Some.is, w.outside2-is) (outside_read _ _ w.in_ok-outside-in-Some.ensures.ok)
+      | in-Some+in_ok-outside-in-Some w ↦ rw (w.in-Some.is, w.outside2-is)
+          (outside_read _ _ w.in_ok-outside-in-Some.ensures.ok)
       | in-None w ↦ rw (w.in-None.is, w.outside2-is) w.no_capture-outside.ensures
     ] in
-    rw (p.1, p.2) (too_many_told c.one_answer.ensures.unique (g.R.Source.remaining c.args.inside.now) (bytes_in g.Q.Source.remaining c.args.outside) captures (Err c.in_err-write_records-2.field-0.0) c.in_ok-inside.ensures.ok second
+    rw (p.1, p.2) (too_many_told c.one_answer.ensures.unique (g.R.Source.remaining c.args.inside.now)
+    (bytes_in g.Q.Source.remaining c.args.outside) captures (Err c.in_err-write_records-2.field-0.0)
+    c.in_ok-inside.ensures.ok second
     (λ many. absurd (not_too_many c.in_ok-outputs.outputs (c.in_ok-outputs.ensures.too_many.1 many))))
 
 pub returns-in_err-write_report-clause-too_many : goal.returns-in_err-write_report-clause-too_many
 returns-in_err-write_report-clause-too_many g c =
-    let p = err_from_is_err_and c.from_residual-in_err-write_report.result c.from_residual-in_err-write_report.ensures.1 in
+    let p = err_from_is_err_and c.from_residual-in_err-write_report.result
+    c.from_residual-in_err-write_report.ensures.1 in
     let captures : Captures = record { inside = c.in_ok-inside.inside; outside = c.match-outside.outside2 } in
     let second : IsReadAsOutside (bytes_in g.Q.Source.remaining c.args.outside) captures.outside =
     elim c.match-outside.branch [
-      | in-Some+in_ok-outside-in-Some w ↦ rw (w.in-Some.is, w.outside2-is) (outside_read _ _ w.in_ok-outside-in-Some.ensures.ok)
+      | in-Some+in_ok-outside-in-Some w ↦ rw (w.in-Some.is, w.outside2-is)
+          (outside_read _ _ w.in_ok-outside-in-Some.ensures.ok)
       | in-None w ↦ rw (w.in-None.is, w.outside2-is) w.no_capture-outside.ensures
     ] in
-    rw (p.1, p.2) (too_many_told c.one_answer.ensures.unique (g.R.Source.remaining c.args.inside.now) (bytes_in g.Q.Source.remaining c.args.outside) captures (Err c.in_err-write_report.field-0.0) c.in_ok-inside.ensures.ok second
+    rw (p.1, p.2) (too_many_told c.one_answer.ensures.unique (g.R.Source.remaining c.args.inside.now)
+    (bytes_in g.Q.Source.remaining c.args.outside) captures (Err c.in_err-write_report.field-0.0)
+    c.in_ok-inside.ensures.ok second
     (λ many. absurd (not_too_many c.in_ok-outputs.outputs (c.in_ok-outputs.ensures.too_many.1 many))))
 
 pub returns-clause-too_many : goal.returns-clause-too_many
@@ -350,8 +427,10 @@ returns-clause-too_many g c =
     let captures : Captures = record { inside = c.in_ok-inside.inside; outside = c.match-outside.outside2 } in
     let second : IsReadAsOutside (bytes_in g.Q.Source.remaining c.args.outside) captures.outside =
     elim c.match-outside.branch [
-      | in-Some+in_ok-outside-in-Some w ↦ rw (w.in-Some.is, w.outside2-is) (outside_read _ _ w.in_ok-outside-in-Some.ensures.ok)
+      | in-Some+in_ok-outside-in-Some w ↦ rw (w.in-Some.is, w.outside2-is)
+          (outside_read _ _ w.in_ok-outside-in-Some.ensures.ok)
       | in-None w ↦ rw (w.in-None.is, w.outside2-is) w.no_capture-outside.ensures
     ] in
-    too_many_told c.one_answer.ensures.unique (g.R.Source.remaining c.args.inside.now) (bytes_in g.Q.Source.remaining c.args.outside) captures (Ok tt) c.in_ok-inside.ensures.ok second
+    too_many_told c.one_answer.ensures.unique (g.R.Source.remaining c.args.inside.now)
+    (bytes_in g.Q.Source.remaining c.args.outside) captures (Ok tt) c.in_ok-inside.ensures.ok second
     (λ many. absurd (not_too_many c.in_ok-outputs.outputs (c.in_ok-outputs.ensures.too_many.1 many)))

@@ -16,13 +16,19 @@ returns-in-Ok-Some-clause-settled g c =
     let inputs : List Arrival = c.args.inputs.items in
     let pool : List ℕ = config.pool in
     let later : Ledger = ledger_of c.finish.new.pool c.finish.new.self in
-    let sized : IsSized (length pool) (parts_of c.in-Ok.dispatcher) = subst (λ (n : ℕ). IsSized n (parts_of c.in-Ok.dispatcher)) (ap length c.pool-count.ensures.addresses) c.in-Ok.ensures.sized in
-    let counts : c.in-Ok.dispatcher.offered.items ≡ replicate (length pool) 0 = c.in-Ok.ensures.counts ∙ ap (λ (p : List ℕ). replicate (length p) 0) c.pool-count.ensures.addresses in
+    let sized : IsSized (length pool) (parts_of c.in-Ok.dispatcher) =
+    subst (λ (n : ℕ). IsSized n (parts_of c.in-Ok.dispatcher)) (ap length c.pool-count.ensures.addresses)
+    c.in-Ok.ensures.sized in
+    let counts : c.in-Ok.dispatcher.offered.items ≡ replicate (length pool) 0 = c.in-Ok.ensures.counts
+    ∙ ap (λ (p : List ℕ). replicate (length p) 0) c.pool-count.ensures.addresses in
     let begun : Stands config [] inputs (ledger_of c.args.pool.now c.in-Ok.dispatcher) =
-    begin_stands config inputs (ledger_of c.args.pool.now c.in-Ok.dispatcher) c.len-many.result sized c.requires.unoffered c.requires.untaken counts c.in-Ok.ensures.idle c.in-Ok.ensures.progress in
-    let stands : Stands config inputs inputs later = c.in_ok-finish.ensures.keeps config inputs inputs (c.in_ok-serve_all.ensures.served begun) in
+    begin_stands config inputs (ledger_of c.args.pool.now c.in-Ok.dispatcher) c.len-many.result sized
+    c.requires.unoffered c.requires.untaken counts c.in-Ok.ensures.idle c.in-Ok.ensures.progress in
+    let stands : Stands config inputs inputs later = c.in_ok-finish.ensures.keeps config inputs inputs
+    (c.in_ok-serve_all.ensures.served begun) in
     same_lengths (takes c.finish.new.pool) (accepts c.finish.new.pool) (stands.taken_many ∙ sym stands.offered_many)
-    (λ v lt. all_taken config inputs inputs later stands c.in_ok-finish.ensures.done v (subst (λ (n : ℕ). v < n) stands.offered_many lt))
+    (λ v lt. all_taken config inputs inputs later stands c.in_ok-finish.ensures.done v
+    (subst (λ (n : ℕ). v < n) stands.offered_many lt))
 
 pub returns-in-Ok-Some-clause-run : goal.returns-in-Ok-Some-clause-run
 returns-in-Ok-Some-clause-run g c = λ right.
@@ -30,17 +36,27 @@ returns-in-Ok-Some-clause-run g c = λ right.
     let inputs : List Arrival = c.args.inputs.items in
     let pool : List ℕ = config.pool in
     let later : Ledger = ledger_of c.finish.new.pool c.finish.new.self in
-    let sized : IsSized (length pool) (parts_of c.in-Ok.dispatcher) = subst (λ (n : ℕ). IsSized n (parts_of c.in-Ok.dispatcher)) (ap length c.pool-count.ensures.addresses) c.in-Ok.ensures.sized in
-    let counts : c.in-Ok.dispatcher.offered.items ≡ replicate (length pool) 0 = c.in-Ok.ensures.counts ∙ ap (λ (p : List ℕ). replicate (length p) 0) c.pool-count.ensures.addresses in
+    let sized : IsSized (length pool) (parts_of c.in-Ok.dispatcher) =
+    subst (λ (n : ℕ). IsSized n (parts_of c.in-Ok.dispatcher)) (ap length c.pool-count.ensures.addresses)
+    c.in-Ok.ensures.sized in
+    let counts : c.in-Ok.dispatcher.offered.items ≡ replicate (length pool) 0 = c.in-Ok.ensures.counts
+    ∙ ap (λ (p : List ℕ). replicate (length p) 0) c.pool-count.ensures.addresses in
     let begun : Stands config [] inputs (ledger_of c.args.pool.now c.in-Ok.dispatcher) =
-    begin_stands config inputs (ledger_of c.args.pool.now c.in-Ok.dispatcher) c.len-many.result sized c.requires.unoffered c.requires.untaken counts c.in-Ok.ensures.idle c.in-Ok.ensures.progress in
-    let stands : Stands config inputs inputs later = c.in_ok-finish.ensures.keeps config inputs inputs (c.in_ok-serve_all.ensures.served begun) in
-    let began : starts c.finish.new.pool ≡ started config (length pool) = c.in_ok-finish.ensures.starts ∙ (c.in_ok-serve_all.ensures.starts ∙ c.requires.started) in
-    let known : map outcome_in c.finish.new.self.progress.items ≡ map (λ (o : Outcome). let x : Option Outcome = Some o in x) c.in-Ok-Some.outcomes.items = rw c.in-Ok-Some.field-0-is at c.in-Ok-Some.ensures.known in
-    let long_as : length c.finish.new.self.progress.items ≡ c.len-many.result = rw c.in-Ok-Some.field-0-is at c.in-Ok-Some.ensures.many in
+    begin_stands config inputs (ledger_of c.args.pool.now c.in-Ok.dispatcher) c.len-many.result sized
+    c.requires.unoffered c.requires.untaken counts c.in-Ok.ensures.idle c.in-Ok.ensures.progress in
+    let stands : Stands config inputs inputs later = c.in_ok-finish.ensures.keeps config inputs inputs
+    (c.in_ok-serve_all.ensures.served begun) in
+    let began : starts c.finish.new.pool ≡ started config (length pool) = c.in_ok-finish.ensures.starts
+    ∙ (c.in_ok-serve_all.ensures.starts ∙ c.requires.started) in
+    let known : map outcome_in c.finish.new.self.progress.items ≡ map (λ (o : Outcome). let x : Option Outcome =
+    Some o in x) c.in-Ok-Some.outcomes.items = rw c.in-Ok-Some.field-0-is at c.in-Ok-Some.ensures.known in
+    let long_as : length c.finish.new.self.progress.items ≡ c.len-many.result =
+    rw c.in-Ok-Some.field-0-is at c.in-Ok-Some.ensures.many in
     let own = c.args.inputs.ok.0 in
     let counted = c.len-many.ensures in
     let long : length c.finish.new.self.progress.items ≡ length inputs = omega (arith, long_as, own, counted) in
     let answers_right : Right config (accepts c.finish.new.pool) (takes c.finish.new.pool) =
-    right_since ghosts (λ s leg. refl) (λ s leg. refl) config (starts c.finish.new.pool) (accepts c.finish.new.pool) (takes c.finish.new.pool) began stands.offered_many right in
-    dispatched config inputs later c.in-Ok-Some.outcomes.items stands c.in_ok-finish.ensures.done known long answers_right
+    right_since ghosts (λ s leg. refl) (λ s leg. refl) config (starts c.finish.new.pool) (accepts c.finish.new.pool)
+    (takes c.finish.new.pool) began stands.offered_many right in
+    dispatched config inputs later c.in-Ok-Some.outcomes.items stands c.in_ok-finish.ensures.done known long
+    answers_right

@@ -18,5 +18,6 @@ returns-in-Ok-clause-refused c =
     let packet : List ℕ = c.in-Ok.packet in
     let reads : reading c.args.side c.args.bytes.items ≡ Ok packet = c.in-Ok.ensures.ok in
     let against : refusal c.args.config.now c.args.side packet ≡ Some c.in-Err-route.cause =
-    route_err c.args.config.now c.requires.keeps c.args.side packet c.in-Err-route.cause (sym c.route.ensures.place ∙ c.in-Err-route.is) in
+    route_err c.args.config.now c.requires.keeps c.args.side packet c.in-Err-route.cause (sym c.route.ensures.place
+    ∙ c.in-Err-route.is) in
     ap (admission_as c.args.config.now c.args.side) reads ∙ ap (judged_by packet) against

@@ -11,4 +11,5 @@ pub returns-clause-told : goal.returns-clause-told
 returns-clause-told c = lemmas.answers_tell
 
 pub returns-clause-foretold : goal.returns-clause-foretold
-returns-clause-foretold c = lemmas.foretold c.packets_keep_their_way.ensures.packets c.packets_keep_their_way.ensures.errors
+returns-clause-foretold c =
+    lemmas.foretold c.packets_keep_their_way.ensures.packets c.packets_keep_their_way.ensures.errors

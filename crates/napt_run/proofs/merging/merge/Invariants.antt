@@ -7,7 +7,8 @@ use Rattle.napt_run.proofs.merging.merge.Given as goal
 abbrev pub invariant-loop-side : goal.invariant-loop-side
 invariant-loop-side l = record {
   merging : Merging l.fn.inside.items l.fn.outside.items l.inputs.items l.inside.items l.outside.items l.clock;
-  timely : All IsWritable l.fn.inside.items → All IsWritable l.fn.outside.items → All IsTimely l.inputs.items × (All IsWritable l.inside.items × All IsWritable l.outside.items);
+  timely : All IsWritable l.fn.inside.items → All IsWritable l.fn.outside.items → All IsTimely l.inputs.items
+      × (All IsWritable l.inside.items × All IsWritable l.outside.items);
 }
 
 abbrev pub decreases-loop-side : goal.decreases-loop-side

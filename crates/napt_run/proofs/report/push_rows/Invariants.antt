@@ -4,4 +4,5 @@ use Rattle.napt_run.proofs.report.push_rows.Given as goal
 
 -- the lines of the rows so far are there
 abbrev pub invariant-loop-row : goal.invariant-loop-row
-invariant-loop-row l = string_bytes l.report ≡ string_bytes l.fn.report ++ flat_map model.row_line (take l.row-index l.rows)
+invariant-loop-row l = string_bytes l.report ≡ string_bytes l.fn.report ++ flat_map model.row_line
+    (take l.row-index l.rows)

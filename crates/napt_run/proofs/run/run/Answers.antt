@@ -16,7 +16,8 @@ returns-clause-run c =
     let own = c.in_ok-seats.seats.ok.0 in
     let long : length left ≡ c.in_ok-seats.seats.len = omega arith in
     let whole : (with_items c.in_ok-seats.seats left).items ≡ left = with_items_is c.in_ok-seats.seats left long in
-    run_shown c.args.config.now c.args.inputs.now c.in_ok-outcomes.outcomes.items c.in_ok-outcomes.last left c.in_ok-bindings.bindings.items c.in_ok-legs.legs.items
+    run_shown c.args.config.now c.args.inputs.now c.in_ok-outcomes.outcomes.items c.in_ok-outcomes.last left
+    c.in_ok-bindings.bindings.items c.in_ok-legs.legs.items
     c.in_ok-outcomes.ensures.outcomes c.in_ok-outcomes.ensures.last c.in_ok-outcomes.ensures.seats
     (c.in_ok-bindings.ensures ∙ ap (flat_map (rows_at c.in_ok-outcomes.last)) (c.deref.ensures.value ∙ whole))
     (c.in_ok-legs.ensures ∙ ap (map (λ (s : Seat). s.legs)) (c.deref-2.ensures.value ∙ whole))

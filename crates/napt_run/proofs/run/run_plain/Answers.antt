@@ -7,7 +7,8 @@ use Rattle.napt_run.proofs.Rows.{rows_apart}
 use Rattle.napt_run.proofs.run.run_plain.Goals as goal
 
 pub returns-in-Ok-clause-one_each : goal.returns-in-Ok-clause-one_each
-returns-in-Ok-clause-one_each c = ap (λ (r : Ran). length r.outcomes) c.in-Ok.ensures.run ∙ ran_long c.args.config.now c.args.inputs.now
+returns-in-Ok-clause-one_each c = ap (λ (r : Ran). length r.outcomes) c.in-Ok.ensures.run
+    ∙ ran_long c.args.config.now c.args.inputs.now
 
 pub returns-in-Ok-clause-apart : goal.returns-in-Ok-clause-apart
 returns-in-Ok-clause-apart c =

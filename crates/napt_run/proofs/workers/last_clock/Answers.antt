@@ -19,4 +19,5 @@ loop-input-preserved c =
     clock_taken inputs n c.loop-input-test.true input c.max-clock.result now
 
 pub returns : goal.returns
-returns c = sym c.loop-input.invariant ∙ ap (last_clock 0) (take_all c.loop-input.input-index c.args.inputs.now (omega arith))
+returns c = sym c.loop-input.invariant ∙ ap (last_clock 0) (take_all c.loop-input.input-index c.args.inputs.now
+    (omega arith))

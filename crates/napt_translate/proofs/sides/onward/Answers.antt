@@ -8,6 +8,9 @@ use Rattle.napt_translate.proofs.sides.onward.Goals as goal
 
 pub returns-clause-foresees : goal.returns-clause-foresees
 returns-clause-foresees c =
-    let place : c.pool_index.result ≡ place_of c.args.config.now (destination c.args.packet.now).address = c.pool_index.ensures.place ∙ ap (λ (e : Endpoint). place_of c.args.config.now e.address) c.destination.ensures in
+    let place : c.pool_index.result ≡ place_of c.args.config.now (destination c.args.packet.now).address =
+    c.pool_index.ensures.place ∙ ap (λ (e : Endpoint). place_of c.args.config.now e.address)
+    c.destination.ensures in
     subst (Foresees c.args.config.now c.args.packet.now) (sym place)
-    (foresees c.packets_keep_their_way.ensures.packets c.packets_keep_their_way.ensures.errors c.args.config.now c.args.packet.now c.bytes-bytes.ensures.reads)
+    (foresees c.packets_keep_their_way.ensures.packets c.packets_keep_their_way.ensures.errors c.args.config.now
+    c.args.packet.now c.bytes-bytes.ensures.reads)

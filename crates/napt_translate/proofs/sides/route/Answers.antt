@@ -10,9 +10,12 @@ use Rattle.napt_translate.proofs.sides.route.Goals as goal
 pub returns-clause-in_pool : goal.returns-clause-in_pool
 returns-clause-in_pool c =
     let pool : List ℕ = c.args.config.now.pool in
-    let address : c.served_at-address.result ≡ sides.served_at c.args.config.now (sides.way_from c.args.side) c.args.packet.now =
-    c.served_at-address.ensures ∙ ap (λ (way : Way). sides.served_at c.args.config.now way c.args.packet.now) c.way_from.ensures in
+    let address : c.served_at-address.result ≡ sides.served_at c.args.config.now
+    (sides.way_from c.args.side) c.args.packet.now =
+    c.served_at-address.ensures ∙ ap (λ (way : Way). sides.served_at c.args.config.now way c.args.packet.now)
+    c.way_from.ensures in
     let answer : c.ok_or.result ≡ ok_or (place_of c.args.config.now c.served_at-address.result) NotOurs =
     c.ok_or.ensures.value ∙ ap (λ (found : Option ℕ). ok_or found NotOurs) c.pool_index.ensures.place in
     subst (λ (a : ℕ). IfOk c.ok_or.result (λ place. slice_get pool place ≡ Some a)) address
-    (subst (λ (r : Result ℕ Cause). IfOk r (λ place. slice_get pool place ≡ Some c.served_at-address.result)) (sym answer) (place_has pool c.served_at-address.result NotOurs))
+    (subst (λ (r : Result ℕ Cause). IfOk r (λ place. slice_get pool place ≡ Some c.served_at-address.result))
+    (sym answer) (place_has pool c.served_at-address.result NotOurs))

@@ -6,7 +6,8 @@ pub returns-in-Some : goal.returns-in-Some
 returns-in-Some c = record {
   spelled = address_text-of c.args.text.now c.in-Some.bits (sym c.in-Some.ensures);
   only = λ x fine is.
-      let same : x.0 ≡ c.in-Some.bits = address_reads_back c.args.text.now c.in-Some.bits x.0 (sym c.in-Some.ensures) fine is in
+      let same : x.0 ≡ c.in-Some.bits = address_reads_back c.args.text.now c.in-Some.bits x.0
+      (sym c.in-Some.ensures) fine is in
       λ i. Ok (record { 0 = sym same i });
   refused = tt;
 }

@@ -9,4 +9,5 @@ use Rattle.napt_config.proofs.endpoint.EndpointFromStr.from_str.Goals as goal
 pub returns : goal.returns
 returns c =
     let gives = c.ok_or.ensures.value ∙ ap (λ o. ok_or o BadAddress) c.read.ensures in
-    subst (IsReadBack socket_text IsSocket BadAddress c.args.text.now) (sym gives) (sockets_read_back BadAddress c.args.text.now)
+    subst (IsReadBack socket_text IsSocket BadAddress c.args.text.now) (sym gives)
+    (sockets_read_back BadAddress c.args.text.now)

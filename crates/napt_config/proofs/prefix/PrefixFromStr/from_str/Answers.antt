@@ -9,4 +9,5 @@ use Rattle.napt_config.proofs.prefix.PrefixFromStr.from_str.Goals as goal
 pub returns : goal.returns
 returns c =
     let gives = c.ok_or.ensures.value ∙ ap (λ o. ok_or o BadPrefix) c.read.ensures in
-    subst (IsReadBack network_text IsNetwork BadPrefix c.args.text.now) (sym gives) (networks_read_back BadPrefix c.args.text.now)
+    subst (IsReadBack network_text IsNetwork BadPrefix c.args.text.now) (sym gives)
+    (networks_read_back BadPrefix c.args.text.now)

@@ -8,5 +8,7 @@ pub returns-in-Known-clause-first : goal.returns-in-Known-clause-first
 returns-in-Known-clause-first c = λ offered taken.
     let ledger : Ledger = record { offered = offered; taken = taken; parts = parts_of c.args.self.now } in
     let left : Dispatcher = record c.args.self.now { held = c.pop_front.new.queues } in
-    let popped : Popped c.args.w (Place c.in-Some-Place.number) (parts_of c.args.self.now).held (parts_of left).held = rw c.in-Some-Place.field-0-is at c.in-Some-Place.ensures in
-    next_keeps_as c.args.w c.in-Some-Place.number ledger (parts_of left).held c.requires.place popped c.in-Known.leg c.second_leg.new.all.items c.in-Known.ensures
+    let popped : Popped c.args.w (Place c.in-Some-Place.number) (parts_of c.args.self.now).held (parts_of left).held =
+    rw c.in-Some-Place.field-0-is at c.in-Some-Place.ensures in
+    next_keeps_as c.args.w c.in-Some-Place.number ledger (parts_of left).held c.requires.place popped c.in-Known.leg
+    c.second_leg.new.all.items c.in-Known.ensures

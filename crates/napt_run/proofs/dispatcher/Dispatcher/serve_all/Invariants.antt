@@ -11,5 +11,6 @@ invariant-loop-number g l = record {
   left : l.inputs.items ≡ drop l.number l.fn.inputs.items;
   many : l.many ≡ length l.fn.inputs.items;
   clock : last_clock 0 (take l.number l.fn.inputs.items) ≡ l.clock;
-  served : Stands l.config [] l.fn.inputs.items (ledger_of l.initial.pool l.initial.self) → Stands l.config (take l.number l.fn.inputs.items) l.fn.inputs.items (ledger_of l.pool l.self);
+  served : Stands l.config [] l.fn.inputs.items (ledger_of l.initial.pool l.initial.self) →
+      Stands l.config (take l.number l.fn.inputs.items) l.fn.inputs.items (ledger_of l.pool l.self);
 }

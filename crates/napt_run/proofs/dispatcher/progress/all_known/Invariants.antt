@@ -5,4 +5,5 @@ use Rattle.napt_run.specs.Standing.{outcome_in}
 use Rattle.napt_run.proofs.dispatcher.progress.all_known.Given as goal
 
 abbrev pub invariant-loop-progress : goal.invariant-loop-progress
-invariant-loop-progress l = map Some (vec_items l.outcomes) ++ map outcome_in (into_iter_items l.progress-iterator) ≡ map outcome_in (into_iter_items l.initial.progress-iterator)
+invariant-loop-progress l = map Some (vec_items l.outcomes) ++ map outcome_in (into_iter_items l.progress-iterator)
+    ≡ map outcome_in (into_iter_items l.initial.progress-iterator)

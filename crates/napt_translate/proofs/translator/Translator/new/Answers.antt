@@ -10,7 +10,8 @@ invariant_of-result c =
     record {
       place = c.requires.place;
       rules = c.pool.ensures.kept;
-      address = ap (λ (t : TableState). t.address) shown ∙ ap (λ (p : List ℕ). slice_index p c.args.index) c.pool.ensures.addresses;
+      address = ap (λ (t : TableState). t.address) shown
+          ∙ ap (λ (p : List ℕ). slice_index p c.args.index) c.pool.ensures.addresses;
       timers = ap (λ (t : TableState). t.timers) shown;
       quota = ap (λ (t : TableState). t.quota) shown;
       inbound = ap (λ (t : TableState). t.inbound) shown;
