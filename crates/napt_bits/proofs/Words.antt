@@ -60,11 +60,12 @@ module _ (word from : ℕ) (within : from < 64) where
     found = bit_at-trailing_ones w64 (filled word from) some
 
     pub first_from : from ≤ k
-    first_from = elim (Rattle.std.proofs.Common.ltb k from) as (λ v. Rattle.std.proofs.Common.ltb k from ≡ v → from ≤ k) [
-      | true ↦ λ e. let lt : k < from = grind (arith, nat_tests) in let a = filled_below k lt in let b = found.1 in
-          absurd (omega arith)
-      | false ↦ λ e. grind (arith, nat_tests)
-    ] refl
+    first_from = elim (Rattle.std.proofs.Common.ltb k from) as (λ v. Rattle.std.proofs.Common.ltb k from ≡ v →
+        from ≤ k) [
+          | true ↦ λ e. let lt : k < from = grind (arith, nat_tests) in let a = filled_below k lt in let b = found.1 in
+              absurd (omega arith)
+          | false ↦ λ e. grind (arith, nat_tests)
+        ] refl
 
     pub first_is : (from ≤ k) × (k < 64) × (has_bit word k ≡ false) × ((j : ℕ) → from ≤ j → j < k → has_bit word j
         ≡ true)

@@ -337,7 +337,8 @@ fn pairs_at(
     pool: &[u32],
     inside: &[Prefix],
 ) -> Result<BTreeMap<u32, u32>, ConfigFault>
-    ensures { Gives (λ pairs. pairs.entries) result (pairs_at pool.now inside.now (view value.now)) }
+    ensures { Gives (λ pairs. pairs.entries) result (pairs_at pool.now inside.now
+        (view value.now)) }
 {
     let entries = list_in(value)?;
     if entries.len() > MOST_PAIRS {

@@ -19,7 +19,8 @@ pub(crate) fn pop_answer<A: Drop, G: Gate>(
     ensures ring { SameConsumer answers.old answers.new }
     ensures some { IfOk result (λ got. MatchOption got (taken answers.new ≡ taken answers.old) (λ a.
         taken answers.new ≡ taken answers.old ++ a ∷ [])) }
-    ensures heard { IfOk result (λ got. MatchOption got (received answers.new ≡ received answers.old) (λ a.
+    ensures heard { IfOk result (λ got. MatchOption got (received answers.new
+        ≡ received answers.old) (λ a.
         received answers.new ≡ received answers.old ++ Done a ∷ [])) }
     ensures stopped { IfErr result (λ stop. received answers.new ≡ received answers.old
         ++ Stopped stop ∷ []) }

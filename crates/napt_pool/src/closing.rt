@@ -96,7 +96,8 @@ impl<M: Machine, G: Gate> Left<M, G> {
         requires empty { rest.items ≡ [] }
         ensures end { MatchResult result (λ _. self.end ≡ Ok tt) (λ stop. self.end ≡ Err stop) }
         ensures machine { IfOk result (λ e. e.machine ≡ self.bench.machine) }
-        ensures answers { IfOk result (λ e. e.answers.items ≡ answers_of (known_items answers.old)) }
+        ensures answers { IfOk result (λ e. e.answers.items
+            ≡ answers_of (known_items answers.old)) }
     {
         let Left { bench, end } = self;
         end?;

@@ -93,7 +93,8 @@ impl<M: Machine, G: Gate> Bench<M, G> {
         ensures stepped { OnOk result (self.new.machine ≡ M.stepped self.old.machine item) }
         ensures answered { OnOk result (sent self.new.answers ≡ sent self.old.answers
             ++ Done (M.reply self.old.machine item) ∷ []) }
-        ensures told { IfErr result (λ stop. Told stop (sent self.old.answers) (sent self.new.answers)) }
+        ensures told { IfErr result (λ stop. Told stop (sent self.old.answers)
+            (sent self.new.answers)) }
         ensures gate { G.is_open ≡ true → IfErr result (λ stop. is_gate_shut stop ≡ false) }
     {
         if !is_let_in(gate, worker, turn) {

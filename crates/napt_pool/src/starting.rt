@@ -31,7 +31,8 @@ where
     requires capacity { (1 ≤ capacity) × (capacity ≤ 4096) }
     requires count { vec_len machines ≤ 16 }
     ensures machines { IfOk result (λ v. map machine_of v.items ≡ machines.items) }
-    ensures accepted { IfOk result (λ v. map accepted_of v.items ≡ replicate (vec_len machines) []) }
+    ensures accepted { IfOk result (λ v. map accepted_of v.items
+        ≡ replicate (vec_len machines) []) }
     ensures taken { IfOk result (λ v. map taken_of v.items ≡ replicate (vec_len machines) []) }
     ensures heard { IfOk result (λ v. map heard_of v.items ≡ replicate (vec_len machines) []) }
     ensures capacity { IfOk result (λ v. (k : ℕ) (d : _) → k < vec_len v →

@@ -58,7 +58,8 @@ module _ (rules : Rules) (address now : ℕ) (own list : List Binding) (same : p
       let e : in_purged (inbound_of rules) address now protocol number remote flags (purge rules.timers now own)
       ≡ record {
         inside =
-            (in_purged (inbound_of rules) address now protocol number remote flags (purge rules.timers now list)).inside;
+            (in_purged (inbound_of rules) address now protocol number remote flags
+            (purge rules.timers now list)).inside;
         list = of address (in_purged (inbound_of rules) address now protocol number remote flags
             (purge rules.timers now list)).list;
       }

@@ -728,7 +728,8 @@ module _ (rules : Rules) (distinct : Distinct rules.pool) (done rest : List Arri
         let f : Held → List Leg = resolved acts_all in
         let one : List Leg = cond (v == w) (leg_of ∷ []) [] in
         let two : List Leg = cond (v == to) (second_legs number acts_all) [] in
-        let to_held : to < length held_first = subst (λ (n : ℕ). to < n) (sym (long_first ∙ s.sized.held)) to_within in (
+        let to_held : to < length held_first =
+        subst (λ (n : ℕ). to < n) (sym (long_first ∙ s.sized.held)) to_within in (
           one ++ two,
           push_reads f held_first to (Place number) to_held v
               ∙ (ap (λ (ls : List Leg). ls ++ two) (push_reads f ledger.parts.held w (Ready leg_of) (held_within s) v)

@@ -226,7 +226,8 @@ impl Dispatcher {
         requires sized { IsSized (length (starts pool.old)) (parts_of self.old) }
         ensures starts { starts pool.new ≡ starts pool.old }
         ensures sized { OnOk result (IsSized (length (starts pool.new)) (parts_of self.new)) }
-        ensures keeps { OnOk result (Keeps (ledger_of pool.old self.old) (ledger_of pool.new self.new)) }
+        ensures keeps { OnOk result (Keeps (ledger_of pool.old self.old)
+            (ledger_of pool.new self.new)) }
         ensures fault { IfErr result (IsFaultUnder G.is_open) }
     {
         let Ok(first) = self.first(w) else {
@@ -253,7 +254,8 @@ impl Dispatcher {
         requires sized { IsSized (length (starts pool.old)) (parts_of self.old) }
         ensures starts { starts pool.new ≡ starts pool.old }
         ensures sized { OnOk result (IsSized (length (starts pool.new)) (parts_of self.new)) }
-        ensures keeps { OnOk result (Keeps (ledger_of pool.old self.old) (ledger_of pool.new self.new)) }
+        ensures keeps { OnOk result (Keeps (ledger_of pool.old self.old)
+            (ledger_of pool.new self.new)) }
         ensures fault { IfErr result (IsFaultUnder G.is_open) }
     {
         let many = len_at(&self.held, w);
@@ -276,7 +278,8 @@ impl Dispatcher {
         requires sized { IsSized (length (starts pool.old)) (parts_of self.old) }
         ensures starts { starts pool.new ≡ starts pool.old }
         ensures sized { OnOk result (IsSized (length (starts pool.new)) (parts_of self.new)) }
-        ensures keeps { OnOk result (Keeps (ledger_of pool.old self.old) (ledger_of pool.new self.new)) }
+        ensures keeps { OnOk result (Keeps (ledger_of pool.old self.old)
+            (ledger_of pool.new self.new)) }
         ensures fault { IfErr result (IsFaultUnder G.is_open) }
     {
         for w in 0..count {
@@ -300,7 +303,8 @@ impl Dispatcher {
         requires sized { IsSized (length (starts pool.old)) (parts_of self.old) }
         ensures starts { starts pool.new ≡ starts pool.old }
         ensures sized { OnOk result (IsSized (length (starts pool.new)) (parts_of self.new)) }
-        ensures keeps { OnOk result (Keeps (ledger_of pool.old self.old) (ledger_of pool.new self.new)) }
+        ensures keeps { OnOk result (Keeps (ledger_of pool.old self.old)
+            (ledger_of pool.new self.new)) }
         ensures fault { IfErr result (IsFaultUnder G.is_open) }
     {
         match pool.take(rt, alloc, w) {
@@ -327,7 +331,8 @@ impl Dispatcher {
         requires sized { IsSized (length (starts pool.old)) (parts_of self.old) }
         ensures starts { starts pool.new ≡ starts pool.old }
         ensures sized { OnOk result (IsSized (length (starts pool.new)) (parts_of self.new)) }
-        ensures keeps { OnOk result (Keeps (ledger_of pool.old self.old) (ledger_of pool.new self.new)) }
+        ensures keeps { OnOk result (Keeps (ledger_of pool.old self.old)
+            (ledger_of pool.new self.new)) }
         ensures fault { IfErr result (IsFaultUnder G.is_open) }
     {
         let many = len_at(&self.owed, w);
@@ -353,7 +358,8 @@ impl Dispatcher {
         requires sized { IsSized (length (starts pool.old)) (parts_of self.old) }
         ensures starts { starts pool.new ≡ starts pool.old }
         ensures sized { OnOk result (IsSized (length (starts pool.new)) (parts_of self.new)) }
-        ensures keeps { OnOk result (Keeps (ledger_of pool.old self.old) (ledger_of pool.new self.new)) }
+        ensures keeps { OnOk result (Keeps (ledger_of pool.old self.old)
+            (ledger_of pool.new self.new)) }
         ensures fault { IfErr result (IsFaultUnder G.is_open) }
     {
         let mut any = false;
@@ -376,7 +382,8 @@ impl Dispatcher {
         requires sized { IsSized (length (starts pool.old)) (parts_of self.old) }
         ensures starts { starts pool.new ≡ starts pool.old }
         ensures sized { OnOk result (IsSized (length (starts pool.new)) (parts_of self.new)) }
-        ensures keeps { OnOk result (Keeps (ledger_of pool.old self.old) (ledger_of pool.new self.new)) }
+        ensures keeps { OnOk result (Keeps (ledger_of pool.old self.old)
+            (ledger_of pool.new self.new)) }
         ensures fault { IfErr result (IsFaultUnder G.is_open) }
     {
         if are_empty(&self.owed) {
@@ -404,7 +411,8 @@ impl Dispatcher {
         requires sized { IsSized (length (starts pool.old)) (parts_of self.old) }
         ensures starts { starts pool.new ≡ starts pool.old }
         ensures sized { OnOk result (IsSized (length (starts pool.new)) (parts_of self.new)) }
-        ensures keeps { OnOk result (Keeps (ledger_of pool.old self.old) (ledger_of pool.new self.new)) }
+        ensures keeps { OnOk result (Keeps (ledger_of pool.old self.old)
+            (ledger_of pool.new self.new)) }
         ensures fault { IfErr result (IsFaultUnder G.is_open) }
     {
         self.take_some(rt, alloc, pool, count)?;
@@ -424,7 +432,8 @@ impl Dispatcher {
         requires sized { IsSized (length (starts pool.old)) (parts_of self.old) }
         ensures starts { starts pool.new ≡ starts pool.old }
         ensures sized { OnOk result (IsSized (length (starts pool.new)) (parts_of self.new)) }
-        ensures keeps { OnOk result (Keeps (ledger_of pool.old self.old) (ledger_of pool.new self.new)) }
+        ensures keeps { OnOk result (Keeps (ledger_of pool.old self.old)
+            (ledger_of pool.new self.new)) }
         ensures fault { IfErr result (IsFaultUnder G.is_open) }
     {
         for _ in rt.forever() {
@@ -448,7 +457,8 @@ impl Dispatcher {
         requires sized { IsSized (length (starts pool.old)) (parts_of self.old) }
         ensures starts { starts pool.new ≡ starts pool.old }
         ensures sized { OnOk result (IsSized (length (starts pool.new)) (parts_of self.new)) }
-        ensures keeps { OnOk result (Keeps (ledger_of pool.old self.old) (ledger_of pool.new self.new)) }
+        ensures keeps { OnOk result (Keeps (ledger_of pool.old self.old)
+            (ledger_of pool.new self.new)) }
         ensures done { OnOk result (IsDone (parts_of self.new)) }
         ensures fault { IfErr result (IsFaultUnder G.is_open) }
     {
@@ -475,7 +485,8 @@ impl Dispatcher {
         requires sized { IsSized (length (starts pool.old)) (parts_of self.old) }
         ensures starts { starts pool.new ≡ starts pool.old }
         ensures sized { OnOk result (IsSized (length (starts pool.new)) (parts_of self.new)) }
-        ensures keeps { OnOk result (Keeps (ledger_of pool.old self.old) (ledger_of pool.new self.new)) }
+        ensures keeps { OnOk result (Keeps (ledger_of pool.old self.old)
+            (ledger_of pool.new self.new)) }
         ensures fault { IfErr result (IsFaultUnder G.is_open) }
     {
         if self.take_there(rt, alloc, pool, w)? {
@@ -561,7 +572,8 @@ impl Dispatcher {
         requires sized { IsSized (length (starts pool.old)) (parts_of self.old) }
         ensures starts { starts pool.new ≡ starts pool.old }
         ensures sized { OnOk result (IsSized (length (starts pool.new)) (parts_of self.new)) }
-        ensures keeps { OnOk result (Keeps (ledger_of pool.old self.old) (ledger_of pool.new self.new)) }
+        ensures keeps { OnOk result (Keeps (ledger_of pool.old self.old)
+            (ledger_of pool.new self.new)) }
         ensures fault { IfErr result (IsFaultUnder G.is_open) }
     {
         match found {
@@ -584,7 +596,8 @@ impl Dispatcher {
         requires sized { IsSized (length (starts pool.old)) (parts_of self.old) }
         ensures starts { starts pool.new ≡ starts pool.old }
         ensures sized { OnOk result (IsSized (length (starts pool.new)) (parts_of self.new)) }
-        ensures served { OnOk result (Stands config.now [] inputs.items (ledger_of pool.old self.old) →
+        ensures served { OnOk result (Stands config.now [] inputs.items
+            (ledger_of pool.old self.old) →
             Stands config.now inputs.items inputs.items (ledger_of pool.new self.new)) }
         ensures fault { IfErr result (IsFaultUnder G.is_open) }
     {
@@ -625,7 +638,8 @@ fn second_place(config: &Config, side: Side, packet: &Packet) -> Option<u32>
 /// The packet that an input from a side is and the place in the pool where it is served, or why it is dropped.
 fn judge(config: &Config, side: Side, bytes: Vec<u8>) -> Result<(u32, Packet), Cause>
     requires keeps { KeepsRules config.now }
-    ensures admitted { IfOk result (λ first. (admission_as config.now side (reading side bytes.items)
+    ensures admitted { IfOk result (λ first.
+        (admission_as config.now side (reading side bytes.items)
         ≡ Ok first.1) × (slice_get config.now.pool first.0
         ≡ Some (served_at config.now (way_from side) first.1))) }
     ensures refused { IfErr result (λ cause. admission_as config.now side (reading side bytes.items)

@@ -161,7 +161,8 @@ fn push_drops(
 
 /// Adds the line of a binding.
 fn push_row(alloc: Global, report: &mut String, row: Row) -> Result<(), AllocError>
-    ensures { OnOk result (string_bytes report.new ≡ string_bytes report.old ++ model.row_line row) }
+    ensures { OnOk result (string_bytes report.new ≡ string_bytes report.old
+        ++ model.row_line row) }
 {
     let protocol = protocol_name(row.protocol);
     let inside = EndpointText(row.inside);

@@ -137,7 +137,8 @@ fn step(
 /// The translators of all external addresses before any leg, in the order of the pool.
 fn begin(alloc: Global, config: &Config) -> Result<Vec<Seat>, AllocError>
     ensures kept { KeepsRules config.now }
-    ensures seats { IfOk result (λ seats. standing.AreSeats config.now (standing.moment_of config.now [])
+    ensures seats { IfOk result (λ seats. standing.AreSeats config.now
+        (standing.moment_of config.now [])
         seats.items) }
 {
     let many = config.pool().len() as u32;
@@ -165,7 +166,8 @@ fn step_all(
     ensures outcomes { IfOk result (λ all. all.0.items
         ≡ (model.run config.now inputs.now (opening config.now)).outcomes) }
     ensures last { IfOk result (λ all. all.1 ≡ model.last_clock 0 inputs.now) }
-    ensures seats { OnOk result (standing.AreSeats config.now (standing.moment_of config.now inputs.now)
+    ensures seats { OnOk result (standing.AreSeats config.now
+        (standing.moment_of config.now inputs.now)
         seats.new) }
 {
     let mut outcomes = Vec::new(alloc);

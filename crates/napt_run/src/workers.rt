@@ -35,7 +35,8 @@ fn workers(alloc: Global, config: &Config) -> Result<Vec<Worker>, AllocError>
 
 /// The bindings that live at a time, in ns, address by address.
 fn bindings(alloc: Global, ended: &[Ended<Worker>], now: u64) -> Result<Vec<Row>, AllocError>
-    ensures { IfOk result (λ made. made.items ≡ flat_map (λ e. rows_after now e.machine) ended.now) }
+    ensures { IfOk result (λ made. made.items ≡ flat_map (λ e. rows_after now e.machine)
+        ended.now) }
 {
     let mut made = Vec::new(alloc);
     for worker in ended {

@@ -93,7 +93,8 @@ impl Translator {
     ///
     /// Where memory is refused nothing is changed, and the leg is spent.
     pub fn translate(&mut self, alloc: Global, leg: Leg) -> Result<Answer, AllocError>
-        ensures answer { IfOk result (λ answer. answer ≡ legs.kept_answer self.old.rules self.old.table.address
+        ensures answer { IfOk result (λ answer.
+            answer ≡ legs.kept_answer self.old.rules self.old.table.address
             leg (translators.kept_of self.old.table)) }
         ensures left { OnOk result (self.new ≡ translators.left_by leg self.old) }
         ensures refused { OnErr result (self.new ≡ self.old) }

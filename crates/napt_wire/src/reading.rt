@@ -29,7 +29,8 @@ pub(crate) struct Found {
 pub(crate) fn read_datagram(side: Side, bytes: &[u8]) -> Result<Found, Cause>
     ensures ok { IfOk result (λ found. reading side bytes.now ≡ Ok (take found.length bytes.now)) }
     ensures length { IfOk result (λ found. found.length ≡ total_length 0 bytes.now) }
-    ensures found { IfOk result (λ found. IsFound (take found.length bytes.now) found.start found.body) }
+    ensures found { IfOk result (λ found.
+        IsFound (take found.length bytes.now) found.start found.body) }
     ensures cause { IfErr result (λ cause. reading side bytes.now ≡ Err cause) }
 {
     let length = read_length(bytes)?;
