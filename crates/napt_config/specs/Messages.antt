@@ -6,8 +6,8 @@ use Rattle.napt_config.specs.declared.fault.ConfigFault.TheVariants as Fault
 abbrev pub fault_message : ConfigFault → List ℕ
 fault_message Fault.NotToml = codes "expected TOML in UTF-8"
 fault_message Fault.UnknownKey =
-    codes "unknown key: expected `pool`, `inside`, `filter`, `refresh`, `timers`, `ring`, `quota`, `pair` or `redirect`; "
-    ++ codes "in `timers` `udp`, `tcp-established`, `tcp-transitory` or `icmp`; in a `pair` `host` or "
+    codes "unknown key: expected `pool`, `inside`, `filter`, `refresh`, `timers`, `ring`, `quota`, `pair` or "
+    ++ codes "`redirect`; in `timers` `udp`, `tcp-established`, `tcp-transitory` or `icmp`; in a `pair` `host` or "
     ++ codes "`external`; in a `redirect` `protocol`, `inside` or `external`"
 fault_message Fault.Missing =
     codes "expected `pool` and `inside` with at least one entry each, `host` and `external` in each "
