@@ -9,15 +9,15 @@ use std::alloc::{AllocError, Global};
 
 /// How many bindings each inside host has, redirects left out. Nothing is counted where no quota stands.
 #[derive(Drop)]
-pub(crate) struct Hosts {
+pub(crate) struct HostCounts {
     counts: Option<Addresses>,
 }
 
-impl Hosts {
+impl HostCounts {
     ghost use Rattle.napt_table.specs.Counts.{are_counted, count_in, HasPlace};
 
     /// No host has one. It takes no memory.
-    pub(crate) fn new(alloc: Global, counted: bool) -> Hosts
+    pub(crate) fn new(alloc: Global, counted: bool) -> HostCounts
         ensures counted { are_counted result ≡ counted }
         ensures none { (host : ℕ) → count_in result host ≡ 0 }
     {
@@ -26,7 +26,7 @@ impl Hosts {
         } else {
             None
         };
-        Hosts { counts }
+        HostCounts { counts }
     }
 
     /// Makes room for one more host.
