@@ -163,6 +163,7 @@ place_then a b c p q = record {
   timers_is = q.timers_is ∙ p.timers_is;
   at_is = q.at_is ∙ p.at_is;
   protocol_same = q.protocol_same ∙ p.protocol_same;
+  counting_is = q.counting_is ∙ p.counting_is;
 }
 
 -- a redirect is not in it
