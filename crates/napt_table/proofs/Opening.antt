@@ -19,7 +19,8 @@ use Rattle.napt_table.specs.declared.parts.Parts.{Parts as AllParts}
 use Rattle.napt_table.specs.Bindings.{same_protocol, is_at, of, has_number, is_of_inside}
 use Rattle.napt_table.specs.Endpoints.{key, Apart}
 use Rattle.napt_table.specs.Held.{redirect_of, seen}
-use Rattle.napt_table.specs.Parts.{part_of, IsOf, AreOf, AllShow}
+use Rattle.napt_table.specs.Parts.{part_of, IsOf, AreOf, AreCounted, AllShow}
+use Rattle.std.specs.Option.{is_some}
 use Rattle.napt_table.specs.declared.event.Event.{Event}
 use Rattle.napt_table.specs.declared.event.Event.TheVariants.{Redirected}
 use Rattle.napt_table.specs.Events.{played_all}
