@@ -1,6 +1,6 @@
 -- A packet that goes out, on the parts of a table and on the list.
 use Rattle.std.proofs.Common.{◌≡◌, ◌≢◌, ℕ, ◌+◌, ◌≤◌, Bool, true, false, cond, List, map, Option, Some, None, Result, Ok, Err, refl, sym, ◌∙◌, ap, subst, arith}
-use Rattle.std.specs.Prelude.{find, ok_or}
+use Rattle.std.specs.Prelude.{find, ok_or, OnErr}
 use Rattle.std.specs.Option.{is_some}
 use Rattle.std.proofs.lemmas.Option.{same_Some}
 use Rattle.napt_wire.specs.declared.Protocol.{Protocol}
@@ -15,18 +15,19 @@ use Rattle.napt_table.specs.declared.part.Part.{Part}
 use Rattle.napt_table.specs.declared.parts.Parts.{Parts as AllParts}
 use Rattle.napt_table.specs.Bindings.{is_of_inside, has_number}
 use Rattle.napt_table.specs.Choice.{choice}
-use Rattle.napt_table.specs.Counts.{count_in}
+use Rattle.napt_table.specs.Counts.{are_counted, count_in}
 use Rattle.napt_table.specs.Endpoints.{key, Apart}
 use Rattle.napt_table.specs.Held.{seen, Shows}
 use Rattle.napt_table.specs.Hosts.{count_held}
 use Rattle.napt_table.specs.Life.{is_live, with_live_flows}
-use Rattle.napt_table.specs.Part.{held, number_at, IsPurged}
+use Rattle.napt_table.specs.Part.{held, number_at, IsPart, AreDue, IsSamePlace, IsPurged}
 use Rattle.napt_table.specs.Parts.{part_of, IsOf, AreOf, AreCounted, AllShow}
 use Rattle.napt_table.specs.Quota.{count_for, reaches, granted}
 use Rattle.napt_table.specs.Steps.{Out, out_made, out_found, out_purged}
 use Rattle.napt_table.proofs.Hosts.{count_is_held}
-use Rattle.napt_table.proofs.PartSteps.{by_protocol, out_others}
-use Rattle.napt_table.proofs.Sends.{seen_is}
+use Rattle.napt_table.specs.declared.host_counts.HostCounts.{HostCounts}
+use Rattle.napt_table.proofs.PartSteps.{by_protocol, out_others, all_of, all_counted}
+use Rattle.napt_table.proofs.Sends.{seen_is, same_part, same_due}
 
 -- where what is held under the protocol shows the list of a step, and nothing else is seen to have changed, all show it
 pub all_sent : (quota : Option ℕ) (timers : Timers) (address now : ℕ) (protocol : Protocol) (inside remote : Endpoint) (flags : Flags) (old new : AllParts) (list : List Binding) → AllShow address timers now old list →
@@ -36,6 +37,33 @@ pub all_sent : (quota : Option ℕ) (timers : Timers) (address now : ℕ) (proto
 all_sent quota timers address now protocol inside remote flags old new list shows others here q =
     by_protocol protocol q (λ r. Shows timers now address r (held (part_of new r)) (out_purged quota address now protocol inside remote flags list).list) here
     (λ d n. out_others quota timers address now protocol inside remote flags list q d n ∙ (shows q n ∙ sym (others q d n)))
+
+pub on_err : {X E : Type 0} (r : Result X E) (P : Type 0) → P → OnErr r P
+on_err (Ok x) P h = tt
+on_err (Err e) P h = h
+
+-- what is said of a part is said of its address, timers and protocol
+pub said_of : (part : Part) (address : ℕ) (timers : Timers) (protocol : Protocol) → part.address ≡ address → part.timers ≡ timers → part.numbers.protocol ≡ protocol → (P : Timers → ℕ → Protocol → Type 0) → P part.timers part.address part.numbers.protocol → P timers address protocol
+said_of part address timers protocol a t p P h =
+    subst (λ (q : Protocol). P timers address q) p (subst (λ (n : ℕ). P timers n part.numbers.protocol) a (subst (λ (u : Timers). P u part.address part.numbers.protocol) t h))
+
+-- NOTHING THAT IS HELD HAS CHANGED
+
+module _ (protocol : Protocol) (old new : AllParts) (others : (q : Protocol) → q ≢ protocol → part_of new q ≡ part_of old q) (place : IsSamePlace (part_of old protocol) (part_of new protocol))
+    (holds : (n : ℕ) → held (part_of new protocol) n ≡ held (part_of old protocol) n) where
+  pub mid_held : (q : Protocol) (n : ℕ) → held (part_of new q) n ≡ held (part_of old q) n
+  mid_held q n = by_protocol protocol q (λ r. held (part_of new r) n ≡ held (part_of old r) n) (holds n) (λ d. ap (λ (p : Part). held p n) (others q d))
+
+  pub mid_show : (address : ℕ) (timers : Timers) (now : ℕ) (list : List Binding) → AllShow address timers now old list → AllShow address timers now new list
+  mid_show address timers now list shows q n = shows q n ∙ ap (seen timers now) (sym (mid_held q n))
+
+  pub mid_of : (ends : (e : Endpoint) → number_at (part_of new protocol) e ≡ number_at (part_of old protocol) e) → (part_of new protocol).due.entries ≡ (part_of old protocol).due.entries →
+      (part_of new protocol).numbers ≡ (part_of old protocol).numbers → ((host : ℕ) → count_in (part_of new protocol).hosts host ≡ count_in (part_of old protocol).hosts host) →
+      (address : ℕ) (timers : Timers) (at : ℕ) → AreOf address timers at old → AreOf address timers at new
+  mid_of ends entries numbers counts address timers at all =
+      all_of protocol old new others place address timers at all
+      (same_part (part_of old protocol) (part_of new protocol) (all protocol).is place.timers_is place.address_is numbers place.counting_is counts holds ends)
+      (same_due (part_of old protocol) (part_of new protocol) (all protocol).due place entries holds)
 
 -- THE PURGE
 
