@@ -59,11 +59,9 @@ impl HostCounts {
         ensures counts { are_counted self.old ≡ true →
             (host : ℕ) → count_in self.new host ≡ count_in self.old host + cond {A = ℕ} (held_for host (Some binding.now)) 1 0 }
     {
-        if binding.fixed {
-            return;
-        }
-        if let Some(counts) = &mut self.counts {
-            counts.put(binding.inside.address);
+        match &mut self.counts {
+            Some(counts) if !binding.fixed => counts.put(binding.inside.address),
+            _ => {}
         }
     }
 
@@ -74,11 +72,9 @@ impl HostCounts {
             count_in self.new host ≡ count_in self.old host - cond {A = ℕ} (held_for host (Some binding.now)) 1 0 }
         ensures room { HasPlace self.old → HasPlace self.new }
     {
-        if binding.fixed {
-            return;
-        }
-        if let Some(counts) = &mut self.counts {
-            counts.take(binding.inside.address);
+        match &mut self.counts {
+            Some(counts) if !binding.fixed => counts.take(binding.inside.address),
+            _ => {}
         }
     }
 }

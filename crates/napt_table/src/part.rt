@@ -366,7 +366,12 @@ impl Part {
     }
 
     /// A packet goes out through the held binding with the number.
-    pub(crate) fn send_known(&mut self, alloc: Global, number: u16, packet: Outgoing) -> Result<(), AllocError>
+    pub(crate) fn send_known(
+        &mut self,
+        alloc: Global,
+        number: u16,
+        packet: Outgoing,
+    ) -> Result<(), AllocError>
         requires { AreTimers self.old.timers }
         ensures place { IsSamePlace self.old self.new }
         ensures inside { self.new.by_inside ≡ self.old.by_inside }
@@ -400,7 +405,14 @@ impl Part {
     {
         self.make_room()?;
         let protocol = self.numbers.protocol();
-        Flows::begun(alloc, self.timers, packet.now, protocol, packet.remote, packet.flags)
+        Flows::begun(
+            alloc,
+            self.timers,
+            packet.now,
+            protocol,
+            packet.remote,
+            packet.flags,
+        )
     }
 
     /// A new binding with these flows, through which the packet goes out: its number, or `NoPort`. It takes no memory.
