@@ -143,6 +143,7 @@ impl Draws {
 pub(crate) struct Counts {
     pub(crate) passed: u64,
     no_port: u64,
+    over_quota: u64,
     pub(crate) no_binding: u64,
     pub(crate) filtered: u64,
 }
@@ -152,6 +153,7 @@ impl Counts {
         let counter = match refused {
             None => &mut self.passed,
             Some(Cause::NoPort) => &mut self.no_port,
+            Some(Cause::OverQuota) => &mut self.over_quota,
             Some(Cause::Filtered) => &mut self.filtered,
             Some(_) => &mut self.no_binding,
         };
@@ -162,6 +164,7 @@ impl Counts {
         Counts {
             passed: self.passed.saturating_add(other.passed),
             no_port: self.no_port.saturating_add(other.no_port),
+            over_quota: self.over_quota.saturating_add(other.over_quota),
             no_binding: self.no_binding.saturating_add(other.no_binding),
             filtered: self.filtered.saturating_add(other.filtered),
         }
@@ -171,6 +174,7 @@ impl Counts {
 const NONE: Counts = Counts {
     passed: 0,
     no_port: 0,
+    over_quota: 0,
     no_binding: 0,
     filtered: 0,
 };
@@ -303,15 +307,20 @@ impl Twins {
     }
 }
 
-/// Calls that are drawn, from that time on, under a filter and a refresh: what was counted, where all agreed.
+/// Calls that are drawn, from that time on, with these settings: what was counted, where all agreed.
+fn drawn(alloc: Global, settings: &str, from: u64) -> Result<Option<Counts>, Fail> {
+    let mut twins = Twins::with(alloc, settings)?;
+    let mut draws = Draws { state: from };
+    let agreed = twins.mix(from, &mut draws)?;
+    Ok(agreed.map(|_| twins.counts))
+}
+
+/// The same under a filter and a refresh.
 fn run(alloc: Global, filter: &str, refresh: &str, from: u64) -> Result<Option<Counts>, Fail> {
     let settings = format!(in alloc;
         "filter = \"{filter}\"\nrefresh = \"{refresh}\"\n{REDIRECTS}"
     )?;
-    let mut twins = Twins::with(alloc, &settings)?;
-    let mut draws = Draws { state: from };
-    let agreed = twins.mix(from, &mut draws)?;
-    Ok(agreed.map(|_| twins.counts))
+    drawn(alloc, &settings, from)
 }
 
 #[test]
@@ -338,5 +347,19 @@ fn full_classes_agree(rt: HostRuntime) -> Result<(), Fail> {
     assert!(rt; twins.crowd(now)?);
     assert!(rt; twins.mix(now, &mut draws)?.is_some());
     assert!(rt; twins.counts.no_port > 0);
+    Ok(())
+}
+
+#[test]
+fn hosts_at_their_quota_agree(rt: HostRuntime) -> Result<(), Fail> {
+    let mut all = NONE;
+    for quota in [1, 2, 3] {
+        let settings = format!(in rt.alloc(); "quota = {quota}\n{REDIRECTS}")?;
+        let counts = drawn(rt.alloc(), &settings, 0)?.ok_or("the same answers")?;
+        assert!(rt; counts.over_quota > 0);
+        all = all.and(counts);
+    }
+    assert!(rt; all.passed > 500);
+    assert!(rt; all.over_quota > 100);
     Ok(())
 }
