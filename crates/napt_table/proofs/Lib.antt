@@ -1,5 +1,7 @@
 pub mod Lists
 pub mod Locality
+pub mod Quotas
+pub mod QuotaKept
 pub mod StepsLocal
 pub mod Live
 pub mod Sound

@@ -21,6 +21,7 @@ pub mod Hosts
 pub mod Part
 pub mod Parts
 pub mod Events
+pub mod QuotaKept
 pub mod Shown
 pub mod Listing
 pub mod Slots

@@ -7,6 +7,7 @@ ghost use Rattle.std.specs.Prelude.{◌≡◌, ℕ, List};
 ghost use Rattle.napt_table.specs.Local.{PurgeIsLocal, LaterPurgeCounts, OutIsLocal, OutLeavesOthers, InIsLocal, InLeavesOthers};
 ghost use Rattle.napt_table.specs.Endpoints.{PurgeStaysSound, OutStaysSound, InStaysSound, SoundIsApart};
 ghost use Rattle.napt_table.specs.Live.{OutLeavesLive, InLeavesLive};
+ghost use Rattle.napt_table.specs.QuotaKept.{PurgeKeepsQuota, OutKeepsQuota, InKeepsQuota, PlayedKeepsQuota};
 ghost use Rattle.napt_table.specs.Classes.{CandidatesBegin, CandidatesAreThose, CandidatesDiffer};
 ghost use Rattle.napt_table.specs.Opening.{OpeningIsSound};
 ghost use Rattle.napt_table.specs.Rows.{RowsAreInOrder};
@@ -15,9 +16,11 @@ ghost use Rattle.napt_table.specs.Tables.{TablesShareNothing, TablesAreNumbered}
 mod addresses;
 mod event;
 mod flows;
+mod hosts;
 mod inbound;
 mod life;
 mod numbers;
+mod outgoing;
 mod part;
 mod parts;
 mod rows;
@@ -105,6 +108,14 @@ pub fn steps_stay_sound()
     ensures outbound { OutStaysSound }
     ensures inbound { InStaysSound }
     ensures apart { SoundIsApart }
+{}
+
+/// No inside host comes to have more bindings than its quota, whatever happens to a table (RFC 6888, REQ-4).
+pub fn no_host_exceeds_its_quota()
+    ensures purge { PurgeKeepsQuota }
+    ensures outbound { OutKeepsQuota }
+    ensures inbound { InKeepsQuota }
+    ensures played { PlayedKeepsQuota }
 {}
 
 /// The candidates of a number are the numbers that may stand for it, each once, beginning with itself: a port is mapped on its
