@@ -18,6 +18,7 @@ pub mod Queues
 pub mod Sends
 pub mod Enters
 pub mod PartSteps
+pub mod Granted
 pub mod TableSteps
 pub mod Opening
 pub mod Listed

@@ -16,7 +16,7 @@ ghost use Rattle.napt_table.specs.Tables.{TablesShareNothing, TablesAreNumbered}
 mod addresses;
 mod event;
 mod flows;
-mod hosts;
+mod host_counts;
 mod inbound;
 mod life;
 mod numbers;

@@ -11,7 +11,7 @@ ghost use Rattle.napt_wire.specs.declared.Cause.TheVariants.{NoBinding};
 ghost use Rattle.napt_table.specs.Held.{seen, entered, left_by, HeldIsPurgedLater};
 ghost use Rattle.napt_table.specs.Counts.{are_counted, count_in, HasPlace};
 
-use crate::hosts::Hosts;
+use crate::host_counts::HostCounts;
 use crate::numbers::Numbers;
 use crate::outgoing::Outgoing;
 use crate::{Binding, Flows, Inbound, Row};
@@ -37,7 +37,7 @@ pub(crate) struct Part {
     /// Those that have a binding.
     numbers: Numbers,
     /// Where a quota stands, how many bindings each inside host has.
-    hosts: Hosts,
+    hosts: HostCounts,
 }
 
 impl Part {
@@ -76,7 +76,7 @@ impl Part {
             by_inside: HashMap::new(alloc),
             due: Due::new(alloc),
             numbers: Numbers::new(alloc, protocol)?,
-            hosts: Hosts::new(alloc, counted),
+            hosts: HostCounts::new(alloc, counted),
         })
     }
 
@@ -366,7 +366,12 @@ impl Part {
     }
 
     /// A packet goes out through the held binding with the number.
-    pub(crate) fn send_known(&mut self, alloc: Global, number: u16, packet: Outgoing) -> Result<(), AllocError>
+    pub(crate) fn send_known(
+        &mut self,
+        alloc: Global,
+        number: u16,
+        packet: Outgoing,
+    ) -> Result<(), AllocError>
         requires { AreTimers self.old.timers }
         ensures place { IsSamePlace self.old self.new }
         ensures inside { self.new.by_inside ≡ self.old.by_inside }
@@ -400,7 +405,14 @@ impl Part {
     {
         self.make_room()?;
         let protocol = self.numbers.protocol();
-        Flows::begun(alloc, self.timers, packet.now, protocol, packet.remote, packet.flags)
+        Flows::begun(
+            alloc,
+            self.timers,
+            packet.now,
+            protocol,
+            packet.remote,
+            packet.flags,
+        )
     }
 
     /// A new binding with these flows, through which the packet goes out: its number, or `NoPort`. It takes no memory.

@@ -9,15 +9,15 @@ use std::alloc::{AllocError, Global};
 
 /// How many bindings each inside host has, redirects left out. Nothing is counted where no quota stands.
 #[derive(Drop)]
-pub(crate) struct Hosts {
+pub(crate) struct HostCounts {
     counts: Option<Addresses>,
 }
 
-impl Hosts {
+impl HostCounts {
     ghost use Rattle.napt_table.specs.Counts.{are_counted, count_in, HasPlace};
 
     /// No host has one. It takes no memory.
-    pub(crate) fn new(alloc: Global, counted: bool) -> Hosts
+    pub(crate) fn new(alloc: Global, counted: bool) -> HostCounts
         ensures counted { are_counted result ≡ counted }
         ensures none { (host : ℕ) → count_in result host ≡ 0 }
     {
@@ -26,7 +26,7 @@ impl Hosts {
         } else {
             None
         };
-        Hosts { counts }
+        HostCounts { counts }
     }
 
     /// Makes room for one more host.
@@ -59,11 +59,9 @@ impl Hosts {
         ensures counts { are_counted self.old ≡ true →
             (host : ℕ) → count_in self.new host ≡ count_in self.old host + cond {A = ℕ} (held_for host (Some binding.now)) 1 0 }
     {
-        if binding.fixed {
-            return;
-        }
-        if let Some(counts) = &mut self.counts {
-            counts.put(binding.inside.address);
+        match &mut self.counts {
+            Some(counts) if !binding.fixed => counts.put(binding.inside.address),
+            _ => {}
         }
     }
 
@@ -74,11 +72,9 @@ impl Hosts {
             count_in self.new host ≡ count_in self.old host - cond {A = ℕ} (held_for host (Some binding.now)) 1 0 }
         ensures room { HasPlace self.old → HasPlace self.new }
     {
-        if binding.fixed {
-            return;
-        }
-        if let Some(counts) = &mut self.counts {
-            counts.take(binding.inside.address);
+        match &mut self.counts {
+            Some(counts) if !binding.fixed => counts.take(binding.inside.address),
+            _ => {}
         }
     }
 }
