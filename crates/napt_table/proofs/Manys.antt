@@ -1,5 +1,5 @@
 -- Many flows, when one begins, changes or goes.
-use Rattle.std.proofs.Common.{◌≡◌, ◌≢◌, ℕ, zero, suc, ◌+◌, ◌-◌, ◌<◌, ◌≤◌, ◌⊎◌, inl, inr, Bool, true, false, ◌&&◌, ◌||◌, cond, List, [], ◌∷◌, ◌++◌, length, take, set, get_or, Option, Some, None, sum_by, slice_get, refl, sym, ◌∙◌, ap, arith, eqb, eqb-true}
+use Rattle.std.proofs.Common.{◌≡◌, ◌≢◌, ℕ, ◌+◌, ◌-◌, ◌≤◌, ◌⊎◌, inl, inr, true, false, cond, List, [], ◌∷◌, ◌++◌, length, set, get_or, Option, Some, None, slice_get, refl, sym, ◌∙◌, ap, arith, eqb, eqb-true}
 use Rattle.std.specs.Prelude.{filter}
 use Rattle.std.specs.List.{list_any}
 use Rattle.std.proofs.lemmas.Bool.{eq-eqb, true≢false, and_from, and_parts}
@@ -10,9 +10,8 @@ use Rattle.napt_table.specs.declared.Flow.{Flow}
 use Rattle.napt_table.specs.declared.flows.many.Many.{Many}
 use Rattle.napt_table.specs.Bindings.{same_endpoint}
 use Rattle.napt_table.specs.Counts.{count_at}
-use Rattle.napt_table.specs.Lists.{pair_eq}
 use Rattle.napt_table.specs.Many.{place_at, IsMany}
-use Rattle.napt_table.specs.Slots.{somes, Stands, of_address, count_of, AreDistinct}
+use Rattle.napt_table.specs.Slots.{somes, Stands, of_address, count_of}
 use Rattle.napt_table.specs.Steps.{is_flow_of}
 use Rattle.napt_table.proofs.Slots.{stands_within, stands_set, stands_there, stands_elsewhere, stands_pushed, stands_last, stands_still, any_stands, any_none}
 

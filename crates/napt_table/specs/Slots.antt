@@ -1,5 +1,5 @@
 -- Flows in slots, in the order in which they began; a flow that goes leaves its slot empty.
-use Rattle.std.specs.Prelude.{◌≡◌, ℕ, ◌==◌, Bool, false, not, cond, List, [], ◌∷◌, slice_get, sum_by, Option, Some, None}
+use Rattle.std.specs.Prelude.{◌≡◌, ℕ, ◌==◌, Bool, false, cond, List, [], ◌∷◌, slice_get, sum_by, Option, Some, None}
 use Rattle.std.specs.List.{list_any}
 use Rattle.napt_table.specs.declared.Flow.{Flow}
 use Rattle.napt_table.specs.Marks.{is_established}

@@ -1,4 +1,4 @@
-use Rattle.std.proofs.Common.{◌≡◌, ◌∙◌, sym, arith, None, Some}
+use Rattle.std.proofs.Common.{◌∙◌, sym, arith}
 use Rattle.napt_table.proofs.Distinct.{not_in_slots_before, absent_next, put_next, next_slot, empty_slot}
 use Rattle.napt_table.proofs.flows.many.Many.compacted.Goals as goal
 use Rattle.napt_table.proofs.flows.many.Many.compacted.Goals.{in-Some+in_ok-reserve, in_default}

@@ -1,4 +1,4 @@
-use Rattle.std.proofs.Common.{◌∙◌, sym, arith}
+use Rattle.std.proofs.Common.{◌∙◌, sym}
 use Rattle.std.proofs.lemmas.List.{take_more}
 use Rattle.napt_table.proofs.Distinct.{not_before, absent_next, put_next}
 use Rattle.napt_table.proofs.flows.many.Many.of.Goals as goal

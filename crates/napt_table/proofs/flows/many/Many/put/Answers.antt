@@ -1,5 +1,4 @@
-use Rattle.std.proofs.Common.{◌≡◌, ◌≤◌, ℕ, length, arith}
-use Rattle.napt_table.specs.Counts.{count_at}
+use Rattle.std.proofs.Common.{arith}
 use Rattle.napt_table.proofs.Manys.{put_many, few_counted}
 use Rattle.napt_table.proofs.flows.many.Many.put.Goals as goal
 

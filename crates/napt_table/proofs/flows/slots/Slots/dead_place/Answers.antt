@@ -1,9 +1,4 @@
-use Rattle.std.proofs.Common.{◌≡◌, ℕ, Option, Some, None, map, false, true, subst}
-use Rattle.std.specs.Prelude.{IfSome, IfNone}
-use Rattle.napt_table.specs.declared.Flow.{Flow}
-use Rattle.napt_table.specs.Life as life
-use Rattle.napt_table.specs.Slots.{Stands, established_time, other_time}
-use Rattle.napt_table.proofs.Timed.{dead_established, dead_other, all_live, dead_others, all_live_or}
+use Rattle.napt_table.proofs.Timed.{dead_established, dead_others, all_live_or}
 use Rattle.napt_table.proofs.flows.slots.Slots.dead_place.Goals as goal
 
 pub returns-in-Some-clause-some : goal.returns-in-Some-clause-some

@@ -1,4 +1,4 @@
-use Rattle.std.proofs.Common.{ap, sym, ◌∙◌}
+use Rattle.std.proofs.Common.{sym}
 use Rattle.std.proofs.lemmas.List.{map-set}
 use Rattle.napt_table.specs.Slots.{established_time, other_time}
 use Rattle.napt_table.proofs.flows.slots.Slots.set.Goals as goal
