@@ -18,9 +18,11 @@ pub mod Queues
 pub mod Sends
 pub mod Enters
 pub mod PartSteps
+pub mod Granted
 pub mod TableSteps
 pub mod Opening
 pub mod Listed
+pub mod Hosts
 mod Slots
 mod Timed
 mod Manys

@@ -1,5 +1,5 @@
 -- The table over maps as a translator begins: each redirect of its address is held.
-use Rattle.std.proofs.Common.{◌≡◌, ◌≢◌, ℕ, zero, suc, ◌+◌, ◌<◌, ◌≤◌, Bool, true, false, ◌||◌, cond, List, [], ◌∷◌, ◌++◌, length, get_or, take, map, filter, Some, None, refl, sym, ◌∙◌, ap, subst, arith, eqb, eqb-true}
+use Rattle.std.proofs.Common.{◌≡◌, ◌≢◌, ℕ, zero, suc, ◌+◌, ◌<◌, ◌≤◌, Bool, true, false, ◌||◌, cond, List, [], ◌∷◌, Option, ◌++◌, length, get_or, take, map, filter, Some, None, refl, sym, ◌∙◌, ap, subst, arith, eqb, eqb-true}
 use Rattle.std.specs.Prelude.{find}
 use Rattle.std.specs.List.{list_any}
 use Rattle.std.proofs.lemmas.Bool.{eq-eqb, or_parts, true≢false}
@@ -19,7 +19,8 @@ use Rattle.napt_table.specs.declared.parts.Parts.{Parts as AllParts}
 use Rattle.napt_table.specs.Bindings.{same_protocol, is_at, of, has_number, is_of_inside}
 use Rattle.napt_table.specs.Endpoints.{key, Apart}
 use Rattle.napt_table.specs.Held.{redirect_of, seen}
-use Rattle.napt_table.specs.Parts.{part_of, IsOf, AreOf, AllShow}
+use Rattle.napt_table.specs.Parts.{part_of, IsOf, AreOf, AreCounted, AllShow}
+use Rattle.std.specs.Option.{is_some}
 use Rattle.napt_table.specs.declared.event.Event.{Event}
 use Rattle.napt_table.specs.declared.event.Event.TheVariants.{Redirected}
 use Rattle.napt_table.specs.Events.{played_all}
@@ -163,6 +164,7 @@ place_then a b c p q = record {
   timers_is = q.timers_is ∙ p.timers_is;
   at_is = q.at_is ∙ p.at_is;
   protocol_same = q.protocol_same ∙ p.protocol_same;
+  counting_is = q.counting_is ∙ p.counting_is;
 }
 
 -- a redirect is not in it
@@ -219,25 +221,26 @@ module _ (rules : Rules) (keeps : KeepsRules rules) (address k : ℕ) (redirect 
       AreHeld address new (begun rules address (k + 1))
   step_are new others holds = subst (AreHeld address new) (sym pushed) (held_more address protocol inside redirect.external (begun rules address k) apart parts rules.timers all are new others holds)
 
-  pub step_played : (past new : List (ℕ × Event)) → new ≡ past ++ (0, Redirected protocol inside redirect.external) ∷ [] → played_all rules.timers (inbound_of rules) address past [] ≡ begun rules address k →
-      played_all rules.timers (inbound_of rules) address new [] ≡ begun rules address (k + 1)
+  pub step_played : (past new : List (ℕ × Event)) → new ≡ past ++ (0, Redirected protocol inside redirect.external) ∷ [] → played_all rules.timers rules.quota (inbound_of rules) address past [] ≡ begun rules address k →
+      played_all rules.timers rules.quota (inbound_of rules) address new [] ≡ begun rules address (k + 1)
   step_played past new is_new so_far =
-      ap (λ (es : List (ℕ × Event)). played_all rules.timers (inbound_of rules) address es []) is_new
-      ∙ (played_more rules.timers (inbound_of rules) address past (0, Redirected protocol inside redirect.external) []
+      ap (λ (es : List (ℕ × Event)). played_all rules.timers rules.quota (inbound_of rules) address es []) is_new
+      ∙ (played_more rules.timers rules.quota (inbound_of rules) address past (0, Redirected protocol inside redirect.external) []
       ∙ (ap (λ (list : List Binding). list ++ redirect_of protocol address inside redirect.external ∷ []) so_far ∙ sym pushed))
 
 -- THE END OF THE LOOP
 
-pub opened_keeps_its_list : (rules : Rules) → KeepsRules rules → (address k : ℕ) (table : Inside) → length rules.redirects ≤ k → table.address ≡ address → table.timers ≡ rules.timers → table.inbound ≡ (inbound_of rules) → table.at ≡ 0 →
-    played_all rules.timers (inbound_of rules) address table.past.items [] ≡ begun rules address k → AreOf address rules.timers 0 table.parts → AreHeld address table.parts (begun rules address k) →
+pub opened_keeps_its_list : (rules : Rules) → KeepsRules rules → (address k : ℕ) (table : Inside) → length rules.redirects ≤ k → table.address ≡ address → table.timers ≡ rules.timers → table.quota ≡ rules.quota → table.inbound ≡ (inbound_of rules) → table.at ≡ 0 →
+    played_all rules.timers rules.quota (inbound_of rules) address table.past.items [] ≡ begun rules address k → AreOf address rules.timers 0 table.parts → AreHeld address table.parts (begun rules address k) → AreCounted (is_some rules.quota) table.parts →
     (shown table ≡ opened rules address) × KeepsItsList table
-opened_keeps_its_list rules keeps address k table end a t f z played all are =
-    let list : list_of table ≡ of address (opening rules) = rw (t, f, a) (played ∙ all_begun rules address k end) in
-    let shown : shown table ≡ opened rules address = λ i. record { address = a i; timers = t i; inbound = f i; list = list i; at = z i } in (
+opened_keeps_its_list rules keeps address k table end a t u f z played all are counted =
+    let list : list_of table ≡ of address (opening rules) = rw (t, u, f, a) (played ∙ all_begun rules address k end) in
+    let shown : shown table ≡ opened rules address = λ i. record { address = a i; timers = t i; quota = u i; inbound = f i; list = list i; at = z i } in (
       shown,
       record {
         state = subst IsTable (sym shown) (opened_is_table rules keeps address);
         parts_are = subst (λ (s : TableState). AreOf s.address s.timers s.at table.parts) (sym shown) all;
+        parts_count = subst (λ (o : Option ℕ). AreCounted (is_some o) table.parts) (sym u) counted;
         parts_show = subst (λ (s : TableState). AllShow s.address s.timers s.at table.parts s.list) (sym shown) (opened_show rules keeps address table.parts (subst (AreHeld address table.parts) (all_begun rules address k end) are));
       },
     )

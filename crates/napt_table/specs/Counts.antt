@@ -1,8 +1,26 @@
 -- Counts by address.
-use Rattle.std.specs.Prelude.{ℕ, nat_eq, unwrap_or}
-use Rattle.std.specs.HashMap.{get}
+use Rattle.std.specs.Prelude.{ℕ, ◌<◌, Bool, nat_eq, unwrap_or, Option, Some, None, IfSome}
+use Rattle.std.specs.Option.{is_some}
+use Rattle.std.specs.HashMap.{get, spare}
 use Rattle.napt_table.specs.declared.addresses.Addresses.{Addresses}
+use Rattle.napt_table.specs.declared.host_counts.HostCounts.{HostCounts}
 
 -- an address without an entry has none
 abbrev pub count_at : Addresses → ℕ → ℕ
 count_at addresses address = unwrap_or (get nat_eq addresses.counts address) 0
+
+-- whether bindings are counted by host
+abbrev pub are_counted : HostCounts → Bool
+are_counted hosts = is_some hosts.counts
+
+abbrev pub count_by : Option Addresses → ℕ → ℕ
+count_by None host = 0
+count_by (Some counts) host = count_at counts host
+
+-- how many the host has; none where nothing is counted
+abbrev pub count_in : HostCounts → ℕ → ℕ
+count_in hosts host = count_by hosts.counts host
+
+-- there is room for one more host, where they are counted
+abbrev pub HasPlace : HostCounts → Type 0
+HasPlace hosts = IfSome hosts.counts (λ counts. 0 < spare counts.counts)

@@ -32,6 +32,16 @@ impl Addresses {
         self.counts.reserve(1)
     }
 
+    /// How many there are of the address.
+    pub(crate) fn count(&self, address: u32) -> usize
+        ensures { result ≡ count_at self.now address }
+    {
+        match self.counts.get(&address) {
+            Some(count) => *count,
+            None => 0,
+        }
+    }
+
     /// Whether one of the address is counted.
     pub(crate) fn has(&self, address: u32) -> bool
         ensures { result ≡ nat_lt 0 (count_at self.now address) }
@@ -48,10 +58,7 @@ impl Addresses {
         requires fits { count_at self.old address + 1 < 2 ^ 64 }
         ensures { (other : ℕ) → count_at self.new other ≡ count_at self.old other + cond {A = ℕ} (address == other) 1 0 }
     {
-        let count = match self.counts.get(&address) {
-            Some(count) => *count,
-            None => 0,
-        };
+        let count = self.count(address);
         match self.counts.insert(address, count + 1) {
             Ok(_) => {}
             Err(_) => unreachable!(),

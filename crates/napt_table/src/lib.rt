@@ -16,9 +16,11 @@ ghost use Rattle.napt_table.specs.Tables.{TablesShareNothing, TablesAreNumbered}
 mod addresses;
 mod event;
 mod flows;
+mod host_counts;
 mod inbound;
 mod life;
 mod numbers;
+mod outgoing;
 mod part;
 mod parts;
 mod rows;

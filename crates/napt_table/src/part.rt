@@ -5,12 +5,15 @@
 //! entry in the queue has a time up to which it lives for sure, which is kept lazily: a packet that keeps the binding alive does
 //! not move the entry, and where its time has come the binding is looked at again.
 
-ghost use Rattle.std.specs.Prelude.{◌≡◌, ◌≢◌, ℕ, ◌+◌, ◌≤◌, ◌<◌, ◌^◌, true, false, not, Some, None, Ok, Err, OnOk, IfSome, cond, ◌==◌, ◌&&◌};
+ghost use Rattle.std.specs.Prelude.{◌≡◌, ◌≢◌, ℕ, ◌+◌, ◌-◌, ◌≤◌, ◌<◌, ◌^◌, true, false, not, Some, None, Ok, Err, OnOk, IfSome, cond, ◌==◌, ◌&&◌};
 ghost use Rattle.std.specs.Option.{option_map};
 ghost use Rattle.napt_wire.specs.declared.Cause.TheVariants.{NoBinding};
 ghost use Rattle.napt_table.specs.Held.{seen, entered, left_by, HeldIsPurgedLater};
+ghost use Rattle.napt_table.specs.Counts.{are_counted, count_in, HasPlace};
 
+use crate::host_counts::HostCounts;
 use crate::numbers::Numbers;
+use crate::outgoing::Outgoing;
 use crate::{Binding, Flows, Inbound, Row};
 use napt_config::Timers;
 use napt_due::Due;
@@ -33,6 +36,8 @@ pub(crate) struct Part {
     due: Due,
     /// Those that have a binding.
     numbers: Numbers,
+    /// Where a quota stands, how many bindings each inside host has.
+    hosts: HostCounts,
 }
 
 impl Part {
@@ -41,15 +46,17 @@ impl Part {
     ghost use Rattle.napt_config.specs.Rules.{AreTimers};
     ghost use Rattle.napt_table.specs.Life.{is_live};
     ghost use Rattle.napt_table.specs.Places.{is_used};
-    ghost use Rattle.napt_table.specs.Part.{held, number_at, pair_eq, IsPart, AreDue, AreDueBut, IsSamePlace, HasRoom, come_up};
+    ghost use Rattle.napt_table.specs.Hosts.{held_for};
+    ghost use Rattle.napt_table.specs.Part.{held, number_at, pair_eq, IsPart, AreDue, AreDueBut, IsSamePlace, IsPurged, HasRoom, come_up};
     ghost use Rattle.napt_table.specs.declared.Binding.{Binding};
 
-    /// Nothing is held.
+    /// Nothing is held; whether bindings are counted by host is said.
     pub(crate) fn new(
         alloc: Global,
         address: u32,
         timers: Timers,
         protocol: Protocol,
+        counted: bool,
     ) -> Result<Part, AllocError>
         requires { AreTimers timers }
         ensures part { IfOk result IsPart }
@@ -59,6 +66,7 @@ impl Part {
         ensures timers { IfOk result (λ part. part.timers ≡ timers) }
         ensures at { IfOk result (λ part. part.at ≡ 0) }
         ensures protocol { IfOk result (λ part. part.numbers.protocol ≡ protocol) }
+        ensures counted { IfOk result (λ part. are_counted part.hosts ≡ counted) }
     {
         Ok(Part {
             address,
@@ -68,6 +76,7 @@ impl Part {
             by_inside: HashMap::new(alloc),
             due: Due::new(alloc),
             numbers: Numbers::new(alloc, protocol)?,
+            hosts: HostCounts::new(alloc, counted),
         })
     }
 
@@ -109,6 +118,7 @@ impl Part {
         ensures inside { self.new.by_inside ≡ self.old.by_inside }
         ensures due { self.new.due ≡ self.old.due }
         ensures numbers { self.new.numbers ≡ self.old.numbers }
+        ensures hosts { self.new.hosts ≡ self.old.hosts }
         ensures others { (n : ℕ) → n ≢ number → held self.new n ≡ held self.old n }
         ensures absent { seen self.old.timers now (held self.old number) ≡ None → (result ≡ Err NoBinding) × (held self.new number ≡ held self.old number) }
         ensures found { (b : Binding) → seen self.old.timers now (held self.old number) ≡ Some b → (result ≡ entered inbound remote b) × (held self.new number ≡ Some (left_by inbound remote flags now b)) }
@@ -130,10 +140,13 @@ impl Part {
         ensures inside { (e : Endpoint) → number_at self.new e ≡ number_at self.old e }
         ensures due { self.new.due.entries ≡ self.old.due.entries }
         ensures numbers { self.new.numbers ≡ self.old.numbers }
+        ensures hosts { (host : ℕ) → count_in self.new.hosts host ≡ count_in self.old.hosts host }
         ensures room { OnOk result (HasRoom self.new) }
     {
         self.by_number.reserve(1)?;
         self.by_inside.reserve(1)?;
+        let hosts = &mut self.hosts;
+        hosts.reserve()?;
         let due = &mut self.due;
         due.reserve()?;
         Ok(())
@@ -146,14 +159,19 @@ impl Part {
         ensures held { (n : ℕ) → held self.new n ≡ cond (number == n) None (held self.old n) }
         ensures inside { (b : Binding) → held self.old number ≡ Some b → (e : Endpoint) → number_at self.new e ≡ cond (pair_eq (b.inside.address, b.inside.number) (e.address, e.number)) None (number_at self.old e) }
         ensures used { (b : Binding) → held self.old number ≡ Some b → (n : ℕ) → n < 2 ^ 16 → is_used self.new.numbers n ≡ (not (n == number) && is_used self.old.numbers n) }
+        ensures hosts { (b : Binding) → held self.old number ≡ Some b → (host : ℕ) →
+            count_in self.new.hosts host ≡ count_in self.old.hosts host - cond {A = ℕ} (held_for host (Some b)) 1 0 }
         ensures numbers { spare self.old.by_number ≤ spare self.new.by_number }
         ensures insides { spare self.old.by_inside ≤ spare self.new.by_inside }
+        ensures places { HasPlace self.old.hosts → HasPlace self.new.hosts }
     {
         let Some(binding) = self.by_number.remove(&number) else {
             return;
         };
         let inside = binding.inside;
         self.by_inside.remove(&(inside.address, inside.number));
+        let hosts = &mut self.hosts;
+        hosts.take(&binding);
         let numbers = &mut self.numbers;
         numbers.take(number);
     }
@@ -170,6 +188,7 @@ impl Part {
         ensures come_up { come_up self.new ≤ come_up self.old }
         ensures numbers { spare self.old.by_number ≤ spare self.new.by_number }
         ensures insides { spare self.old.by_inside ≤ spare self.new.by_inside }
+        ensures places { HasPlace self.old.hosts → HasPlace self.new.hosts }
         ensures queue { self.old.due.room ≤ self.new.due.room + 1 }
     {
         let (timers, at) = (self.timers, self.at);
@@ -226,6 +245,26 @@ impl Part {
         while self.purge_first() {}
     }
 
+    /// What is dead at `now` goes, which is the part's time from then on.
+    pub(crate) fn purge_at(&mut self, now: u64)
+        requires part { IsPart self.old }
+        requires due { AreDue self.old }
+        requires later { self.old.at ≤ now }
+        ensures { IsPurged now self.old self.new }
+    {
+        self.at = now;
+        self.purge();
+    }
+
+    /// How many bindings the host has, where they are counted; else 0.
+    pub(crate) fn count(&self, host: u32) -> usize
+        requires { IsPart self.now }
+        ensures value { result ≡ count_in self.now.hosts host }
+        ensures few { result ≤ 2 ^ 16 }
+    {
+        self.hosts.count(host)
+    }
+
     /// A new binding, where there is room and neither of its ends is taken.
     fn insert(&mut self, number: u16, binding: Binding)
         requires room { HasRoom self.old }
@@ -261,6 +300,8 @@ impl Part {
         ensures held { (n : ℕ) → held self.new n ≡ cond (number == n) (Some binding) (held self.old n) }
     {
         let inside = binding.inside;
+        let hosts = &mut self.hosts;
+        hosts.put(&binding);
         match self
             .by_inside
             .insert((inside.address, inside.number), number)
@@ -278,14 +319,17 @@ impl Part {
 }
 
 impl Part {
-    ghost use Rattle.std.specs.Prelude.{List, map, IfOk, OnErr};
+    ghost use Rattle.std.specs.Prelude.{List, [], IfOk, OnErr, ok_or};
+    ghost use Rattle.napt_wire.specs.declared.Way.TheVariants.{Outgoing as WayOut};
+    ghost use Rattle.napt_wire.specs.declared.Cause.TheVariants.{NoPort};
     ghost use Rattle.napt_config.specs.Rules.{AreTimers};
     ghost use Rattle.napt_table.specs.declared.Binding.{Binding};
-    ghost use Rattle.napt_table.specs.Endpoints.{key, Apart};
+    ghost use Rattle.napt_table.specs.Choice.{choice};
     ghost use Rattle.napt_table.specs.Held.{Shows, redirect_of};
-    ghost use Rattle.napt_table.specs.Life.{with_live_flows};
-    ghost use Rattle.napt_table.specs.Steps.{sent, out_purged};
-    ghost use Rattle.napt_table.specs.Part.{held, number_at, IsPart, AreDue, IsSamePlace};
+    ghost use Rattle.napt_table.specs.Life.{is_live, live_flows, with_live_flows};
+    ghost use Rattle.napt_table.specs.Lists.{change_first};
+    ghost use Rattle.napt_table.specs.Steps.{is_flow_of, used, with_flow, sent, out_made};
+    ghost use Rattle.napt_table.specs.Part.{held, number_at, IsPart, AreDue, IsSamePlace, HasRoom};
 
     /// A redirect, neither of whose ends is taken. It never expires, so it has no entry in the queue. Where memory is
     /// refused nothing that is held is changed.
@@ -322,78 +366,90 @@ impl Part {
     }
 
     /// A packet goes out through the held binding with the number.
-    fn send_known(
+    pub(crate) fn send_known(
         &mut self,
         alloc: Global,
-        now: u64,
         number: u16,
-        remote: Endpoint,
-        flags: Flags,
+        packet: Outgoing,
     ) -> Result<(), AllocError>
         requires { AreTimers self.old.timers }
         ensures place { IsSamePlace self.old self.new }
         ensures inside { self.new.by_inside ≡ self.old.by_inside }
         ensures due { self.new.due ≡ self.old.due }
         ensures numbers { self.new.numbers ≡ self.old.numbers }
+        ensures hosts { self.new.hosts ≡ self.old.hosts }
         ensures others { (n : ℕ) → n ≢ number → held self.new n ≡ held self.old n }
         ensures refused { OnErr result (held self.new number ≡ held self.old number) }
-        ensures ok { (b : Binding) → held self.old number ≡ Some b → OnOk result (seen self.old.timers now (held self.new number) ≡ Some (sent remote flags now (with_live_flows self.old.timers now b))) }
+        ensures ok { (b : Binding) → held self.old number ≡ Some b → OnOk result (seen self.old.timers packet.now (held self.new number) ≡
+            Some (sent packet.remote packet.flags packet.now (with_live_flows self.old.timers packet.now b))) }
     {
         let timers = self.timers;
         let Some(binding) = self.by_number.get_mut(&number) else {
             return Ok(());
         };
-        binding.send(alloc, timers, now, remote, flags)
+        binding.send(alloc, timers, packet.now, packet.remote, packet.flags)
     }
 
-    /// A packet goes out from the inside endpoint: answers its external number, or `NoPort`. Where memory is refused nothing is changed.
-    pub(crate) fn send(
-        &mut self,
-        alloc: Global,
-        now: u64,
-        inside: Endpoint,
-        remote: Endpoint,
-        flags: Flags,
-    ) -> Result<Result<u16, Cause>, AllocError>
+    /// Takes the memory for a new binding through which the packet goes out, and begins its flows. What is held stays as it is.
+    pub(crate) fn prepare(&mut self, alloc: Global, packet: Outgoing) -> Result<Flows, AllocError>
+        requires { AreTimers self.old.timers }
+        ensures place { IsSamePlace self.old self.new }
+        ensures held { (n : ℕ) → held self.new n ≡ held self.old n }
+        ensures inside { (e : Endpoint) → number_at self.new e ≡ number_at self.old e }
+        ensures due { self.new.due.entries ≡ self.old.due.entries }
+        ensures numbers { self.new.numbers ≡ self.old.numbers }
+        ensures hosts { (host : ℕ) → count_in self.new.hosts host ≡ count_in self.old.hosts host }
+        ensures room { OnOk result (HasRoom self.new) }
+        ensures flows { IfOk result (λ flows. live_flows self.old.timers packet.now self.old.numbers.protocol flows ≡
+            change_first (is_flow_of packet.remote) (used self.old.numbers.protocol WayOut packet.flags packet.now) (with_flow packet.remote packet.now [])) }
+    {
+        self.make_room()?;
+        let protocol = self.numbers.protocol();
+        Flows::begun(
+            alloc,
+            self.timers,
+            packet.now,
+            protocol,
+            packet.remote,
+            packet.flags,
+        )
+    }
+
+    /// A new binding with these flows, through which the packet goes out: its number, or `NoPort`. It takes no memory.
+    pub(crate) fn begin(&mut self, packet: Outgoing, flows: Flows) -> Result<u16, Cause>
+        requires room { HasRoom self.old }
         requires part { IsPart self.old }
         requires due { AreDue self.old }
-        requires later { self.old.at ≤ now }
+        requires at { self.old.at ≡ packet.now }
+        requires live { (n : ℕ) (b : Binding) → held self.old n ≡ Some b → is_live self.old.timers packet.now b ≡ true }
+        requires absent { number_at self.old packet.inside ≡ None }
+        requires flows { live_flows self.old.timers packet.now self.old.numbers.protocol flows ≡
+            change_first (is_flow_of packet.remote) (used self.old.numbers.protocol WayOut packet.flags packet.now) (with_flow packet.remote packet.now []) }
         ensures part { IsPart self.new }
         ensures due { AreDue self.new }
-        ensures at { self.new.at ≤ now }
-        ensures same_at { OnErr result (self.new.at ≡ self.old.at) }
-        ensures address { self.new.address ≡ self.old.address }
-        ensures timers { self.new.timers ≡ self.old.timers }
-        ensures protocol { self.new.numbers.protocol ≡ self.old.numbers.protocol }
-        ensures refused { OnErr result ((n : ℕ) → held self.new n ≡ held self.old n) }
-        ensures answer { (list : List Binding) → Apart (map key list) → Shows self.old.timers now self.old.address self.old.numbers.protocol (held self.old) list →
-            IfOk result (λ answer. answer ≡ (out_purged self.old.address now self.old.numbers.protocol inside remote flags list).number) }
-        ensures shows { (list : List Binding) → Apart (map key list) → Shows self.old.timers now self.old.address self.old.numbers.protocol (held self.old) list →
-            OnOk result (Shows self.old.timers now self.old.address self.old.numbers.protocol (held self.new) (out_purged self.old.address now self.old.numbers.protocol inside remote flags list).list) }
+        ensures place { IsSamePlace self.old self.new }
+        ensures answer { (list : List Binding) → Shows self.old.timers packet.now self.old.address self.old.numbers.protocol (held self.old) list →
+            result ≡ ok_or (choice list self.old.numbers.protocol self.old.address packet.inside.number) NoPort }
+        ensures shows { (list : List Binding) → Shows self.old.timers packet.now self.old.address self.old.numbers.protocol (held self.old) list →
+            Shows self.old.timers packet.now self.old.address self.old.numbers.protocol (held self.new)
+            (out_made list self.old.address packet.now self.old.numbers.protocol packet.inside packet.remote packet.flags result).list }
     {
-        if let Some(number) = self.number_of(now, inside) {
-            self.send_known(alloc, now, number, remote, flags)?;
-            return Ok(Ok(number));
-        }
-        self.make_room()?;
-        let (address, timers) = (self.address, self.timers);
-        let protocol = self.numbers.protocol();
-        let flows = Flows::begun(alloc, timers, now, protocol, remote, flags)?;
-        self.at = now;
-        self.purge();
-        let Some(number) = self.numbers.choose(inside.number) else {
-            return Ok(Err(Cause::NoPort));
+        let Some(number) = self.numbers.choose(packet.inside.number) else {
+            return Err(Cause::NoPort);
         };
         let binding = Binding {
-            protocol,
-            inside,
-            external: Endpoint { address, number },
+            protocol: self.numbers.protocol(),
+            inside: packet.inside,
+            external: Endpoint {
+                address: self.address,
+                number,
+            },
             fixed: false,
-            last: now,
+            last: packet.now,
             flows,
         };
         self.insert(number, binding);
-        Ok(Ok(number))
+        Ok(number)
     }
 }
 

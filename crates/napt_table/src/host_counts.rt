@@ -1,0 +1,80 @@
+//! How many bindings each inside host has under one protocol (RFC 6888, REQ-4).
+
+ghost use Rattle.std.specs.Prelude.{◌≡◌, ℕ, ◌+◌, ◌-◌, ◌^◌, ◌<◌, true, cond, Some, OnOk};
+ghost use Rattle.napt_table.specs.Hosts.{held_for};
+
+use crate::Binding;
+use crate::addresses::Addresses;
+use std::alloc::{AllocError, Global};
+
+/// How many bindings each inside host has, redirects left out. Nothing is counted where no quota stands.
+#[derive(Drop)]
+pub(crate) struct HostCounts {
+    counts: Option<Addresses>,
+}
+
+impl HostCounts {
+    ghost use Rattle.napt_table.specs.Counts.{are_counted, count_in, HasPlace};
+
+    /// No host has one. It takes no memory.
+    pub(crate) fn new(alloc: Global, counted: bool) -> HostCounts
+        ensures counted { are_counted result ≡ counted }
+        ensures none { (host : ℕ) → count_in result host ≡ 0 }
+    {
+        let counts = if counted {
+            Some(Addresses::new(alloc))
+        } else {
+            None
+        };
+        HostCounts { counts }
+    }
+
+    /// Makes room for one more host.
+    pub(crate) fn reserve(&mut self) -> Result<(), AllocError>
+        ensures counted { are_counted self.new ≡ are_counted self.old }
+        ensures counts { (host : ℕ) → count_in self.new host ≡ count_in self.old host }
+        ensures room { OnOk result (HasPlace self.new) }
+    {
+        match &mut self.counts {
+            Some(counts) => counts.reserve(),
+            None => Ok(()),
+        }
+    }
+
+    /// How many the host has; 0 where nothing is counted.
+    pub(crate) fn count(&self, host: u32) -> usize
+        ensures { result ≡ count_in self.now host }
+    {
+        match &self.counts {
+            Some(counts) => counts.count(host),
+            None => 0,
+        }
+    }
+
+    /// The binding begins, where there is room for its host. A redirect does not count.
+    pub(crate) fn put(&mut self, binding: &Binding)
+        requires room { HasPlace self.old }
+        requires fits { count_in self.old binding.now.inside.address + 1 < 2 ^ 64 }
+        ensures counted { are_counted self.new ≡ are_counted self.old }
+        ensures counts { are_counted self.old ≡ true →
+            (host : ℕ) → count_in self.new host ≡ count_in self.old host + cond {A = ℕ} (held_for host (Some binding.now)) 1 0 }
+    {
+        match &mut self.counts {
+            Some(counts) if !binding.fixed => counts.put(binding.inside.address),
+            _ => {}
+        }
+    }
+
+    /// The binding goes.
+    pub(crate) fn take(&mut self, binding: &Binding)
+        ensures counted { are_counted self.new ≡ are_counted self.old }
+        ensures counts { (host : ℕ) →
+            count_in self.new host ≡ count_in self.old host - cond {A = ℕ} (held_for host (Some binding.now)) 1 0 }
+        ensures room { HasPlace self.old → HasPlace self.new }
+    {
+        match &mut self.counts {
+            Some(counts) if !binding.fixed => counts.take(binding.inside.address),
+            _ => {}
+        }
+    }
+}
