@@ -11,6 +11,8 @@ mod numbers;
 #[cfg(test)]
 mod plain;
 #[cfg(test)]
+mod quota;
+#[cfg(test)]
 mod remotes;
 #[cfg(test)]
 mod times;

@@ -167,6 +167,7 @@ pub(crate) struct PlainTable {
     timers: Timers,
     filter: Filter,
     refresh: Refresh,
+    quota: Option<u16>,
     list: Vec<PlainBinding>,
 }
 
@@ -202,6 +203,7 @@ impl PlainTable {
             timers: config.timers(),
             filter: config.filter(),
             refresh: config.refresh(),
+            quota: config.quota(),
             list,
         })
     }
@@ -214,6 +216,19 @@ impl PlainTable {
                 binding.flows.retain(|flow| flow.is_live(timers, now));
             }
         }
+    }
+
+    /// Whether the host has as many bindings, of all protocols, as its quota allows; redirects do not count.
+    fn is_over_quota(&self, host: u32) -> bool {
+        let Some(quota) = self.quota else {
+            return false;
+        };
+        let count = self
+            .list
+            .iter()
+            .filter(|binding| binding.inside.address == host && !binding.fixed)
+            .count();
+        count >= usize::from(quota)
     }
 
     /// The number itself where it is free, else the next free one of its class, which goes on at its beginning.
@@ -245,6 +260,9 @@ impl PlainTable {
                 binding.send(now, remote, flags)?;
                 return Ok(Ok(binding.external));
             }
+        }
+        if self.is_over_quota(inside.address) {
+            return Ok(Err(Cause::OverQuota));
         }
         let Some(external) = self.choose(protocol, inside.number) else {
             return Ok(Err(Cause::NoPort));

@@ -3,7 +3,7 @@
 ghost use Rattle.std.specs.Prelude.{ℕ, ◌<◌};
 
 use crate::bench::{NO_FLAGS, RESOLVER, SECOND, host};
-use crate::twins::{Counts, Draws, Sent, Twins};
+use crate::twins::{Counts, Draws, HOSTS, Sent, Twins};
 use napt_wire::{Endpoint, Flags, Protocol};
 use std::alloc::Global;
 use std::test::Fail;
@@ -143,7 +143,10 @@ fn mix(
 fn run(alloc: Global, filter: &str, protocol: Protocol) -> Result<Option<Counts>, Fail> {
     let settings = format!(in alloc; "filter = \"{filter}\"\n")?;
     let mut twins = Twins::with(alloc, &settings)?;
-    let mut draws = Draws { state: 7 };
+    let mut draws = Draws {
+        state: 7,
+        hosts: HOSTS,
+    };
     let mut now = 0;
     for least in [0, 300, 0] {
         if !fill(&mut twins, now, protocol, least)? || !look_ahead(&twins, now, protocol)? {

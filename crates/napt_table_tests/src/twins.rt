@@ -24,7 +24,10 @@ external = 5002
 "#;
 
 /// Hosts, ports and identifiers, of which many share a class.
-const HOSTS: u16 = 40;
+pub(crate) const HOSTS: u16 = 40;
+
+/// So few that one often sends again while what it has lives.
+const FEW_HOSTS: u16 = 4;
 
 const PORTS: [u16; 10] = [1, 2, 3, 1022, 1023, 1024, 1025, 5000, 65_534, 65_535];
 
@@ -63,6 +66,8 @@ pub(crate) struct Sent {
 #[derive(Clone, Copy)]
 pub(crate) struct Draws {
     pub(crate) state: u64,
+    /// From how many hosts packets go out.
+    pub(crate) hosts: u16,
 }
 
 impl Draws {
@@ -107,7 +112,7 @@ impl Draws {
     }
 
     fn inside(&mut self, protocol: Protocol) -> Endpoint {
-        let many = self.below(u64::from(HOSTS)) as u16;
+        let many = self.below(u64::from(self.hosts).max(1)) as u16;
         host(many, self.number(protocol))
     }
 
@@ -143,6 +148,7 @@ impl Draws {
 pub(crate) struct Counts {
     pub(crate) passed: u64,
     no_port: u64,
+    over_quota: u64,
     pub(crate) no_binding: u64,
     pub(crate) filtered: u64,
 }
@@ -152,6 +158,7 @@ impl Counts {
         let counter = match refused {
             None => &mut self.passed,
             Some(Cause::NoPort) => &mut self.no_port,
+            Some(Cause::OverQuota) => &mut self.over_quota,
             Some(Cause::Filtered) => &mut self.filtered,
             Some(_) => &mut self.no_binding,
         };
@@ -162,6 +169,7 @@ impl Counts {
         Counts {
             passed: self.passed.saturating_add(other.passed),
             no_port: self.no_port.saturating_add(other.no_port),
+            over_quota: self.over_quota.saturating_add(other.over_quota),
             no_binding: self.no_binding.saturating_add(other.no_binding),
             filtered: self.filtered.saturating_add(other.filtered),
         }
@@ -171,6 +179,7 @@ impl Counts {
 const NONE: Counts = Counts {
     passed: 0,
     no_port: 0,
+    over_quota: 0,
     no_binding: 0,
     filtered: 0,
 };
@@ -303,15 +312,20 @@ impl Twins {
     }
 }
 
-/// Calls that are drawn, from that time on, under a filter and a refresh: what was counted, where all agreed.
+/// Calls that are drawn, from that time on, with these settings and so many hosts: what was counted, where all agreed.
+fn drawn(alloc: Global, settings: &str, hosts: u16, from: u64) -> Result<Option<Counts>, Fail> {
+    let mut twins = Twins::with(alloc, settings)?;
+    let mut draws = Draws { state: from, hosts };
+    let agreed = twins.mix(from, &mut draws)?;
+    Ok(agreed.map(|_| twins.counts))
+}
+
+/// The same under a filter and a refresh.
 fn run(alloc: Global, filter: &str, refresh: &str, from: u64) -> Result<Option<Counts>, Fail> {
     let settings = format!(in alloc;
         "filter = \"{filter}\"\nrefresh = \"{refresh}\"\n{REDIRECTS}"
     )?;
-    let mut twins = Twins::with(alloc, &settings)?;
-    let mut draws = Draws { state: from };
-    let agreed = twins.mix(from, &mut draws)?;
-    Ok(agreed.map(|_| twins.counts))
+    drawn(alloc, &settings, HOSTS, from)
 }
 
 #[test]
@@ -332,11 +346,28 @@ fn table_and_plain_list_agree(rt: HostRuntime) -> Result<(), Fail> {
 #[test]
 fn full_classes_agree(rt: HostRuntime) -> Result<(), Fail> {
     let mut twins = Twins::with(rt.alloc(), REDIRECTS)?;
-    let mut draws = Draws { state: 1 };
+    let mut draws = Draws {
+        state: 1,
+        hosts: HOSTS,
+    };
     assert!(rt; twins.crowd(0)?);
     let now = twins.mix(0, &mut draws)?.ok_or("the same answers")?;
     assert!(rt; twins.crowd(now)?);
     assert!(rt; twins.mix(now, &mut draws)?.is_some());
     assert!(rt; twins.counts.no_port > 0);
+    Ok(())
+}
+
+#[test]
+fn hosts_at_their_quota_agree(rt: HostRuntime) -> Result<(), Fail> {
+    let mut all = NONE;
+    for quota in [1, 2, 3] {
+        let settings = format!(in rt.alloc(); "quota = {quota}\n{REDIRECTS}")?;
+        let counts = drawn(rt.alloc(), &settings, FEW_HOSTS, 0)?.ok_or("the same answers")?;
+        assert!(rt; counts.over_quota > 0);
+        all = all.and(counts);
+    }
+    assert!(rt; all.passed > 500);
+    assert!(rt; all.over_quota > 100);
     Ok(())
 }
