@@ -356,7 +356,9 @@ fn expected_at(fault: ConfigFault, key: &str, field: &str) -> Option<&'static st
         (ConfigFault::UnknownKey, "pair", _) => Some("`host` or `external`"),
         (ConfigFault::UnknownKey, "redirect", _) => Some("`protocol`, `inside` or `external`"),
         (ConfigFault::UnknownKey, _, _) => {
-            Some("`pool`, `inside`, `filter`, `refresh`, `timers`, `ring`, `quota`, `pair` or `redirect`")
+            Some(
+                "`pool`, `inside`, `filter`, `refresh`, `timers`, `ring`, `quota`, `pair` or `redirect`",
+            )
         }
         _ => None,
     }
