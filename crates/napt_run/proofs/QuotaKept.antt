@@ -1,5 +1,6 @@
 -- Every step keeps each host within the quota.
-use Rattle.std.proofs.Common.{◌≡◌, ℕ, ◌+◌, ◌≤◌, max, List, [], ◌∷◌, map, Option, Some, None, Result, Ok, Err, sym, subst, arith}
+use Rattle.std.proofs.Common.{◌≡◌, ℕ, ◌+◌, ◌≤◌, max, List, [], ◌∷◌, map}
+use Rattle.std.proofs.Common.{Option, Some, None, Result, Ok, Err, sym, subst, arith}
 use Rattle.napt_wire.specs.declared.Side.{Side}
 use Rattle.napt_wire.specs.declared.Protocol.{Protocol}
 use Rattle.napt_wire.specs.declared.Protocol.TheVariants as protocols
@@ -19,7 +20,7 @@ use Rattle.napt_table.specs.declared.Binding.{Binding}
 use Rattle.napt_table.specs.Opening.{redirected, opening}
 use Rattle.napt_table.specs.Quota.{count_for}
 use Rattle.napt_table.specs.QuotaKept.{OutKeepsQuota, InKeepsQuota}
-use Rattle.napt_table.specs.Steps.{step_out}
+use Rattle.napt_table.specs.Steps.{step_out, step_in}
 use Rattle.napt_translate.specs.declared.translator.Leg.{Leg}
 use Rattle.napt_translate.specs.declared.translator.End.{End}
 use Rattle.napt_translate.specs.declared.translator.End.TheVariants.{ToOutside, ToInside, Onward, Dropped}
@@ -35,38 +36,42 @@ opening_within : (pair : ℕ → ℕ) (at host quota : ℕ) (redirects : List Re
 opening_within pair at host quota [] = omega arith
 opening_within pair at host quota (redirect ∷ redirects) = grind (arith, opening_within pair at host quota redirects)
 
-module _ (out_keeps : OutKeepsQuota) (in_keeps : InKeepsQuota) (rules : Rules) (quota : ℕ) (is : rules.quota
-    ≡ Some quota) (at host : ℕ) where
+module _ (out_keeps : OutKeepsQuota) (in_keeps : InKeepsQuota) (rules : Rules) (quota : ℕ)
+    (is : rules.quota ≡ Some quota) (at host : ℕ) where
   abbrev IsWithin : List Binding → Type 0
   IsWithin list = count_for at host list ≤ quota
 
-  within_sent : (address now : ℕ) (protocol : Protocol) (inside remote : Endpoint) (flags : Flags)
-      (list : List Binding) → IsWithin list →
-      IsWithin (step_out rules.timers rules.quota address now protocol inside remote flags list).list
-  within_sent address now protocol inside remote flags list le =
-      subst (λ (q : Option ℕ). IsWithin (step_out rules.timers q address now protocol inside remote flags list).list)
-      (sym is)
-      (out_keeps rules.timers quota address now protocol inside remote flags list at host le)
+  -- ONE LEG
 
-  within_leg : (address now : ℕ) (packet : List ℕ) (list : List Binding) (way : Way) (kind : Kind) → IsWithin list →
-      IsWithin (act_by rules address now packet list way kind).list
-  within_leg address now packet list Outgoing Udp le = within_sent address now protocols.Udp (source packet)
-      (destination packet) no_flags list le
-  within_leg address now packet list Outgoing (Tcp flags) le = within_sent address now protocols.Tcp (source packet)
-      (destination packet) flags list le
-  within_leg address now packet list Outgoing Echo le = within_sent address now protocols.Icmp (source packet)
-      (destination packet) no_flags list le
-  within_leg address now packet list Outgoing (ErrorOf inner) le = le
-  within_leg address now packet list Incoming Udp le =
-      in_keeps rules.timers (inbound_of rules) address now protocols.Udp (destination packet).number
-      (source packet) no_flags list at host quota le
-  within_leg address now packet list Incoming (Tcp flags) le =
-      in_keeps rules.timers (inbound_of rules) address now protocols.Tcp (destination packet).number
-      (source packet) flags list at host quota le
-  within_leg address now packet list Incoming Echo le =
-      in_keeps rules.timers (inbound_of rules) address now protocols.Icmp (destination packet).number
-      (source packet) no_flags list at host quota le
-  within_leg address now packet list Incoming (ErrorOf inner) le = le
+  module _ (address now : ℕ) (packet : List ℕ) (list : List Binding) (le : IsWithin list) where
+    within_sent : (protocol : Protocol) (flags : Flags) →
+        (let inside = source packet in
+        let remote = destination packet in
+        IsWithin (step_out rules.timers rules.quota address now protocol inside remote flags list).list)
+    within_sent protocol flags =
+        let inside = source packet in
+        let remote = destination packet in
+        subst (λ (q : Option ℕ). IsWithin (step_out rules.timers q address now protocol inside remote flags list).list)
+        (sym is) (out_keeps rules.timers quota address now protocol inside remote flags list at host le)
+
+    within_entered : (protocol : Protocol) (flags : Flags) →
+        (let number = (destination packet).number in
+        IsWithin (step_in rules.timers (inbound_of rules) address now protocol number (source packet) flags list).list)
+    within_entered protocol flags =
+        let number = (destination packet).number in
+        in_keeps rules.timers (inbound_of rules) address now protocol number (source packet) flags list at host quota le
+
+    within_leg : (way : Way) (kind : Kind) → IsWithin (act_by rules address now packet list way kind).list
+    within_leg Outgoing Udp = within_sent protocols.Udp no_flags
+    within_leg Outgoing (Tcp flags) = within_sent protocols.Tcp flags
+    within_leg Outgoing Echo = within_sent protocols.Icmp no_flags
+    within_leg Outgoing (ErrorOf inner) = le
+    within_leg Incoming Udp = within_entered protocols.Udp no_flags
+    within_leg Incoming (Tcp flags) = within_entered protocols.Tcp flags
+    within_leg Incoming Echo = within_entered protocols.Icmp no_flags
+    within_leg Incoming (ErrorOf inner) = le
+
+  -- A STEP
 
   within_follow : (address : ℕ) (leg : Leg) (list : List Binding) (end : End) → IsWithin list →
       (let first : Acted = record { end = end; list = list } in IsWithin (follow_by rules address leg first end).list)
@@ -74,22 +79,21 @@ module _ (out_keeps : OutKeepsQuota) (in_keeps : InKeepsQuota) (rules : Rules) (
   within_follow address leg list (ToInside packet) le = le
   within_follow address leg list (Dropped cause) le = le
   within_follow address leg list (Onward place packet) le =
-      within_leg (destination packet).address leg.now packet list Incoming (kind packet) le
+      within_leg (destination packet).address leg.now packet list le Incoming (kind packet)
 
-  within_judged : (number now : ℕ) (packet : List ℕ) (way : Way) (refused : Option Cause) (list : List Binding) →
-      IsWithin list → IsWithin (judged rules number now way packet refused list).list
-  within_judged number now packet way (Some cause) list le = le
-  within_judged number now packet way None list le =
-      let leg : Leg = record { number = number; now = now; way = way; packet = packet } in
-      let address : ℕ = served_at rules way packet in
-      let first : Acted = act rules address leg list in
-      within_follow address leg first.list first.end (within_leg address now packet list way (kind packet) le)
+  module _ (number now : ℕ) (list : List Binding) (le : IsWithin list) where
+    within_judged : (packet : List ℕ) (way : Way) (refused : Option Cause) →
+        IsWithin (judged rules number now way packet refused list).list
+    within_judged packet way (Some cause) = le
+    within_judged packet way None =
+        let leg : Leg = record { number = number; now = now; way = way; packet = packet } in
+        let address : ℕ = served_at rules way packet in
+        let first : Acted = act rules address leg list in
+        within_follow address leg first.list first.end (within_leg address now packet list le way (kind packet))
 
-  within_read : (number now : ℕ) (side : Side) (read : Result (List ℕ) Cause) (list : List Binding) → IsWithin list →
-      IsWithin (read_as rules number now side read list).list
-  within_read number now side (Err cause) list le = le
-  within_read number now side (Ok packet) list le = within_judged number now packet (way_from side)
-      (refusal rules side packet) list le
+    within_read : (side : Side) (read : Result (List ℕ) Cause) → IsWithin (read_as rules number now side read list).list
+    within_read side (Err cause) = le
+    within_read side (Ok packet) = within_judged packet (way_from side) (refusal rules side packet)
 
   within_run : (number clock : ℕ) (inputs : List Arrival) (list : List Binding) → IsWithin list →
       IsWithin (run_from rules number clock inputs list).list
@@ -97,7 +101,7 @@ module _ (out_keeps : OutKeepsQuota) (in_keeps : InKeepsQuota) (rules : Rules) (
   within_run number clock (input ∷ inputs) list le =
       let now : ℕ = max clock input.clock in
       within_run (number + 1) now inputs (step rules number now input list).list
-      (within_read number now input.side (reading input.side input.bytes) list le)
+      (within_read number now list le input.side (reading input.side input.bytes))
 
 pub runs_keep_quota : OutKeepsQuota → InKeepsQuota → RunsKeepQuota
 runs_keep_quota out_keeps in_keeps rules quota is inputs address host =

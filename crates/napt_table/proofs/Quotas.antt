@@ -1,5 +1,6 @@
 -- What is granted to a new binding is the choice, and needs the bindings of its address alone.
-use Rattle.std.proofs.Common.{◌≡◌, ℕ, Bool, true, false, not, ◌&&◌, cond, List, length, Option, Some, None, Result, Ok, Err, refl, ◌∙◌, ap, eqb}
+use Rattle.std.proofs.Common.{◌≡◌, ℕ, Bool, true, false, not, ◌&&◌, cond, List, length, Option, Some, None}
+use Rattle.std.proofs.Common.{Result, Ok, Err, refl, ◌∙◌, ap, eqb}
 use Rattle.std.specs.Prelude.{ok_or}
 use Rattle.std.proofs.lemmas.Bool.{and_parts}
 use Rattle.napt_wire.specs.declared.Protocol.{Protocol}
@@ -15,7 +16,8 @@ use Rattle.napt_table.proofs.Lists.{find_agree, any_filter, filter_narrow}
 -- WHERE A NUMBER IS GRANTED
 
 module _ (choice : Option ℕ) (n : ℕ) where
-  chosen_by : (over : Bool) → cond {A = Result ℕ Cause} over (Err OverQuota) (ok_or choice NoPort) ≡ Ok n → choice ≡ Some n
+  chosen_by : (over : Bool) → cond {A = Result ℕ Cause} over (Err OverQuota) (ok_or choice NoPort) ≡ Ok n →
+      choice ≡ Some n
   chosen_by true e = cc
   chosen_by false e = elim choice as (λ c. ok_or c NoPort ≡ Ok n → c ≡ Some n) [ None ↦ λ h. cc | Some m ↦ λ h. cc ] e
 
@@ -23,23 +25,38 @@ module _ (choice : Option ℕ) (n : ℕ) where
   within_by true e = cc
   within_by false e = refl
 
-module _ (quota : Option ℕ) (list : List Binding) (address : ℕ) (protocol : Protocol) (inside : Endpoint) (n : ℕ) (is : granted quota list address protocol inside ≡ Ok n) where
+module _ (quota : Option ℕ) (list : List Binding) (address : ℕ) (protocol : Protocol) (inside : Endpoint) (n : ℕ)
+    (is : granted quota list address protocol inside ≡ Ok n) where
   pub granted_is_chosen : choice list protocol address inside.number ≡ Some n
-  granted_is_chosen = chosen_by (choice list protocol address inside.number) n (reaches quota (count_for address inside.address list)) is
+  granted_is_chosen =
+      let over = reaches quota (count_for address inside.address list) in
+      chosen_by (choice list protocol address inside.number) n over is
 
   pub granted_is_within : reaches quota (count_for address inside.address list) ≡ false
-  granted_is_within = within_by (choice list protocol address inside.number) n (reaches quota (count_for address inside.address list)) is
+  granted_is_within =
+      let over = reaches quota (count_for address inside.address list) in
+      within_by (choice list protocol address inside.number) n over is
 
 -- OF ITS ADDRESS ALONE
 
-choice_local : (list : List Binding) (protocol : Protocol) (address p : ℕ) → choice (of address list) protocol address p ≡ choice list protocol address p
-choice_local list protocol address p = find_agree (is_free (of address list) address protocol) (is_free list address protocol) (candidates protocol p) (λ n. ap not (any_filter (is_at address) (λ b. same_protocol protocol b.protocol && eqb b.external.number n) list))
+choice_local : (list : List Binding) (protocol : Protocol) (address p : ℕ) →
+    choice (of address list) protocol address p ≡ choice list protocol address p
+choice_local list protocol address p =
+    find_agree (is_free (of address list) address protocol) (is_free list address protocol) (candidates protocol p)
+    (λ n. ap not (any_filter (is_at address) (λ b. same_protocol protocol b.protocol && eqb b.external.number n) list))
 
-pub count_local : (address host : ℕ) (list : List Binding) → count_for address host (of address list) ≡ count_for address host list
-count_local address host list = ap length (filter_narrow (is_at address) (counts_for address host) list (λ b h. (and_parts (is_at address b) _ h).0))
+pub count_local : (address host : ℕ) (list : List Binding) →
+    count_for address host (of address list) ≡ count_for address host list
+count_local address host list =
+    ap length
+    (filter_narrow (is_at address) (counts_for address host) list (λ b h. (and_parts (is_at address b) _ h).0))
 
 pub granted_local : (quota : Option ℕ) (list : List Binding) (address : ℕ) (protocol : Protocol) (inside : Endpoint) →
     granted quota (of address list) address protocol inside ≡ granted quota list address protocol inside
 granted_local quota list address protocol inside =
-    ap (λ count. cond (reaches quota count) (Err OverQuota) (ok_or (choice (of address list) protocol address inside.number) NoPort)) (count_local address inside.address list)
-    ∙ ap (λ c. cond (reaches quota (count_for address inside.address list)) (Err OverQuota) (ok_or c NoPort)) (choice_local list protocol address inside.number)
+    let own = choice (of address list) protocol address inside.number in
+    let many = count_for address inside.address list in
+    let counts = count_local address inside.address list in
+    let choices = choice_local list protocol address inside.number in
+    ap (λ count. cond (reaches quota count) (Err OverQuota) (ok_or own NoPort)) counts
+    ∙ ap (λ c. cond (reaches quota many) (Err OverQuota) (ok_or c NoPort)) choices

@@ -19,16 +19,16 @@ PurgeKeepsQuota = (timers : Timers) (now at host quota : ℕ) (list : List Bindi
     count_for at host list ≤ quota → count_for at host (purge timers now list) ≤ quota
 
 abbrev pub OutKeepsQuota : Type 0
-OutKeepsQuota = (timers : Timers) (quota address now : ℕ) (protocol : Protocol) (inside remote : Endpoint) (flags : Flags)
-    (list : List Binding) (at host : ℕ) → count_for at host list ≤ quota →
+OutKeepsQuota = (timers : Timers) (quota address now : ℕ) (protocol : Protocol) (inside remote : Endpoint)
+    (flags : Flags) (list : List Binding) (at host : ℕ) → count_for at host list ≤ quota →
     count_for at host (step_out timers (Some quota) address now protocol inside remote flags list).list ≤ quota
 
 abbrev pub InKeepsQuota : Type 0
-InKeepsQuota = (timers : Timers) (inbound : Inbound) (address now : ℕ) (protocol : Protocol) (number : ℕ) (remote : Endpoint)
-    (flags : Flags) (list : List Binding) (at host quota : ℕ) → count_for at host list ≤ quota →
+InKeepsQuota = (timers : Timers) (inbound : Inbound) (address now : ℕ) (protocol : Protocol) (number : ℕ)
+    (remote : Endpoint) (flags : Flags) (list : List Binding) (at host quota : ℕ) → count_for at host list ≤ quota →
     count_for at host (step_in timers inbound address now protocol number remote flags list).list ≤ quota
 
 -- so whatever happened to a table, no host has more than the quota
 abbrev pub PlayedKeepsQuota : Type 0
-PlayedKeepsQuota = (timers : Timers) (quota : ℕ) (inbound : Inbound) (address : ℕ) (events : List (ℕ × Event)) (at host : ℕ) →
-    count_for at host (played_all timers (Some quota) inbound address events []) ≤ quota
+PlayedKeepsQuota = (timers : Timers) (quota : ℕ) (inbound : Inbound) (address : ℕ) (events : List (ℕ × Event))
+    (at host : ℕ) → count_for at host (played_all timers (Some quota) inbound address events []) ≤ quota
