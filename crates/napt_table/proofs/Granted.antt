@@ -28,44 +28,59 @@ use Rattle.napt_table.proofs.PartSteps.{by_protocol, out_others, all_of}
 use Rattle.napt_table.proofs.Sends.{seen_is, same_part, same_due}
 
 -- where what is held under the protocol shows the list of a step, and nothing else is seen to have changed, all show it
-pub all_sent : (quota : Option ℕ) (timers : Timers) (address now : ℕ) (protocol : Protocol) (inside remote : Endpoint) (flags : Flags) (old new : AllParts) (list : List Binding) → AllShow address timers now old list →
-    ((q : Protocol) → q ≢ protocol → (n : ℕ) → seen timers now (held (part_of new q) n) ≡ seen timers now (held (part_of old q) n)) →
-    Shows timers now address protocol (held (part_of new protocol)) (out_purged quota address now protocol inside remote flags list).list →
+pub all_sent : (quota : Option ℕ) (timers : Timers) (address now : ℕ) (protocol : Protocol) (inside remote : Endpoint)
+    (flags : Flags) (old new : AllParts) (list : List Binding) → AllShow address timers now old list →
+    ((q : Protocol) → q ≢ protocol → (n : ℕ) → seen timers now (held (part_of new q) n)
+    ≡ seen timers now (held (part_of old q) n)) →
+    Shows timers now address protocol (held (part_of new protocol))
+    (out_purged quota address now protocol inside remote flags list).list →
     AllShow address timers now new (out_purged quota address now protocol inside remote flags list).list
 all_sent quota timers address now protocol inside remote flags old new list shows others here q =
-    by_protocol protocol q (λ r. Shows timers now address r (held (part_of new r)) (out_purged quota address now protocol inside remote flags list).list) here
-    (λ d n. out_others quota timers address now protocol inside remote flags list q d n ∙ (shows q n ∙ sym (others q d n)))
+    by_protocol protocol q (λ r. Shows timers now address r (held (part_of new r))
+    (out_purged quota address now protocol inside remote flags list).list) here
+    (λ d n. out_others quota timers address now protocol inside remote flags list q d n
+    ∙ (shows q n ∙ sym (others q d n)))
 
 pub on_err : {X E : Type 0} (r : Result X E) (P : Type 0) → P → OnErr r P
 on_err (Ok x) P h = tt
 on_err (Err e) P h = h
 
 -- what is said of a part is said of its address, timers and protocol
-pub said_of : (part : Part) (address : ℕ) (timers : Timers) (protocol : Protocol) → part.address ≡ address → part.timers ≡ timers → part.numbers.protocol ≡ protocol → (P : Timers → ℕ → Protocol → Type 0) → P part.timers part.address part.numbers.protocol → P timers address protocol
+pub said_of : (part : Part) (address : ℕ) (timers : Timers) (protocol : Protocol) → part.address ≡ address →
+    part.timers ≡ timers → part.numbers.protocol ≡ protocol → (P : Timers → ℕ → Protocol → Type 0) →
+    P part.timers part.address part.numbers.protocol → P timers address protocol
 said_of part address timers protocol a t p P h =
-    subst (λ (q : Protocol). P timers address q) p (subst (λ (n : ℕ). P timers n part.numbers.protocol) a (subst (λ (u : Timers). P u part.address part.numbers.protocol) t h))
+    subst (λ (q : Protocol). P timers address q) p (subst (λ (n : ℕ). P timers n part.numbers.protocol) a
+    (subst (λ (u : Timers). P u part.address part.numbers.protocol) t h))
 
 -- NOTHING THAT IS HELD HAS CHANGED
 
-module _ (protocol : Protocol) (old new : AllParts) (others : (q : Protocol) → q ≢ protocol → part_of new q ≡ part_of old q) (place : IsSamePlace (part_of old protocol) (part_of new protocol))
+module _ (protocol : Protocol) (old new : AllParts) (others : (q : Protocol) → q ≢ protocol → part_of new q
+    ≡ part_of old q) (place : IsSamePlace (part_of old protocol) (part_of new protocol))
     (holds : (n : ℕ) → held (part_of new protocol) n ≡ held (part_of old protocol) n) where
   pub mid_held : (q : Protocol) (n : ℕ) → held (part_of new q) n ≡ held (part_of old q) n
-  mid_held q n = by_protocol protocol q (λ r. held (part_of new r) n ≡ held (part_of old r) n) (holds n) (λ d. ap (λ (p : Part). held p n) (others q d))
+  mid_held q n = by_protocol protocol q (λ r. held (part_of new r) n ≡ held (part_of old r) n) (holds n) (λ d.
+      ap (λ (p : Part). held p n) (others q d))
 
-  pub mid_show : (address : ℕ) (timers : Timers) (now : ℕ) (list : List Binding) → AllShow address timers now old list → AllShow address timers now new list
+  pub mid_show : (address : ℕ) (timers : Timers) (now : ℕ) (list : List Binding) → AllShow address timers now old list →
+      AllShow address timers now new list
   mid_show address timers now list shows q n = shows q n ∙ ap (seen timers now) (sym (mid_held q n))
 
-  pub mid_of : (ends : (e : Endpoint) → number_at (part_of new protocol) e ≡ number_at (part_of old protocol) e) → (part_of new protocol).due.entries ≡ (part_of old protocol).due.entries →
-      (part_of new protocol).numbers ≡ (part_of old protocol).numbers → ((host : ℕ) → count_in (part_of new protocol).hosts host ≡ count_in (part_of old protocol).hosts host) →
+  pub mid_of : (ends : (e : Endpoint) → number_at (part_of new protocol) e ≡ number_at (part_of old protocol) e) →
+      (part_of new protocol).due.entries ≡ (part_of old protocol).due.entries →
+      (part_of new protocol).numbers ≡ (part_of old protocol).numbers →
+      ((host : ℕ) → count_in (part_of new protocol).hosts host ≡ count_in (part_of old protocol).hosts host) →
       (address : ℕ) (timers : Timers) (at : ℕ) → AreOf address timers at old → AreOf address timers at new
   mid_of ends entries numbers counts address timers at all =
       all_of protocol old new others place address timers at all
-      (same_part (part_of old protocol) (part_of new protocol) (all protocol).is place.timers_is place.address_is numbers place.counting_is counts holds ends)
+      (same_part (part_of old protocol) (part_of new protocol) (all protocol).is place.timers_is place.address_is
+      numbers place.counting_is counts holds ends)
       (same_due (part_of old protocol) (part_of new protocol) (all protocol).due place entries holds)
 
 -- THE PURGE
 
-module _ (address : ℕ) (timers : Timers) (now : ℕ) (old gone : AllParts) (all : AreOf address timers now old) (purged : (q : Protocol) → IsPurged now (part_of old q) (part_of gone q)) where
+module _ (address : ℕ) (timers : Timers) (now : ℕ) (old gone : AllParts) (all : AreOf address timers now old)
+    (purged : (q : Protocol) → IsPurged now (part_of old q) (part_of gone q)) where
   pub gone_of : AreOf address timers now gone
   gone_of q =
       let p = purged q in
@@ -82,8 +97,10 @@ module _ (address : ℕ) (timers : Timers) (now : ℕ) (old gone : AllParts) (al
   pub gone_counted : (counted : Bool) → AreCounted counted old → AreCounted counted gone
   gone_counted counted are q = (purged q).counting_is ∙ are q
 
-  pub gone_seen : (q : Protocol) (n : ℕ) → seen timers now (held (part_of gone q) n) ≡ seen timers now (held (part_of old q) n)
-  gone_seen q n = subst (λ (t : Timers). seen t now (held (part_of gone q) n) ≡ seen t now (held (part_of old q) n)) (all q).timers_is ((purged q).seen_same n)
+  pub gone_seen : (q : Protocol) (n : ℕ) → seen timers now (held (part_of gone q) n)
+      ≡ seen timers now (held (part_of old q) n)
+  gone_seen q n = subst (λ (t : Timers). seen t now (held (part_of gone q) n) ≡ seen t now (held (part_of old q) n))
+      (all q).timers_is ((purged q).seen_same n)
 
   pub gone_live : (q : Protocol) (n : ℕ) (b : Binding) → held (part_of gone q) n ≡ Some b → is_live timers now b ≡ true
   gone_live q n b h = subst (λ (t : Timers). is_live t now b ≡ true) (all q).timers_is ((purged q).live n b h)
@@ -92,50 +109,72 @@ module _ (address : ℕ) (timers : Timers) (now : ℕ) (old gone : AllParts) (al
   gone_show list shows q n = shows q n ∙ sym (gone_seen q n)
 
   -- an endpoint that had no live binding has none at all
-  pub gone_absent : (protocol : Protocol) (inside : Endpoint) → ((n : ℕ) → number_at (part_of old protocol) inside ≡ Some n → seen timers now (held (part_of old protocol) n) ≡ None) → number_at (part_of gone protocol) inside ≡ None
-  gone_absent protocol inside none = elim (number_at (part_of gone protocol) inside) as (λ o. number_at (part_of gone protocol) inside ≡ o → o ≡ None) [
-    | None ↦ λ e. refl
-    | Some n ↦ λ e.
-        let h = (purged protocol).part.number_is inside n e in
-        let live : seen timers now (held (part_of gone protocol) n) ≡ Some (with_live_flows timers now h.0) =
-        ap (seen timers now) h.1 ∙ ap (λ v. cond v (Some (with_live_flows timers now h.0)) None) (gone_live protocol n h.0 h.1) in
-        let s = seen_is timers now (held (part_of old protocol) n) (with_live_flows timers now h.0) (sym (gone_seen protocol n) ∙ live) in
-        let same : s.0.inside ≡ inside = ap (λ (x : Binding). x.inside) s.3 ∙ h.2 in
-        let there : number_at (part_of old protocol) inside ≡ Some n = ap (number_at (part_of old protocol)) (sym same) ∙ (all protocol).is.inside_is n s.0 s.1 in
-        let z : None ≡ Some (with_live_flows timers now h.0) = sym (none n there) ∙ (sym (gone_seen protocol n) ∙ live) in cc
-  ] refl
+  pub gone_absent : (protocol : Protocol) (inside : Endpoint) → ((n : ℕ) → number_at (part_of old protocol) inside
+      ≡ Some n → seen timers now (held (part_of old protocol) n) ≡ None) → number_at (part_of gone protocol) inside
+      ≡ None
+  gone_absent protocol inside none = elim (number_at (part_of gone protocol) inside) as (λ o.
+      number_at (part_of gone protocol) inside ≡ o → o ≡ None) [
+        | None ↦ λ e. refl
+        | Some n ↦ λ e.
+            let h = (purged protocol).part.number_is inside n e in
+            let live : seen timers now (held (part_of gone protocol) n) ≡ Some (with_live_flows timers now h.0) =
+            ap (seen timers now) h.1 ∙ ap (λ v. cond v (Some (with_live_flows timers now h.0)) None)
+            (gone_live protocol n h.0 h.1) in
+            let s = seen_is timers now (held (part_of old protocol) n) (with_live_flows timers now h.0)
+            (sym (gone_seen protocol n) ∙ live) in
+            let same : s.0.inside ≡ inside = ap (λ (x : Binding). x.inside) s.3 ∙ h.2 in
+            let there : number_at (part_of old protocol) inside ≡ Some n =
+            ap (number_at (part_of old protocol)) (sym same)
+            ∙ (all protocol).is.inside_is n s.0 s.1 in
+            let z : None ≡ Some (with_live_flows timers now h.0) = sym (none n there)
+            ∙ (sym (gone_seen protocol n) ∙ live) in cc
+      ] refl
 
   -- THE QUOTA
-  pub gone_reaches : (quota : Option ℕ) (host : ℕ) (list : List Binding) → Apart (map key list) → AllShow address timers now gone list → AreCounted (is_some quota) gone →
-      reaches quota (count_for address host list) ≡ reaches quota ((count_in gone.icmp.hosts host + count_in gone.tcp.hosts host) + count_in gone.udp.hosts host)
+  pub gone_reaches : (quota : Option ℕ) (host : ℕ) (list : List Binding) → Apart (map key list) →
+      AllShow address timers now gone list → AreCounted (is_some quota) gone →
+      reaches quota (count_for address host list)
+      ≡ reaches quota ((count_in gone.icmp.hosts host + count_in gone.tcp.hosts host)
+      + count_in gone.udp.hosts host)
   gone_reaches None host list apart shows counted = refl
   gone_reaches (Some quota) host list apart shows counted =
-      let c : (q : Protocol) → count_in (part_of gone q).hosts host ≡ count_held (held (part_of gone q)) host = λ q. (purged q).part.counted (counted q) host in
+      let c : (q : Protocol) → count_in (part_of gone q).hosts host ≡ count_held (held (part_of gone q)) host = λ q.
+      (purged q).part.counted (counted q) host in
       ap (reaches (Some quota))
-      (count_is_held timers now address host (λ q. held (part_of gone q)) list apart shows (λ q. (purged q).part.small) gone_live
+      (count_is_held timers now address host (λ q. held (part_of gone q)) list apart shows (λ q.
+      (purged q).part.small) gone_live
       ∙ sym (ap (λ (n : ℕ). (n + count_in gone.tcp.hosts host) + count_in gone.udp.hosts host) (c Icmp)
       ∙ (ap (λ (n : ℕ). (count_held (held gone.icmp) host + n) + count_in gone.udp.hosts host) (c Tcp)
       ∙ ap (λ (n : ℕ). (count_held (held gone.icmp) host + count_held (held gone.tcp) host) + n) (c Udp))))
 
 -- THE LIST
 
-module _ (quota : Option ℕ) (address now : ℕ) (protocol : Protocol) (inside remote : Endpoint) (flags : Flags) (list : List Binding) (none : find (is_of_inside address protocol inside) list ≡ None) where
-  over_is : reaches quota (count_for address inside.address list) ≡ true → out_purged quota address now protocol inside remote flags list ≡ out_made list address now protocol inside remote flags (Err OverQuota)
+module _ (quota : Option ℕ) (address now : ℕ) (protocol : Protocol) (inside remote : Endpoint) (flags : Flags)
+    (list : List Binding) (none : find (is_of_inside address protocol inside) list ≡ None) where
+  over_is : reaches quota (count_for address inside.address list) ≡ true →
+      out_purged quota address now protocol inside remote flags list
+      ≡ out_made list address now protocol inside remote flags (Err OverQuota)
   over_is over =
       ap (out_found quota list address now protocol inside remote flags) none
-      ∙ ap (λ v. out_made list address now protocol inside remote flags (cond v (Err OverQuota) (ok_or (choice list protocol address inside.number) NoPort))) over
+      ∙ ap (λ v. out_made list address now protocol inside remote flags
+      (cond v (Err OverQuota) (ok_or (choice list protocol address inside.number) NoPort))) over
 
-  pub over_answer : reaches quota (count_for address inside.address list) ≡ true → Err OverQuota ≡ (out_purged quota address now protocol inside remote flags list).number
+  pub over_answer : reaches quota (count_for address inside.address list) ≡ true → Err OverQuota
+      ≡ (out_purged quota address now protocol inside remote flags list).number
   over_answer over = sym (ap (λ (o : Out). o.number) (over_is over))
 
-  pub over_list : reaches quota (count_for address inside.address list) ≡ true → (out_purged quota address now protocol inside remote flags list).list ≡ list
+  pub over_list : reaches quota (count_for address inside.address list) ≡ true →
+      (out_purged quota address now protocol inside remote flags list).list ≡ list
   over_list over = ap (λ (o : Out). o.list) (over_is over)
 
-  module _ (result : Result ℕ Cause) (under : reaches quota (count_for address inside.address list) ≡ false) (chosen : result ≡ ok_or (choice list protocol address inside.number) NoPort) where
-    made_is : out_purged quota address now protocol inside remote flags list ≡ out_made list address now protocol inside remote flags result
+  module _ (result : Result ℕ Cause) (under : reaches quota (count_for address inside.address list) ≡ false)
+      (chosen : result ≡ ok_or (choice list protocol address inside.number) NoPort) where
+    made_is : out_purged quota address now protocol inside remote flags list
+        ≡ out_made list address now protocol inside remote flags result
     made_is =
         ap (out_found quota list address now protocol inside remote flags) none
-        ∙ (ap (λ v. out_made list address now protocol inside remote flags (cond v (Err OverQuota) (ok_or (choice list protocol address inside.number) NoPort))) under
+        ∙ (ap (λ v. out_made list address now protocol inside remote flags
+        (cond v (Err OverQuota) (ok_or (choice list protocol address inside.number) NoPort))) under
         ∙ ap (out_made list address now protocol inside remote flags) (sym chosen))
 
     number_is : (r : Result ℕ Cause) → (out_made list address now protocol inside remote flags r).number ≡ r
@@ -145,5 +184,6 @@ module _ (quota : Option ℕ) (address now : ℕ) (protocol : Protocol) (inside 
     pub made_answer : result ≡ (out_purged quota address now protocol inside remote flags list).number
     made_answer = sym (ap (λ (o : Out). o.number) made_is ∙ number_is result)
 
-    pub made_list : (out_purged quota address now protocol inside remote flags list).list ≡ (out_made list address now protocol inside remote flags result).list
+    pub made_list : (out_purged quota address now protocol inside remote flags list).list
+        ≡ (out_made list address now protocol inside remote flags result).list
     made_list = ap (λ (o : Out). o.list) made_is

@@ -53,27 +53,33 @@ module _ {X : Type 0} where
   few (Some x) = x ∷ []
 
   -- where no element is big, tests that agree on the others pass the same
-  filter_small : (big s t : X → Bool) → ((x : X) → big x ≡ false → s x ≡ t x) → (xs : List X) → filter big xs ≡ [] → filter s xs ≡ filter t xs
+  filter_small : (big s t : X → Bool) → ((x : X) → big x ≡ false → s x ≡ t x) → (xs : List X) → filter big xs ≡ [] →
+      filter s xs ≡ filter t xs
   filter_small big s t agree [] none = refl
-  filter_small big s t agree (x ∷ xs) none = elim (big x) as (λ v. big x ≡ v → cond v (x ∷ filter big xs) (filter big xs) ≡ [] → filter s (x ∷ xs) ≡ filter t (x ∷ xs)) [
-    | true ↦ λ e h. cc
-    | false ↦ λ e h.
-        ap (λ v. cond v (x ∷ filter s xs) (filter s xs)) (agree x e)
-        ∙ ap (λ (l : List X). cond (t x) (x ∷ l) l) (filter_small big s t agree xs h)
-  ] refl none
+  filter_small big s t agree (x ∷ xs) none =
+      elim (big x) as (λ v. big x ≡ v → cond v (x ∷ filter big xs) (filter big xs) ≡ [] → filter s (x ∷ xs)
+      ≡ filter t (x ∷ xs)) [
+        | true ↦ λ e h. cc
+        | false ↦ λ e h.
+            ap (λ v. cond v (x ∷ filter s xs) (filter s xs)) (agree x e)
+            ∙ ap (λ (l : List X). cond (t x) (x ∷ l) l) (filter_small big s t agree xs h)
+      ] refl none
 
   filter_swap : (s t : X → Bool) (xs : List X) → filter s (filter t xs) ≡ filter t (filter s xs)
   filter_swap s t [] = refl
-  filter_swap s t (x ∷ xs) = elim (s x) as (λ v. s x ≡ v → filter s (cond (t x) (x ∷ filter t xs) (filter t xs)) ≡ filter t (cond v (x ∷ filter s xs) (filter s xs))) [
-    | true ↦ λ e. elim (t x) as (λ w. t x ≡ w → filter s (cond w (x ∷ filter t xs) (filter t xs)) ≡ cond w (x ∷ filter t (filter s xs)) (filter t (filter s xs))) [
-      | true ↦ λ f. ap (λ v. cond v (x ∷ filter s (filter t xs)) (filter s (filter t xs))) e ∙ ap (λ (l : List X). x ∷ l) (filter_swap s t xs)
-      | false ↦ λ f. filter_swap s t xs
-    ] refl
-    | false ↦ λ e. elim (t x) as (λ w. filter s (cond w (x ∷ filter t xs) (filter t xs)) ≡ filter t (filter s xs)) [
-      | true ↦ ap (λ v. cond v (x ∷ filter s (filter t xs)) (filter s (filter t xs))) e ∙ filter_swap s t xs
-      | false ↦ filter_swap s t xs
-    ]
-  ] refl
+  filter_swap s t (x ∷ xs) = elim (s x) as (λ v. s x ≡ v → filter s (cond (t x) (x ∷ filter t xs) (filter t xs))
+      ≡ filter t (cond v (x ∷ filter s xs) (filter s xs))) [
+        | true ↦ λ e. elim (t x) as (λ w. t x ≡ w → filter s (cond w (x ∷ filter t xs) (filter t xs))
+            ≡ cond w (x ∷ filter t (filter s xs)) (filter t (filter s xs))) [
+              | true ↦ λ f. ap (λ v. cond v (x ∷ filter s (filter t xs)) (filter s (filter t xs))) e
+                  ∙ ap (λ (l : List X). x ∷ l) (filter_swap s t xs)
+              | false ↦ λ f. filter_swap s t xs
+            ] refl
+        | false ↦ λ e. elim (t x) as (λ w. filter s (cond w (x ∷ filter t xs) (filter t xs)) ≡ filter t (filter s xs)) [
+          | true ↦ ap (λ v. cond v (x ∷ filter s (filter t xs)) (filter s (filter t xs))) e ∙ filter_swap s t xs
+          | false ↦ filter_swap s t xs
+        ]
+      ] refl
 
 -- ROWS OF ONE END
 
@@ -82,7 +88,8 @@ is_row protocol number row = same_protocol protocol row.protocol && eqb row.exte
 
 is_row_itself : (r : Row) → is_row r.protocol r.external.number r ≡ true
 is_row_itself r =
-    ap (λ v. v && eqb r.external.number r.external.number) (Rattle.napt_table.proofs.Seen.same_itself r.protocol) ∙ eq-eqb r.external.number r.external.number refl
+    ap (λ v. v && eqb r.external.number r.external.number) (Rattle.napt_table.proofs.Seen.same_itself r.protocol)
+    ∙ eq-eqb r.external.number r.external.number refl
 
 -- beyond 16 bits
 abbrev is_big : Row → Bool
@@ -96,22 +103,26 @@ none_big (r ∷ rows) small =
     ap (λ v. cond v (r ∷ filter is_big rows) (filter is_big rows)) fits ∙ none_big rows (All-tail IsSmall r rows small)
 
 -- ICMP at its number, TCP and UDP above it; what is beyond passes nowhere
-rank_icmp : (n m : ℕ) (q : Protocol) → n < 65536 → not (nat_lt m 65536) ≡ false → eqb n (protocol_rank q * 65536 + m) ≡ (same_protocol Icmp q && eqb m n)
+rank_icmp : (n m : ℕ) (q : Protocol) → n < 65536 → not (nat_lt m 65536) ≡ false → eqb n (protocol_rank q * 65536 + m)
+    ≡ (same_protocol Icmp q && eqb m n)
 rank_icmp n m Icmp lt small = grind (arith, nat_tests)
 rank_icmp n m Tcp lt small = grind (arith, nat_tests)
 rank_icmp n m Udp lt small = grind (arith, nat_tests)
 
-rank_tcp : (n m : ℕ) (q : Protocol) → n < 65536 → not (nat_lt m 65536) ≡ false → eqb (65536 + n) (protocol_rank q * 65536 + m) ≡ (same_protocol Tcp q && eqb m n)
+rank_tcp : (n m : ℕ) (q : Protocol) → n < 65536 → not (nat_lt m 65536) ≡ false →
+    eqb (65536 + n) (protocol_rank q * 65536 + m) ≡ (same_protocol Tcp q && eqb m n)
 rank_tcp n m Icmp lt small = grind (arith, nat_tests)
 rank_tcp n m Tcp lt small = grind (arith, nat_tests)
 rank_tcp n m Udp lt small = grind (arith, nat_tests)
 
-rank_udp : (n m : ℕ) (q : Protocol) → n < 65536 → not (nat_lt m 65536) ≡ false → eqb (131072 + n) (protocol_rank q * 65536 + m) ≡ (same_protocol Udp q && eqb m n)
+rank_udp : (n m : ℕ) (q : Protocol) → n < 65536 → not (nat_lt m 65536) ≡ false →
+    eqb (131072 + n) (protocol_rank q * 65536 + m) ≡ (same_protocol Udp q && eqb m n)
 rank_udp n m Icmp lt small = grind (arith, nat_tests)
 rank_udp n m Tcp lt small = grind (arith, nat_tests)
 rank_udp n m Udp lt small = grind (arith, nat_tests)
 
-rank_beyond : (n m : ℕ) (q : Protocol) → 196608 ≤ n → not (nat_lt m 65536) ≡ false → eqb n (protocol_rank q * 65536 + m) ≡ (same_protocol Icmp q && eqb m n)
+rank_beyond : (n m : ℕ) (q : Protocol) → 196608 ≤ n → not (nat_lt m 65536) ≡ false → eqb n (protocol_rank q * 65536 + m)
+    ≡ (same_protocol Icmp q && eqb m n)
 rank_beyond n m Icmp le small = grind (arith, nat_tests)
 rank_beyond n m Tcp le small = grind (arith, nat_tests)
 rank_beyond n m Udp le small = grind (arith, nat_tests)
@@ -124,7 +135,8 @@ module _ (xs ys : List Row) (alike : (p : Protocol) (n : ℕ) → filter (is_row
     | r ∷ rest ↦ λ e.
         let t : Row → Bool = is_row r.protocol r.external.number in
         let empty : filter t (filter is_big xs) ≡ [] =
-        filter_swap t is_big xs ∙ (ap (filter is_big) (alike r.protocol r.external.number) ∙ (filter_swap is_big t ys ∙ ap (filter t) none)) in
+        filter_swap t is_big xs ∙ (ap (filter is_big) (alike r.protocol r.external.number)
+        ∙ (filter_swap is_big t ys ∙ ap (filter t) none)) in
         let first : filter t (filter is_big xs) ≡ r ∷ filter t rest =
         ap (filter t) e ∙ ap (λ v. cond v (r ∷ filter t rest) (filter t rest)) (is_row_itself r) in
         cc
@@ -132,32 +144,40 @@ module _ (xs ys : List Row) (alike : (p : Protocol) (n : ℕ) → filter (is_row
 
   -- and at each rank, where no number is big
   module _ (none : filter is_big ys ≡ []) where
-    at_rank : (test : Row → Bool) (p : Protocol) (n : ℕ) → ((r : Row) → is_big r ≡ false → test r ≡ is_row p n r) → filter test xs ≡ filter test ys
+    at_rank : (test : Row → Bool) (p : Protocol) (n : ℕ) → ((r : Row) → is_big r ≡ false → test r ≡ is_row p n r) →
+        filter test xs ≡ filter test ys
     at_rank test p n agree =
         filter_small is_big test (is_row p n) agree xs (none_big_alike none)
         ∙ (alike p n ∙ sym (filter_small is_big test (is_row p n) agree ys none))
 
     rank_alike : (n : ℕ) → filter (λ r. eqb n (rank r)) xs ≡ filter (λ r. eqb n (rank r)) ys
-    rank_alike n = elim (nat_lt n 65536) as (λ v. nat_lt n 65536 ≡ v → filter (λ r. eqb n (rank r)) xs ≡ filter (λ r. eqb n (rank r)) ys) [
-      | true ↦ λ e.
-          let lt : n < 65536 = grind (arith, nat_tests) in
-          at_rank (λ r. eqb n (rank r)) Icmp n (λ r small. rank_icmp n r.external.number r.protocol lt small)
-      | false ↦ λ e. elim (nat_lt n 131072) as (λ v. nat_lt n 131072 ≡ v → filter (λ r. eqb n (rank r)) xs ≡ filter (λ r. eqb n (rank r)) ys) [
-        | true ↦ λ f.
-            let lt : n - 65536 < 65536 = grind (arith, nat_tests) in
-            let is : 65536 + (n - 65536) ≡ n = grind (arith, nat_tests) in
-            at_rank (λ r. eqb n (rank r)) Tcp (n - 65536) (λ r small. ap (λ (m : ℕ). eqb m (rank r)) (sym is) ∙ rank_tcp (n - 65536) r.external.number r.protocol lt small)
-        | false ↦ λ f. elim (nat_lt n 196608) as (λ v. nat_lt n 196608 ≡ v → filter (λ r. eqb n (rank r)) xs ≡ filter (λ r. eqb n (rank r)) ys) [
-          | true ↦ λ g.
-              let lt : n - 131072 < 65536 = grind (arith, nat_tests) in
-              let is : 131072 + (n - 131072) ≡ n = grind (arith, nat_tests) in
-              at_rank (λ r. eqb n (rank r)) Udp (n - 131072) (λ r small. ap (λ (m : ℕ). eqb m (rank r)) (sym is) ∙ rank_udp (n - 131072) r.external.number r.protocol lt small)
-          | false ↦ λ g.
-              let le : 196608 ≤ n = grind (arith, nat_tests) in
-              at_rank (λ r. eqb n (rank r)) Icmp n (λ r small. rank_beyond n r.external.number r.protocol le small)
+    rank_alike n = elim (nat_lt n 65536) as (λ v. nat_lt n 65536 ≡ v → filter (λ r. eqb n (rank r)) xs
+        ≡ filter (λ r. eqb n (rank r)) ys) [
+          | true ↦ λ e.
+              let lt : n < 65536 = grind (arith, nat_tests) in
+              at_rank (λ r. eqb n (rank r)) Icmp n (λ r small. rank_icmp n r.external.number r.protocol lt small)
+          | false ↦ λ e. elim (nat_lt n 131072) as (λ v. nat_lt n 131072 ≡ v → filter (λ r. eqb n (rank r)) xs
+              ≡ filter (λ r. eqb n (rank r)) ys) [
+                | true ↦ λ f.
+                    let lt : n - 65536 < 65536 = grind (arith, nat_tests) in
+                    let is : 65536 + (n - 65536) ≡ n = grind (arith, nat_tests) in
+                    at_rank (λ r. eqb n (rank r)) Tcp (n - 65536) (λ r small. ap (λ (m : ℕ). eqb m (rank r)) (sym is)
+                    ∙ rank_tcp (n - 65536) r.external.number r.protocol lt small)
+                | false ↦ λ f. elim (nat_lt n 196608) as (λ v. nat_lt n 196608 ≡ v → filter (λ r. eqb n (rank r)) xs
+                    ≡ filter (λ r. eqb n (rank r)) ys) [
+                      | true ↦ λ g.
+                          let lt : n - 131072 < 65536 = grind (arith, nat_tests) in
+                          let is : 131072 + (n - 131072) ≡ n = grind (arith, nat_tests) in
+                          at_rank (λ r. eqb n (rank r)) Udp (n - 131072) (λ r small.
+                          ap (λ (m : ℕ). eqb m (rank r)) (sym is)
+                          ∙ rank_udp (n - 131072) r.external.number r.protocol lt small)
+                      | false ↦ λ g.
+                          let le : 196608 ≤ n = grind (arith, nat_tests) in
+                          at_rank (λ r. eqb n (rank r)) Icmp n (λ r small.
+                          rank_beyond n r.external.number r.protocol le small)
+                    ] refl
+              ] refl
         ] refl
-      ] refl
-    ] refl
 
     in_order_same : in_order xs ≡ in_order ys
     in_order_same = in_order_alike xs ys (λ x.
@@ -167,28 +187,37 @@ module _ (xs ys : List Row) (alike : (p : Protocol) (n : ℕ) → filter (is_row
 -- THE LIST
 
 module _ (timers : Timers) (now address : ℕ) (p : Protocol) (n : ℕ) where
-  list_rows : (list : List Binding) → Each (IsPaired (λ host. address)) (map key list) → Once (has_number address p n) list →
+  list_rows : (list : List Binding) → Each (IsPaired (λ host. address)) (map key list) →
+      Once (has_number address p n) list →
       filter (is_row p n) (map row list) ≡ few (option_map row (find (has_number address p n) list))
   list_rows [] each once = refl
   list_rows (b ∷ list) each once =
-      let same : is_row p n (row b) ≡ has_number address p n b = sym (ap (λ v. v && is_row p n (row b)) (eq-eqb b.external.address address each.0.paired)) in
+      let same : is_row p n (row b) ≡ has_number address p n b =
+      sym (ap (λ v. v && is_row p n (row b)) (eq-eqb b.external.address address each.0.paired)) in
       let rest : List Row = filter (is_row p n) (map row list) in
       ap (λ v. cond v (row b ∷ rest) rest) same
-      ∙ elim (has_number address p n b) as (λ v. has_number address p n b ≡ v → cond v (row b ∷ rest) rest ≡ few (option_map row (cond v (Some b) (find (has_number address p n) list)))) [
-        | true ↦ λ e. ap (λ (l : List Row). row b ∷ l) (list_rows list each.1 once.1 ∙ ap (λ (o : Option Binding). few (option_map row o)) (find_nowhere (has_number address p n) list (once.0 e)))
+      ∙ elim (has_number address p n b) as (λ v. has_number address p n b ≡ v → cond v (row b ∷ rest) rest
+      ≡ few (option_map row (cond v (Some b) (find (has_number address p n) list)))) [
+        | true ↦ λ e. ap (λ (l : List Row). row b ∷ l) (list_rows list each.1 once.1
+            ∙ ap (λ (o : Option Binding). few (option_map row o)) (find_nowhere (has_number address p n) list
+            (once.0 e)))
         | false ↦ λ e. list_rows list each.1 once.1
       ] refl
 
 -- A PART
 
-each_entry : (P : ℕ × Binding → Type 0) (es : List (ℕ × Binding)) → IsDistinct nat_eq (keys_of es) → ((n : ℕ) (b : Binding) → lookup (nat_eq n) es ≡ Some b → P (n, b)) → Each P es
+each_entry : (P : ℕ × Binding → Type 0) (es : List (ℕ × Binding)) → IsDistinct nat_eq (keys_of es) →
+    ((n : ℕ) (b : Binding) → lookup (nat_eq n) es ≡ Some b → P (n, b)) → Each P es
 each_entry P [] distinct holds = tt
 each_entry P (e ∷ es) distinct holds = (
   holds e.0 e.1 (lookup_head (nat_eq e.0) e es (eq-eqb e.0 e.0 refl)),
-  each_entry P es (IsDistinct-tail nat_eq e.0 (keys_of es) distinct) (λ n b h. elim (nat_eq n e.0) as (λ v. nat_eq n e.0 ≡ v → P (n, b)) [
-    | true ↦ λ k. let none : lookup (nat_eq n) es ≡ None = lookup-none (nat_eq n) es (none_past_head nat_eq_equiv n e es distinct k) in let clash : None ≡ Some b = sym none ∙ h in cc
-    | false ↦ λ k. holds n b (lookup_tail (nat_eq n) e es k ∙ h)
-  ] refl),
+  each_entry P es (IsDistinct-tail nat_eq e.0 (keys_of es) distinct) (λ n b h.
+      elim (nat_eq n e.0) as (λ v. nat_eq n e.0 ≡ v → P (n, b)) [
+        | true ↦ λ k. let none : lookup (nat_eq n) es ≡ None =
+            lookup-none (nat_eq n) es (none_past_head nat_eq_equiv n e es distinct k) in let clash : None ≡ Some b =
+            sym none ∙ h in cc
+        | false ↦ λ k. holds n b (lookup_tail (nat_eq n) e es k ∙ h)
+      ] refl),
 )
 
 -- a binding of the protocol, with its number
@@ -200,7 +229,8 @@ module _ (timers : Timers) (now : ℕ) (p q : Protocol) (n : ℕ) where
   told o = cond (same_protocol p q) (few (option_map row (seen timers now o))) []
 
   none_told : told None ≡ []
-  none_told = elim (same_protocol p q) as (λ v. cond v (few (option_map row (seen timers now None))) [] ≡ []) [ true ↦ refl | false ↦ refl ]
+  none_told = elim (same_protocol p q) as (λ v. cond v (few (option_map row (seen timers now None))) [] ≡ [])
+      [ true ↦ refl | false ↦ refl ]
 
   entry_rows : (es : List (ℕ × Binding)) → Each (IsEntry q) es → IsDistinct nat_eq (keys_of es) →
       filter (is_row p n) (map row (filter (is_live timers now) (values_of es))) ≡ told (lookup (nat_eq n) es)
@@ -208,38 +238,56 @@ module _ (timers : Timers) (now : ℕ) (p q : Protocol) (n : ℕ) where
   entry_rows (e ∷ es) each distinct =
       let made : List Row = map row (filter (is_live timers now) (values_of es)) in
       let rest : List Row = filter (is_row p n) made in
-      let again : rest ≡ told (lookup (nat_eq n) es) = entry_rows es each.1 (IsDistinct-tail nat_eq e.0 (keys_of es) distinct) in
+      let again : rest ≡ told (lookup (nat_eq n) es) =
+      entry_rows es each.1 (IsDistinct-tail nat_eq e.0 (keys_of es) distinct) in
       let tests : is_row p n (row e.1) ≡ (same_protocol p q && eqb e.0 n) =
-      ap (λ (x : Protocol). same_protocol p x && eqb e.1.external.number n) each.0.0 ∙ ap (λ (m : ℕ). same_protocol p q && eqb m n) each.0.1 in
-      elim (nat_eq n e.0) as (λ v. nat_eq n e.0 ≡ v → filter (is_row p n) (map row (cond (is_live timers now e.1) (e.1 ∷ filter (is_live timers now) (values_of es)) (filter (is_live timers now) (values_of es)))) ≡ told (cond v (Some e.1) (lookup (nat_eq n) es))) [
+      ap (λ (x : Protocol). same_protocol p x && eqb e.1.external.number n) each.0.0
+      ∙ ap (λ (m : ℕ). same_protocol p q && eqb m n) each.0.1 in
+      elim (nat_eq n e.0) as (λ v. nat_eq n e.0 ≡ v →
+      filter (is_row p n) (map row (cond (is_live timers now e.1) (e.1 ∷ filter (is_live timers now) (values_of es))
+      (filter (is_live timers now) (values_of es)))) ≡ told (cond v (Some e.1) (lookup (nat_eq n) es))) [
         | true ↦ λ k.
-            let none : lookup (nat_eq n) es ≡ None = lookup-none (nat_eq n) es (none_past_head nat_eq_equiv n e es distinct k) in
+            let none : lookup (nat_eq n) es ≡ None =
+            lookup-none (nat_eq n) es (none_past_head nat_eq_equiv n e es distinct k) in
             let empty : rest ≡ [] = again ∙ (ap told none ∙ none_told) in
-            let passes : is_row p n (row e.1) ≡ same_protocol p q = tests ∙ ap (λ v. same_protocol p q && v) (eq-eqb e.0 n (sym (eqb-true n e.0 k))) ∙ and_true (same_protocol p q) in
-            elim (is_live timers now e.1) as (λ v. filter (is_row p n) (map row (cond v (e.1 ∷ filter (is_live timers now) (values_of es)) (filter (is_live timers now) (values_of es)))) ≡ cond (same_protocol p q) (few (option_map row (cond v (Some (with_live_flows timers now e.1)) None))) []) [
-              | true ↦ ap (λ v. cond v (row e.1 ∷ rest) rest) passes ∙ ap (λ (l : List Row). cond (same_protocol p q) (row e.1 ∷ l) l) empty
+            let passes : is_row p n (row e.1) ≡ same_protocol p q = tests ∙ ap (λ v. same_protocol p q && v)
+            (eq-eqb e.0 n (sym (eqb-true n e.0 k))) ∙ and_true (same_protocol p q) in
+            elim (is_live timers now e.1) as (λ v.
+            filter (is_row p n)
+            (map row (cond v (e.1 ∷ filter (is_live timers now) (values_of es))
+            (filter (is_live timers now) (values_of es)))) ≡ cond (same_protocol p q)
+            (few (option_map row (cond v (Some (with_live_flows timers now e.1)) None))) []) [
+              | true ↦ ap (λ v. cond v (row e.1 ∷ rest) rest) passes
+                  ∙ ap (λ (l : List Row). cond (same_protocol p q) (row e.1 ∷ l) l) empty
               | false ↦ empty ∙ sym none_told
             ]
         | false ↦ λ k.
             let apart : eqb e.0 n ≡ false = grind (arith, nat_tests) in
-            let fails : is_row p n (row e.1) ≡ false = tests ∙ ap (λ v. same_protocol p q && v) apart ∙ and_false (same_protocol p q) in
-            elim (is_live timers now e.1) as (λ v. filter (is_row p n) (map row (cond v (e.1 ∷ filter (is_live timers now) (values_of es)) (filter (is_live timers now) (values_of es)))) ≡ told (lookup (nat_eq n) es)) [
+            let fails : is_row p n (row e.1) ≡ false = tests ∙ ap (λ v. same_protocol p q && v) apart
+            ∙ and_false (same_protocol p q) in
+            elim (is_live timers now e.1) as (λ v.
+            filter (is_row p n)
+            (map row (cond v (e.1 ∷ filter (is_live timers now) (values_of es))
+            (filter (is_live timers now) (values_of es)))) ≡ told (lookup (nat_eq n) es)) [
               | true ↦ ap (λ v. cond v (row e.1 ∷ rest) rest) fails ∙ again
               | false ↦ again
             ]
       ] refl
 
 -- the rows of a part, at a number of a protocol
-part_told : (part : Part) (now : ℕ) → IsPart part → AreRead now part → (p q : Protocol) (n : ℕ) → part.numbers.protocol ≡ q →
+part_told : (part : Part) (now : ℕ) → IsPart part → AreRead now part → (p q : Protocol) (n : ℕ) → part.numbers.protocol
+    ≡ q →
     filter (is_row p n) (part_rows now part) ≡ told part.timers now p q n (held part n)
 part_told part now is read p q n protocol =
     entry_rows part.timers now p q n part.by_number.entries
-    (each_entry (IsEntry q) part.by_number.entries read.unique (λ m b h. (is.protocol_is m b h ∙ protocol, ap (λ (x : Endpoint). x.number) (is.external_is m b h))))
+    (each_entry (IsEntry q) part.by_number.entries read.unique (λ m b h.
+    (is.protocol_is m b h ∙ protocol, ap (λ (x : Endpoint). x.number) (is.external_is m b h))))
     read.unique
 
 -- THE TABLE
 
-module _ (table : Inside) (is : KeepsItsList table) (now : ℕ) (later : table.at ≤ now) (read : (q : Protocol) → AreRead now (part_of table.parts q)) where
+module _ (table : Inside) (is : KeepsItsList table) (now : ℕ) (later : table.at ≤ now) (read : (q : Protocol) →
+    AreRead now (part_of table.parts q)) where
   abbrev pub made : List Row
   made = (part_rows now table.parts.icmp ++ part_rows now table.parts.tcp) ++ part_rows now table.parts.udp
 
@@ -247,13 +295,16 @@ module _ (table : Inside) (is : KeepsItsList table) (now : ℕ) (later : table.a
   abbrev seen_at : Protocol → ℕ → List Row
   seen_at p n = few (option_map row (seen table.timers now (held (part_of table.parts p) n)))
 
-  of_part : (p q : Protocol) (n : ℕ) → filter (is_row p n) (part_rows now (part_of table.parts q)) ≡ cond (same_protocol p q) (few (option_map row (seen table.timers now (held (part_of table.parts q) n)))) []
+  of_part : (p q : Protocol) (n : ℕ) → filter (is_row p n) (part_rows now (part_of table.parts q))
+      ≡ cond (same_protocol p q) (few (option_map row (seen table.timers now (held (part_of table.parts q) n)))) []
   of_part p q n =
       let of = is.parts_are q in
       part_told (part_of table.parts q) now of.is (read q) p q n of.protocol_is
       ∙ ap (λ (t : Timers). told t now p q n (held (part_of table.parts q) n)) of.timers_is
 
-  one_of : (p : Protocol) (n : ℕ) → (told table.timers now p Icmp n (held table.parts.icmp n) ++ told table.timers now p Tcp n (held table.parts.tcp n)) ++ told table.timers now p Udp n (held table.parts.udp n) ≡ seen_at p n
+  one_of : (p : Protocol) (n : ℕ) → (told table.timers now p Icmp n (held table.parts.icmp n)
+      ++ told table.timers now p Tcp n (held table.parts.tcp n)) ++ told table.timers now p Udp n
+      (held table.parts.udp n) ≡ seen_at p n
   one_of Icmp n = append-nil (seen_at Icmp n ++ []) ∙ append-nil (seen_at Icmp n)
   one_of Tcp n = append-nil (seen_at Tcp n)
   one_of Udp n = refl
@@ -267,20 +318,27 @@ module _ (table : Inside) (is : KeepsItsList table) (now : ℕ) (later : table.a
       filter-append t (icmp ++ tcp) udp
       ∙ (ap (λ (l : List Row). l ++ filter t udp) (filter-append t icmp tcp)
       ∙ (ap (λ (l : List Row). (l ++ filter t tcp) ++ filter t udp) (of_part p Icmp n)
-      ∙ (ap (λ (l : List Row). (told table.timers now p Icmp n (held table.parts.icmp n) ++ l) ++ filter t udp) (of_part p Tcp n)
-      ∙ (ap (λ (l : List Row). (told table.timers now p Icmp n (held table.parts.icmp n) ++ told table.timers now p Tcp n (held table.parts.tcp n)) ++ l) (of_part p Udp n)
+      ∙ (ap (λ (l : List Row). (told table.timers now p Icmp n (held table.parts.icmp n) ++ l) ++ filter t udp)
+      (of_part p Tcp n)
+      ∙ (ap (λ (l : List Row). (told table.timers now p Icmp n (held table.parts.icmp n)
+      ++ told table.timers now p Tcp n (held table.parts.tcp n)) ++ l) (of_part p Udp n)
       ∙ one_of p n))))
 
   list_told : (p : Protocol) (n : ℕ) → filter (is_row p n) (map row (live table is now later)) ≡ seen_at p n
   list_told p n =
       let sound = live_sound table is now later in
-      list_rows table.timers now table.address p n (live table is now later) sound.each (once_number table.address p n (live table is now later) sound.apart)
+      list_rows table.timers now table.address p n (live table is now later) sound.each
+      (once_number table.address p n (live table is now later) sound.apart)
       ∙ ap (λ (o : Option Binding). few (option_map row o)) (show_now table is now later p n)
 
   all_small : All IsSmall made
-  all_small = All-append IsSmall (part_rows now table.parts.icmp ++ part_rows now table.parts.tcp) (part_rows now table.parts.udp)
-      (All-append IsSmall (part_rows now table.parts.icmp) (part_rows now table.parts.tcp) (read Icmp).small (read Tcp).small) (read Udp).small
+  all_small = All-append IsSmall (part_rows now table.parts.icmp ++ part_rows now table.parts.tcp)
+      (part_rows now table.parts.udp)
+      (All-append IsSmall (part_rows now table.parts.icmp) (part_rows now table.parts.tcp) (read Icmp).small
+      (read Tcp).small) (read Udp).small
 
   -- sorted, they are the rows of the list
   pub made_in_order : in_order made ≡ rows table.timers now (list_of table)
-  made_in_order = sym (in_order_same (map row (live table is now later)) made (λ p n. list_told p n ∙ sym (made_told p n)) (none_big made all_small))
+  made_in_order =
+      sym (in_order_same (map row (live table is now later)) made (λ p n. list_told p n ∙ sym (made_told p n))
+      (none_big made all_small))

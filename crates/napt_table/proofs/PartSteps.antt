@@ -29,7 +29,8 @@ use Rattle.napt_table.proofs.Sound.{received_key}
 use Rattle.napt_table.proofs.Seen.{protocol_is, same_itself, changed_other, inside_protocol, not_has}
 
 -- a part after a step
-pub kept_of : (address : ℕ) (timers : Timers) (at : ℕ) (q : Protocol) (old new : Part) → IsOf address timers at q old → IsPart new → AreDue new → IsSamePlace old new → IsOf address timers at q new
+pub kept_of : (address : ℕ) (timers : Timers) (at : ℕ) (q : Protocol) (old new : Part) → IsOf address timers at q old →
+    IsPart new → AreDue new → IsSamePlace old new → IsOf address timers at q new
 kept_of address timers at q old new of is due same = record {
   is = is;
   due = due;
@@ -40,27 +41,47 @@ kept_of address timers at q old new of is due same = record {
 }
 
 -- other protocols are as before
-pub in_others : (inbound : Inbound) (timers : Timers) (address now : ℕ) (protocol : Protocol) (number : ℕ) (remote : Endpoint) (flags : Flags) (list : List Binding) (q : Protocol) → q ≢ protocol → (n : ℕ) →
-    find (has_number address q n) (in_purged inbound address now protocol number remote flags list).list ≡ find (has_number address q n) list
+pub in_others : (inbound : Inbound) (timers : Timers) (address now : ℕ) (protocol : Protocol) (number : ℕ)
+    (remote : Endpoint) (flags : Flags) (list : List Binding) (q : Protocol) → q ≢ protocol → (n : ℕ) →
+    find (has_number address q n) (in_purged inbound address now protocol number remote flags list).list
+    ≡ find (has_number address q n) list
 in_others inbound timers address now protocol number remote flags list q differs n =
-    elim (find (has_number address protocol number) list) as (λ o. find (has_number address q n) (in_found inbound list address now protocol number remote flags o).list ≡ find (has_number address q n) list) [
+    elim (find (has_number address protocol number) list) as (λ o.
+    find (has_number address q n) (in_found inbound list address now protocol number remote flags o).list
+    ≡ find (has_number address q n) list) [
       | None ↦ refl
-      | Some b ↦ elim (permits inbound b remote) as (λ v. find (has_number address q n) (let i : In = cond v (record { inside = Ok b.inside; list = change_first (has_number address protocol number) (received inbound remote flags now) list }) (record { inside = Err Filtered; list = list }) in i.list) ≡ find (has_number address q n) list) [
-        | true ↦ changed_other timers now address protocol number (received inbound remote flags now) (received_key inbound remote flags now) list q n (λ p. absurd (differs p))
-        | false ↦ refl
-      ]
+      | Some b ↦ elim (permits inbound b remote) as (λ v. find (has_number address q n) (let i : In =
+          cond v (record {
+            inside = Ok b.inside;
+            list = change_first (has_number address protocol number)
+                (received inbound remote flags now) list;
+          }) (record { inside = Err Filtered; list = list }) in i.list)
+          ≡ find (has_number address q n) list) [
+            | true ↦ changed_other timers now address protocol number (received inbound remote flags now)
+                (received_key inbound remote flags now) list q n (λ p. absurd (differs p))
+            | false ↦ refl
+          ]
     ]
 
-pub out_others : (quota : Option ℕ) (timers : Timers) (address now : ℕ) (protocol : Protocol) (inside remote : Endpoint) (flags : Flags) (list : List Binding) (q : Protocol) → q ≢ protocol → (n : ℕ) →
-    find (has_number address q n) (out_purged quota address now protocol inside remote flags list).list ≡ find (has_number address q n) list
+pub out_others : (quota : Option ℕ) (timers : Timers) (address now : ℕ) (protocol : Protocol) (inside remote : Endpoint)
+    (flags : Flags) (list : List Binding) (q : Protocol) → q ≢ protocol → (n : ℕ) →
+    find (has_number address q n) (out_purged quota address now protocol inside remote flags list).list
+    ≡ find (has_number address q n) list
 out_others quota timers address now protocol inside remote flags list q differs n =
-    elim (find (is_of_inside address protocol inside) list) as (λ o. find (has_number address q n) (out_found quota list address now protocol inside remote flags o).list ≡ find (has_number address q n) list) [
-      | None ↦ elim (granted quota list address protocol inside) as (λ m. find (has_number address q n) (out_made list address now protocol inside remote flags m).list ≡ find (has_number address q n) list) [
-        | Err cause ↦ refl
-        | Ok m ↦ find_passed_over (has_number address q n) list (sent remote flags now (fresh protocol inside address m now)) (not_has address q n (sent remote flags now (fresh protocol inside address m now)) differs)
-      ]
+    elim (find (is_of_inside address protocol inside) list) as (λ o.
+    find (has_number address q n) (out_found quota list address now protocol inside remote flags o).list
+    ≡ find (has_number address q n) list) [
+      | None ↦ elim (granted quota list address protocol inside) as (λ m.
+          find (has_number address q n) (out_made list address now protocol inside remote flags m).list
+          ≡ find (has_number address q n) list) [
+            | Err cause ↦ refl
+            | Ok m ↦ find_passed_over (has_number address q n) list
+                (sent remote flags now (fresh protocol inside address m now))
+                (not_has address q n (sent remote flags now (fresh protocol inside address m now)) differs)
+          ]
       | Some b ↦ find_other (is_of_inside address protocol inside) (sent remote flags now) (has_number address q n)
-          (λ x. ap (λ (k : Key). eqb k.external.address address && (same_protocol q k.protocol && eqb k.external.number n)) (sent_key remote flags now x))
+          (λ x. ap (λ (k : Key). eqb k.external.address address
+          && (same_protocol q k.protocol && eqb k.external.number n)) (sent_key remote flags now x))
           (λ x h. not_has address q n x (λ p. differs (p ∙ sym (inside_protocol address protocol inside x h)))) list
     ]
 
@@ -72,8 +93,10 @@ by_protocol protocol q P here rest = elim (same_protocol q protocol) as (λ v. s
 ] refl
 
 -- the parts after a step of one of them
-module _ (protocol : Protocol) (old new : AllParts) (others : (q : Protocol) → q ≢ protocol → part_of new q ≡ part_of old q) (same : IsSamePlace (part_of old protocol) (part_of new protocol)) where
-  pub all_of : (address : ℕ) (timers : Timers) (at : ℕ) → AreOf address timers at old → IsPart (part_of new protocol) → AreDue (part_of new protocol) → AreOf address timers at new
+module _ (protocol : Protocol) (old new : AllParts) (others : (q : Protocol) → q ≢ protocol → part_of new q
+    ≡ part_of old q) (same : IsSamePlace (part_of old protocol) (part_of new protocol)) where
+  pub all_of : (address : ℕ) (timers : Timers) (at : ℕ) → AreOf address timers at old → IsPart (part_of new protocol) →
+      AreDue (part_of new protocol) → AreOf address timers at new
   all_of address timers at all is due q = by_protocol protocol q (λ r. IsOf address timers at r (part_of new r))
       (kept_of address timers at protocol (part_of old protocol) (part_of new protocol) (all protocol) is due same)
       (λ d. subst (λ (p : Part). IsOf address timers at q p) (sym (others q d)) (all q))
@@ -84,7 +107,10 @@ module _ (protocol : Protocol) (old new : AllParts) (others : (q : Protocol) →
       (λ d. ap (λ (p : Part). are_counted p.hosts) (others q d) ∙ are q)
 
 -- one event more
-pub played_more : (timers : Timers) (quota : Option ℕ) (inbound : Inbound) (address : ℕ) (events : List (ℕ × Event)) (event : ℕ × Event) (list : List Binding) →
-    played_all timers quota inbound address (events ++ event ∷ []) list ≡ played timers quota inbound address event.0 event.1 (played_all timers quota inbound address events list)
+pub played_more : (timers : Timers) (quota : Option ℕ) (inbound : Inbound) (address : ℕ) (events : List (ℕ × Event))
+    (event : ℕ × Event) (list : List Binding) →
+    played_all timers quota inbound address (events ++ event ∷ []) list
+    ≡ played timers quota inbound address event.0 event.1 (played_all timers quota inbound address events list)
 played_more timers quota inbound address [] event list = refl
-played_more timers quota inbound address (e ∷ events) event list = played_more timers quota inbound address events event (played timers quota inbound address e.0 e.1 list)
+played_more timers quota inbound address (e ∷ events) event list = played_more timers quota inbound address events event
+    (played timers quota inbound address e.0 e.1 list)

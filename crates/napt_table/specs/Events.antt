@@ -9,11 +9,15 @@ use Rattle.napt_table.specs.Steps.{step_out, step_in}
 use Rattle.napt_table.specs.Held.{redirect_of}
 
 abbrev pub played : Timers → Option ℕ → Inbound → ℕ → ℕ → Event → List Binding → List Binding
-played timers quota inbound address now (Redirected protocol inside number) list = list ++ redirect_of protocol address inside number ∷ []
-played timers quota inbound address now (Sent protocol inside remote flags) list = (step_out timers quota address now protocol inside remote flags list).list
-played timers quota inbound address now (Entered protocol number remote flags) list = (step_in timers inbound address now protocol number remote flags list).list
+played timers quota inbound address now (Redirected protocol inside number) list =
+    list ++ redirect_of protocol address inside number ∷ []
+played timers quota inbound address now (Sent protocol inside remote flags) list =
+    (step_out timers quota address now protocol inside remote flags list).list
+played timers quota inbound address now (Entered protocol number remote flags) list =
+    (step_in timers inbound address now protocol number remote flags list).list
 
 -- one after another, each with its time in ns
 abbrev pub played_all : Timers → Option ℕ → Inbound → ℕ → List (ℕ × Event) → List Binding → List Binding
 played_all timers quota inbound address [] list = list
-played_all timers quota inbound address (event ∷ events) list = played_all timers quota inbound address events (played timers quota inbound address event.0 event.1 list)
+played_all timers quota inbound address (event ∷ events) list = played_all timers quota inbound address events
+    (played timers quota inbound address event.0 event.1 list)

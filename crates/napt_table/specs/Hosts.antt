@@ -23,11 +23,14 @@ count_below test (suc n) = cond {A = ℕ} (test n) 1 0 + count_below test n
 abbrev pub count_held : (ℕ → Option Binding) → ℕ → ℕ
 count_held held host = count_below (λ n. held_for host (held n)) (2 ^ 16)
 
--- LAW: where nothing dead is held, the bindings of a host in the list are those that are held for it, over all protocols
+-- LAW: where nothing dead is held, the bindings of a host in the list are those that are held for it, over all
+-- protocols
 
 abbrev pub CountIsHeld : Type 0
-CountIsHeld = (timers : Timers) (now address host : ℕ) (held : Protocol → ℕ → Option Binding) (list : List Binding) → Apart (map key list) →
+CountIsHeld = (timers : Timers) (now address host : ℕ) (held : Protocol → ℕ → Option Binding) (list : List Binding) →
+    Apart (map key list) →
     ((q : Protocol) → Shows timers now address q (held q) list) →
     ((q : Protocol) (n : ℕ) (binding : Binding) → held q n ≡ Some binding → n < 2 ^ 16) →
     ((q : Protocol) (n : ℕ) (binding : Binding) → held q n ≡ Some binding → is_live timers now binding ≡ true) →
-    count_for address host list ≡ (count_held (held Icmp) host + count_held (held Tcp) host) + count_held (held Udp) host
+    count_for address host list ≡ (count_held (held Icmp) host + count_held (held Tcp) host)
+    + count_held (held Udp) host

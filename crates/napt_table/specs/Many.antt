@@ -14,7 +14,8 @@ place_at many remote = get pair_eq many.places (remote.address, remote.number)
 
 -- each flow is found by its remote, and is counted at its address
 pub record IsMany (many : Many) : Type 0 where
-  pub stands : (remote : Endpoint) (i : ℕ) → place_at many remote ≡ Some i → (flow : Flow) × Stands many.slots.slots i flow × (flow.remote ≡ remote)
+  pub stands : (remote : Endpoint) (i : ℕ) → place_at many remote ≡ Some i → (flow : Flow)
+      × Stands many.slots.slots i flow × (flow.remote ≡ remote)
   pub found : (i : ℕ) (flow : Flow) → Stands many.slots.slots i flow → place_at many flow.remote ≡ Some i
   pub counted : (address : ℕ) → count_at many.addresses address ≡ count_of many.slots.slots address
 

@@ -1,7 +1,9 @@
 -- How many bindings an inside host may have.
 --
--- RFC 6888, REQ-4: a carrier-grade translator supports limiting the number of external ports for each subscriber, so that no one
--- takes all of them. A host has one external address (RFC 4787, REQ-2), and its bindings there are counted over all protocols.
+-- RFC 6888, REQ-4: a carrier-grade translator supports limiting the number of external ports for each subscriber, so
+-- that no one
+-- takes all of them. A host has one external address (RFC 4787, REQ-2), and its bindings there are counted over all
+-- protocols.
 -- Redirects do not count: the configuration gives them.
 use Rattle.std.specs.Prelude.{ℕ, ◌==◌, nat_le, Bool, false, not, ◌&&◌, cond, List, length, filter, Option, Some, None, Result, Err, ok_or}
 use Rattle.napt_wire.specs.declared.Protocol.{Protocol}
@@ -28,4 +30,5 @@ reaches (Some quota) count = nat_le quota count
 -- the number of a new binding, or why there is none: the quota is judged before the choice
 abbrev pub granted : Option ℕ → List Binding → ℕ → Protocol → Endpoint → Result ℕ Cause
 granted quota list address protocol inside =
-    cond (reaches quota (count_for address inside.address list)) (Err OverQuota) (ok_or (choice list protocol address inside.number) NoPort)
+    cond (reaches quota (count_for address inside.address list)) (Err OverQuota)
+    (ok_or (choice list protocol address inside.number) NoPort)

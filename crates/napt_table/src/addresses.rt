@@ -56,7 +56,8 @@ impl Addresses {
     pub(crate) fn put(&mut self, address: u32)
         requires room { 0 < spare self.old.counts }
         requires fits { count_at self.old address + 1 < 2 ^ 64 }
-        ensures { (other : ℕ) → count_at self.new other ≡ count_at self.old other + cond {A = ℕ} (address == other) 1 0 }
+        ensures { (other : ℕ) → count_at self.new other ≡ count_at self.old other
+            + cond {A = ℕ} (address == other) 1 0 }
     {
         let count = self.count(address);
         match self.counts.insert(address, count + 1) {
@@ -67,7 +68,8 @@ impl Addresses {
 
     /// One less of the address.
     pub(crate) fn take(&mut self, address: u32)
-        ensures counts { (other : ℕ) → count_at self.new other ≡ count_at self.old other - cond {A = ℕ} (address == other) 1 0 }
+        ensures counts { (other : ℕ) → count_at self.new other ≡ count_at self.old other
+            - cond {A = ℕ} (address == other) 1 0 }
         ensures room { spare self.old.counts ≤ spare self.new.counts }
     {
         if let Some(count) = self.counts.get_mut(&address) {

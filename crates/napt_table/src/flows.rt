@@ -108,7 +108,9 @@ impl Flows {
         flags: Flags,
     ) -> Result<Flows, AllocError>
         requires { AreTimers timers }
-        ensures { IfOk result (λ flows. life.live_flows timers now protocol flows ≡ change_first (steps.is_flow_of remote) (steps.used protocol Way.Outgoing flags now) (steps.with_flow remote now [])) }
+        ensures { IfOk result (λ flows. life.live_flows timers now protocol flows
+            ≡ change_first (steps.is_flow_of remote) (steps.used protocol Way.Outgoing flags now)
+            (steps.with_flow remote now [])) }
     {
         let sent = Sent {
             protocol,
@@ -126,7 +128,8 @@ impl Flows {
         requires timers { AreTimers timers }
         requires live { list_any (life.is_live_flow timers now) self.now ≡ true }
         ensures later { now ≤ result }
-        ensures lives { (t : ℕ) → t ≤ result → list_any (life.is_live_flow timers t) self.now ≡ true }
+        ensures lives { (t : ℕ) → t ≤ result → list_any (life.is_live_flow timers t) self.now
+            ≡ true }
     {
         match &self.kept {
             Kept::Empty => now,
@@ -227,7 +230,8 @@ impl Flows {
 
     /// The flow of the remote, where there is one, is used now by an incoming segment.
     pub(crate) fn refresh_flow(&mut self, now: u64, remote: Endpoint, flags: Flags)
-        ensures { self.new ≡ change_first (steps.is_flow_of remote) (steps.used Protocol.Tcp Way.Incoming flags now) self.old }
+        ensures { self.new ≡ change_first (steps.is_flow_of remote)
+            (steps.used Protocol.Tcp Way.Incoming flags now) self.old }
     {
         match &mut self.kept {
             Kept::Empty => {}

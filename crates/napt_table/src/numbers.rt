@@ -83,7 +83,8 @@ impl Numbers {
     /// The number that an inside endpoint with this number gets: itself where it is not in use, else the next one of its class
     /// that is not, which goes on at the beginning of the class (RFC 4787, REQ-3 and REQ-4); `None` where the class is full.
     pub fn choose(&self, number: u16) -> Option<u16>
-        ensures { result ≡ find (λ n. not (is_used self.now n)) (choice.candidates self.now.protocol number) }
+        ensures { result ≡ find (λ n. not (is_used self.now n))
+            (choice.candidates self.now.protocol number) }
     {
         let class = Class::of(self.protocol, number);
         let start = u32::from(place_of(self.protocol, class.least as u16));
@@ -99,7 +100,8 @@ impl Numbers {
     /// The number is in use from now on. One that is in use stays so.
     pub fn put(&mut self, number: u16)
         ensures protocol { self.new.protocol ≡ self.old.protocol }
-        ensures used { (n : ℕ) → n < 2 ^ 16 → is_used self.new n ≡ ((n == number) || is_used self.old n) }
+        ensures used { (n : ℕ) → n < 2 ^ 16 → is_used self.new n
+            ≡ ((n == number) || is_used self.old n) }
     {
         let place = place_of(self.protocol, number);
         let places = &mut self.places;
@@ -109,7 +111,8 @@ impl Numbers {
     /// The number is free from now on. One that is free stays so.
     pub fn take(&mut self, number: u16)
         ensures protocol { self.new.protocol ≡ self.old.protocol }
-        ensures used { (n : ℕ) → n < 2 ^ 16 → is_used self.new n ≡ (not (n == number) && is_used self.old n) }
+        ensures used { (n : ℕ) → n < 2 ^ 16 → is_used self.new n
+            ≡ (not (n == number) && is_used self.old n) }
     {
         let place = place_of(self.protocol, number);
         let places = &mut self.places;

@@ -83,7 +83,8 @@ impl Part {
     /// The inside endpoint of the live binding with the number.
     pub(crate) fn inside_of(&self, now: u64, number: u16) -> Option<Endpoint>
         requires { AreTimers self.now.timers }
-        ensures { result ≡ option_map (λ b. b.inside) (seen self.now.timers now (held self.now number)) }
+        ensures { result ≡ option_map (λ b. b.inside)
+            (seen self.now.timers now (held self.now number)) }
     {
         match self.by_number.get(&number) {
             Some(binding) if binding.is_live(self.timers, now) => Some(binding.inside),
@@ -95,7 +96,8 @@ impl Part {
     pub(crate) fn number_of(&self, now: u64, inside: Endpoint) -> Option<u16>
         requires { AreTimers self.now.timers }
         ensures none { number_at self.now inside ≡ None → result ≡ None }
-        ensures some { (n : ℕ) → number_at self.now inside ≡ Some n → result ≡ option_map (λ b. n) (seen self.now.timers now (held self.now n)) }
+        ensures some { (n : ℕ) → number_at self.now inside ≡ Some n →
+            result ≡ option_map (λ b. n) (seen self.now.timers now (held self.now n)) }
     {
         let number = *self.by_inside.get(&(inside.address, inside.number))?;
         match self.by_number.get(&number) {
@@ -120,8 +122,11 @@ impl Part {
         ensures numbers { self.new.numbers ≡ self.old.numbers }
         ensures hosts { self.new.hosts ≡ self.old.hosts }
         ensures others { (n : ℕ) → n ≢ number → held self.new n ≡ held self.old n }
-        ensures absent { seen self.old.timers now (held self.old number) ≡ None → (result ≡ Err NoBinding) × (held self.new number ≡ held self.old number) }
-        ensures found { (b : Binding) → seen self.old.timers now (held self.old number) ≡ Some b → (result ≡ entered inbound remote b) × (held self.new number ≡ Some (left_by inbound remote flags now b)) }
+        ensures absent { seen self.old.timers now (held self.old number) ≡ None →
+            (result ≡ Err NoBinding) × (held self.new number ≡ held self.old number) }
+        ensures found { (b : Binding) → seen self.old.timers now (held self.old number) ≡ Some b →
+            (result ≡ entered inbound remote b)
+            × (held self.new number ≡ Some (left_by inbound remote flags now b)) }
     {
         let timers = self.timers;
         let Some(binding) = self.by_number.get_mut(&number) else {
@@ -157,8 +162,13 @@ impl Part {
         ensures place { IsSamePlace self.old self.new }
         ensures due { self.new.due ≡ self.old.due }
         ensures held { (n : ℕ) → held self.new n ≡ cond (number == n) None (held self.old n) }
-        ensures inside { (b : Binding) → held self.old number ≡ Some b → (e : Endpoint) → number_at self.new e ≡ cond (pair_eq (b.inside.address, b.inside.number) (e.address, e.number)) None (number_at self.old e) }
-        ensures used { (b : Binding) → held self.old number ≡ Some b → (n : ℕ) → n < 2 ^ 16 → is_used self.new.numbers n ≡ (not (n == number) && is_used self.old.numbers n) }
+        ensures inside { (b : Binding) → held self.old number ≡ Some b → (e : Endpoint) →
+            number_at self.new e ≡ cond (pair_eq (b.inside.address, b.inside.number) (
+              e.address,
+              e.number,
+            )) None (number_at self.old e) }
+        ensures used { (b : Binding) → held self.old number ≡ Some b → (n : ℕ) → n < 2 ^ 16 →
+            is_used self.new.numbers n ≡ (not (n == number) && is_used self.old.numbers n) }
         ensures hosts { (b : Binding) → held self.old number ≡ Some b → (host : ℕ) →
             count_in self.new.hosts host ≡ count_in self.old.hosts host - cond {A = ℕ} (held_for host (Some b)) 1 0 }
         ensures numbers { spare self.old.by_number ≤ spare self.new.by_number }
@@ -184,7 +194,8 @@ impl Part {
         ensures part { IsPart self.new }
         ensures due { AreDue self.new }
         ensures place { IsSamePlace self.old self.new }
-        ensures seen { (n : ℕ) → seen self.old.timers self.old.at (held self.new n) ≡ seen self.old.timers self.old.at (held self.old n) }
+        ensures seen { (n : ℕ) → seen self.old.timers self.old.at (held self.new n)
+            ≡ seen self.old.timers self.old.at (held self.old n) }
         ensures come_up { come_up self.new ≤ come_up self.old }
         ensures numbers { spare self.old.by_number ≤ spare self.new.by_number }
         ensures insides { spare self.old.by_inside ≤ spare self.new.by_inside }
@@ -214,7 +225,8 @@ impl Part {
         ensures part { IsPart self.new }
         ensures due { AreDue self.new }
         ensures place { IsSamePlace self.old self.new }
-        ensures seen { (n : ℕ) → seen self.old.timers self.old.at (held self.new n) ≡ seen self.old.timers self.old.at (held self.old n) }
+        ensures seen { (n : ℕ) → seen self.old.timers self.old.at (held self.new n)
+            ≡ seen self.old.timers self.old.at (held self.old n) }
         ensures room { HasRoom self.old → HasRoom self.new }
         ensures fewer { result ≡ true → come_up self.new < come_up self.old }
         ensures none { result ≡ false → All (λ e. self.old.at ≤ e.0) self.new.due.entries }
@@ -238,9 +250,11 @@ impl Part {
         ensures part { IsPart self.new }
         ensures due { AreDue self.new }
         ensures place { IsSamePlace self.old self.new }
-        ensures seen { (n : ℕ) → seen self.old.timers self.old.at (held self.new n) ≡ seen self.old.timers self.old.at (held self.old n) }
+        ensures seen { (n : ℕ) → seen self.old.timers self.old.at (held self.new n)
+            ≡ seen self.old.timers self.old.at (held self.old n) }
         ensures room { HasRoom self.old → HasRoom self.new }
-        ensures live { (n : ℕ) (b : Binding) → held self.new n ≡ Some b → is_live self.old.timers self.old.at b ≡ true }
+        ensures live { (n : ℕ) (b : Binding) → held self.new n ≡ Some b →
+            is_live self.old.timers self.old.at b ≡ true }
     {
         while self.purge_first() {}
     }
@@ -272,13 +286,18 @@ impl Part {
         requires due { AreDue self.old }
         requires live { is_live self.old.timers self.old.at binding ≡ true }
         requires protocol { binding.protocol ≡ self.old.numbers.protocol }
-        requires external { binding.external ≡ record { address = self.old.address; number = number } }
+        requires external { binding.external ≡ record {
+          address = self.old.address;
+          number =
+              number;
+        } }
         requires free { held self.old number ≡ None }
         requires absent { number_at self.old binding.inside ≡ None }
         ensures part { IsPart self.new }
         ensures due { AreDue self.new }
         ensures place { IsSamePlace self.old self.new }
-        ensures held { (n : ℕ) → held self.new n ≡ cond (number == n) (Some binding) (held self.old n) }
+        ensures held { (n : ℕ) → held self.new n ≡ cond (number == n) (Some binding)
+            (held self.old n) }
     {
         let until = binding.until(self.timers, self.at);
         self.hold(number, binding);
@@ -291,13 +310,18 @@ impl Part {
         requires room { HasRoom self.old }
         requires part { IsPart self.old }
         requires protocol { binding.protocol ≡ self.old.numbers.protocol }
-        requires external { binding.external ≡ record { address = self.old.address; number = number } }
+        requires external { binding.external ≡ record {
+          address = self.old.address;
+          number =
+              number;
+        } }
         requires free { held self.old number ≡ None }
         requires absent { number_at self.old binding.inside ≡ None }
         ensures part { IsPart self.new }
         ensures place { IsSamePlace self.old self.new }
         ensures due { self.new.due ≡ self.old.due }
-        ensures held { (n : ℕ) → held self.new n ≡ cond (number == n) (Some binding) (held self.old n) }
+        ensures held { (n : ℕ) → held self.new n ≡ cond (number == n) (Some binding)
+            (held self.old n) }
     {
         let inside = binding.inside;
         let hosts = &mut self.hosts;
@@ -346,7 +370,9 @@ impl Part {
         ensures part { IsPart self.new }
         ensures due { AreDue self.new }
         ensures place { IsSamePlace self.old self.new }
-        ensures held { OnOk result ((n : ℕ) → held self.new n ≡ cond (number == n) (Some (redirect_of self.old.numbers.protocol self.old.address inside number)) (held self.old n)) }
+        ensures held { OnOk result ((n : ℕ) → held self.new n ≡ cond (number == n)
+            (Some (redirect_of self.old.numbers.protocol self.old.address inside number))
+            (held self.old n)) }
         ensures refused { OnErr result ((n : ℕ) → held self.new n ≡ held self.old n) }
     {
         self.make_room()?;
@@ -380,7 +406,8 @@ impl Part {
         ensures hosts { self.new.hosts ≡ self.old.hosts }
         ensures others { (n : ℕ) → n ≢ number → held self.new n ≡ held self.old n }
         ensures refused { OnErr result (held self.new number ≡ held self.old number) }
-        ensures ok { (b : Binding) → held self.old number ≡ Some b → OnOk result (seen self.old.timers packet.now (held self.new number) ≡
+        ensures ok { (b : Binding) → held self.old number ≡ Some b →
+            OnOk result (seen self.old.timers packet.now (held self.new number) ≡
             Some (sent packet.remote packet.flags packet.now (with_live_flows self.old.timers packet.now b))) }
     {
         let timers = self.timers;
@@ -400,7 +427,9 @@ impl Part {
         ensures numbers { self.new.numbers ≡ self.old.numbers }
         ensures hosts { (host : ℕ) → count_in self.new.hosts host ≡ count_in self.old.hosts host }
         ensures room { OnOk result (HasRoom self.new) }
-        ensures flows { IfOk result (λ flows. live_flows self.old.timers packet.now self.old.numbers.protocol flows ≡
+        ensures flows { IfOk result (λ flows.
+            live_flows self.old.timers packet.now self.old.numbers.protocol
+            flows ≡
             change_first (is_flow_of packet.remote) (used self.old.numbers.protocol WayOut packet.flags packet.now) (with_flow packet.remote packet.now [])) }
     {
         self.make_room()?;
@@ -421,16 +450,21 @@ impl Part {
         requires part { IsPart self.old }
         requires due { AreDue self.old }
         requires at { self.old.at ≡ packet.now }
-        requires live { (n : ℕ) (b : Binding) → held self.old n ≡ Some b → is_live self.old.timers packet.now b ≡ true }
+        requires live { (n : ℕ) (b : Binding) → held self.old n ≡ Some b →
+            is_live self.old.timers packet.now b ≡ true }
         requires absent { number_at self.old packet.inside ≡ None }
         requires flows { live_flows self.old.timers packet.now self.old.numbers.protocol flows ≡
             change_first (is_flow_of packet.remote) (used self.old.numbers.protocol WayOut packet.flags packet.now) (with_flow packet.remote packet.now []) }
         ensures part { IsPart self.new }
         ensures due { AreDue self.new }
         ensures place { IsSamePlace self.old self.new }
-        ensures answer { (list : List Binding) → Shows self.old.timers packet.now self.old.address self.old.numbers.protocol (held self.old) list →
+        ensures answer { (list : List Binding) →
+            Shows self.old.timers packet.now self.old.address self.old.numbers.protocol
+            (held self.old) list →
             result ≡ ok_or (choice list self.old.numbers.protocol self.old.address packet.inside.number) NoPort }
-        ensures shows { (list : List Binding) → Shows self.old.timers packet.now self.old.address self.old.numbers.protocol (held self.old) list →
+        ensures shows { (list : List Binding) →
+            Shows self.old.timers packet.now self.old.address self.old.numbers.protocol
+            (held self.old) list →
             Shows self.old.timers packet.now self.old.address self.old.numbers.protocol (held self.new)
             (out_made list self.old.address packet.now self.old.numbers.protocol packet.inside packet.remote packet.flags result).list }
     {
@@ -476,9 +510,13 @@ impl Part {
         ensures part { IsPart self.new }
         ensures due { AreDue self.new }
         ensures place { IsSamePlace self.old self.new }
-        ensures answer { (list : List Binding) → Apart (map key list) → Shows self.old.timers now self.old.address self.old.numbers.protocol (held self.old) list →
+        ensures answer { (list : List Binding) → Apart (map key list) →
+            Shows self.old.timers now self.old.address self.old.numbers.protocol
+            (held self.old) list →
             result ≡ (in_purged inbound self.old.address now self.old.numbers.protocol number remote flags list).inside }
-        ensures shows { (list : List Binding) → Apart (map key list) → Shows self.old.timers now self.old.address self.old.numbers.protocol (held self.old) list →
+        ensures shows { (list : List Binding) → Apart (map key list) →
+            Shows self.old.timers now self.old.address self.old.numbers.protocol
+            (held self.old) list →
             Shows self.old.timers now self.old.address self.old.numbers.protocol (held self.new) (in_purged inbound self.old.address now self.old.numbers.protocol number remote flags list).list }
     {
         self.receive(inbound, now, number, remote, flags)

@@ -95,7 +95,8 @@ pub(super) fn use_flow(flows: &mut Vec<Flow>, timers: Timers, sent: Sent) -> Res
 pub(super) fn refresh_flow(flows: &mut [Flow], now: u64, remote: Endpoint, flags: Flags)
     requires distinct { AreDistinct flows.old }
     ensures distinct { AreDistinct flows.new }
-    ensures flows { flows.new ≡ change_first (steps.is_flow_of remote) (steps.used Protocol.Tcp Way.Incoming flags now) flows.old }
+    ensures flows { flows.new ≡ change_first (steps.is_flow_of remote)
+        (steps.used Protocol.Tcp Way.Incoming flags now) flows.old }
 {
     if let Some(i) = flow_place(flows, remote) {
         flows[i] = flows[i].used(Protocol::Tcp, Way::Incoming, flags, now);

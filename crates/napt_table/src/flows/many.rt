@@ -102,7 +102,8 @@ impl Many {
     /// The flow in the slot changes, and stays one of its remote.
     fn change(&mut self, place: usize, flow: Flow)
         requires many { IsMany self.old }
-        requires stands { (was : Flow) × Stands self.old.slots.slots place was × (was.remote ≡ flow.remote) }
+        requires stands { (was : Flow) × Stands self.old.slots.slots place was
+            × (was.remote ≡ flow.remote) }
         ensures many { IsMany self.new }
         ensures slots { self.new.slots.slots ≡ slice_set self.old.slots.slots place (Some flow) }
     {
@@ -115,10 +116,13 @@ impl Many {
         requires timers { AreTimers timers }
         requires many { IsMany self.old }
         ensures many { IsMany self.new }
-        ensures kept { filter (life.is_live_flow timers now) (somes self.new.slots.slots) ≡ filter (life.is_live_flow timers now) (somes self.old.slots.slots) }
+        ensures kept { filter (life.is_live_flow timers now) (somes self.new.slots.slots)
+            ≡ filter (life.is_live_flow timers now) (somes self.old.slots.slots) }
         ensures room { HasRoom self.old → HasRoom self.new }
-        ensures fewer { result ≡ true → length (somes self.new.slots.slots) < length (somes self.old.slots.slots) }
-        ensures none { result ≡ false → somes self.new.slots.slots ≡ filter (life.is_live_flow timers now) (somes self.old.slots.slots) }
+        ensures fewer { result ≡ true → length (somes self.new.slots.slots)
+            < length (somes self.old.slots.slots) }
+        ensures none { result ≡ false → somes self.new.slots.slots
+            ≡ filter (life.is_live_flow timers now) (somes self.old.slots.slots) }
     {
         let Some(place) = self.slots.dead_place(timers, now) else {
             return false;
@@ -132,7 +136,8 @@ impl Many {
         requires timers { AreTimers timers }
         requires many { IsMany self.old }
         ensures many { IsMany self.new }
-        ensures flows { somes self.new.slots.slots ≡ filter (life.is_live_flow timers now) (somes self.old.slots.slots) }
+        ensures flows { somes self.new.slots.slots ≡ filter (life.is_live_flow timers now)
+            (somes self.old.slots.slots) }
         ensures room { HasRoom self.old → HasRoom self.new }
     {
         while self.drop_dead(timers, now) {}
@@ -143,7 +148,8 @@ impl Many {
         requires timers { AreTimers timers }
         requires many { IsMany self.old }
         ensures many { IsMany self.new }
-        ensures flows { somes self.new.slots.slots ≡ life.live_flows timers now protocol (somes self.old.slots.slots) }
+        ensures flows { somes self.new.slots.slots ≡ life.live_flows timers now protocol
+            (somes self.old.slots.slots) }
         ensures room { HasRoom self.old → HasRoom self.new }
     {
         if let Protocol::Tcp = protocol {
@@ -169,9 +175,11 @@ impl Many {
     /// The last moment at which one of these TCP flows is live, where one is live now.
     pub(super) fn last_moment(&self, timers: Timers, now: u64) -> u64
         requires timers { AreTimers timers }
-        requires live { list_any (life.is_live_flow timers now) (somes self.now.slots.slots) ≡ true }
+        requires live { list_any (life.is_live_flow timers now) (somes self.now.slots.slots)
+            ≡ true }
         ensures later { now ≤ result }
-        ensures lives { (t : ℕ) → t ≤ result → list_any (life.is_live_flow timers t) (somes self.now.slots.slots) ≡ true }
+        ensures lives { (t : ℕ) → t ≤ result → list_any (life.is_live_flow timers t)
+            (somes self.now.slots.slots) ≡ true }
     {
         self.slots.last_moment(timers, now)
     }
@@ -179,7 +187,8 @@ impl Many {
     /// Whether one of the flows is of the address.
     pub(super) fn has_address(&self, address: u32) -> bool
         requires { IsMany self.now }
-        ensures { result ≡ list_any (λ flow. flow.remote.address == address) (somes self.now.slots.slots) }
+        ensures { result ≡ list_any (λ flow. flow.remote.address == address)
+            (somes self.now.slots.slots) }
     {
         self.addresses.has(address)
     }
@@ -305,7 +314,8 @@ impl Many {
     pub(super) fn refresh_flow(&mut self, now: u64, remote: Endpoint, flags: Flags)
         requires { IsMany self.old }
         ensures many { IsMany self.new }
-        ensures flows { somes self.new.slots.slots ≡ change_first (steps.is_flow_of remote) (steps.used Protocol.Tcp Way.Incoming flags now) (somes self.old.slots.slots) }
+        ensures flows { somes self.new.slots.slots ≡ change_first (steps.is_flow_of remote)
+            (steps.used Protocol.Tcp Way.Incoming flags now) (somes self.old.slots.slots) }
     {
         let Some(place) = self.place_of(remote) else {
             return;

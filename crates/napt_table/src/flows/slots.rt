@@ -72,8 +72,10 @@ fn is_some_recent(times: &Times, now: u64, seconds: u64) -> bool
 /// A place whose time is not less than so many seconds ago.
 fn outlived_place(times: &Times, now: u64, seconds: u64) -> Option<usize>
     requires { seconds ≤ 1_000_000_000 }
-    ensures some { IfSome result (λ place. (time : ℕ) × Stands times.now.times place time × (life.is_recent now time seconds ≡ false)) }
-    ensures none { IfNone result ((place time : ℕ) → Stands times.now.times place time → life.is_recent now time seconds ≡ true) }
+    ensures some { IfSome result (λ place. (time : ℕ) × Stands times.now.times place time
+        × (life.is_recent now time seconds ≡ false)) }
+    ensures none { IfNone result ((place time : ℕ) → Stands times.now.times place time →
+        life.is_recent now time seconds ≡ true) }
 {
     let (time, place) = times.earliest()?;
     if is_recent(now, time, seconds) {
@@ -88,7 +90,8 @@ fn last_moment_of(times: &Times, now: u64, seconds: u64) -> u64
     requires some { 0 < seconds }
     requires few { seconds ≤ 1_000_000_000 }
     ensures later { now ≤ result }
-    ensures lives { (t : ℕ) → now < t → t ≤ result → list_any (is_recent_time t seconds) times.now.times ≡ true }
+    ensures lives { (t : ℕ) → now < t → t ≤ result →
+        list_any (is_recent_time t seconds) times.now.times ≡ true }
 {
     match times.latest() {
         Some(time) => last_moment(time, seconds).max(now),
@@ -170,8 +173,10 @@ impl Slots {
     /// A place of a TCP flow that is dead. It takes one look.
     pub(crate) fn dead_place(&self, timers: Timers, now: u64) -> Option<usize>
         requires { AreTimers timers }
-        ensures some { IfSome result (λ place. (flow : Flow) × Stands self.now.slots place flow × (life.is_live_flow timers now flow ≡ false)) }
-        ensures none { IfNone result ((place : ℕ) (flow : Flow) → Stands self.now.slots place flow → life.is_live_flow timers now flow ≡ true) }
+        ensures some { IfSome result (λ place. (flow : Flow) × Stands self.now.slots place flow
+            × (life.is_live_flow timers now flow ≡ false)) }
+        ensures none { IfNone result ((place : ℕ) (flow : Flow) → Stands self.now.slots place flow →
+            life.is_live_flow timers now flow ≡ true) }
     {
         match outlived_place(&self.established, now, timers.established) {
             Some(place) => Some(place),
@@ -193,7 +198,8 @@ impl Slots {
         requires timers { AreTimers timers }
         requires live { list_any (life.is_live_flow timers now) (somes self.now.slots) ≡ true }
         ensures later { now ≤ result }
-        ensures lives { (t : ℕ) → t ≤ result → list_any (life.is_live_flow timers t) (somes self.now.slots) ≡ true }
+        ensures lives { (t : ℕ) → t ≤ result → list_any (life.is_live_flow timers t)
+            (somes self.now.slots) ≡ true }
     {
         let established = last_moment_of(&self.established, now, timers.established);
         established.max(last_moment_of(&self.others, now, timers.transitory))

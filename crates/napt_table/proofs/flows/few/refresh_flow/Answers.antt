@@ -8,10 +8,15 @@ use Rattle.napt_table.proofs.Lists.{change_at, change_nowhere, any_nowhere}
 use Rattle.napt_table.proofs.flows.few.refresh_flow.Goals as goal
 
 pub returns-in-Some-clause-distinct : goal.returns-in-Some-clause-distinct
-returns-in-Some-clause-distinct c = distinct_set c.args.flows.now c.in-Some.i _ c.used.result (ap (λ (f : Flow). f.remote) c.used.ensures) c.requires.distinct
+returns-in-Some-clause-distinct c = distinct_set c.args.flows.now c.in-Some.i _ c.used.result
+    (ap (λ (f : Flow). f.remote) c.used.ensures) c.requires.distinct
 
 pub returns-in-Some-clause-flows : goal.returns-in-Some-clause-flows
-returns-in-Some-clause-flows c = rw c.used.ensures (change_at (steps.is_flow_of c.args.remote) (steps.used Tcp Incoming c.args.flags c.args.now) c.args.flows.now c.in-Some.i _ (cc))
+returns-in-Some-clause-flows c =
+    rw c.used.ensures (change_at (steps.is_flow_of c.args.remote) (steps.used Tcp Incoming c.args.flags c.args.now)
+    c.args.flows.now c.in-Some.i _ (cc))
 
 pub returns-in_default-clause-flows : goal.returns-in_default-clause-flows
-returns-in_default-clause-flows c = sym (change_nowhere (steps.is_flow_of c.args.remote) (steps.used Tcp Incoming c.args.flags c.args.now) c.args.flows.now (any_nowhere (steps.is_flow_of c.args.remote) c.args.flows.now (cc)))
+returns-in_default-clause-flows c =
+    sym (change_nowhere (steps.is_flow_of c.args.remote) (steps.used Tcp Incoming c.args.flags c.args.now)
+    c.args.flows.now (any_nowhere (steps.is_flow_of c.args.remote) c.args.flows.now (cc)))

@@ -3,7 +3,8 @@ use Rattle.napt_table.proofs.Timed.{none_latest, recent_latest}
 use Rattle.napt_table.proofs.flows.slots.is_some_recent.Goals as goal
 
 pub returns-in-Some : goal.returns-in-Some
-returns-in-Some c = c.is_recent.ensures ∙ sym (recent_latest c.args.now c.args.seconds c.args.times.now.times c.in-Some.time c.in-Some.ensures)
+returns-in-Some c = c.is_recent.ensures
+    ∙ sym (recent_latest c.args.now c.args.seconds c.args.times.now.times c.in-Some.time c.in-Some.ensures)
 
 pub returns-in-None : goal.returns-in-None
 returns-in-None c = sym (none_latest c.args.now c.args.seconds c.args.times.now.times c.in-None.ensures)

@@ -12,7 +12,8 @@ use Rattle.napt_table.proofs.part.Part.begin.Goals as goal
 pub returns-in_default-clause-answer : goal.returns-in_default-clause-answer
 returns-in_default-clause-answer c list shows =
     let self = c.args.self.now in
-    sym (ap (λ o. ok_or o NoPort) (choice_is self.timers c.args.packet.now self.address self.numbers.protocol c.args.packet.inside c.args.packet.remote c.args.packet.flags (held self) list shows c.requires.live
+    sym (ap (λ o. ok_or o NoPort) (choice_is self.timers c.args.packet.now self.address self.numbers.protocol
+    c.args.packet.inside c.args.packet.remote c.args.packet.flags (held self) list shows c.requires.live
     (is_used self.numbers) c.requires.part.used_is ∙ sym c.in_default.ensures))
 
 pub insert-requires-clause-live : goal.insert-requires-clause-live
@@ -20,20 +21,24 @@ insert-requires-clause-live c =
     let self = c.args.self.now in
     let packet = c.args.packet in
     rw (c.requires.at, c.protocol.ensures)
-    (made_live self.timers c.requires.part.timers_are packet.now self.address c.in-Some.number self.numbers.protocol packet.inside packet.remote packet.flags c.args.flows c.requires.flows)
+    (made_live self.timers c.requires.part.timers_are packet.now self.address c.in-Some.number self.numbers.protocol
+    packet.inside packet.remote packet.flags c.args.flows c.requires.flows)
 
 pub insert-requires-clause-free : goal.insert-requires-clause-free
 insert-requires-clause-free c =
     let self = c.args.self.now in
     let number = c.in-Some.number in
-    let not_used : not (is_used self.numbers number) ≡ true = passes (λ n. not (is_used self.numbers n)) (candidates self.numbers.protocol c.args.packet.inside.number) number (sym c.in-Some.ensures) in
+    let not_used : not (is_used self.numbers number) ≡ true = passes (λ n. not (is_used self.numbers n))
+    (candidates self.numbers.protocol c.args.packet.inside.number) number (sym c.in-Some.ensures) in
     let small : number < 2 ^ 16 = omega arith in
-    none_from (held self number) (sym (c.requires.part.used_is number small) ∙ not-true (is_used self.numbers number) not_used)
+    none_from (held self number) (sym (c.requires.part.used_is number small)
+    ∙ not-true (is_used self.numbers number) not_used)
 
 pub returns-clause-answer : goal.returns-clause-answer
 returns-clause-answer c list shows =
     let self = c.args.self.now in
-    sym (ap (λ o. ok_or o NoPort) (choice_is self.timers c.args.packet.now self.address self.numbers.protocol c.args.packet.inside c.args.packet.remote c.args.packet.flags (held self) list shows c.requires.live
+    sym (ap (λ o. ok_or o NoPort) (choice_is self.timers c.args.packet.now self.address self.numbers.protocol
+    c.args.packet.inside c.args.packet.remote c.args.packet.flags (held self) list shows c.requires.live
     (is_used self.numbers) c.requires.part.used_is ∙ sym c.in-Some.ensures))
 
 pub returns-clause-shows : goal.returns-clause-shows
@@ -41,8 +46,12 @@ returns-clause-shows c list shows =
     let self = c.args.self.now in
     let packet = c.args.packet in
     let number = c.in-Some.number in
-    let not_used : not (is_used self.numbers number) ≡ true = passes (λ n. not (is_used self.numbers n)) (candidates self.numbers.protocol packet.inside.number) number (sym c.in-Some.ensures) in
+    let not_used : not (is_used self.numbers number) ≡ true = passes (λ n. not (is_used self.numbers n))
+    (candidates self.numbers.protocol packet.inside.number) number (sym c.in-Some.ensures) in
     let small : number < 2 ^ 16 = omega arith in
-    made_shows self.timers packet.now self.address self.numbers.protocol packet.inside packet.remote packet.flags (held self) list shows number _ (held c.insert.new.self) c.insert.ensures.held
-    (none_from (held self number) (sym (c.requires.part.used_is number small) ∙ not-true (is_used self.numbers number) not_used))
-    (rw c.protocol.ensures (made_seen self.timers c.requires.part.timers_are packet.now self.address number self.numbers.protocol packet.inside packet.remote packet.flags c.args.flows c.requires.flows))
+    made_shows self.timers packet.now self.address self.numbers.protocol packet.inside packet.remote packet.flags
+    (held self) list shows number _ (held c.insert.new.self) c.insert.ensures.held
+    (none_from (held self number) (sym (c.requires.part.used_is number small)
+    ∙ not-true (is_used self.numbers number) not_used))
+    (rw c.protocol.ensures (made_seen self.timers c.requires.part.timers_are packet.now self.address number
+    self.numbers.protocol packet.inside packet.remote packet.flags c.args.flows c.requires.flows))

@@ -31,8 +31,10 @@ pub purge_at-requires-3-clause-later : goal.purge_at-requires-3-clause-later
 purge_at-requires-3-clause-later c = c.requires.later Udp
 
 pub returns : goal.returns
-returns c q = elim q as (λ q. IsPurged c.args.now (part_of c.args.self.now q) (part_of (record { icmp = c.purge_at.new.self; tcp = c.purge_at-2.new.self; udp = c.purge_at-3.new.self }) q)) [
-  | Icmp ↦ c.purge_at.ensures
-  | Tcp ↦ c.purge_at-2.ensures
-  | Udp ↦ c.purge_at-3.ensures
-]
+returns c q =
+    elim q as (λ q. IsPurged c.args.now (part_of c.args.self.now q)
+    (part_of (record { icmp = c.purge_at.new.self; tcp = c.purge_at-2.new.self; udp = c.purge_at-3.new.self }) q)) [
+      | Icmp ↦ c.purge_at.ensures
+      | Tcp ↦ c.purge_at-2.ensures
+      | Udp ↦ c.purge_at-3.ensures
+    ]

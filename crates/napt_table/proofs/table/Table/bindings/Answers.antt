@@ -12,8 +12,11 @@ rows-requires c q = (c.self.invariant.parts_are q).is.timers_are
 pub returns : goal.returns
 returns c =
     let table = c.self.inside in
-    let le : table.at ≤ c.args.now = subst (λ (s : TableState). s.at ≤ c.args.now) (sym c.self.view_is) c.requires.later in
+    let le : table.at ≤ c.args.now = subst (λ (s : TableState). s.at ≤ c.args.now)
+    (sym c.self.view_is) c.requires.later in
     let keys = answers_always _ _ _ (λ f a r next called. search rules) in
-    in_order-from_sort _ _ (IsNonDecreasingBy-from_sort rank _ (c.in_ok-sort_by_key.ensures.sorted rank keys)) (c.sort_by_key.ensures.stable rank keys)
+    in_order-from_sort _ _ (IsNonDecreasingBy-from_sort rank _ (c.in_ok-sort_by_key.ensures.sorted rank keys))
+    (c.sort_by_key.ensures.stable rank keys)
     ∙ (ap in_order c.in_ok-made.ensures.rows
-    ∙ (made_in_order table c.self.invariant c.args.now le c.in_ok-made.ensures.read ∙ ap (λ (s : TableState). rows s.timers c.args.now s.list) c.self.view_is))
+    ∙ (made_in_order table c.self.invariant c.args.now le c.in_ok-made.ensures.read
+    ∙ ap (λ (s : TableState). rows s.timers c.args.now s.list) c.self.view_is))

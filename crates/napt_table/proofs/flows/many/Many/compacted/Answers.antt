@@ -19,7 +19,8 @@ loop-place-preserved c = elim c.match-get.branch [
   | in_default w ↦ rw w.many-is (
     c.loop-place.invariant.0,
     c.loop-place.invariant.1
-        ∙ sym (empty_slot c.args.self.now.slots.slots c.loop-place.place (λ flow h. let z = w.in_default.ensures.found flow h in cc)),
+        ∙ sym (empty_slot c.args.self.now.slots.slots c.loop-place.place (λ flow h. let z =
+        w.in_default.ensures.found flow h in cc)),
     omega (arith, c.loop-place-test.true, c.len-place-end.ensures),
   )
 ]

@@ -7,7 +7,9 @@ use Rattle.napt_table.proofs.flows.many.Many.keep_live.Given as goal
 
 abbrev pub invariant-loop-timers : goal.invariant-loop-timers
 invariant-loop-timers l =
-    IsMany l.self × (filter (life.is_live_flow l.timers l.now) (somes l.self.slots.slots) ≡ filter (life.is_live_flow l.timers l.now) (somes l.fn.self.slots.slots)) × (HasRoom l.fn.self → HasRoom l.self)
+    IsMany l.self × (filter (life.is_live_flow l.timers l.now) (somes l.self.slots.slots)
+    ≡ filter (life.is_live_flow l.timers l.now) (somes l.fn.self.slots.slots))
+    × (HasRoom l.fn.self → HasRoom l.self)
 
 abbrev pub decreases-loop-timers : goal.decreases-loop-timers
 decreases-loop-timers l = length (somes l.self.slots.slots)
