@@ -1,9 +1,9 @@
 //! What a table holds under one protocol: its bindings by external number, their numbers by inside endpoint, which numbers are
-//! in use, and when to look at each binding again.
+//! in use, when to look at each binding again, and where a quota stands how many bindings each inside host has.
 //!
-//! A binding that has ended may still be held: no look-up finds it, and it goes before the next new binding gets a number. Its
-//! entry in the queue has a time up to which it lives for sure, which is kept lazily: a packet that keeps the binding alive does
-//! not move the entry, and where its time has come the binding is looked at again.
+//! A binding that has ended may still be held: no look-up finds it, and it goes before the next new binding of any protocol gets
+//! a number. Its entry in the queue has a time up to which it lives for sure, which is kept lazily: a packet that keeps the
+//! binding alive does not move the entry, and where its time has come the binding is looked at again.
 
 ghost use Rattle.std.specs.Prelude.{◌≡◌, ◌≢◌, ℕ, ◌+◌, ◌-◌, ◌≤◌, ◌<◌, ◌^◌, true, false, not, Some, None, Ok, Err, OnOk, IfSome, cond, ◌==◌, ◌&&◌};
 ghost use Rattle.std.specs.Option.{option_map};
@@ -27,7 +27,7 @@ pub(crate) struct Part {
     /// The external address.
     address: u32,
     timers: Timers,
-    /// The time of its last packet that went out and had no binding, in ns: what had ended by then is gone.
+    /// The time of the last packet of any protocol that went out and had no binding, in ns: what had ended by then is gone.
     at: u64,
     by_number: HashMap<u16, Binding>,
     /// The external number of an inside address and number.
