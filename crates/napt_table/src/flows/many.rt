@@ -10,9 +10,9 @@ ghost use Rattle.napt_table.specs.Lists.{change_first};
 ghost use Rattle.napt_table.specs.Slots.{somes, Stands, AreDistinct};
 ghost use Rattle.napt_table.specs.Steps as steps;
 
-use crate::addresses::Addresses;
 use super::slots::Slots;
 use crate::Flow;
+use crate::addresses::Addresses;
 use napt_config::Timers;
 use napt_wire::{Endpoint, Flags, Protocol, Way};
 use std::alloc::{AllocError, Global};
