@@ -1,8 +1,7 @@
 -- A packet that goes out, on the parts of a table and on the list.
-use Rattle.std.proofs.Common.{◌≡◌, ◌≢◌, ℕ, ◌+◌, ◌≤◌, Bool, true, false, cond, List, map, Option, Some, None, Result, Ok, Err, refl, sym, ◌∙◌, ap, subst, arith}
+use Rattle.std.proofs.Common.{◌≡◌, ◌≢◌, ℕ, ◌+◌, Bool, true, false, cond, List, map, Option, Some, None, Result, Ok, Err, refl, sym, ◌∙◌, ap, subst, arith}
 use Rattle.std.specs.Prelude.{find, ok_or, OnErr}
 use Rattle.std.specs.Option.{is_some}
-use Rattle.std.proofs.lemmas.Option.{same_Some}
 use Rattle.napt_wire.specs.declared.Protocol.{Protocol}
 use Rattle.napt_wire.specs.declared.Protocol.TheVariants.{Icmp, Tcp, Udp}
 use Rattle.napt_wire.specs.declared.Cause.{Cause}
@@ -13,20 +12,19 @@ use Rattle.napt_config.specs.declared.settings.Timers.{Timers}
 use Rattle.napt_table.specs.declared.Binding.{Binding}
 use Rattle.napt_table.specs.declared.part.Part.{Part}
 use Rattle.napt_table.specs.declared.parts.Parts.{Parts as AllParts}
-use Rattle.napt_table.specs.Bindings.{is_of_inside, has_number}
+use Rattle.napt_table.specs.Bindings.{is_of_inside}
 use Rattle.napt_table.specs.Choice.{choice}
-use Rattle.napt_table.specs.Counts.{are_counted, count_in}
+use Rattle.napt_table.specs.Counts.{count_in}
 use Rattle.napt_table.specs.Endpoints.{key, Apart}
 use Rattle.napt_table.specs.Held.{seen, Shows}
 use Rattle.napt_table.specs.Hosts.{count_held}
 use Rattle.napt_table.specs.Life.{is_live, with_live_flows}
-use Rattle.napt_table.specs.Part.{held, number_at, IsPart, AreDue, IsSamePlace, IsPurged}
-use Rattle.napt_table.specs.Parts.{part_of, IsOf, AreOf, AreCounted, AllShow}
-use Rattle.napt_table.specs.Quota.{count_for, reaches, granted}
+use Rattle.napt_table.specs.Part.{held, number_at, IsSamePlace, IsPurged}
+use Rattle.napt_table.specs.Parts.{part_of, AreOf, AreCounted, AllShow}
+use Rattle.napt_table.specs.Quota.{count_for, reaches}
 use Rattle.napt_table.specs.Steps.{Out, out_made, out_found, out_purged}
 use Rattle.napt_table.proofs.Hosts.{count_is_held}
-use Rattle.napt_table.specs.declared.host_counts.HostCounts.{HostCounts}
-use Rattle.napt_table.proofs.PartSteps.{by_protocol, out_others, all_of, all_counted}
+use Rattle.napt_table.proofs.PartSteps.{by_protocol, out_others, all_of}
 use Rattle.napt_table.proofs.Sends.{seen_is, same_part, same_due}
 
 -- where what is held under the protocol shows the list of a step, and nothing else is seen to have changed, all show it

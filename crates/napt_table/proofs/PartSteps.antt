@@ -1,5 +1,5 @@
 -- The parts of a table, when one of them takes a step.
-use Rattle.std.proofs.Common.{◌≡◌, ◌≢◌, ℕ, ◌≤◌, Bool, true, false, ◌&&◌, cond, List, [], ◌∷◌, ◌++◌, map, Option, Some, None, Ok, Err, refl, sym, ◌∙◌, ap, subst, eqb}
+use Rattle.std.proofs.Common.{◌≡◌, ◌≢◌, ℕ, ◌≤◌, Bool, true, false, ◌&&◌, cond, List, [], ◌∷◌, ◌++◌, Option, Some, None, Ok, Err, refl, sym, ◌∙◌, ap, subst, eqb}
 use Rattle.std.specs.Prelude.{find}
 use Rattle.napt_wire.specs.declared.Protocol.{Protocol}
 use Rattle.napt_wire.specs.declared.Cause.TheVariants.{Filtered}
@@ -18,7 +18,7 @@ use Rattle.napt_table.specs.Quota.{granted}
 use Rattle.napt_table.specs.Counts.{are_counted}
 use Rattle.napt_table.specs.declared.parts.Parts.{Parts as AllParts}
 use Rattle.napt_table.specs.Bindings.{is_of_inside, same_protocol}
-use Rattle.napt_table.specs.Endpoints.{Key, key}
+use Rattle.napt_table.specs.Endpoints.{Key}
 use Rattle.napt_table.proofs.Finds.{find_other, find_passed_over}
 use Rattle.napt_table.proofs.Sound.{sent_key}
 use Rattle.std.proofs.lemmas.Bool.{true≢false}

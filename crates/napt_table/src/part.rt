@@ -1,7 +1,7 @@
 //! What a table holds under one protocol: its bindings by external number, their numbers by inside endpoint, which numbers are
-//! in use, and when to look at each binding again.
+//! in use, when to look at each binding again, and where a quota stands how many bindings each inside host has.
 //!
-//! A binding that has ended may still be held: no look-up finds it, and it goes before the next new binding gets a number. Its
+//! A binding that has ended may still be held: no look-up finds it, and it goes before the next new binding of any protocol gets a number. Its
 //! entry in the queue has a time up to which it lives for sure, which is kept lazily: a packet that keeps the binding alive does
 //! not move the entry, and where its time has come the binding is looked at again.
 

@@ -1,13 +1,8 @@
-use Rattle.std.proofs.Common.{◌≡◌, ◌∙◌, ◌^◌, ◌<◌, Some, [], sym, ap, refl, subst, not, arith, true}
+use Rattle.std.proofs.Common.{◌≡◌, ◌∙◌, ◌^◌, ◌<◌, sym, ap, not, arith, true}
 use Rattle.std.specs.Prelude.{ok_or}
 use Rattle.std.proofs.lemmas.Bool.{not-true}
-use Rattle.napt_wire.specs.declared.Protocol.{Protocol}
-use Rattle.napt_wire.specs.declared.Way.TheVariants.{Outgoing}
 use Rattle.napt_wire.specs.declared.Cause.TheVariants.{NoPort}
-use Rattle.napt_table.specs.Lists.{change_first}
 use Rattle.napt_table.specs.Choice.{candidates}
-use Rattle.napt_table.specs.Life.{live_flows}
-use Rattle.napt_table.specs.Steps.{is_flow_of, used, with_flow, sent, fresh}
 use Rattle.napt_table.specs.Places.{is_used}
 use Rattle.napt_table.specs.Part.{held}
 use Rattle.napt_table.proofs.Finds.{passes}

@@ -1,4 +1,4 @@
-use Rattle.std.proofs.Common.{refl, sym, ◌∙◌}
+use Rattle.std.proofs.Common.{refl}
 use Rattle.napt_table.proofs.Sends.{same_part, due_later}
 use Rattle.napt_table.proofs.part.Part.purge_at.Goals as goal
 
