@@ -8,6 +8,7 @@ use std::alloc::{AllocError, Global};
 const STYLE: &str = "<style>
   text { font: 11px 'DejaVu Sans Mono', monospace; fill: #222 }
   .head { font-size: 14px; font-weight: bold }
+  .name { stroke: #f3f5f7; stroke-width: 3; stroke-linejoin: round; paint-order: stroke }
   .side { font-weight: bold; text-anchor: end }
   .time { text-anchor: middle; fill: #555 }
   .page { fill: #fff }
@@ -35,7 +36,7 @@ const BAR_TOP: u64 = 16;
 const BAR_HEIGHT: u64 = 12;
 
 /// The least width between two times on the axis.
-const TIME_WIDTH: u64 = 120;
+const TIME_WIDTH: u64 = 115;
 
 const MICROSECOND: u64 = 1000;
 const MILLISECOND: u64 = 1_000_000;
@@ -80,6 +81,7 @@ pub fn drawing_of(
     drawing.axis(picture.span, picture.bottom)?;
     drawing.bars(&picture.bars)?;
     drawing.marks(picture)?;
+    drawing.names(&picture.bars)?;
     drawing.legend(picture.bottom.saturating_add(24))?;
     drawing.text.push_str("</svg>\n")?;
     Ok(drawing.text)
@@ -146,6 +148,7 @@ impl Drawing {
     fn axis(&mut self, span: Span, bottom: u64) -> Result<(), AllocError> {
         let apart = time_between(span);
         let first = span.start.div_ceil(apart.max(1)).saturating_mul(apart);
+        self.words("side", LEFT - 10, HEAD - 12, "seconds")?;
         for at in 0..=(RIGHT - LEFT) / TIME_WIDTH {
             let time = first.saturating_add(apart.saturating_mul(at));
             if time <= span.end {
@@ -165,9 +168,16 @@ impl Drawing {
             let told = told_of(self.alloc, bar)?;
             self.element("title", &told)?;
             self.bar(bar)?;
+            self.text.push_str("</g>\n")?;
+        }
+        Ok(())
+    }
+
+    /// The names of the bars, above all else.
+    fn names(&mut self, bars: &[Bar]) -> Result<(), AllocError> {
+        for bar in bars {
             let line = bar.top.saturating_add(BAR_TOP - 4);
             self.words("name", bar.label_at, line, &bar.label)?;
-            self.text.push_str("</g>\n")?;
         }
         Ok(())
     }
@@ -234,8 +244,8 @@ impl Drawing {
     fn legend(&mut self, top: u64) -> Result<(), AllocError> {
         let lines = [
             "A bar is a binding, from its making to its last packet; a thin bar goes on to where it expires, or to the picture's right end.",
-            "A stroke at its upper edge is a packet that goes out, at its lower edge one that comes in. An arrow is a hairpin, from the",
-            "binding where it goes out to that where it comes in. A cross is a dropped packet, in the row of the cause. Times are in seconds.",
+            "Blue is udp, green tcp, orange icmp, violet a redirect. A stroke at a bar's upper edge is a packet that goes out, at its lower",
+            "edge one that comes in. An arrow is a hairpin, from where it goes out to where it comes in. A cross is a dropped packet.",
         ];
         for (at, line) in lines.iter().enumerate() {
             let line_at = top.saturating_add(16u64.saturating_mul(at as u64));
