@@ -21,10 +21,10 @@ const STYLE: &str = "<style>
   .rest { opacity: 0.35 }
   .packet { stroke: #222; stroke-width: 1.5 }
   .hairpin { stroke: #b3261e; stroke-width: 1.5; fill: none; marker-end: url(#tip) }
-  .tip { fill: #b3261e }
+  .tip { fill: #b3261e; stroke: #fff; stroke-width: 0.8 }
   .drop { stroke: #b3261e; stroke-width: 2; fill: none }
 </style>
-<defs><marker id=\"tip\" viewBox=\"0 0 8 8\" refX=\"7\" refY=\"4\" markerWidth=\"8\" markerHeight=\"8\" orient=\"auto\" \
+<defs><marker id=\"tip\" viewBox=\"-1 -1 10 10\" refX=\"8\" refY=\"4\" markerWidth=\"10\" markerHeight=\"10\" orient=\"auto\" \
 markerUnits=\"userSpaceOnUse\"><path class=\"tip\" d=\"M0 0L8 4L0 8z\"/></marker></defs>
 ";
 
@@ -288,14 +288,17 @@ impl Drawing {
     }
 }
 
-/// The way of an arrow from the bar of one top to that of another; to the same bar it goes round.
+/// How far an arrow's tip reaches into a bar.
+const TIP: u64 = 9;
+
+/// The way of an arrow from the bar of one top into that of another; to the same bar it goes round.
 fn hairpin_path(alloc: Global, column: u64, out: u64, into: u64) -> Result<String, AllocError> {
     let above = out.saturating_add(BAR_TOP);
     let below = out.saturating_add(BAR_TOP + BAR_HEIGHT);
     if out < into {
-        format!(in alloc; "M{column} {below}V{}", into.saturating_add(BAR_TOP))
+        format!(in alloc; "M{column} {below}V{}", into.saturating_add(BAR_TOP + TIP))
     } else if into < out {
-        format!(in alloc; "M{column} {above}V{}", into.saturating_add(BAR_TOP + BAR_HEIGHT))
+        format!(in alloc; "M{column} {above}V{}", into.saturating_add(BAR_TOP + BAR_HEIGHT - TIP))
     } else {
         format!(in alloc; "M{column} {above}c14 -8 14 20 0 {BAR_HEIGHT}")
     }
