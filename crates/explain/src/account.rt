@@ -24,29 +24,58 @@ pub enum Note {
     Redirect,
 }
 
-/// When a binding was made, and when an inside host last used it, in ns.
+/// What a packet did to the bindings, and the places of those that it went through among the lives.
 #[derive(Clone, Copy)]
-pub struct Age {
-    pub made: u64,
-    pub used: u64,
+pub struct Use {
+    pub note: Note,
+    /// The binding that it went out through.
+    pub out: Option<usize>,
+    /// The binding that it came in through; a hairpin has both.
+    pub into: Option<usize>,
 }
+
+/// A binding from its making to its end, with times in ns.
+#[derive(Clone, Copy)]
+pub struct Life {
+    pub protocol: Protocol,
+    pub inside: Endpoint,
+    pub external: Endpoint,
+    /// A redirect, which stands before the first packet and after the last.
+    pub fixed: bool,
+    /// When it was made.
+    pub made: u64,
+    /// When an inside host last sent through it.
+    pub sent: u64,
+    /// When a packet last went through it, either way.
+    pub used: u64,
+    /// From when on it is gone; `used` where the ends are not asked for.
+    pub end: u64,
+}
+
+/// For how many lives, from the first one, the ends are asked for.
+#[derive(Clone, Copy)]
+pub struct Ends(pub usize);
 
 /// A run, and beside each outcome what the packet did to the bindings.
 #[derive(Drop)]
 pub struct Account {
     pub run: Run,
     /// One for each input, in their order.
-    pub notes: Vec<Note>,
-    /// The ages of the bindings that were made, by protocol, external address and number.
-    pub ages: BTreeMap<(u8, u32, u16), Age>,
+    pub uses: Vec<Use>,
+    /// The redirects, and then the bindings that were made, in the order of their making.
+    pub lives: Vec<Life>,
+    /// The place of the latest life of a protocol, an external address and a number.
+    latest: BTreeMap<(u8, u32, u16), usize>,
 }
 
 /// The bindings of all external addresses, as the run has them.
 #[derive(Drop)]
 struct Tables<'a> {
     config: &'a Config,
+    ends: Ends,
     tables: Vec<Box<Table>>,
-    ages: BTreeMap<(u8, u32, u16), Age>,
+    lives: Vec<Life>,
+    latest: BTreeMap<(u8, u32, u16), usize>,
 }
 
 /// One packet at one external address.
@@ -60,7 +89,7 @@ struct Step {
 }
 
 /// A protocol as a key.
-pub fn rank(protocol: Protocol) -> u8 {
+fn rank(protocol: Protocol) -> u8 {
     match protocol {
         Protocol::Icmp => 1,
         Protocol::Tcp => 6,
@@ -76,17 +105,36 @@ const NO_FLAGS: Flags = Flags {
     ack: false,
 };
 
-/// The run over the inputs, with its notes. The run is that of `run_plain`; the notes come from tables that take the same
-/// steps beside it.
-pub fn account_of(alloc: Global, config: &Config, inputs: &[Input]) -> Result<Account, RunFault>
+/// Where no binding was used.
+const NO_USE: Use = Use {
+    note: Note::Nothing,
+    out: None,
+    into: None,
+};
+
+const SECOND: u64 = 1_000_000_000;
+
+/// The run over the inputs, with what each did to the bindings. The run is that of `run_plain`; the rest comes from tables that
+/// take the same steps beside it.
+pub fn account_of(
+    alloc: Global,
+    config: &Config,
+    inputs: &[Input],
+    ends: Ends,
+) -> Result<Account, RunFault>
     ensures run { IfOk result (λ account. account.run ≡ model.ran config.now inputs.now) }
     ensures one_each { IfOk result (λ account. length account.run.outcomes ≡ length inputs.now) }
 {
     let run = run_plain(alloc, config, inputs)?;
-    let mut tables = Tables::begin(alloc, config)?;
-    let notes = tables.notes(alloc, inputs)?;
-    let Tables { ages, .. } = tables;
-    Ok(Account { run, notes, ages })
+    let mut tables = Tables::begin(alloc, config, ends)?;
+    let uses = tables.uses(alloc, inputs)?;
+    let Tables { lives, latest, .. } = tables;
+    Ok(Account {
+        run,
+        uses,
+        lives,
+        latest,
+    })
 }
 
 impl Account {
@@ -96,42 +144,95 @@ impl Account {
     {
         self.run.outcomes.get(at)
     }
+
+    /// The latest life of the binding at an external endpoint.
+    pub fn life_of(&self, protocol: Protocol, external: Endpoint) -> Option<&Life> {
+        let at = self.latest.get(&key_of(protocol, external))?;
+        self.lives.get(*at)
+    }
+}
+
+fn key_of(protocol: Protocol, external: Endpoint) -> (u8, u32, u16) {
+    (rank(protocol), external.address, external.number)
 }
 
 impl<'a> Tables<'a> {
-    fn begin(alloc: Global, config: &'a Config) -> Result<Tables<'a>, AllocError> {
+    fn begin(alloc: Global, config: &'a Config, ends: Ends) -> Result<Tables<'a>, AllocError> {
         let mut tables = Vec::new(alloc);
         for address in config.pool() {
             let table = Table::new(alloc, *address, config)?;
             tables.push(Box::new(alloc, table)?)?;
         }
-        Ok(Tables {
+        let mut begun = Tables {
             config,
+            ends,
             tables,
-            ages: BTreeMap::new(alloc),
-        })
+            lives: Vec::new(alloc),
+            latest: BTreeMap::new(alloc),
+        };
+        begun.stand_redirects()?;
+        Ok(begun)
     }
 
-    fn notes(&mut self, alloc: Global, inputs: &[Input]) -> Result<Vec<Note>, AllocError> {
-        let mut notes = Vec::new(alloc);
-        for input in inputs {
-            let note = self.note(alloc, input)?;
-            notes.push(note)?;
+    /// Each redirect has a life.
+    fn stand_redirects(&mut self) -> Result<(), AllocError> {
+        for redirect in self.config.redirects() {
+            let protocol = if redirect.tcp {
+                Protocol::Tcp
+            } else {
+                Protocol::Udp
+            };
+            let inside = Endpoint {
+                address: redirect.address,
+                number: redirect.port,
+            };
+            let external = Endpoint {
+                address: self.config.pair(redirect.address),
+                number: redirect.external,
+            };
+            self.begin_life(Life {
+                protocol,
+                inside,
+                external,
+                fixed: true,
+                made: 0,
+                sent: 0,
+                used: 0,
+                end: 0,
+            })?;
         }
-        Ok(notes)
+        Ok(())
+    }
+
+    /// A life begins: answers its place.
+    fn begin_life(&mut self, life: Life) -> Result<usize, AllocError> {
+        let at = self.lives.len();
+        self.lives.push(life)?;
+        self.latest
+            .insert(key_of(life.protocol, life.external), at)?;
+        Ok(at)
+    }
+
+    fn uses(&mut self, alloc: Global, inputs: &[Input]) -> Result<Vec<Use>, AllocError> {
+        let mut uses = Vec::new(alloc);
+        for input in inputs {
+            let used = self.take(alloc, input)?;
+            uses.push(used)?;
+        }
+        Ok(uses)
     }
 
     /// Takes an input, and answers what it does to the bindings.
-    fn note(&mut self, alloc: Global, input: &Input) -> Result<Note, AllocError> {
+    fn take(&mut self, alloc: Global, input: &Input) -> Result<Use, AllocError> {
         let bytes = Vec::from_slice(alloc, &input.bytes)?;
         let Ok(packet) = Packet::read(input.side, bytes) else {
-            return Ok(Note::Nothing);
+            return Ok(NO_USE);
         };
         let Ok(place) = route(self.config, input.side, &packet) else {
-            return Ok(Note::Nothing);
+            return Ok(NO_USE);
         };
         let Some((protocol, flags)) = carried(packet.kind()) else {
-            return Ok(Note::Nothing);
+            return Ok(NO_USE);
         };
         let step = Step {
             now: input.clock,
@@ -147,76 +248,124 @@ impl<'a> Tables<'a> {
     }
 
     /// A packet goes out at a place of the pool, and where it goes to the pool it comes in there.
-    fn out(&mut self, alloc: Global, place: u32, step: Step) -> Result<Note, AllocError> {
+    fn out(&mut self, alloc: Global, place: u32, step: Step) -> Result<Use, AllocError> {
         let Some(table) = self.tables.get_mut(place as usize) else {
-            return Ok(Note::Nothing);
+            return Ok(NO_USE);
         };
         let (note, number) = sent(alloc, table, step)?;
         let (Some(number), Some(address)) = (number, self.config.pool().get(place as usize)) else {
-            return Ok(Note::Nothing);
+            return Ok(NO_USE);
         };
         let external = Endpoint {
             address: *address,
             number,
         };
-        self.grow_older(note, step, external)?;
-        if let Some(onward) = self.config.pool_index(step.destination.address) {
-            self.come_in(
-                onward,
-                Step {
-                    source: external,
-                    ..step
-                },
-            );
-        }
-        if self.is_redirect(step.protocol, step.source) {
-            return Ok(Note::Redirect);
-        }
-        Ok(note)
+        let at = self.life_at(note, step, external)?;
+        let note = self.go_through(at, note, step.now, Side::Inside);
+        self.look_for_end(at, place, step.now);
+        let into = match self.config.pool_index(step.destination.address) {
+            Some(onward) => self.come_in(onward, step.from(external)).into,
+            None => None,
+        };
+        Ok(Use {
+            note,
+            out: Some(at),
+            into,
+        })
     }
 
     /// A packet comes in at a place of the pool.
-    fn come_in(&mut self, place: u32, step: Step) -> Note {
+    fn come_in(&mut self, place: u32, step: Step) -> Use {
         let Some(table) = self.tables.get_mut(place as usize) else {
-            return Note::Nothing;
+            return NO_USE;
         };
-        match delivered(table, step) {
-            Some(inside) if self.is_redirect(step.protocol, inside) => Note::Redirect,
-            Some(_) => Note::Found,
-            None => Note::Nothing,
+        if delivered(table, step).is_none() {
+            return NO_USE;
+        }
+        let into = self
+            .latest
+            .get(&key_of(step.protocol, step.destination))
+            .copied();
+        let Some(at) = into else {
+            return NO_USE;
+        };
+        let note = self.go_through(at, Note::Found, step.now, Side::Outside);
+        self.look_for_end(at, place, step.now);
+        Use {
+            note,
+            out: None,
+            into,
         }
     }
 
-    /// Notes that a binding was used.
-    fn grow_older(&mut self, note: Note, step: Step, external: Endpoint) -> Result<(), AllocError> {
-        let key = (rank(step.protocol), external.address, external.number);
-        let made = match self.ages.get(&key) {
-            Some(age) if note == Note::Found => age.made,
-            _ => step.now,
-        };
-        self.ages.insert(
-            key,
-            Age {
-                made,
+    /// The place of the life that a packet from inside goes out through; one begins where the packet made the binding.
+    fn life_at(&mut self, note: Note, step: Step, external: Endpoint) -> Result<usize, AllocError> {
+        match self.latest.get(&key_of(step.protocol, external)) {
+            Some(at) if note == Note::Found => Ok(*at),
+            _ => self.begin_life(Life {
+                protocol: step.protocol,
+                inside: step.source,
+                external,
+                fixed: false,
+                made: step.now,
+                sent: step.now,
                 used: step.now,
-            },
-        )?;
-        Ok(())
+                end: step.now,
+            }),
+        }
     }
 
-    /// Whether an inside endpoint is that of a redirect.
-    fn is_redirect(&self, protocol: Protocol, inside: Endpoint) -> bool {
-        self.config.redirects().iter().any(|redirect| {
-            redirect.address == inside.address
-                && redirect.port == inside.number
-                && protocol
-                    == if redirect.tcp {
-                        Protocol::Tcp
-                    } else {
-                        Protocol::Udp
-                    }
-        })
+    /// A packet from a side goes through the binding of a life: what it did to it, where it made or found it.
+    fn go_through(&mut self, at: usize, note: Note, now: u64, side: Side) -> Note {
+        let Some(life) = self.lives.get_mut(at) else {
+            return note;
+        };
+        life.used = now;
+        life.end = now;
+        if side == Side::Inside {
+            life.sent = now;
+        }
+        if life.fixed { Note::Redirect } else { note }
     }
+
+    /// Notes from when on the binding of a life is gone if no packet comes, where that is asked for.
+    fn look_for_end(&mut self, at: usize, place: u32, now: u64) {
+        let (Some(table), Some(life)) = (self.tables.get(place as usize), self.lives.get_mut(at))
+        else {
+            return;
+        };
+        if at < self.ends.0 && !life.fixed {
+            let timers = self.config.timers();
+            let longest = timers
+                .udp
+                .max(timers.icmp)
+                .max(timers.established)
+                .max(timers.transitory);
+            let late = now.saturating_add(longest.saturating_mul(SECOND));
+            life.end = end_between(table, life, now, late);
+        }
+    }
+}
+
+impl Step {
+    /// The packet with another source.
+    fn from(self, source: Endpoint) -> Step {
+        Step { source, ..self }
+    }
+}
+
+/// From when on the binding of a life, which is live at one moment and gone at a later one, is gone.
+fn end_between(table: &Table, life: &Life, live: u64, gone: u64) -> u64 {
+    let (mut live, mut gone) = (live, gone);
+    for _ in 0..64 {
+        let middle = live.saturating_add(gone.saturating_sub(live) / 2);
+        let now = middle.max(table.at());
+        match table.by_external(now, life.protocol, life.external.number) {
+            Some(_) => live = middle,
+            None => gone = middle,
+        }
+    }
+    gone
 }
 
 /// The protocol whose bindings a packet that is no error uses, with its flags.

@@ -1,7 +1,8 @@
 //! The program `explain`: what a run of `napt` does, told for people.
 //!
 //! It takes the words of `napt`, makes the same run on one thread, and writes one line for each packet, the bindings that live
-//! at the end, and a summary, to standard output. It writes none of the files that the words name as outputs. A configuration
+//! at the end, and a summary, to standard output, and draws a picture of the run where one is asked for. It writes none of the files
+//! that the words name as outputs of `napt`. A configuration
 //! or a capture that `napt` refuses is explained instead, with the status that `napt` ends with.
 #![tactic(auto)]
 
@@ -11,13 +12,17 @@ mod capture_kind;
 mod config_place;
 mod names;
 mod options;
+mod picture;
 mod shown;
 mod stop;
 mod summary;
+mod svg;
 
-use crate::account::{Account, account_of};
+use crate::account::{Account, Ends, account_of};
 use crate::options::Options;
+use crate::picture::Picture;
 use crate::stop::Stop;
+use crate::svg::{Totals, drawing_of};
 use napt_capture::{Capture, Watched, read_capture};
 use napt_config::Config;
 use napt_run::merge;
@@ -66,8 +71,47 @@ fn explained_under<R: Files + Input + Print + Eprint + AllocGlobal>(
         },
     };
     let inputs = merge(rt.alloc(), inside.records, outside.records)?;
-    let account = account_of(rt.alloc(), &config, &inputs)?;
-    told(rt, options, &inputs, &account)
+    let ends = match options.svg {
+        Some(_) => Ends(picture::MOST),
+        None => Ends(0),
+    };
+    let account = account_of(rt.alloc(), &config, &inputs, ends)?;
+    told(rt, options, &inputs, &account)?;
+    match &options.svg {
+        Some(path) => draw(
+            rt,
+            path,
+            &Picture::of(rt.alloc(), &config, &inputs, &account)?,
+            &account,
+        ),
+        None => Ok(()),
+    }
+}
+
+/// Writes the picture of a run to a file. One that cannot be written is told by its name, with the system's reason.
+fn draw<R: Files + Eprint + AllocGlobal>(
+    rt: &R,
+    path: &str,
+    picture: &Picture,
+    account: &Account,
+) -> Result<(), Stop> {
+    let totals = Totals {
+        packets: account.uses.len(),
+        bindings: account.lives.len(),
+    };
+    let text = drawing_of(rt.alloc(), picture, totals)?;
+    if let Err(error) = fs::write(rt, path, text.as_str()) {
+        let _ = eprintln!(rt; "explain: {path}: {error}");
+        return Err(Stop::File);
+    }
+    if totals.bindings > picture::MOST {
+        let _ = eprintln!(rt;
+            "explain: {path} shows the first {} of {} bindings",
+            picture::MOST,
+            totals.bindings
+        );
+    }
+    Ok(())
 }
 
 /// Writes the lines that are asked for, the bindings and the summary.

@@ -11,13 +11,16 @@ const VERSION: &str = "1.0, proved with rattle-kit-13b logic dac8208d650f15bf";
 const ABOUT: &str =
     "Tells what napt does with each packet of its captures, or why it refuses what it is given.";
 
+const SVG: &str =
+    "Draws the run into this file, in SVG: its bindings (the first 400), hairpins and drops over time";
+
 const NOTES: &str = "Example:
   explain --config napt.toml --inside inside.pcap --outside outside.pcap --dropped
 
 A line tells a packet's number, time in seconds, side, the packet, what happened, and the packet as it leaves:
   1 1.000000 inside  udp 10.0.0.2:5000 > 198.51.100.7:3000 | made a binding | udp 203.0.113.1:5000 > 198.51.100.7:3000
 
-The words of a call of napt may stand as they are: no output is written. The statuses are those of napt.";
+The words of a call of napt may stand as they are: no output of napt is written. The statuses are those of napt.";
 
 // The options that name a file, each with its meaning, in the order of the help text.
 const FILES: [(&str, &str); 6] = [
@@ -47,6 +50,8 @@ pub struct Options {
     pub inside: Option<String>,
     /// The capture of what comes from the outside; absent, no packets.
     pub outside: Option<String>,
+    /// Where the picture is drawn; absent, there is none.
+    pub svg: Option<String>,
     pub choice: Choice,
 }
 
@@ -103,6 +108,7 @@ fn explain_command<'a>(alloc: Global) -> Result<Command<'a>, AllocError> {
     for (name, meaning) in FILES {
         command = command.arg(value_arg(alloc, name, "FILE", meaning))?;
     }
+    command = command.arg(value_arg(alloc, "svg", "FILE", SVG))?;
     command = command.arg(value_arg(alloc, "only", "N", "Shows the packet of this number alone"))?;
     command = command.arg(value_arg(
         alloc,
@@ -144,6 +150,7 @@ fn options_of<R: Eprint + AllocGlobal>(rt: &R, matches: &ArgMatches<'_>) -> Resu
         config: value_of(alloc, matches, "config")?,
         inside: value_of(alloc, matches, "inside")?,
         outside: value_of(alloc, matches, "outside")?,
+        svg: value_of(alloc, matches, "svg")?,
         choice: Choice {
             only: only_of(rt, matches)?,
             host: host_of(rt, matches)?,

@@ -1,6 +1,6 @@
 //! The lines of an account.
 
-use crate::account::{Account, Note, rank};
+use crate::account::{Account, Note};
 use crate::advice::{advice, meaning};
 use crate::names::{cause_name, endpoint_text, protocol_name, side_name, time_text};
 use crate::options::{Choice, Options};
@@ -20,7 +20,7 @@ pub fn tell_line<R: Print + AllocGlobal>(
     account: &Account,
 ) -> Result<(), Stop> {
     let at = number.wrapping_sub(1) as usize;
-    let (Some(outcome), Some(note)) = (account.outcome_at(at), account.notes.get(at)) else {
+    let (Some(outcome), Some(used)) = (account.outcome_at(at), account.uses.get(at)) else {
         return Ok(());
     };
     if !is_chosen(options.choice, number, input, outcome) {
@@ -30,7 +30,7 @@ pub fn tell_line<R: Print + AllocGlobal>(
     let time = time_text(alloc, input.time)?;
     let side = side_name(input.side);
     let before = arrival_text(alloc, input.side, &input.bytes)?;
-    let happened = happened(alloc, input.side, outcome, *note)?;
+    let happened = happened(alloc, input.side, outcome, used.note)?;
     match outcome {
         Outcome::ToOutside(packet) | Outcome::ToInside(packet) => {
             let after = packet_text(alloc, packet)?;
@@ -122,15 +122,10 @@ fn tell_binding<R: Print + AllocGlobal>(
         println!(rt; "  {name} {inside} at {external}, a redirect")?;
         return Ok(());
     }
-    let key = (
-        rank(row.protocol),
-        row.external.address,
-        row.external.number,
-    );
-    match account.ages.get(&key) {
-        Some(age) => {
-            let made = time_text(alloc, now.saturating_sub(age.made))?;
-            let used = time_text(alloc, now.saturating_sub(age.used))?;
+    match account.life_of(row.protocol, row.external) {
+        Some(life) => {
+            let made = time_text(alloc, now.saturating_sub(life.made))?;
+            let used = time_text(alloc, now.saturating_sub(life.sent))?;
             println!(rt;
                 "  {name} {inside} at {external}, made {made} s ago, last used from inside {used} s ago"
             )?;
@@ -186,7 +181,8 @@ fn count_to_inside(outcomes: &[Outcome]) -> usize {
         .count()
 }
 
-fn count_dropped(outcomes: &[Outcome], cause: Cause) -> usize {
+/// How many packets were dropped for a cause.
+pub fn count_dropped(outcomes: &[Outcome], cause: Cause) -> usize {
     outcomes
         .iter()
         .filter(|outcome| is_dropped(cause, outcome))
