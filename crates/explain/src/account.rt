@@ -330,8 +330,7 @@ impl<'a> Tables<'a> {
 
     /// Notes from when on the binding of a life is gone if no packet comes, where that is asked for.
     fn look_for_end(&mut self, at: usize, place: u32, now: u64) {
-        let (Some(table), Some(life)) =
-            (self.tables.get(place as usize), self.lives.get_mut(at))
+        let (Some(table), Some(life)) = (self.tables.get(place as usize), self.lives.get_mut(at))
         else {
             return;
         };

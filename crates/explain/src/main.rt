@@ -102,7 +102,9 @@ fn draw<R: Files + Eprint + AllocGlobal>(
     }
     if totals.bindings > picture::MOST {
         let _ = eprintln!(rt;
-            "explain: {path} shows the first {} of {} bindings", picture::MOST, totals.bindings
+            "explain: {path} shows the first {} of {} bindings",
+            picture::MOST,
+            totals.bindings
         );
     }
     Ok(())

@@ -15,6 +15,7 @@ pub const MOST: usize = 400;
 
 /// The columns between which time passes.
 pub const LEFT: u64 = 150;
+
 pub const RIGHT: u64 = 1150;
 
 /// The line above the first lane.

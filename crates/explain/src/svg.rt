@@ -33,13 +33,16 @@ const WIDTH: u64 = RIGHT + 30;
 
 /// Where a bar begins below its top, and how high it is.
 const BAR_TOP: u64 = 16;
+
 const BAR_HEIGHT: u64 = 12;
 
 /// The least width between two times on the axis.
 const TIME_WIDTH: u64 = 115;
 
 const MICROSECOND: u64 = 1000;
+
 const MILLISECOND: u64 = 1_000_000;
+
 const SECOND: u64 = 1_000_000_000;
 
 /// What a drawing shows besides its picture.
@@ -66,11 +69,7 @@ struct Area {
 }
 
 /// The text of the drawing of a picture.
-pub fn drawing_of(
-    alloc: Global,
-    picture: &Picture,
-    totals: Totals,
-) -> Result<String, AllocError> {
+pub fn drawing_of(alloc: Global, picture: &Picture, totals: Totals) -> Result<String, AllocError> {
     let mut drawing = Drawing {
         alloc,
         text: String::new(alloc),
@@ -110,7 +109,9 @@ impl Drawing {
             format!(in self.alloc; "{} bindings", totals.bindings)?
         };
         let head = format!(in self.alloc;
-            "napt: {} packets, {shown}, {} external addresses", totals.packets, picture.lanes.len()
+            "napt: {} packets, {shown}, {} external addresses",
+            totals.packets,
+            picture.lanes.len()
         )?;
         self.words("head", 16, 28, &head)
     }
@@ -273,7 +274,13 @@ impl Drawing {
     }
 
     /// Words at a column, on a line.
-    fn words(&mut self, class: &str, column: u64, line: u64, words: &str) -> Result<(), AllocError> {
+    fn words(
+        &mut self,
+        class: &str,
+        column: u64,
+        line: u64,
+        words: &str,
+    ) -> Result<(), AllocError> {
         let words = escaped(self.alloc, words)?;
         let element = format!(in self.alloc;
             "<text class=\"{class}\" x=\"{column}\" y=\"{line}\">{words}</text>\n"
@@ -298,7 +305,10 @@ fn hairpin_path(alloc: Global, column: u64, out: u64, into: u64) -> Result<Strin
     if out < into {
         format!(in alloc; "M{column} {below}V{}", into.saturating_add(BAR_TOP + TIP))
     } else if into < out {
-        format!(in alloc; "M{column} {above}V{}", into.saturating_add(BAR_TOP + BAR_HEIGHT - TIP))
+        format!(in alloc;
+            "M{column} {above}V{}",
+            into.saturating_add(BAR_TOP + BAR_HEIGHT - TIP)
+        )
     } else {
         format!(in alloc; "M{column} {above}c14 -8 14 20 0 {BAR_HEIGHT}")
     }
@@ -314,7 +324,8 @@ fn told_of(alloc: Global, bar: &Bar) -> Result<String, AllocError> {
     let used = time_text(alloc, bar.life.used)?;
     let end = time_text(alloc, bar.life.end)?;
     format!(in alloc;
-        "{} at {external}: made at {made}, last packet at {used}, expires at {end}", bar.label
+        "{} at {external}: made at {made}, last packet at {used}, expires at {end}",
+        bar.label
     )
 }
 
@@ -328,7 +339,10 @@ fn time_between(span: Span) -> u64 {
         }
     }
     let units = [1u64, 2, 5];
-    match units.iter().find(|many| unit.saturating_mul(**many) >= least) {
+    match units
+        .iter()
+        .find(|many| unit.saturating_mul(**many) >= least)
+    {
         Some(many) => unit.saturating_mul(*many),
         None => unit.saturating_mul(10),
     }
