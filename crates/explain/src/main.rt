@@ -1,9 +1,9 @@
 //! The program `explain`: what a run of `napt` does, told for people.
 //!
 //! It takes the words of `napt`, makes the same run on one thread, and writes one line for each packet, the bindings that live
-//! at the end, and a summary, to standard output, and draws a picture of the run where one is asked for. It writes none of the files
-//! that the words name as outputs of `napt`. A configuration
-//! or a capture that `napt` refuses is explained instead, with the status that `napt` ends with.
+//! at the end, and a summary, to standard output, and a picture of the run where one is asked for. It writes none of the files
+//! that the words name as outputs of `napt`. A configuration or a capture that `napt` refuses is explained instead, with the
+//! status that `napt` ends with.
 #![tactic(auto)]
 
 mod account;
@@ -77,15 +77,11 @@ fn explained_under<R: Files + Input + Print + Eprint + AllocGlobal>(
     };
     let account = account_of(rt.alloc(), &config, &inputs, ends)?;
     told(rt, options, &inputs, &account)?;
-    match &options.svg {
-        Some(path) => draw(
-            rt,
-            path,
-            &Picture::of(rt.alloc(), &config, &inputs, &account)?,
-            &account,
-        ),
-        None => Ok(()),
+    if let Some(path) = &options.svg {
+        let picture = Picture::of(rt.alloc(), &config, &inputs, &account)?;
+        draw(rt, path, &picture, &account)?;
     }
+    Ok(())
 }
 
 /// Writes the picture of a run to a file. One that cannot be written is told by its name, with the system's reason.

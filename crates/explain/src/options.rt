@@ -150,13 +150,28 @@ fn options_of<R: Eprint + AllocGlobal>(rt: &R, matches: &ArgMatches<'_>) -> Resu
         config: value_of(alloc, matches, "config")?,
         inside: value_of(alloc, matches, "inside")?,
         outside: value_of(alloc, matches, "outside")?,
-        svg: value_of(alloc, matches, "svg")?,
+        svg: svg_of(rt, matches)?,
         choice: Choice {
             only: only_of(rt, matches)?,
             host: host_of(rt, matches)?,
             dropped: matches.get_flag("dropped"),
         },
     })
+}
+
+/// The file of the picture, which is none of those that are read.
+fn svg_of<R: Eprint + AllocGlobal>(
+    rt: &R,
+    matches: &ArgMatches<'_>,
+) -> Result<Option<String>, Stop> {
+    let path = value_of(rt.alloc(), matches, "svg")?;
+    for name in ["config", "inside", "outside"] {
+        if path.is_some() && matches.get_str(name) == matches.get_str("svg") {
+            let _ = eprintln!(rt; "explain: --svg names the file of --{name}, which is read");
+            return Err(Stop::Usage);
+        }
+    }
+    Ok(path)
 }
 
 fn only_of<R: Eprint>(rt: &R, matches: &ArgMatches<'_>) -> Result<Option<u64>, Stop> {

@@ -11,6 +11,7 @@ const STYLE: &str = "<style>
   .name { stroke: #f3f5f7; stroke-width: 3; stroke-linejoin: round; paint-order: stroke }
   .side { font-weight: bold; text-anchor: end }
   .time { text-anchor: middle; fill: #555 }
+  .unit { text-anchor: start }
   .page { fill: #fff }
   .lane { fill: #f3f5f7 }
   .grid { stroke: #d5dae0 }
@@ -104,14 +105,14 @@ impl Drawing {
             },
         )?;
         let shown = if totals.bindings > MOST {
-            format!(in self.alloc; "the first {MOST} of {} bindings", totals.bindings)?
+            format!(in self.alloc; "{}, of which the first {MOST} are shown", totals.bindings)?
         } else {
-            format!(in self.alloc; "{} bindings", totals.bindings)?
+            format!(in self.alloc; "{}", totals.bindings)?
         };
+        let lanes = picture.lanes.len();
         let head = format!(in self.alloc;
-            "napt: {} packets, {shown}, {} external addresses",
-            totals.packets,
-            picture.lanes.len()
+            "packets: {}, external addresses: {lanes}, bindings: {shown}",
+            totals.packets
         )?;
         self.words("head", 16, 28, &head)
     }
@@ -149,7 +150,7 @@ impl Drawing {
     fn axis(&mut self, span: Span, bottom: u64) -> Result<(), AllocError> {
         let apart = time_between(span);
         let first = span.start.div_ceil(apart.max(1)).saturating_mul(apart);
-        self.words("side", LEFT - 10, HEAD - 12, "seconds")?;
+        self.words("time unit", 16, HEAD - 12, "seconds")?;
         for at in 0..=(RIGHT - LEFT) / TIME_WIDTH {
             let time = first.saturating_add(apart.saturating_mul(at));
             if time <= span.end {
