@@ -11,8 +11,7 @@ use Rattle.napt_pool.specs.Faults.{is_gate_shut}
 use Rattle.napt_pool.specs.Histories.{Served, HasStopped}
 
 -- The ring ends are those that were given. A worker that met Close stepped on all items and answered each; where one
--- stopped,
--- its end is what it told last, and it met no Close. None tells that a gate was shut which promises yes
+-- stopped, its end is what it told last, and it met no Close. None tells that a gate was shut which promises yes
 module _ {M G I A : Type 0} (g : Ghosts M I A) (open_gate : Bool) where
   pub record Worked (bench : Bench M G I A) (left : Left M G I A) : Type 0 where
     pub items : SameConsumer bench.items left.bench.items

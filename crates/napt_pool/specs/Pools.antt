@@ -1,6 +1,5 @@
 -- What a pool shows: its capacity and, for each worker, the machine that it was given, the items that were accepted for
--- it,
--- and the answers that were taken from it.
+-- it, and the answers that were taken from it.
 use Rattle.std.specs.Prelude.{◌≡◌, ⊤, ℕ, Bool, Result, List, Contains, map, [], ◌∷◌, ◌++◌, slice_set, slice_index_or}
 use Rattle.napt_pool.specs.declared.closing.Closing.{Closing}
 use Rattle.napt_pool.specs.declared.closing.Ended.{Ended}

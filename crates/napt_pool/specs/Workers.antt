@@ -49,10 +49,8 @@ module _ {M G I A : Type 0} where
   closing_heard w = received w.answers
 
 -- How a worker ended: with the machine after what was accepted, which its thread received, and with answers that, put
--- after those
--- that were taken, are the replies to it; or it stopped, as its thread did, and not at a gate that promises yes. Where
--- the word that
--- it stopped came out of its answer ring, that is its end
+-- after those that were taken, are the replies to it; or it stopped, as its thread did, and not at a gate that promises
+-- yes. Where the word that it stopped came out of its answer ring, that is its end
 module _ {M G I A : Type 0} (g : Ghosts M I A) (open_gate : Bool) where
   pub record IsEnd (w : Closing M G I A) (end : Result (Ended M I A) Stop) : Type 0 where
     pub machine_is : IfOk end (λ e. e.machine ≡ after g (closing_machine w) (closing_accepted w))

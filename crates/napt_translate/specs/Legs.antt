@@ -1,10 +1,9 @@
 -- A leg: one packet on one way through the bindings of one external address, at one time.
 --
 -- RFC 3022, sections 2.2 and 4.1 to 4.3: out, the source becomes the external endpoint of its binding; in, the
--- destination becomes the inside
--- endpoint. RFC 5508, REQ-3 to REQ-6: an ICMP error is translated by the datagram that it quotes and changes no
--- binding. RFC 4787, REQ-9: a
--- packet that goes out to an external address of the pool goes back in at that address.
+-- destination becomes the inside endpoint. RFC 5508, REQ-3 to REQ-6: an ICMP error is translated by the datagram that
+-- it quotes and changes no binding. RFC 4787, REQ-9: a packet that goes out to an external address of the pool goes
+-- back in at that address.
 use Rattle.std.specs.Prelude.{ℕ, max, false, List, [], ◌∷◌, Option, Some, None, Result, Ok, Err}
 use Rattle.napt_wire.specs.declared.Protocol.TheVariants as protocols
 use Rattle.napt_wire.specs.declared.Way.{Way}

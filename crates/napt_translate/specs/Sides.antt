@@ -1,8 +1,7 @@
 -- Which packets may cross the translator, and at which external address a packet is served.
 --
 -- RFC 2827: a source address that belongs to the other side is spoofed. RFC 4787, REQ-9 and RFC 5508, REQ-7: a packet
--- from inside to an
--- external address goes back inside; echoes are not sent back so here.
+-- from inside to an external address goes back inside; echoes are not sent back so here.
 use Rattle.std.specs.Prelude.{ℕ, Bool, true, false, not, ◌&&◌, ◌||◌, cond, List, Option, Some, None, is_some, ok_or, Result, Err}
 use Rattle.napt_wire.specs.declared.Protocol.TheVariants.{Icmp}
 use Rattle.napt_wire.specs.declared.Side.{Side}
