@@ -12,8 +12,8 @@ use Rattle.napt_capture.specs.declared.fault.WriteFault.{WriteFault}
 use Rattle.napt_config.specs.Rules.{Rules}
 use Rattle.napt_run.specs.declared.fault.Fault.{Fault}
 use Rattle.napt_run.specs.declared.fault.Fault.TheVariants.{Capture, Run, Write}
-use Rattle.napt_run.specs.declared.fault.RunFault.{RunFault}
-use Rattle.napt_run.specs.declared.fault.RunFault.TheVariants.{Memory, TooMany, Pool}
+use Rattle.napt_sequential.specs.declared.fault.RunFault.{RunFault}
+use Rattle.napt_sequential.specs.declared.fault.RunFault.TheVariants.{Memory, TooMany, Pool}
 use Rattle.napt_run.specs.declared.fault.Which.{Which}
 use Rattle.napt_run.specs.declared.fault.Which.TheVariants.{Outside, Inside, Report}
 use Rattle.napt_run.specs.declared.captures.Captures.{Captures}

@@ -2,17 +2,15 @@
 use Rattle.std.proofs.Common.{◌≡◌, ℕ, zero, suc, ◌+◌, ◌<◌, ◌≤◌, max, ◌⊎◌, inl, inr, Bool, true, false, cond, ◌↔◌, List, [], ◌∷◌, ◌++◌, length, map, take, drop, All, Option, Some, None, refl, sym, ◌∙◌, ap, subst, subst₂, arith, append_assoc}
 use Rattle.std.specs.Prelude.{filter, slice_get}
 use Rattle.std.proofs.lemmas.Option.{slice_get_within}
-use Rattle.std.proofs.lemmas.List.{take-append-drop, take-append-le, append-nil}
-use Rattle.std.proofs.lemmas.List.Elements.{filter-append}
+use Rattle.std.proofs.lemmas.List.{take-append-drop, take-append-le, append-nil, map-append}
+use Rattle.std.proofs.lemmas.List.Elements.{filter-append, All-append, All-tail}
 use Rattle.std.proofs.lemmas.List.Recursion.{max_push}
 use Rattle.std.proofs.Math.Seq.{take-append-add}
 use Rattle.std.proofs.lemmas.Bool.{ltb-false, ltb-true}
-use Rattle.std.proofs.lemmas.List.{map-append}
-use Rattle.std.proofs.lemmas.List.Elements.{All-append, All-tail}
 use Rattle.napt_wire.specs.declared.Side.{Side}
 use Rattle.napt_wire.specs.declared.Side.TheVariants.{Inside, Outside}
 use Rattle.napt_capture.specs.Contents.{Entry}
-use Rattle.napt_run.specs.Inputs.{Arrival}
+use Rattle.napt_sequential.specs.Inputs.{Arrival}
 use Rattle.napt_capture.specs.Text.{IsWritable}
 use Rattle.napt_run.specs.Output.{IsTimely}
 use Rattle.napt_run.specs.Taking.{Takes, input_of, is_outside_next}

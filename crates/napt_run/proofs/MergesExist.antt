@@ -4,7 +4,7 @@ use Rattle.std.specs.Prelude.{nat_lt}
 use Rattle.napt_wire.specs.declared.Side.{Side}
 use Rattle.napt_wire.specs.declared.Side.TheVariants.{Inside, Outside}
 use Rattle.napt_capture.specs.Contents.{Entry}
-use Rattle.napt_run.specs.Inputs.{Arrival}
+use Rattle.napt_sequential.specs.Inputs.{Arrival}
 use Rattle.napt_run.specs.Taking.{Takes, input_of}
 use Rattle.napt_run.specs.Merge.{IsMerged}
 use Rattle.napt_run.specs.MergeLaws.{MergeIsThere}

@@ -4,8 +4,8 @@ use Rattle.std.specs.List.{cons_option}
 use Rattle.std.proofs.lemmas.List.Elements.{All-map}
 use Rattle.napt_wire.specs.declared.Side.{Side}
 use Rattle.napt_capture.specs.Contents.{Entry}
-use Rattle.napt_run.specs.declared.outcome.Outcome.{Outcome}
-use Rattle.napt_run.specs.Inputs.{Arrival}
+use Rattle.napt_sequential.specs.declared.outcome.Outcome.{Outcome}
+use Rattle.napt_sequential.specs.Inputs.{Arrival}
 use Rattle.napt_run.specs.Output.{IsTime, IsTimely, packet_to, record_at, records_at, records_to}
 
 cons_option-append : {X : Type 0} (x : Option X) (xs : List X) → option_to_list x ++ xs ≡ cons_option x xs

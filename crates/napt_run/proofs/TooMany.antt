@@ -7,10 +7,10 @@ use Rattle.napt_capture.specs.Contents.{Entry}
 use Rattle.napt_run.specs.declared.captures.Captures.{Captures}
 use Rattle.napt_run.specs.declared.fault.Fault.{Fault}
 use Rattle.napt_run.specs.declared.fault.Fault.TheVariants.{Run}
-use Rattle.napt_run.specs.declared.fault.RunFault.{RunFault}
-use Rattle.napt_run.specs.declared.fault.RunFault.TheVariants.{TooMany}
+use Rattle.napt_sequential.specs.declared.fault.RunFault.{RunFault}
+use Rattle.napt_sequential.specs.declared.fault.RunFault.TheVariants.{TooMany}
 use Rattle.napt_run.specs.Captures.{AreTooMany, IsReadAsOutside, IsReadFrom, TellsTooMany, TooManyAreTold}
-use Rattle.napt_run.specs.Inputs.{Arrival}
+use Rattle.napt_sequential.specs.Inputs.{Arrival}
 use Rattle.napt_run.specs.Merge.{IsMerged, is_from, of_input, of_record}
 use Rattle.napt_run.proofs.OutputsAreOne.{HaveOneAnswer, captures-one}
 

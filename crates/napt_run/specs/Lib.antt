@@ -1,9 +1,12 @@
-pub mod Inputs
-pub mod Sequential
-pub mod Seats
-pub mod Sound
-pub mod QuotaKept
-pub mod Laws
+pub use Rattle.napt_sequential.specs.Inputs
+pub use Rattle.napt_sequential.specs.Sequential
+pub use Rattle.napt_sequential.specs.Faults
+pub use Rattle.napt_sequential.specs.Sound
+pub use Rattle.napt_sequential.specs.QuotaKept
+pub use Rattle.napt_sequential.specs.Laws
+pub use Rattle.napt_sequential.specs.Dispatching
+pub use Rattle.napt_sequential.specs.Places
+pub use Rattle.napt_dispatch.specs.Dispatch
 pub mod Merge
 pub mod Taking
 pub mod Output
@@ -11,7 +14,3 @@ pub mod Report
 pub mod Devices
 pub mod Captures
 pub mod MergeLaws
-pub mod Dispatching
-pub mod Dispatch
-pub mod Places
-pub mod Standing

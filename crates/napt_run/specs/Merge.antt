@@ -4,7 +4,7 @@ use Rattle.std.specs.Prelude.{◌≡◌, ℕ, ◌+◌, ◌≤◌, ◌<◌, ◌�
 use Rattle.napt_wire.specs.declared.Side.{Side}
 use Rattle.napt_wire.specs.declared.Side.TheVariants.{Inside, Outside}
 use Rattle.napt_capture.specs.Contents.{Entry}
-use Rattle.napt_run.specs.Inputs.{Arrival}
+use Rattle.napt_sequential.specs.Inputs.{Arrival}
 
 -- what a record and its input have in common
 pub record Timed : Type 0 where
@@ -39,8 +39,7 @@ abbrev pub reach : Side → ℕ → List Arrival → ℕ
 reach side place inputs = latest (filter (is_from side) (take (place + 1) inputs))
 
 -- an inside input stands before an outside one exactly where the greatest time of the inside up to the one is at most
--- that of the
--- outside up to the other
+-- that of the outside up to the other
 abbrev pub AreInOrder : List Arrival → Type 0
 AreInOrder inputs =
     (i o : ℕ) (a b : Arrival) → slice_get inputs i ≡ Some a → slice_get inputs o ≡ Some b → a.side ≡ Inside →

@@ -5,7 +5,7 @@ use Rattle.napt_capture.specs.Contents.{Entry}
 use Rattle.napt_config.specs.Rules.{Rules}
 use Rattle.napt_run.specs.declared.fault.Which.{Which}
 use Rattle.napt_run.specs.Captures.{Gets, Share}
-use Rattle.napt_run.specs.Inputs.{Arrival}
+use Rattle.napt_sequential.specs.Inputs.{Arrival}
 use Rattle.napt_run.specs.Merge.{IsMerged}
 
 -- two lists of records have at most one merged list
@@ -17,9 +17,8 @@ MergeIsOne = (insides outsides : List Entry) (xs ys : List Arrival) → IsMerged
 abbrev pub MergeIsThere : Type 0
 MergeIsThere = (insides outsides : List Entry) → (xs : List Arrival) × IsMerged insides outsides xs
 
--- replay: two runs under one configuration, over captures of the same bytes, whose output held the same bytes at first
--- and got the same
--- share of its text, left the same bytes there
+-- replay: two runs under one configuration, over captures of the same bytes, whose output held the same bytes at
+-- first and got the same share of its text, left the same bytes there
 abbrev pub OutputsAreOne : Type 0
 OutputsAreOne = (rules : Rules) (which : Which) (share : Share) (inside : List ℕ) (outside : Option (List ℕ))
     (old : List ℕ) (new other : Option (List ℕ))

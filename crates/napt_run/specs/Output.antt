@@ -4,9 +4,9 @@ use Rattle.std.specs.Prelude.{ℕ, ◌*◌, ◌<◌, ◌^◌, List, length, filt
 use Rattle.napt_wire.specs.declared.Side.{Side}
 use Rattle.napt_wire.specs.declared.Side.TheVariants.{Inside, Outside}
 use Rattle.napt_capture.specs.Contents.{Entry}
-use Rattle.napt_run.specs.declared.outcome.Outcome.{Outcome}
-use Rattle.napt_run.specs.declared.outcome.Outcome.TheVariants.{ToOutside, ToInside}
-use Rattle.napt_run.specs.Inputs.{Arrival}
+use Rattle.napt_sequential.specs.declared.outcome.Outcome.{Outcome}
+use Rattle.napt_sequential.specs.declared.outcome.Outcome.TheVariants.{ToOutside, ToInside}
+use Rattle.napt_sequential.specs.Inputs.{Arrival}
 
 -- the packet that an outcome sends to a side
 abbrev pub packet_to : Side → Outcome → Option (List ℕ)

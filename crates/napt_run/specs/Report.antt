@@ -1,6 +1,5 @@
 -- The report of a run, a line for each fact: how many packets came and what became of them, which captures were cut,
--- and the bindings
--- (this product's format).
+-- and the bindings (this product's format).
 use Rattle.std.specs.Prelude.{ℕ, ◌==◌, Bool, true, false, List, [], ◌∷◌, ◌++◌, length, codes, count_by, decimal, flat_map}
 use Rattle.napt_wire.specs.declared.Cause.{Cause}
 use Rattle.napt_wire.specs.declared.Cause.TheVariants.{Truncated, NotIpv4, BadHeader, BadChecksum, Fragment, Unsupported, BadInner, BadPort, Spoofed, NotOurs, NoBinding, Filtered, OverQuota, NoPort}
@@ -9,9 +8,9 @@ use Rattle.napt_wire.specs.declared.Protocol.{Protocol}
 use Rattle.napt_wire.specs.declared.Protocol.TheVariants.{Icmp, Tcp, Udp}
 use Rattle.napt_config.specs.Text.{address_text}
 use Rattle.napt_table.specs.declared.Row.{Row}
-use Rattle.napt_run.specs.declared.outcome.Outcome.{Outcome}
-use Rattle.napt_run.specs.declared.outcome.Outcome.TheVariants.{ToOutside, ToInside, Dropped}
-use Rattle.napt_run.specs.Sequential.{Ran}
+use Rattle.napt_sequential.specs.declared.outcome.Outcome.{Outcome}
+use Rattle.napt_sequential.specs.declared.outcome.Outcome.TheVariants.{ToOutside, ToInside, Dropped}
+use Rattle.napt_sequential.specs.Sequential.{Ran}
 
 abbrev pub Text : Type 0
 Text = List ℕ

@@ -1,40 +1,11 @@
-//! Why a run ends early.
+//! Why a run over captures ends early.
 
 ghost use Rattle.std.specs.Prelude.{◌≡◌};
 ghost use Rattle.napt_run.specs.declared.fault.Fault.TheVariants.{Run};
-ghost use Rattle.napt_run.specs.declared.fault.RunFault.TheVariants.{Memory, Pool};
 
 use napt_capture::{CaptureFault, WriteFault};
-use napt_pool::PoolFault;
+use napt_sequential::RunFault;
 use napt_wire::Side;
-use std::alloc::AllocError;
-
-/// Why a run over inputs gives no outcomes.
-#[derive(Clone, Copy, Debug, PartialEq, Eq)]
-pub enum RunFault {
-    /// Memory ran out.
-    Memory,
-    /// There are more than 4,294,967,295 inputs.
-    TooMany,
-    /// A worker stopped early, or the workers could not be started.
-    Pool(PoolFault),
-}
-
-impl From<AllocError> for RunFault {
-    ghost from_gives = { λ _ fault. fault ≡ Memory };
-
-    fn from(_error: AllocError) -> RunFault {
-        RunFault::Memory
-    }
-}
-
-impl From<PoolFault> for RunFault {
-    ghost from_gives = { λ refused fault. fault ≡ Pool refused };
-
-    fn from(refused: PoolFault) -> RunFault {
-        RunFault::Pool(refused)
-    }
-}
 
 /// What a run over captures writes, in the order in which it does.
 #[derive(Clone, Copy, Debug, PartialEq, Eq)]

@@ -7,33 +7,19 @@
 #![tactic(auto)]
 
 mod captures;
-mod dispatcher;
 mod fault;
-mod input;
-mod laws;
 mod merge_laws;
 mod merging;
-mod outcome;
 mod output;
 mod report;
-mod run;
-pub mod sample_inputs;
-mod seat;
-mod worker;
-mod workers;
 
 pub use captures::run_captures;
-pub use dispatcher::dispatch;
-pub use fault::{Fault, RunFault, Which};
-pub use input::Input;
-pub use laws::{
-    legs_are_local, places_stand_for_legs, right_answers, runs_are_sound, runs_keep_the_quota,
-    translators_are_local,
-};
+pub use fault::{Fault, Which};
 pub use merge_laws::{merge_is_one, outputs_are_one};
 pub use merging::merge;
-pub use outcome::{Outcome, Run};
+pub use napt_dispatch::{Worker, dispatch, run_workers};
+pub use napt_sequential::{
+    Input, Outcome, Run, RunFault, legs_are_local, places_stand_for_legs, right_answers, run_plain,
+    runs_are_sound, runs_keep_the_quota, translators_are_local,
+};
 pub use report::report_text;
-pub use run::run_plain;
-pub use worker::Worker;
-pub use workers::run_workers;

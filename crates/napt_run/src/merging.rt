@@ -5,8 +5,8 @@ ghost use Rattle.napt_run.specs.Merge.{IsMerged};
 ghost use Rattle.napt_run.specs.Output.{IsTimely};
 ghost use Rattle.napt_run.specs.Taking.{Takes, input_of, is_outside_next};
 
-use crate::input::Input;
 use napt_capture::Record;
+use napt_sequential::Input;
 use napt_wire::Side;
 use std::alloc::{AllocError, Global};
 use std::collections::VecDeque;

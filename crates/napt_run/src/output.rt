@@ -1,11 +1,11 @@
 //! The records that a run writes: the packets that leave, in the order of their inputs.
-ghost use Rattle.std.specs.Prelude.{◌≡◌, ◌++◌, ◌<◌, ◌≤◌, ◌*◌, ◌^◌, [], ◌∷◌, length, All, IfOk, OnOk, option_to_list};
+ghost use Rattle.std.specs.Prelude.{◌≡◌, ◌++◌, ◌<◌, ◌≤◌, ◌*◌, ◌^◌, [], ◌∷◌, length, map, All, IfOk, OnOk, option_to_list};
 ghost use Rattle.napt_wire.specs.declared.Side.TheVariants as sides;
 ghost use Rattle.napt_capture.specs.Text.{IsWritable};
 ghost use Rattle.napt_run.specs.Output.{IsTime, packet_to, record_at, records_at, sent_at};
 
-use crate::outcome::Outcome;
 use napt_capture::Record;
+use napt_sequential::{Input, Outcome};
 use napt_wire::Packet;
 use std::alloc::{AllocError, Global};
 
@@ -14,6 +14,17 @@ use std::alloc::{AllocError, Global};
 pub(crate) struct Sent {
     pub(crate) to_outside: Vec<Record>,
     pub(crate) to_inside: Vec<Record>,
+}
+
+/// The arrival times of all inputs, in ns.
+pub(crate) fn times_of(alloc: Global, inputs: &[Input]) -> Result<Vec<u64>, AllocError>
+    ensures { IfOk result (λ times. times.items ≡ map (λ i. i.time) inputs.now) }
+{
+    let mut times = Vec::with_capacity(alloc, inputs.len())?;
+    for input in inputs {
+        times.push(input.time)?;
+    }
+    Ok(times)
 }
 
 /// Adds the record of a packet that arrived at a time, in ns.

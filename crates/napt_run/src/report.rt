@@ -3,8 +3,8 @@ ghost use Rattle.std.specs.Prelude.{◌≡◌, ◌+◌, ◌-◌, ◌^◌, ◌<�
 ghost use Rattle.napt_wire.specs.declared.Cause.{Cause};
 ghost use Rattle.napt_run.specs.Report as model;
 
-use crate::outcome::{Outcome, Run};
 use napt_config::Address;
+use napt_sequential::{Outcome, Run};
 use napt_table::Row;
 use napt_wire::{Cause, Endpoint, Protocol};
 use std::alloc::{AllocError, Global};

@@ -1,10 +1,10 @@
 // What no contract says: that a run comes to its end on threads, and that it is the workers that run. The bytes of worked
 // captures are in tests/runs, at the top of the repository.
 use crate::packets::udp;
+use crate::sample_inputs::{RESOLVER, thousand_inputs};
 use napt_capture::{CaptureFault, Watched, WriteFault, read_capture};
 use napt_config::{Config, ConfigFault};
 use napt_pool::{Gate, OpenGate, PoolFault};
-use napt_run::sample_inputs::{RESOLVER, thousand_inputs};
 use napt_run::{
     Fault, Input, Outcome, RunFault, Which, merge, report_text, run_captures, run_plain,
 };

@@ -13,4 +13,6 @@ mod report;
 #[cfg(test)]
 mod run;
 #[cfg(test)]
+mod sample_inputs;
+#[cfg(test)]
 mod workers;

@@ -1,7 +1,8 @@
 use crate::packets::{bytes_of, checksum, halves, udp};
+use crate::sample_inputs;
+use crate::sample_inputs::RESOLVER;
 use napt_config::{Config, ConfigFault};
-use napt_run::sample_inputs::RESOLVER;
-use napt_run::{Input, Outcome, Run, RunFault, run_plain, sample_inputs};
+use napt_run::{Input, Outcome, Run, RunFault, run_plain};
 use napt_table::Row;
 use napt_wire::{Cause, Endpoint, Protocol, Side};
 use std::alloc::{AllocError, Global};

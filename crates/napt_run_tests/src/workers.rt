@@ -1,12 +1,12 @@
 // What no contract says: that the run over workers comes to its end, on threads that step at the same time.
 ghost use Rattle.std.specs.Prelude.{◌≡◌, length, vec_len, IfOk};
 ghost use Rattle.napt_config.specs.Rules.{KeepsRules};
-ghost use Rattle.napt_run.specs.Dispatch.{started};
+ghost use Rattle.napt_dispatch.specs.Dispatch.{started};
 
 use crate::packets::udp;
+use crate::sample_inputs::{RESOLVER, thousand_inputs};
 use napt_config::{Config, ConfigFault};
 use napt_pool::{Ended, Gate, OpenGate, Pool, PoolFault};
-use napt_run::sample_inputs::{RESOLVER, thousand_inputs};
 use napt_run::{Input, Outcome, Run, RunFault, Worker, dispatch, run_plain, run_workers};
 use napt_table::Row;
 use napt_translate::Translator;

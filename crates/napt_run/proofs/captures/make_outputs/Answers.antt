@@ -6,8 +6,8 @@ use Rattle.napt_wire.specs.declared.Side.{Side}
 use Rattle.napt_wire.specs.declared.Side.TheVariants as sides
 use Rattle.napt_capture.specs.Text.{IsWritable}
 use Rattle.napt_capture.specs.Contents.{Contents}
-use Rattle.napt_run.specs.Inputs.{Arrival}
-use Rattle.napt_run.specs.Sequential.{Ran, ran}
+use Rattle.napt_sequential.specs.Inputs.{Arrival}
+use Rattle.napt_sequential.specs.Sequential.{Ran, ran}
 use Rattle.napt_run.specs.Merge.{IsMerged}
 use Rattle.napt_run.specs.Output.{IsTime, IsTimely, records_at, records_to}
 use Rattle.napt_run.specs.Report.{report_text}

@@ -1,6 +1,6 @@
 use Rattle.std.proofs.Common.{◌≡◌, [], ◌∷◌, ◌++◌, sym, ◌∙◌, ap, subst, Some}
 use Rattle.napt_capture.specs.Contents.{Entry}
-use Rattle.napt_run.specs.Inputs.{Arrival}
+use Rattle.napt_sequential.specs.Inputs.{Arrival}
 use Rattle.napt_run.specs.Taking.{Takes, input_of}
 use Rattle.napt_run.proofs.Merges.{begins, ends, takes, takes_timely, none_yet, none_left}
 use Rattle.napt_run.proofs.merging.merge.Goals as goal

@@ -1,7 +1,7 @@
 use Rattle.std.proofs.Common.{◌≡◌, ℕ, List, [], ◌++◌, ◌∙◌, ap, flat_map, string_bytes}
 use Rattle.napt_table.specs.declared.Row.{Row}
-use Rattle.napt_run.specs.declared.outcome.Outcome.{Outcome}
-use Rattle.napt_run.specs.Sequential.{Ran}
+use Rattle.napt_sequential.specs.declared.outcome.Outcome.{Outcome}
+use Rattle.napt_sequential.specs.Sequential.{Ran}
 use Rattle.napt_run.specs.Report as model
 use Rattle.napt_run.specs.Report.{report_text}
 use Rattle.napt_run.proofs.Texts.{three_pieces}

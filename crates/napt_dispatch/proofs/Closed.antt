@@ -1,0 +1,142 @@
+-- What the workers are left with shows what a run gives.
+use Rattle.std.proofs.Common.{◌≡◌, ◌≢◌, ℕ, zero, suc, ◌+◌, ◌<◌, ◌≤◌, max, Bool, true, false, List, [], ◌∷◌, ◌++◌, length, map, Result, Ok, Err, refl, sym, ◌∙◌, ap, subst, arith}
+use Rattle.std.proofs.lemmas.List.{length-map}
+use Rattle.std.specs.Prelude.{slice_index, slice_index_or, flat_map, IfErr, OnOk}
+use Rattle.napt_config.specs.Rules.{Rules}
+use Rattle.napt_table.specs.declared.Row.{Row}
+use Rattle.napt_table.specs.Bindings.{of}
+use Rattle.napt_table.specs.Opening.{opening}
+use Rattle.napt_table.specs.Rows.{rows, rows_of}
+use Rattle.napt_translate.specs.declared.translator.Leg.{Leg}
+use Rattle.napt_translate.specs.declared.translator.Answer.{Answer}
+use Rattle.napt_translate.specs.Legs.{Kept, kept_after_all}
+use Rattle.napt_translate.specs.Translators.{TranslatorState, begun, kept_of, with_kept, left_by}
+use Rattle.napt_pool.specs.declared.machine.Machine.{Ghosts}
+use Rattle.napt_pool.specs.Histories.{after}
+use Rattle.napt_pool.specs.Pools.{zip_with}
+use Rattle.napt_sequential.specs.declared.outcome.Outcome.{Outcome}
+use Rattle.napt_sequential.specs.declared.fault.RunFault.{RunFault}
+use Rattle.napt_sequential.specs.declared.fault.RunFault.TheVariants as faults
+use Rattle.napt_sequential.specs.Inputs.{Arrival}
+use Rattle.napt_sequential.specs.Seats.{IsAtOnce}
+use Rattle.napt_sequential.specs.Sequential.{Course, run, last_clock, legs_at, Ran, ran}
+use Rattle.napt_dispatch.specs.Dispatch.{started, of_worker, fresh, rows_after, IsFaultUnder, is_gate_fault, IsDispatched, first_fault}
+use Rattle.napt_pool.specs.declared.fault.PoolFault.{PoolFault}
+use Rattle.napt_sequential.proofs.RunsLocal.{seen}
+use Rattle.napt_dispatch.proofs.Ended.{zip_index, length_started, started_at}
+
+-- LISTS
+
+zip_long : {X Y Z : Type 0} (f : X → Y → Z) (xs : List X) (ys : List Y) → length xs ≡ length ys →
+    length (zip_with f xs ys) ≡ length ys
+zip_long f [] [] e = refl
+zip_long f [] (y ∷ ys) e = absurd (omega arith)
+zip_long f (x ∷ xs) [] e = absurd (omega arith)
+zip_long f (x ∷ xs) (y ∷ ys) e = ap suc (zip_long f xs ys (omega arith))
+
+map_index : {X : Type 0} (f : ℕ → List X) (pool : List ℕ) (w : ℕ) → w < length pool → of_worker (map f pool) w
+    ≡ f (slice_index pool w)
+map_index f [] w lt = absurd (omega arith)
+map_index f (a ∷ pool) zero lt = refl
+map_index f (a ∷ pool) (suc w) lt = map_index f pool w (omega arith)
+
+flat_each : (h : TranslatorState → List Row) (k : ℕ → List Row) (xs : List TranslatorState) (pool : List ℕ)
+    (d : TranslatorState) → length xs ≡ length pool → ((w : ℕ) → w < length pool → h (slice_index_or xs w d)
+    ≡ k (slice_index pool w)) → flat_map h xs ≡ flat_map k pool
+flat_each h k [] [] d e same = refl
+flat_each h k [] (a ∷ pool) d e same = absurd (omega arith)
+flat_each h k (x ∷ xs) [] d e same = absurd (omega arith)
+flat_each h k (x ∷ xs) (a ∷ pool) d e same =
+    ap (λ (r : List Row). r ++ flat_map h xs) (same zero (omega arith)) ∙ ap (λ (r : List Row). k a ++ r)
+    (flat_each h k xs pool d (omega arith) (λ w lt. same (suc w) (omega arith)))
+
+-- WORKERS
+
+latest : (last clock at : ℕ) → last ≡ clock → at ≤ clock → max last at ≡ clock
+latest last clock at e le = omega arith
+
+module _ (g : Ghosts TranslatorState Leg Answer) (stepped_is : (s : TranslatorState) (leg : Leg) → g.stepped s leg
+    ≡ left_by leg s) where
+  after_kept : (s : TranslatorState) (legs : List Leg) → after g s legs
+      ≡ with_kept s (kept_after_all s.rules s.table.address legs (kept_of s.table))
+  after_kept s [] = refl
+  after_kept s (leg ∷ legs) = ap (λ (m : TranslatorState). after g m legs) (stepped_is s leg)
+      ∙ after_kept (left_by leg s) legs
+
+  pub workers_shown : (rules : Rules) (inputs : List Arrival) (starts : List TranslatorState)
+      (accepts : List (List Leg)) (machines : List TranslatorState) (outcomes : List Outcome) (numbers : List ℕ)
+      (last : ℕ) (bindings : List Row) →
+      starts ≡ started rules (length rules.pool) → machines ≡ zip_with (after g) starts accepts →
+      IsDispatched rules inputs accepts outcomes numbers → last ≡ last_clock 0 inputs →
+      bindings ≡ flat_map (rows_after last) machines →
+      (let r : Ran = record { outcomes = outcomes; bindings = bindings; legs = numbers } in r ≡ ran rules inputs)
+  unfolding ran
+  workers_shown rules inputs starts accepts machines outcomes numbers last bindings began left done clock shown =
+      let n : ℕ = length rules.pool in
+      let course : Course = run rules inputs (opening rules) in
+      let give : List (List Leg) = map (λ (address : ℕ). legs_at address course.acts) rules.pool in
+      let states : List TranslatorState = zip_with (after g) (started rules n) give in
+      let states_are : machines ≡ states = left ∙ (ap (λ (s : List TranslatorState). zip_with (after g) s accepts) began
+      ∙ ap (zip_with (after g) (started rules n)) done.legs) in
+      let long : length (started rules n) ≡ n = length_started rules n in
+      let long_give : length give ≡ n = length-map rules.pool (λ (address : ℕ). legs_at address course.acts) in
+      let at_last : List Row =
+      flat_map (λ (address : ℕ). rows rules.timers (last_clock 0 inputs) (of address course.list)) rules.pool in
+      let all : flat_map (rows_after last) machines ≡ at_last =
+      ap (flat_map (rows_after last)) states_are
+      ∙ flat_each (rows_after last) (λ (address : ℕ). rows rules.timers (last_clock 0 inputs) (of address course.list))
+      states rules.pool (begun 0 rules) (zip_long (after g) (started rules n) give (long ∙ sym long_give)
+      ∙ long_give)
+      (λ w lt.
+      let address : ℕ = slice_index rules.pool w in
+      let legs : List Leg = legs_at address course.acts in
+      let kept : Kept = kept_after_all rules address legs (fresh rules address) in
+      let once : IsAtOnce rules address (last_clock 0 inputs) kept course.list =
+      (seen rules inputs (opening rules) address).leaves in
+      let state_is : slice_index_or states w (begun 0 rules) ≡ with_kept (begun w rules) kept =
+      zip_index (after g) (started rules n) give w (begun 0 rules) (begun 0 rules) (omega arith) (omega arith)
+      ∙ (ap (λ (s : TranslatorState). after g s (of_worker give w)) (started_at rules n w (begun 0 rules) lt)
+      ∙ (ap (after g (begun w rules)) (map_index (λ (a : ℕ). legs_at a course.acts) rules.pool w lt)
+      ∙ after_kept (begun w rules) legs)) in
+      ap (rows_after last) state_is
+      ∙ (ap (λ (t : ℕ). rows rules.timers t kept.list) (latest last (last_clock 0 inputs) kept.at clock once.past)
+      ∙ ap rows_of once.agrees.same)) in
+      rw (done.outcomes_are, shown, done.numbers_are, all) refl
+
+pub started_more : (rules : Rules) (n : ℕ) → started rules (n + 1) ≡ started rules n ++ begun n rules ∷ []
+started_more rules n = let e : n + 1 ≡ suc n = omega arith in ap (started rules) e
+
+-- FAULTS
+
+pub not_too_many : {X : Type 0} (gate : Bool) (r : Result X RunFault) → IfErr r (IsFaultUnder gate) →
+    r ≢ Err faults.TooMany
+not_too_many gate (Ok x) h e = cc
+not_too_many gate (Err faults.Memory) h e = cc
+not_too_many gate (Err faults.TooMany) h e = h
+not_too_many gate (Err (faults.Pool fault)) h e = cc
+
+pub not_shut : {X : Type 0} (gate : Bool) (r : Result X RunFault) → IfErr r (IsFaultUnder gate) → gate ≡ true →
+    IfErr r (λ fault. is_gate_fault fault ≡ false)
+not_shut gate (Ok x) h e = tt
+not_shut gate (Err faults.Memory) h e = refl
+not_shut gate (Err faults.TooMany) h e = refl
+not_shut gate (Err (faults.Pool fault)) h e = h e
+
+abbrev IsOkay : {T E : Type 0} → Result T E → Type 0
+IsOkay (Ok done) = Unit {0}
+IsOkay (Err fault) = ⊥
+
+abbrev AreBoth : {D C : Type 0} → D → C → Result (D × C) RunFault → Type 0
+AreBoth {D} {C} made left (Ok both) = (◌≡◌ {A = Result D RunFault} (Ok made) (Ok both.0))
+    × (◌≡◌ {A = Result C PoolFault} (Ok left) (Ok both.1))
+AreBoth made left (Err fault) = ⊥
+
+pub on_ok_at : {T E P : Type 0} (result : Result T E) (value : T) → result ≡ Ok value → OnOk result P → P
+on_ok_at {P = P} result value is holds = subst (λ (r : Result _ _). OnOk r P) is holds
+
+-- where no fault is told there was none
+pub both_ended : {D C : Type 0} (dispatched : Result D RunFault) (closed : Result C PoolFault) (done : D) (ended : C)
+    → Ok (done, ended) ≡ first_fault dispatched closed → (dispatched ≡ Ok done) × (closed ≡ Ok ended)
+both_ended (Ok made) (Ok left) done ended is = subst (AreBoth made left) (sym is) (refl, refl)
+both_ended (Ok made) (Err fault) done ended is = absurd (subst IsOkay is tt)
+both_ended (Err fault) closed done ended is = absurd (subst IsOkay is tt)

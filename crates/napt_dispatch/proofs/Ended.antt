@@ -1,0 +1,121 @@
+-- What the end of a dispatch tells.
+use Rattle.std.proofs.Common.{◌≡◌, ◌≢◌, ℕ, zero, suc, ◌+◌, ◌<◌, List, [], ◌∷◌, ◌++◌, length, map, Option, Some, None, refl, sym, ◌∙◌, ap, arith, append-nil, length-append, replicate, inl, inr, ◌⊎◌}
+use Rattle.std.specs.Prelude.{slice_index, slice_index_or, slice_get}
+use Rattle.std.proofs.Math.ListN.{get_or-append}
+use Rattle.std.proofs.Math.Seq.{get_or-append_seam}
+use Rattle.napt_config.specs.Rules.{Rules}
+use Rattle.napt_translate.specs.declared.translator.Leg.{Leg}
+use Rattle.napt_translate.specs.declared.translator.Answer.{Answer}
+use Rattle.napt_translate.specs.Legs.{kept_answer, kept_replies}
+use Rattle.napt_translate.specs.Translators.{TranslatorState, begun, kept_of, left_by}
+use Rattle.napt_pool.specs.declared.machine.Machine.{Ghosts}
+use Rattle.napt_pool.specs.Histories.{replies}
+use Rattle.napt_pool.specs.Pools.{zip_with}
+use Rattle.napt_sequential.specs.declared.outcome.Outcome.{Outcome}
+use Rattle.napt_dispatch.specs.Dispatch.{started, of_worker, fresh, Right}
+
+-- LISTS
+
+pub zip_index : {X Y Z : Type 0} (f : X → List Y → Z) (xs : List X) (ys : List (List Y)) (w : ℕ) (d : X) (e : Z) →
+    w < length xs → w < length ys → slice_index_or (zip_with f xs ys) w e ≡ f (slice_index_or xs w d) (of_worker ys w)
+zip_index f [] ys w d e lt lu = absurd (omega arith)
+zip_index f (x ∷ xs) [] w d e lt lu = absurd (omega arith)
+zip_index f (x ∷ xs) (y ∷ ys) zero d e lt lu = refl
+zip_index f (x ∷ xs) (y ∷ ys) (suc w) d e lt lu = zip_index f xs ys w d e (omega arith) (omega arith)
+
+pub map_at : {X : Type 0} (f : ℕ → List X) (lists : List (List X)) (pool : List ℕ) → length lists ≡ length pool →
+    ((w : ℕ) → w < length pool → of_worker lists w ≡ f (slice_index pool w)) → lists ≡ map f pool
+map_at f [] [] e h = refl
+map_at f [] (a ∷ pool) e h = absurd (omega arith)
+map_at f (l ∷ lists) [] e h = absurd (omega arith)
+map_at f (l ∷ lists) (a ∷ pool) e h =
+    ap (λ (x : List _). x ∷ lists) (h zero (omega arith)) ∙ ap (λ (xs : List (List _)). f a ∷ xs)
+    (map_at f lists pool (omega arith) (λ w lt. h (suc w) (omega arith)))
+
+pub same_lengths : {X Y : Type 0} (xs : List (List X)) (ys : List (List Y)) → length xs ≡ length ys →
+    ((v : ℕ) → v < length ys → length (of_worker xs v) ≡ length (of_worker ys v)) → map length xs ≡ map length ys
+same_lengths [] [] e h = refl
+same_lengths [] (y ∷ ys) e h = absurd (omega arith)
+same_lengths (x ∷ xs) [] e h = absurd (omega arith)
+same_lengths (x ∷ xs) (y ∷ ys) e h = ap (λ (n : ℕ). n ∷ map length xs) (h zero (omega arith))
+    ∙ ap (λ (ns : List ℕ). length y ∷ ns) (same_lengths xs ys (omega arith) (λ v lt. h (suc v) (omega arith)))
+
+pub same_known : (all outs : List Outcome) → length all ≡ length outs →
+    ((i : ℕ) (o : Outcome) → slice_get (map (λ (x : Outcome). let s : Option Outcome = Some x in s) all) i
+    ≡ Some (Some o) → slice_get outs i ≡ Some o) → all ≡ outs
+same_known [] [] e h = refl
+same_known [] (o ∷ outs) e h = absurd (omega arith)
+same_known (a ∷ all) [] e h = absurd (omega arith)
+same_known (a ∷ all) (o ∷ outs) e h =
+    let here : slice_get (o ∷ outs) 0 ≡ Some a = h zero a refl in
+    let same : o ≡ a = cc in
+    ap (λ (x : Outcome). x ∷ all) (sym same) ∙ ap (λ (xs : List Outcome). o ∷ xs)
+    (same_known all outs (omega arith) (λ i x g. h (suc i) x g))
+
+pub none_known : (n i : ℕ) (o : Outcome) → slice_get (replicate n (let x : Option Outcome = None in x)) i ≢ Some
+    (Some o)
+none_known zero i o h = cc
+none_known (suc n) zero o h = cc
+none_known (suc n) (suc i) o h = none_known n i o h
+
+less_or_same : (w n : ℕ) → w < suc n → (w < n) ⊎ (w ≡ n)
+less_or_same zero zero lt = inr refl
+less_or_same zero (suc n) lt = inl (omega arith)
+less_or_same (suc w) zero lt = absurd (omega arith)
+less_or_same (suc w) (suc n) lt = elim (less_or_same w n (omega arith)) [
+  | inl less ↦ inl (omega arith)
+  | inr same ↦ inr
+      (ap suc same)
+]
+
+-- WORKERS
+
+pub length_started : (rules : Rules) (n : ℕ) → length (started rules n) ≡ n
+length_started rules zero = refl
+length_started rules (suc n) =
+    let front : length (started rules n) ≡ n = length_started rules n in
+    let parts : length (started rules n ++ begun n rules ∷ []) ≡ length (started rules n) + 1 =
+    length-append (started rules n) (begun n rules ∷ []) in
+    omega arith
+
+pub started_at : (rules : Rules) (n w : ℕ) (d : TranslatorState) → w < n → slice_index_or (started rules n) w d
+    ≡ begun w rules
+started_at rules zero w d lt = absurd (omega arith)
+started_at rules (suc n) w d lt =
+    let long : length (started rules n) ≡ n = length_started rules n in
+    elim (less_or_same w n lt) [
+      | inl less ↦ get_or-append (started rules n) (begun n rules ∷ []) d w (omega arith) ∙ started_at rules n w d less
+      | inr same ↦ ap (λ (k : ℕ). slice_index_or (started rules n ++ begun n rules ∷ []) k d) (same ∙ sym long)
+          ∙ (get_or-append_seam (started rules n) (begun n rules) [] d ∙ ap (λ (k : ℕ). begun k rules) (sym same))
+    ]
+
+module _ (g : Ghosts TranslatorState Leg Answer) (stepped_is : (s : TranslatorState) (leg : Leg) → g.stepped s leg
+    ≡ left_by leg s) (reply_is : (s : TranslatorState) (leg : Leg) → g.reply s leg
+    ≡ kept_answer s.rules s.table.address leg (kept_of s.table)) where
+  replies_kept : (s : TranslatorState) (legs : List Leg) → replies g s legs ≡ kept_replies s.rules s.table.address legs
+      (kept_of s.table)
+  replies_kept s [] = refl
+  replies_kept s (leg ∷ legs) =
+      ap (λ (a : Answer). a ∷ replies g (g.stepped s leg) legs) (reply_is s leg)
+      ∙ (ap (λ (m : TranslatorState). kept_answer s.rules s.table.address leg (kept_of s.table) ∷ replies g m legs)
+      (stepped_is s leg)
+      ∙ ap (λ (as_are : List Answer). kept_answer s.rules s.table.address leg (kept_of s.table) ∷ as_are)
+      (replies_kept (left_by leg s) legs))
+
+  -- what the workers answered is right
+  pub right_since : (rules : Rules) (starts : List TranslatorState) (offered : List (List Leg))
+      (taken : List (List Answer)) → starts ≡ started rules (length rules.pool) → length offered ≡ length rules.pool →
+      taken ≡ zip_with (replies g) starts offered → Right rules offered taken
+  right_since rules starts offered taken began many is_taken = λ w lt.
+      let long : length (started rules (length rules.pool)) ≡ length rules.pool =
+      length_started rules (length rules.pool) in
+      let is : of_worker taken w ≡ kept_replies rules (slice_index rules.pool w) (of_worker offered w)
+      (fresh rules (slice_index rules.pool w)) =
+      ap (λ (t : List (List Answer)). of_worker t w) is_taken
+      ∙ (ap (λ (s : List TranslatorState). of_worker (zip_with (replies g) s offered) w) began
+      ∙ (zip_index (replies g) (started rules (length rules.pool)) offered w (begun w rules) [] (omega arith)
+      (omega arith)
+      ∙ (ap (λ (s : TranslatorState). replies g s (of_worker offered w)) (started_at rules (length rules.pool) w
+      (begun w rules) lt)
+      ∙ replies_kept (begun w rules) (of_worker offered w)))) in
+      ([], append-nil (of_worker taken w) ∙ is)

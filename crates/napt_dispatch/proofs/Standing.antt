@@ -1,0 +1,895 @@
+-- What stands while a dispatcher hands out the legs of a run.
+use Rattle.std.proofs.Common.{◌≡◌, ◌≢◌, ℕ, zero, suc, ◌+◌, ◌<◌, ◌≤◌, ◌==◌, max, Bool, true, false, cond, List, [], ◌∷◌, ◌++◌, length, map, set, replicate, Option, Some, None, Ok, Err, refl, sym, ◌∙◌, ap, subst, arith, inl, inr, ◌⊎◌, append_assoc, append-nil, length-append}
+use Rattle.std.specs.Prelude.{IfSome, MatchOption, flat_map, slice_index, slice_get, slice_set}
+use Rattle.std.proofs.lemmas.Bool.{cases_eq, eq-eqb, ne_eqb}
+use Rattle.std.proofs.lemmas.List.{length-set, set-set, length_push, map-append, get_or-set_same, length-replicate, length-map}
+use Rattle.std.proofs.lemmas.Grind.{flat_map-append}
+use Rattle.std.proofs.lemmas.Simd.{map-map}
+use Rattle.napt_wire.specs.declared.Way.{Way}
+use Rattle.napt_wire.specs.declared.Way.TheVariants.{Outgoing, Incoming}
+use Rattle.napt_wire.specs.declared.Cause.{Cause}
+use Rattle.napt_wire.specs.declared.Side.{Side}
+use Rattle.napt_wire.specs.declared.Side.TheVariants.{Inside, Outside}
+use Rattle.napt_wire.specs.Fields.{destination}
+use Rattle.napt_wire.specs.Packet.{IsPacket}
+use Rattle.napt_config.specs.Rules.{Rules, place_of}
+use Rattle.napt_table.specs.Lists.{Each}
+use Rattle.napt_table.specs.Opening.{opening}
+use Rattle.napt_translate.specs.declared.translator.Leg.{Leg}
+use Rattle.napt_translate.specs.declared.translator.Answer.{Answer}
+use Rattle.napt_translate.specs.declared.translator.End.{End}
+use Rattle.napt_translate.specs.declared.translator.End.TheVariants as ends
+use Rattle.napt_translate.specs.Sides.{way_from, served_at}
+use Rattle.napt_translate.specs.Legs.{Acted, act}
+use Rattle.napt_sequential.specs.declared.outcome.Outcome.{Outcome}
+use Rattle.napt_sequential.specs.declared.outcome.Outcome.TheVariants as outcomes
+use Rattle.napt_dispatch.specs.declared.dispatcher.held.Held.{Held}
+use Rattle.napt_dispatch.specs.declared.dispatcher.held.Held.TheVariants.{Ready, Place}
+use Rattle.napt_dispatch.specs.declared.dispatcher.held.Owed.{Owed}
+use Rattle.napt_dispatch.specs.declared.dispatcher.progress.Progress.{Progress}
+use Rattle.napt_dispatch.specs.declared.dispatcher.progress.Progress.TheVariants.{Awaited, Onward, EndedOut, EndedIn}
+use Rattle.napt_dispatch.specs.declared.dispatcher.progress.Second.TheVariants as seconds
+use Rattle.napt_sequential.specs.Inputs.{Arrival}
+use Rattle.napt_sequential.specs.Sequential.{Act, Course, run, last_clock, acts_at, legs_at}
+use Rattle.napt_sequential.specs.Laws.{answer_of, answers_at}
+use Rattle.napt_sequential.specs.Dispatching.{IsFront, told, IsTold, IsForetold, OnwardIsForetold}
+use Rattle.napt_dispatch.specs.Dispatch.{of_worker, Right, Distinct, IsDispatched}
+use Rattle.napt_sequential.specs.Places.{first_act, second_legs, second_of, IsSeconded}
+use Rattle.napt_sequential.specs.Admission.{admission}
+use Rattle.napt_dispatch.specs.Standing.{pushed, put_first, Popped, Parts, Ledger, IsSized, owed_of, IsOwed, resolved, next_leg, IsKnown, Reaches, Stands, Keeps, with_held, with_progress, with_first, ended, IsToldBy, Noted, IsSecond, Admits, IsDone, outcome_in}
+use Rattle.napt_dispatch.proofs.Ledgers.{push_own, push_other, count_push, place_within, no_lengths, of_replicate}
+use Rattle.napt_sequential.proofs.Dispatched.{right_answers, answers_tell}
+use Rattle.napt_sequential.proofs.Grown.{outcomes_long}
+use Rattle.napt_sequential.proofs.Places.{legs_append, answers_fill, cond_map, place_stands, acts_grow}
+use Rattle.napt_dispatch.proofs.Hairpin.{offer_back, answer_back, single_by}
+use Rattle.napt_sequential.proofs.OneInput.{acts_begin, outcomes_begin, get_at, grown}
+use Rattle.napt_sequential.proofs.Steps.{stands_at}
+use Rattle.napt_dispatch.proofs.Ended.{map_at, same_known}
+
+-- LISTS OF WORKERS
+
+pub set_own : {X : Type 0} (lists : List (List X)) (w : ℕ) (xs : List X) → w < length lists →
+    of_worker (slice_set lists w xs) w ≡ xs
+set_own lists w xs lt = get_or-set_same lists w xs [] lt
+
+cond_test : (b c : Bool) → b ≡ c → {X : Type 0} (xs : List X) → cond b xs [] ≡ cond c xs []
+cond_test b c e xs = ap (λ (t : Bool). cond t xs []) e
+
+-- what is read of each list after one more
+pub push_reads : {X Y : Type 0} (f : X → List Y) (lists : List (List X)) (w : ℕ) (x : X) → w < length lists → (v : ℕ) →
+    flat_map f (of_worker (pushed w x lists) v) ≡ flat_map f (of_worker lists v) ++ cond (v == w) (f x) []
+push_reads f lists w x lt v = elim (cases_eq v w) [
+  | inl e ↦
+      let own : of_worker (pushed w x lists) v ≡ of_worker lists v ++ x ∷ [] =
+      subst (λ (u : ℕ). of_worker (pushed w x lists) u ≡ of_worker lists u ++ x ∷ []) (sym e)
+      (push_own lists w x lt) in
+      ap (flat_map f) own
+      ∙ (flat_map-append f (of_worker lists v) (x ∷ [])
+      ∙ (ap (λ (ys : List _). flat_map f (of_worker lists v) ++ ys) (append-nil (f x))
+      ∙ ap (λ (b : Bool). flat_map f (of_worker lists v) ++ cond b (f x) []) (sym (eq-eqb v w e))))
+  | inr n ↦
+      ap (flat_map f) (push_other lists w (of_worker lists w ++ x ∷ []) v n)
+      ∙ (sym (append-nil (flat_map f (of_worker lists v)))
+      ∙ ap (λ (b : Bool). flat_map f (of_worker lists v) ++ cond b (f x) []) (sym (ne_eqb v w n)))
+]
+
+-- by the addresses of workers as by their places
+same_test : (pool : List ℕ) → Distinct pool → (v w : ℕ) → v < length pool → w < length pool →
+    (slice_index pool w == slice_index pool v) ≡ (v == w)
+same_test pool distinct v w lv lw = elim (cases_eq v w) [
+  | inl e ↦ eq-eqb (slice_index pool w) (slice_index pool v) (ap (λ (u : ℕ). slice_index pool u) (sym e))
+      ∙ sym (eq-eqb v w e)
+  | inr n ↦ ne_eqb (slice_index pool w) (slice_index pool v) (λ h. n (distinct v w lv lw (sym h))) ∙ sym (ne_eqb v w n)
+]
+
+ledger_as : (offered offered' : List (List Leg)) (taken taken' : List (List Answer)) (parts parts' : Parts) →
+    offered ≡ offered' → taken ≡ taken' → parts ≡ parts' →
+    (let l : Ledger = record { offered = offered; taken = taken; parts = parts } in l) ≡ record {
+      offered = offered';
+      taken = taken';
+      parts = parts';
+    }
+ledger_as offered offered' taken taken' parts parts' a b c =
+    ap (λ (o : List (List Leg)). let l : Ledger = record { offered = o; taken = taken; parts = parts } in l) a
+    ∙ (ap (λ (t : List (List Answer)). let l : Ledger = record { offered = offered'; taken = t; parts = parts } in l) b
+    ∙ ap (λ (p : Parts). let l : Ledger = record { offered = offered'; taken = taken'; parts = p } in l) c)
+
+pub parts_as : (counts counts' : List ℕ) (owed owed' : List (List Owed)) (held held' : List (List Held))
+    (progress progress' : List Progress) →
+    counts ≡ counts' → owed ≡ owed' → held ≡ held' → progress ≡ progress' →
+    (let p : Parts = record { counts = counts; owed = owed; held = held; progress = progress } in p)
+    ≡ record { counts = counts'; owed = owed'; held = held'; progress = progress' }
+parts_as counts counts' owed owed' held held' progress progress' a b c d =
+    ap (λ (x : List ℕ). let p : Parts = record { counts = x; owed = owed; held = held; progress = progress } in p) a
+    ∙ (ap (λ (x : List (List Owed)). let p : Parts = record {
+      counts = counts';
+      owed = x;
+      held = held;
+      progress =
+          progress;
+    } in p) b
+    ∙ (ap (λ (x : List (List Held)). let p : Parts = record {
+      counts = counts';
+      owed = owed';
+      held = x;
+      progress =
+          progress;
+    } in p) c
+    ∙ ap (λ (x : List Progress). let p : Parts = record {
+      counts = counts';
+      owed = owed';
+      held = held';
+      progress =
+          x;
+    } in p) d))
+
+-- OWED
+
+owed_as : (offered offered' : List Leg) (taken : List Answer) (owed owed' : List Owed) → offered' ≡ offered →
+    owed' ≡ owed → IsOwed offered taken owed → IsOwed offered' taken owed'
+owed_as offered offered' taken owed owed' a b o = record {
+  before = o.before;
+  rest = o.rest;
+  parts = a ∙ o.parts;
+  long =
+      o.long;
+  owed_is = b ∙ o.owed_is;
+}
+
+answers_few : (offered : List Leg) (taken : List Answer) (owed : List Owed) → IsOwed offered taken owed → length taken
+    ≤ length offered
+answers_few offered taken owed o =
+    let long : length o.before ≡ length taken = o.long in
+    let all : length offered ≡ length o.before + length o.rest = ap length o.parts ∙ length-append o.before o.rest in
+    omega arith
+
+-- AN OFFER
+
+module _ (w : ℕ) (leg : Leg) (ledger : Ledger) (within : w < length ledger.parts.held) where
+  abbrev offered_parts : Parts
+  offered_parts = record ledger.parts {
+    counts = slice_set ledger.parts.counts w (slice_index ledger.parts.counts w
+        + 1);
+    owed = pushed w (owed_of leg) ledger.parts.owed;
+  }
+
+  abbrev offered_now : Ledger
+  offered_now = record { offered = pushed w leg ledger.offered; taken = ledger.taken; parts = offered_parts }
+
+  module _ (rules : Rules) (done all : List Arrival) (s : Stands rules done all (with_first w leg ledger)) where
+    long_held : length ledger.parts.held ≡ length rules.pool
+    long_held = sym (length-set ledger.parts.held w (Ready leg ∷ of_worker ledger.parts.held w)) ∙ s.sized.held
+
+    inside : w < length rules.pool
+    inside = subst (λ (n : ℕ). w < n) long_held within
+
+    in_offered : w < length ledger.offered
+    in_offered = subst (λ (n : ℕ). w < n) (sym s.offered_many) inside
+
+    in_owed : w < length ledger.parts.owed
+    in_owed = subst (λ (n : ℕ). w < n) (sym s.sized.owed) inside
+
+    own : of_worker (pushed w leg ledger.offered) w ≡ of_worker ledger.offered w ++ leg ∷ []
+    own = push_own ledger.offered w leg in_offered
+
+    others : (v : ℕ) → v ≢ w → of_worker (pushed w leg ledger.offered) v ≡ of_worker ledger.offered v
+    others v n = push_other ledger.offered w (of_worker ledger.offered w ++ leg ∷ []) v n
+
+    owes_here : IsOwed (of_worker (pushed w leg ledger.offered) w) (of_worker ledger.taken w)
+        (of_worker (pushed w (owed_of leg) ledger.parts.owed) w)
+    owes_here =
+        let o : IsOwed (of_worker ledger.offered w) (of_worker ledger.taken w) (of_worker ledger.parts.owed w) =
+        s.owes w inside in
+        record {
+          before = o.before;
+          rest = o.rest ++ leg ∷ [];
+          parts = own ∙ (ap (λ (ls : List Leg). ls ++ leg ∷ []) o.parts ∙ append_assoc o.before o.rest (leg ∷ []));
+          long = o.long;
+          owed_is = push_own ledger.parts.owed w (owed_of leg) in_owed
+              ∙ (ap (λ (xs : List Owed). xs ++ owed_of leg ∷ []) o.owed_is
+              ∙ sym (map-append owed_of o.rest (leg ∷ [])));
+        }
+
+    offered_reached : Reaches rules done all (with_first w leg ledger) → Reaches rules done all offered_now
+    offered_reached r =
+        let f : Held → List Leg = resolved (run rules all (opening rules)).acts in
+        record {
+          reached = λ v lt. elim (cases_eq v w) [
+            | inl e ↦
+                subst (λ (u : ℕ). of_worker (pushed w leg ledger.offered) u
+                ++ flat_map f (of_worker ledger.parts.held u) ≡ legs_at (slice_index rules.pool u)
+                (run rules done (opening rules)).acts) (sym e)
+                (ap (λ (ls : List Leg). ls ++ flat_map f (of_worker ledger.parts.held w)) own
+                ∙ (append_assoc (of_worker ledger.offered w) (leg ∷ []) (flat_map f (of_worker ledger.parts.held w))
+                ∙ (ap (λ (hs : List Held). of_worker ledger.offered w ++ flat_map f hs)
+                (sym (set_own ledger.parts.held w (Ready leg ∷ of_worker ledger.parts.held w) within))
+                ∙ r.reached w inside)))
+            | inr n ↦
+                ap (λ (ls : List Leg). ls ++ flat_map f (of_worker ledger.parts.held v)) (others v n)
+                ∙ (ap (λ (hs : List Held). of_worker ledger.offered v ++ flat_map f hs)
+                (sym (push_other ledger.parts.held w (Ready leg ∷ of_worker ledger.parts.held w) v n))
+                ∙ r.reached v lt)
+          ];
+          known = r.known;
+        }
+
+    offered_stand : Stands rules done all offered_now
+    offered_stand = record {
+      rest = s.rest;
+      whole = s.whole;
+      sized = record {
+        counts = length-set ledger.parts.counts w (slice_index ledger.parts.counts w + 1) ∙ s.sized.counts;
+        owed = length-set ledger.parts.owed w (of_worker ledger.parts.owed w ++ owed_of leg ∷ []) ∙ s.sized.owed;
+        held = long_held;
+      };
+      offered_many = length-set ledger.offered w (of_worker ledger.offered w ++ leg ∷ []) ∙ s.offered_many;
+      taken_many = s.taken_many;
+      counts_are = count_push ledger.offered w leg ledger.parts.counts s.counts_are;
+      owes = λ v lt. elim (cases_eq v w) [
+        | inl e ↦ subst (λ (u : ℕ). IsOwed (of_worker (pushed w leg ledger.offered) u) (of_worker ledger.taken u)
+            (of_worker (pushed w (owed_of leg) ledger.parts.owed) u)) (sym e) owes_here
+        | inr n ↦ owed_as (of_worker ledger.offered v) (of_worker (pushed w leg ledger.offered) v)
+            (of_worker ledger.taken v) (of_worker ledger.parts.owed v)
+            (of_worker (pushed w (owed_of leg) ledger.parts.owed) v)
+            (others v n) (push_other ledger.parts.owed w (of_worker ledger.parts.owed w ++ owed_of leg ∷ []) v n)
+            (s.owes v lt)
+      ];
+      reaches = λ right.
+          offered_reached (s.reaches (offer_back rules ledger.offered (pushed w leg ledger.offered) ledger.taken w leg
+          (λ v lt. answers_few (of_worker ledger.offered v) (of_worker ledger.taken v) (of_worker ledger.parts.owed v)
+          (s.owes v lt)) own others right));
+    }
+
+  pub offered_keeps : (later : Ledger) → later.offered ≡ pushed w leg ledger.offered → later.taken ≡ ledger.taken →
+      later.parts ≡ offered_parts → Keeps (with_first w leg ledger) later
+  offered_keeps later a b c = λ rules done all s.
+      subst (Stands rules done all)
+      (sym (ledger_as later.offered (pushed w leg ledger.offered) later.taken ledger.taken later.parts offered_parts
+      a b c)) (offered_stand rules done all s)
+
+pub offered_parts_are : (w : ℕ) (leg : Leg) (parts mid later : Parts) →
+    mid ≡ record parts { counts = slice_set parts.counts w (slice_index parts.counts w + 1) } →
+    later.counts ≡ mid.counts → later.owed ≡ pushed w (owed_of leg) mid.owed → later.held ≡ mid.held → later.progress
+    ≡ mid.progress →
+    later ≡ record parts {
+      counts = slice_set parts.counts w (slice_index parts.counts w + 1);
+      owed =
+          pushed w (owed_of leg) parts.owed;
+    }
+offered_parts_are w leg parts mid later m counts owed held progress =
+    parts_as later.counts (slice_set parts.counts w (slice_index parts.counts w + 1)) later.owed
+    (pushed w (owed_of leg) parts.owed) later.held parts.held later.progress parts.progress
+    (counts ∙ ap (λ (p : Parts). p.counts) m) (owed ∙ ap (λ (p : Parts). pushed w (owed_of leg) p.owed) m)
+    (held ∙ ap (λ (p : Parts). p.held) m) (progress ∙ ap (λ (p : Parts). p.progress) m)
+
+-- AN ANSWER
+
+get_set : (xs : List Progress) (n i : ℕ) (v x : Progress) → slice_get (set xs n v) i ≡ Some x →
+    ((i ≡ n) × (v ≡ x)) ⊎ (slice_get xs i ≡ Some x)
+get_set [] n i v x h = inr h
+get_set (o ∷ os) zero zero v x h = inl (refl, (cc))
+get_set (o ∷ os) zero (suc i) v x h = inr h
+get_set (o ∷ os) (suc n) zero v x h = inr h
+get_set (o ∷ os) (suc n) (suc i) v x h = elim (get_set os n i v x h) [ inl e ↦ inl (ap suc e.0, e.1) | inr e ↦ inr e ]
+
+known_set : (course : Course) (progress : List Progress) (n : ℕ) (p : Progress) → IsKnown course n p →
+    ((i : ℕ) (q : Progress) → slice_get progress i ≡ Some q → IsKnown course i q) →
+    (i : ℕ) (q : Progress) → slice_get (slice_set progress n p) i ≡ Some q → IsKnown course i q
+known_set course progress n p here known i q h = elim (get_set progress n i p q h) [
+  | inl e ↦ subst (IsKnown course i) e.1 (subst (λ (k : ℕ). IsKnown course k p) (sym e.0) here)
+  | inr e ↦ known i q e
+]
+
+each_at : (P : Act → Type 0) (address : ℕ) (acts : List Act) → Each P acts → Each P (acts_at address acts)
+each_at P address [] h = tt
+each_at P address (a ∷ acts) h =
+    elim (a.address == address) as (λ v. Each P (cond v (a ∷ acts_at address acts) (acts_at address acts)))
+    [ true ↦ (h.0, each_at P address acts h.1) | false ↦ each_at P address acts h.1 ]
+
+each_both : (P Q : Act → Type 0) (acts : List Act) → Each P acts → Each Q acts → Each (λ a. P a × Q a) acts
+each_both P Q [] h g = tt
+each_both P Q (a ∷ acts) h g = ((h.0, g.0), each_both P Q acts h.1 g.1)
+
+-- the act of a leg and its answer, which stand at one place
+pub record ActOf (P : Act → Type 0) (leg : Leg) (answer : Answer) : Type 0 where
+  pub a : Act
+  pub leg_is : a.leg ≡ leg
+  pub answer_is : answer_of a ≡ answer
+  pub holds : P a
+
+act_at : (P : Act → Type 0) (acts : List Act) (before more : List Leg) (leg : Leg) (taken rest : List Answer)
+    (answer : Answer) → length before ≡ length taken → Each P acts →
+    before ++ leg ∷ more ≡ map (λ (a : Act). a.leg) acts → (taken ++ answer ∷ []) ++ rest ≡ map answer_of acts →
+    ActOf P leg answer
+act_at P [] [] more leg taken rest answer long each legs answers = cc (legs)
+act_at P [] (l ∷ before) more leg taken rest answer long each legs answers = cc (legs)
+act_at P (a ∷ acts) [] more leg [] rest answer long each legs answers = record {
+  a = a;
+  leg_is = sym (cc (legs));
+  answer_is = sym (cc (answers));
+  holds = each.0;
+}
+act_at P (a ∷ acts) [] more leg (t ∷ taken) rest answer long each legs answers = absurd (omega arith)
+act_at P (a ∷ acts) (l ∷ before) more leg [] rest answer long each legs answers = absurd (omega arith)
+act_at P (a ∷ acts) (l ∷ before) more leg (t ∷ taken) rest answer long each legs answers =
+    act_at P acts before more leg taken rest answer (omega arith) each.1 (cc (legs)) (cc (answers))
+
+ended_known : (course : Course) (n : ℕ) (way : Way) (o : Outcome) → slice_get course.outcomes n ≡ Some o →
+    (way ≡ Outgoing → second_legs n course.acts ≡ []) → IsKnown course n (ended way o)
+ended_known course n Outgoing o tells none = (tells, none refl)
+ended_known course n Incoming o tells none = tells
+
+told_known : (course : Course) (leg : Leg) (e : End) (p : Progress) →
+    IfSome (told e) (λ o. slice_get course.outcomes leg.number ≡ Some o) →
+    (leg.way ≡ Outgoing → second_legs leg.number course.acts ≡ second_of leg e) →
+    IsToldBy (owed_of leg) e p → IsKnown course leg.number p
+told_known course leg (ends.ToOutside packet) p tells seconded h = subst (IsKnown course leg.number) (sym h)
+    (ended_known course leg.number leg.way (outcomes.ToOutside packet) tells seconded)
+told_known course leg (ends.ToInside packet) p tells seconded h = subst (IsKnown course leg.number) (sym h)
+    (ended_known course leg.number leg.way (outcomes.ToInside packet) tells seconded)
+told_known course leg (ends.Dropped cause) p tells seconded h = subst (IsKnown course leg.number) (sym h)
+    (ended_known course leg.number leg.way (outcomes.Dropped cause) tells seconded)
+told_known course leg (ends.Onward place packet) p tells seconded h = subst (IsKnown course leg.number) (sym h.1)
+    (seconded h.0)
+
+first_owed : (legs : List Leg) (o : Owed) (os : List Owed) → o ∷ os ≡ map owed_of legs → (leg : Leg) × (rest : List Leg)
+    × (legs ≡ leg ∷ rest) × (o ≡ owed_of leg) × (os ≡ map owed_of rest)
+first_owed [] o os h = cc
+first_owed (leg ∷ legs) o os h = (leg, legs, refl, cc, cc)
+
+-- what was offered to a worker begins its legs of the whole run
+offered_front : (rules : Rules) (done all : List Arrival) (ledger : Ledger) → Stands rules done all ledger →
+    Reaches rules done all ledger → (w : ℕ) → w < length rules.pool →
+    IsFront (of_worker ledger.offered w) (legs_at (slice_index rules.pool w) (run rules all (opening rules)).acts)
+offered_front rules done all ledger s r w lt =
+    let address : ℕ = slice_index rules.pool w in
+    let more : IsFront (run rules done (opening rules)).acts (run rules all (opening rules)).acts =
+    subst (λ (xs : List Arrival). IsFront (run rules done (opening rules)).acts (run rules xs (opening rules)).acts)
+    s.whole (acts_begin rules 0 0 done s.rest (opening rules)) in
+    let held : List Leg = flat_map (resolved (run rules all (opening rules)).acts) (of_worker ledger.parts.held w) in (
+      held ++ legs_at address more.0,
+      sym (append_assoc (of_worker ledger.offered w) held (legs_at address more.0))
+          ∙ (ap (λ (ls : List Leg). ls ++ legs_at address more.0) (r.reached w lt)
+          ∙ (sym (legs_append address (run rules done (opening rules)).acts more.0) ∙ ap (legs_at address) more.1)),
+    )
+
+module _ (w : ℕ) (answer : Answer) (ledger later : Ledger) (within : w < length ledger.parts.owed) (same : later.offered
+    ≡ ledger.offered) (took : later.taken ≡ pushed w answer ledger.taken)
+    (n : Noted w answer ledger.parts later.parts) where
+  abbrev answered_parts : Parts
+  answered_parts = record {
+    counts = ledger.parts.counts;
+    owed = slice_set ledger.parts.owed w n.popped.rest;
+    held =
+        ledger.parts.held;
+    progress = slice_set ledger.parts.progress answer.number n.progress;
+  }
+
+  abbrev answered_now : Ledger
+  answered_now = record { offered = ledger.offered; taken = pushed w answer ledger.taken; parts = answered_parts }
+
+  module _ (rules : Rules) (done all : List Arrival) (s : Stands rules done all ledger) where
+    w_inside : w < length rules.pool
+    w_inside = subst (λ (k : ℕ). w < k) s.sized.owed within
+
+    in_taken : w < length ledger.taken
+    in_taken = subst (λ (k : ℕ). w < k) (sym s.taken_many) w_inside
+
+    own_taken : of_worker (pushed w answer ledger.taken) w ≡ of_worker ledger.taken w ++ answer ∷ []
+    own_taken = push_own ledger.taken w answer in_taken
+
+    other_taken : (v : ℕ) → v ≢ w → of_worker (pushed w answer ledger.taken) v ≡ of_worker ledger.taken v
+    other_taken v d = push_other ledger.taken w (of_worker ledger.taken w ++ answer ∷ []) v d
+
+    abbrev here : IsOwed (of_worker ledger.offered w) (of_worker ledger.taken w) (of_worker ledger.parts.owed w)
+    here = s.owes w w_inside
+
+    head : (leg : Leg) × (rest : List Leg) × (here.rest ≡ leg ∷ rest) × (n.owed ≡ owed_of leg)
+        × (n.popped.rest ≡ map owed_of rest)
+    head = first_owed here.rest n.owed n.popped.rest (sym n.popped.first ∙ here.owed_is)
+
+    offered_is : of_worker ledger.offered w ≡ here.before ++ head.0 ∷ head.1
+    offered_is = here.parts ∙ ap (λ (ls : List Leg). here.before ++ ls) head.2
+
+    answered_owes : IsOwed (of_worker ledger.offered w) (of_worker (pushed w answer ledger.taken) w)
+        (of_worker (slice_set ledger.parts.owed w n.popped.rest) w)
+    answered_owes =
+        let one : length (here.before ++ head.0 ∷ []) ≡ length here.before + 1 = length_push here.before head.0 in
+        let two : length (of_worker (pushed w answer ledger.taken) w) ≡ length (of_worker ledger.taken w) + 1 =
+        ap length own_taken ∙ length_push (of_worker ledger.taken w) answer in
+        let long : length here.before ≡ length (of_worker ledger.taken w) = here.long in
+        record {
+          before = here.before ++ head.0 ∷ [];
+          rest = head.1;
+          parts = offered_is ∙ sym (append_assoc here.before (head.0 ∷ []) head.1);
+          long = omega arith;
+          owed_is = set_own ledger.parts.owed w n.popped.rest within ∙ head.4;
+        }
+
+    abbrev course : Course
+    course = run rules all (opening rules)
+
+    answer_known : Right rules ledger.offered (pushed w answer ledger.taken) → Reaches rules done all ledger →
+        IsKnown course answer.number n.progress
+    answer_known right r =
+        let address : ℕ = slice_index rules.pool w in
+        let offers : IsFront (of_worker ledger.offered w) (legs_at address course.acts) =
+        offered_front rules done all ledger s r w w_inside in
+        let told_front : IsFront (of_worker (pushed w answer ledger.taken) w) (answers_at address course.acts) =
+        right_answers rules all (opening rules) address (of_worker ledger.offered w)
+        (of_worker (pushed w answer ledger.taken) w) offers (right w w_inside) in
+        let P : Act → Type 0 = λ a. IsTold course.outcomes a × IsSeconded course.acts a in
+        let each : Each P (acts_at address course.acts) =
+        each_at P address course.acts (each_both (IsTold course.outcomes) (IsSeconded course.acts) course.acts
+        (answers_tell rules all (opening rules)) (answers_fill rules all (opening rules))) in
+        let legs : here.before ++ head.0 ∷ (head.1 ++ offers.0) ≡ map (λ (a : Act). a.leg)
+        (acts_at address course.acts) =
+        sym (append_assoc here.before (head.0 ∷ head.1) offers.0)
+        ∙ (ap (λ (ls : List Leg). ls ++ offers.0) (sym offered_is) ∙ offers.1) in
+        let answers : (of_worker ledger.taken w ++ answer ∷ []) ++ told_front.0
+        ≡ map answer_of (acts_at address course.acts) = ap (λ (xs : List Answer). xs ++ told_front.0)
+        (sym own_taken) ∙ told_front.1 in
+        let x : ActOf P head.0 answer = act_at P (acts_at address course.acts) here.before (head.1 ++ offers.0) head.0
+        (of_worker ledger.taken w) told_front.0 answer here.long each legs answers in
+        let end_is : x.a.end ≡ answer.end = ap (λ (k : Answer). k.end) x.answer_is in
+        let number_is : x.a.leg.number ≡ answer.number = ap (λ (k : Answer). k.number) x.answer_is in
+        let toldby : IsToldBy (owed_of x.a.leg) answer.end n.progress =
+        subst (λ (o : Owed). IsToldBy o answer.end n.progress) (head.3 ∙ ap owed_of (sym x.leg_is)) n.told in
+        subst (λ (k : ℕ). IsKnown course k n.progress) number_is
+        (told_known course x.a.leg answer.end n.progress
+        (subst (λ (e : End). IfSome (told e) (λ o. slice_get course.outcomes x.a.leg.number ≡ Some o)) end_is x.holds.0)
+        (λ way. x.holds.1 way ∙ ap (second_of x.a.leg) end_is)
+        toldby)
+
+    answered_reached : Right rules ledger.offered (pushed w answer ledger.taken) → Reaches rules done all answered_now
+    answered_reached right =
+        let r : Reaches rules done all ledger =
+        s.reaches (answer_back rules ledger.offered ledger.taken (pushed w answer ledger.taken) w answer own_taken
+        other_taken right) in
+        record {
+          reached = r.reached;
+          known = known_set course ledger.parts.progress answer.number n.progress (answer_known right r) r.known;
+        }
+
+    answered_stand : Stands rules done all answered_now
+    answered_stand = record {
+      rest = s.rest;
+      whole = s.whole;
+      sized = record {
+        counts = s.sized.counts;
+        owed = length-set ledger.parts.owed w n.popped.rest ∙ s.sized.owed;
+        held = s.sized.held;
+      };
+      offered_many = s.offered_many;
+      taken_many = length-set ledger.taken w (of_worker ledger.taken w ++ answer ∷ []) ∙ s.taken_many;
+      counts_are = s.counts_are;
+      owes = λ v lt. elim (cases_eq v w) [
+        | inl e ↦ subst (λ (u : ℕ). IsOwed (of_worker ledger.offered u) (of_worker (pushed w answer ledger.taken) u)
+            (of_worker (slice_set ledger.parts.owed w n.popped.rest) u)) (sym e) answered_owes
+        | inr d ↦
+            subst (λ (t : List Answer). IsOwed (of_worker ledger.offered v) t
+            (of_worker (slice_set ledger.parts.owed w n.popped.rest) v)) (sym (other_taken v d))
+            (owed_as (of_worker ledger.offered v) (of_worker ledger.offered v) (of_worker ledger.taken v)
+            (of_worker ledger.parts.owed v) (of_worker (slice_set ledger.parts.owed w n.popped.rest) v)
+            refl (push_other ledger.parts.owed w n.popped.rest v d) (s.owes v lt))
+      ];
+      reaches = answered_reached;
+    }
+
+  pub answered_keeps : Keeps ledger later
+  answered_keeps = λ rules done all s.
+      subst (Stands rules done all)
+      (sym (ledger_as later.offered ledger.offered later.taken (pushed w answer ledger.taken) later.parts answered_parts
+      same took
+      (parts_as later.parts.counts ledger.parts.counts later.parts.owed (slice_set ledger.parts.owed w n.popped.rest)
+      later.parts.held ledger.parts.held later.parts.progress
+      (slice_set ledger.parts.progress answer.number n.progress)
+      n.counts_are n.popped.later_is n.held_is n.progress_is)))
+      (answered_stand rules done all s)
+
+-- WHAT IS HELD
+
+-- other things held and known, for the same legs
+abbrev StandFor : Rules → List Arrival → List Arrival → Ledger → List (List Held) → List Progress → Type 0
+StandFor rules done all ledger held progress =
+    Reaches rules done all ledger →
+    ((v : ℕ) → v < length rules.pool →
+    flat_map (resolved (run rules all (opening rules)).acts) (of_worker held v)
+    ≡ flat_map (resolved (run rules all (opening rules)).acts) (of_worker ledger.parts.held v))
+    × ((i : ℕ) (p : Progress) → slice_get progress i ≡ Some p → IsKnown (run rules all (opening rules)) i p)
+
+abbrev pub held_as : Ledger → List (List Held) → List Progress → Ledger
+held_as ledger held progress = record ledger { parts = record ledger.parts { held = held; progress = progress } }
+
+held_stand : (rules : Rules) (done all : List Arrival) (ledger : Ledger) (held : List (List Held))
+    (progress : List Progress) → length held ≡ length ledger.parts.held →
+    StandFor rules done all ledger held progress → Stands rules done all ledger →
+    Stands rules done all (held_as ledger held progress)
+held_stand rules done all ledger held progress long for s = record {
+  rest = s.rest;
+  whole = s.whole;
+  sized = record { counts = s.sized.counts; owed = s.sized.owed; held = long ∙ s.sized.held };
+  offered_many = s.offered_many;
+  taken_many = s.taken_many;
+  counts_are = s.counts_are;
+  owes = s.owes;
+  reaches = λ right.
+      let r : Reaches rules done all ledger = s.reaches right in
+      let f = for r in
+      record {
+        reached = λ v lt. ap (λ (ls : List Leg). of_worker ledger.offered v ++ ls) (f.0 v lt) ∙ r.reached v lt;
+        known = f.1;
+      };
+}
+
+-- the first of a worker's list stands for these
+first_reads : (f : Held → List Leg) (lists : List (List Held)) (w : ℕ) (x : Held) (xs ys : List Held) →
+    w < length lists → of_worker lists w ≡ x ∷ xs → flat_map f ys ≡ f x ++ flat_map f xs → (v : ℕ) →
+    flat_map f (of_worker (slice_set lists w ys) v) ≡ flat_map f (of_worker lists v)
+first_reads f lists w x xs ys lt first same v = elim (cases_eq v w) [
+  | inl e ↦
+      subst (λ (u : ℕ). flat_map f (of_worker (slice_set lists w ys) u) ≡ flat_map f (of_worker lists u)) (sym e)
+      (ap (flat_map f) (set_own lists w ys lt) ∙ (same ∙ ap (flat_map f) (sym first)))
+  | inr n ↦ ap (flat_map f) (push_other lists w ys v n)
+]
+
+module _ (w : ℕ) (number : ℕ) (ledger : Ledger) (held : List (List Held)) (within : w < length ledger.parts.held)
+    (p : Popped w (Place number) ledger.parts.held held) where
+  -- a place that stands for no leg
+  pub gone_keeps : (outcome : Outcome) → slice_get ledger.parts.progress number ≡ Some (EndedOut outcome) →
+      Keeps ledger (held_as ledger held ledger.parts.progress)
+  gone_keeps outcome is = λ rules done all s.
+      let f : Held → List Leg = resolved (run rules all (opening rules)).acts in
+      subst (λ (h : List (List Held)). Stands rules done all (held_as ledger h ledger.parts.progress)) (sym p.later_is)
+      (held_stand rules done all ledger (slice_set ledger.parts.held w p.rest) ledger.parts.progress
+      (length-set ledger.parts.held w p.rest)
+      (λ r. (
+        λ v lt. first_reads f ledger.parts.held w (Place number) p.rest p.rest within p.first
+            (ap (λ (ls : List Leg). ls ++ flat_map f p.rest) (sym (r.known number (EndedOut outcome) is).1)) v,
+        r.known,
+      )) s)
+
+  -- one that stands for a leg that is known
+  pub next_keeps : (leg : Leg) → slice_get ledger.parts.progress number ≡ Some (Onward leg.now leg.packet) →
+      leg ≡ next_leg number leg.now leg.packet →
+      Keeps ledger (held_as ledger (put_first w (Ready leg) held) (slice_set ledger.parts.progress number Awaited))
+  next_keeps leg is leg_is = λ rules done all s.
+      let f : Held → List Leg = resolved (run rules all (opening rules)).acts in
+      let own : of_worker held w ≡ p.rest = ap (λ (l : List (List Held)). of_worker l w) p.later_is
+      ∙ set_own ledger.parts.held w p.rest within in
+      let put : put_first w (Ready leg) held ≡ slice_set ledger.parts.held w (Ready leg ∷ p.rest) =
+      ap (λ (xs : List Held). slice_set held w (Ready leg ∷ xs)) own
+      ∙ (ap (λ (l : List (List Held)). slice_set l w (Ready leg ∷ p.rest)) p.later_is
+      ∙ set-set ledger.parts.held w p.rest (Ready leg ∷ p.rest)) in
+      subst (λ (h : List (List Held)). Stands rules done all
+      (held_as ledger h (slice_set ledger.parts.progress number Awaited))) (sym put)
+      (held_stand rules done all ledger (slice_set ledger.parts.held w (Ready leg ∷ p.rest))
+      (slice_set ledger.parts.progress number Awaited) (length-set ledger.parts.held w (Ready leg ∷ p.rest))
+      (λ r. (
+        λ v lt. first_reads f ledger.parts.held w (Place number) p.rest (Ready leg ∷ p.rest) within p.first
+            (ap (λ (l : Leg). l ∷ flat_map f p.rest) leg_is ∙ ap (λ (ls : List Leg). ls ++ flat_map f p.rest)
+            (sym (r.known number (Onward leg.now leg.packet) is))) v,
+        known_set (run rules all (opening rules)) ledger.parts.progress number Awaited tt r.known,
+      )) s)
+
+pub next_keeps_as : (w number : ℕ) (ledger : Ledger) (held : List (List Held)) → w < length ledger.parts.held →
+    Popped w (Place number) ledger.parts.held held → (leg : Leg) (progress : List Progress) →
+    IsSecond number ledger.parts.progress progress (seconds.Known leg) →
+    Keeps ledger (with_first w leg (held_as ledger held progress))
+next_keeps_as w number ledger held within p leg progress is = λ rules done all s.
+    subst (λ (ps : List Progress). Stands rules done all (with_first w leg (held_as ledger held ps))) (sym is.0)
+    (next_keeps w number ledger held within p leg is.1 is.2 rules done all s)
+
+-- ONE INPUT MORE
+
+from_inside : (side : Side) → way_from side ≡ Outgoing → side ≡ Inside
+from_inside Inside h = refl
+from_inside Outside h = cc
+
+module _ (rules : Rules) (distinct : Distinct rules.pool) (done rest : List Arrival) (input : Arrival) (number now : ℕ)
+    (long : length done ≡ number) (clock : max (last_clock 0 done) input.clock ≡ now) (ledger : Ledger) where
+  abbrev all_of : List Arrival
+  all_of = (done ++ input ∷ []) ++ rest
+
+  abbrev now_done : List Arrival
+  now_done = done ++ input ∷ []
+
+  abbrev acts_all : List Act
+  acts_all = (run rules all_of (opening rules)).acts
+
+  abbrev at_place : ℕ → ℕ
+  at_place v = slice_index rules.pool v
+
+  -- the same but for what is held, with the legs of one input more
+  grown_stands : (held : List (List Held)) → length held ≡ length ledger.parts.held →
+      ((v : ℕ) → v < length rules.pool → (more : List Leg) ×
+      (flat_map (resolved acts_all) (of_worker held v) ≡ flat_map (resolved acts_all) (of_worker ledger.parts.held v)
+      ++ more)
+      × (legs_at (at_place v) (run rules now_done (opening rules)).acts
+      ≡ legs_at (at_place v) (run rules done (opening rules)).acts ++ more)) →
+      Stands rules done all_of ledger → Stands rules now_done all_of (held_as ledger held ledger.parts.progress)
+  grown_stands held many more s = record {
+    rest = rest;
+    whole = refl;
+    sized = record { counts = s.sized.counts; owed = s.sized.owed; held = many ∙ s.sized.held };
+    offered_many = s.offered_many;
+    taken_many = s.taken_many;
+    counts_are = s.counts_are;
+    owes = s.owes;
+    reaches = λ right.
+        let r : Reaches rules done all_of ledger = s.reaches right in
+        record {
+          reached = λ v lt.
+              let m = more v lt in
+              ap (λ (ls : List Leg). of_worker ledger.offered v ++ ls) m.1
+              ∙ (sym (append_assoc (of_worker ledger.offered v)
+              (flat_map (resolved acts_all) (of_worker ledger.parts.held v)) m.0)
+              ∙ (ap (λ (ls : List Leg). ls ++ m.0) (r.reached v lt) ∙ sym m.2));
+          known = r.known;
+        };
+  }
+
+  pub refused_stands : (cause : Cause) → admission rules input ≡ Err cause → Stands rules done all_of ledger →
+      Stands rules now_done all_of (held_as ledger ledger.parts.held (slice_set ledger.parts.progress number
+      (EndedIn (outcomes.Dropped cause))))
+  refused_stands cause is s =
+      let before : Course = run rules done (opening rules) in
+      let acts : (run rules now_done (opening rules)).acts ≡ before.acts =
+      ap (λ (r : Course). r.acts) (grown rules done rest input number now long clock (Err cause) is)
+      ∙ append-nil before.acts in
+      let outs : (run rules now_done (opening rules)).outcomes ≡ before.outcomes ++ outcomes.Dropped cause ∷ [] =
+      ap (λ (r : Course). r.outcomes) (grown rules done rest input number now long clock (Err cause) is) in
+      let front : IsFront (run rules now_done (opening rules)).outcomes (run rules all_of (opening rules)).outcomes =
+      outcomes_begin rules 0 0 now_done rest (opening rules) in
+      let e : (run rules all_of (opening rules)).outcomes ≡ (before.outcomes ++ outcomes.Dropped cause ∷ [])
+      ++ front.0 = sym front.1 ∙ ap (λ (os : List Outcome). os ++ front.0) outs in
+      let there : slice_get (run rules all_of (opening rules)).outcomes number ≡ Some (outcomes.Dropped cause) =
+      ap (λ (os : List Outcome). slice_get os number) e ∙ get_at before.outcomes (outcomes.Dropped cause) front.0
+      number (outcomes_long rules 0 0 done (opening rules) ∙ long) in
+      record {
+        rest = rest;
+        whole = refl;
+        sized = record { counts = s.sized.counts; owed = s.sized.owed; held = s.sized.held };
+        offered_many = s.offered_many;
+        taken_many = s.taken_many;
+        counts_are = s.counts_are;
+        owes = s.owes;
+        reaches = λ right.
+            let r : Reaches rules done all_of ledger = s.reaches right in
+            record {
+              reached = λ v lt. r.reached v lt ∙ ap (legs_at (at_place v)) (sym acts);
+              known = known_set (run rules all_of (opening rules)) ledger.parts.progress number
+                  (EndedIn (outcomes.Dropped cause)) there r.known;
+            };
+      }
+
+  module _ (packet : List ℕ) (admitted : admission rules input ≡ Ok packet) (foretold : OnwardIsForetold)
+      (is : IsPacket packet) (w : ℕ) (within : w < length rules.pool) (served : at_place w
+      ≡ served_at rules (way_from input.side) packet) where
+    abbrev leg_of : Leg
+    leg_of = record { number = number; now = now; way = way_from input.side; packet = packet }
+
+    abbrev held_first : List (List Held)
+    held_first = pushed w (Ready leg_of) ledger.parts.held
+
+    held_within : Stands rules done all_of ledger → w < length ledger.parts.held
+    held_within s = subst (λ (n : ℕ). w < n) (sym s.sized.held) within
+
+    -- its first leg alone
+    pub alone_stands : (input.side ≡ Inside → place_of rules (destination packet).address ≡ None) →
+        Stands rules done all_of ledger → Stands rules now_done all_of (held_as ledger held_first ledger.parts.progress)
+    alone_stands none s = grown_stands held_first (length-set ledger.parts.held w (of_worker ledger.parts.held w
+        ++ Ready leg_of ∷ []))
+        (λ v lt.
+        let before : Course = run rules done (opening rules) in
+        let at_w : ℕ = served_at rules (way_from input.side) packet in
+        let first : Acted = act rules at_w leg_of before.list in
+        let never : (place : ℕ) (q : List ℕ) → first.end ≢ ends.Onward place q = λ place q h.
+        let f : IsForetold rules leg_of place q = foretold rules at_w leg_of before.list place q is.0 is.1 h in
+        let n : place_of rules (destination packet).address ≡ None = none (from_inside input.side f.way) in
+        let t : place_of rules (destination packet).address ≡ Some place = f.served in
+        cc in
+        let acts : (run rules now_done (opening rules)).acts ≡ before.acts ++ first_act rules at_w leg_of before.list
+        ∷ [] =
+        acts_grow rules done rest input number now long clock packet admitted ∙ ap (λ (xs : List Act). before.acts
+        ++ xs) (single_by rules at_w leg_of first first.end never) in (
+          cond (v == w) (leg_of ∷ []) [],
+          push_reads (resolved acts_all) ledger.parts.held w (Ready leg_of) (held_within s) v,
+          ap (legs_at (at_place v)) acts
+              ∙ (legs_append (at_place v) before.acts (first_act rules at_w leg_of before.list ∷ [])
+              ∙ ap (λ (ls : List Leg). legs_at (at_place v) before.acts ++ ls)
+              (cond_map (at_w == at_place v) (first_act rules at_w leg_of before.list)
+              ∙ cond_test (at_w == at_place v) (v == w) (ap (λ (a : ℕ). a == at_place v) (sym served)
+              ∙ same_test rules.pool distinct v w lt within) (leg_of ∷ []))),
+        )) s
+
+    -- with a place for the second
+    pub placed_stands : (to : ℕ) → to < length rules.pool → at_place to ≡ (destination packet).address →
+        input.side ≡ Inside → Stands rules done all_of ledger →
+        Stands rules now_done all_of (held_as ledger (pushed to (Place number) held_first) ledger.parts.progress)
+    placed_stands to to_within goes side s =
+        let long_first : length held_first ≡ length ledger.parts.held =
+        length-set ledger.parts.held w (of_worker ledger.parts.held w ++ Ready leg_of ∷ []) in
+        grown_stands (pushed to (Place number) held_first) (length-set held_first to (of_worker held_first to
+        ++ Place number ∷ []) ∙ long_first)
+        (λ v lt.
+        let before : Course = run rules done (opening rules) in
+        let at_w : ℕ = served_at rules (way_from input.side) packet in
+        let f : Held → List Leg = resolved acts_all in
+        let one : List Leg = cond (v == w) (leg_of ∷ []) [] in
+        let two : List Leg = cond (v == to) (second_legs number acts_all) [] in
+        let to_held : to < length held_first =
+        subst (λ (n : ℕ). to < n) (sym (long_first ∙ s.sized.held)) to_within in (
+          one ++ two,
+          push_reads f held_first to (Place number) to_held v
+              ∙ (ap (λ (ls : List Leg). ls ++ two) (push_reads f ledger.parts.held w (Ready leg_of) (held_within s) v)
+              ∙ append_assoc (flat_map f (of_worker ledger.parts.held v)) one two),
+          place_stands rules done rest input number now long clock packet admitted foretold is (ap way_from side)
+              (at_place v)
+              ∙ ap (λ (ls : List Leg). legs_at (at_place v) before.acts ++ ls)
+              (ap (λ (ls : List Leg). ls ++ cond ((destination packet).address == at_place v)
+              (second_legs number acts_all) [])
+              (cond_test (at_w == at_place v) (v == w) (ap (λ (a : ℕ). a == at_place v) (sym served)
+              ∙ same_test rules.pool distinct v w lt within) (leg_of ∷ []))
+              ∙ ap (λ (ls : List Leg). one ++ ls)
+              (cond_test ((destination packet).address == at_place v) (v == to)
+              (ap (λ (a : ℕ). a == at_place v) (sym goes) ∙ same_test rules.pool distinct v to lt to_within)
+              (second_legs number acts_all))),
+        )) s
+
+-- an input that is dropped before any leg
+pub refused_admits : (rules : Rules) (number now : ℕ) (input : Arrival) (parts later : Parts) (cause : Cause) →
+    Distinct rules.pool → admission rules input ≡ Err cause →
+    later ≡ with_progress (slice_set parts.progress number (EndedIn (outcomes.Dropped cause))) parts →
+    Admits rules number now input parts later
+refused_admits rules number now input parts later cause distinct is e = λ offered taken done rest long clock s.
+    subst (λ (p : Parts). Stands rules (done ++ input ∷ []) ((done ++ input ∷ []) ++ rest)
+    (record { offered = offered; taken = taken; parts = p })) (sym e)
+    (refused_stands rules distinct done rest input number now long clock (record {
+      offered = offered;
+      taken = taken;
+      parts = parts;
+    }) cause is s)
+
+-- an input with a first leg, and perhaps a place for its second
+pub admitted_admits : (rules : Rules) (number now : ℕ) (input : Arrival) (parts later : Parts) (packet : List ℕ)
+    (w : ℕ) → Distinct rules.pool → OnwardIsForetold → IsPacket packet → admission rules input ≡ Ok packet →
+    slice_get rules.pool w ≡ Some (served_at rules (way_from input.side) packet) →
+    (to : Option ℕ) → IfSome to (λ place. (input.side ≡ Inside) × (place_of rules (destination packet).address
+    ≡ Some place)) → (to ≡ None → input.side ≡ Inside → place_of rules (destination packet).address ≡ None) →
+    (let leg : Leg = record { number = number; now = now; way = way_from input.side; packet = packet } in
+    MatchOption to (later ≡ with_held (pushed w (Ready leg) parts.held) parts) (λ v.
+    later ≡ with_held (pushed v (Place number) (pushed w (Ready leg) parts.held)) parts)) →
+    Admits rules number now input parts later
+admitted_admits rules number now input parts later packet w distinct foretold is admitted place None some none e =
+    λ offered taken done rest long clock s.
+    let p : (w < length rules.pool) × (slice_index rules.pool w ≡ served_at rules (way_from input.side) packet) =
+    place_within rules.pool w (served_at rules (way_from input.side) packet) place in
+    subst (λ (q : Parts). Stands rules (done ++ input ∷ []) ((done ++ input ∷ []) ++ rest)
+    (record { offered = offered; taken = taken; parts = q })) (sym e)
+    (alone_stands rules distinct done rest input number now long clock (record {
+      offered = offered;
+      taken = taken;
+      parts = parts;
+    }) packet admitted foretold is w p.0 p.1 (none refl) s)
+admitted_admits rules number now input parts later packet w distinct foretold is admitted place (Some v) some none e =
+    λ offered taken done rest long clock s.
+    let p : (w < length rules.pool) × (slice_index rules.pool w ≡ served_at rules (way_from input.side) packet) =
+    place_within rules.pool w (served_at rules (way_from input.side) packet) place in
+    let q : (v < length rules.pool) × (slice_index rules.pool v ≡ (destination packet).address) =
+    place_within rules.pool v (destination packet).address
+    (stands_at rules.pool (destination packet).address v some.1) in
+    subst (λ (k : Parts). Stands rules (done ++ input ∷ []) ((done ++ input ∷ []) ++ rest)
+    (record { offered = offered; taken = taken; parts = k })) (sym e)
+    (placed_stands rules distinct done rest input number now long clock (record {
+      offered = offered;
+      taken = taken;
+      parts = parts;
+    }) packet admitted foretold is w p.0 p.1 v q.0 q.1 some.0 s)
+
+-- THE START
+
+awaited_is : (n i : ℕ) (p : Progress) → slice_get (replicate n Awaited) i ≡ Some p → Awaited ≡ p
+awaited_is zero i p h = cc
+awaited_is (suc n) zero p h = cc
+awaited_is (suc n) (suc i) p h = awaited_is n i p h
+
+awaited_known : (course : Course) (n i : ℕ) (p : Progress) → slice_get (replicate n Awaited) i ≡ Some p →
+    IsKnown course i p
+awaited_known course n i p h = subst (IsKnown course i) (awaited_is n i p h) tt
+
+pub begin_stands : (rules : Rules) (inputs : List Arrival) (ledger : Ledger) (n : ℕ) →
+    IsSized (length rules.pool) ledger.parts → ledger.offered ≡ replicate (length rules.pool) [] → ledger.taken
+    ≡ replicate (length rules.pool) [] →
+    ledger.parts.counts ≡ replicate (length rules.pool) 0 → IsDone ledger.parts → ledger.parts.progress
+    ≡ replicate n Awaited → Stands rules [] inputs ledger
+begin_stands rules inputs ledger n sized offered taken counts idle progress =
+    let none : (v : ℕ) → of_worker ledger.offered v ≡ [] = λ v. ap (λ (l : List (List Leg)). of_worker l v) offered
+    ∙ of_replicate Leg (length rules.pool) v in
+    let no_answers : (v : ℕ) → of_worker ledger.taken v ≡ [] = λ v. ap (λ (l : List (List Answer)). of_worker l v) taken
+    ∙ of_replicate Answer (length rules.pool) v in
+    record {
+      rest = inputs;
+      whole = refl;
+      sized = sized;
+      offered_many = ap length offered ∙ length-replicate (length rules.pool) [];
+      taken_many = ap length taken ∙ length-replicate (length rules.pool) [];
+      counts_are = counts ∙ (sym (no_lengths Leg (length rules.pool)) ∙ ap (map length) (sym offered));
+      owes = λ v lt. record {
+        before = [];
+        rest = [];
+        parts = none v;
+        long = ap length (sym (no_answers v));
+        owed_is =
+            idle.owed v;
+      };
+      reaches = λ right. record {
+        reached = λ v lt. ap (λ (ls : List Leg). ls ++ flat_map (resolved (run rules inputs (opening rules)).acts)
+            (of_worker ledger.parts.held v)) (none v) ∙ ap (flat_map (resolved (run rules inputs (opening rules)).acts))
+            (idle.held v);
+        known = λ i p h. awaited_known (run rules inputs (opening rules)) n i p
+            (ap (λ (ps : List Progress). slice_get ps i) (sym progress) ∙ h);
+      };
+    }
+
+-- THE END
+
+none_owed : (offered : List Leg) (taken : List Answer) (owed : List Owed) → IsOwed offered taken owed → owed ≡ [] →
+    length taken ≡ length offered
+none_owed offered taken owed o none =
+    let no_rest : length o.rest ≡ 0 = sym (length-map o.rest owed_of) ∙ ap length (sym o.owed_is ∙ none) in
+    let all : length offered ≡ length o.before + length o.rest = ap length o.parts ∙ length-append o.before o.rest in
+    let long : length o.before ≡ length taken = o.long in
+    omega arith
+
+-- all answers were taken
+pub all_taken : (rules : Rules) (done all : List Arrival) (ledger : Ledger) → Stands rules done all ledger →
+    IsDone ledger.parts → (v : ℕ) → v < length rules.pool → length (of_worker ledger.taken v)
+    ≡ length (of_worker ledger.offered v)
+all_taken rules done all ledger s idle v lt = none_owed (of_worker ledger.offered v) (of_worker ledger.taken v)
+    (of_worker ledger.parts.owed v) (s.owes v lt) (idle.owed v)
+
+get_map : (ps : List Progress) (i : ℕ) (o : Outcome) → slice_get (map outcome_in ps) i ≡ Some (Some o) → (p : Progress)
+    × (slice_get ps i ≡ Some p) × (outcome_in p ≡ Some o)
+get_map [] i o h = cc
+get_map (p ∷ ps) zero o h = (p, refl, cc)
+get_map (p ∷ ps) (suc i) o h = get_map ps i o h
+
+known_outcome : (course : Course) (i : ℕ) (p : Progress) (o : Outcome) → outcome_in p ≡ Some o → IsKnown course i p →
+    slice_get course.outcomes i ≡ Some o
+known_outcome course i Awaited o is known = cc
+known_outcome course i (Onward now packet) o is known = cc
+known_outcome course i (EndedOut outcome) o is known = known.0 ∙ is
+known_outcome course i (EndedIn outcome) o is known = known ∙ is
+
+pub dispatched : (rules : Rules) (inputs : List Arrival) (ledger : Ledger) (all : List Outcome) →
+    Stands rules inputs inputs ledger → IsDone ledger.parts → map outcome_in ledger.parts.progress ≡ map Some all →
+    length ledger.parts.progress ≡ length inputs →
+    Right rules ledger.offered ledger.taken → IsDispatched rules inputs ledger.offered all ledger.parts.counts
+dispatched rules inputs ledger all s idle found long right =
+    let course : Course = run rules inputs (opening rules) in
+    let r : Reaches rules inputs inputs ledger = s.reaches right in
+    let reached : (w : ℕ) → w < length rules.pool → of_worker ledger.offered w
+    ≡ legs_at (slice_index rules.pool w) course.acts = λ w lt.
+    sym (append-nil (of_worker ledger.offered w))
+    ∙ (ap (λ (hs : List Held). of_worker ledger.offered w ++ flat_map (resolved course.acts) hs) (sym (idle.held w))
+    ∙ r.reached w lt) in
+    let legs : ledger.offered ≡ map (λ (address : ℕ). legs_at address course.acts) rules.pool =
+    map_at (λ address. legs_at address course.acts) ledger.offered rules.pool s.offered_many reached in
+    let known : (i : ℕ) (o : Outcome) → slice_get (map (λ (x : Outcome). let s : Option Outcome = Some x in s) all) i
+    ≡ Some (Some o) → slice_get course.outcomes i ≡ Some o = λ i o h.
+    let p = get_map ledger.parts.progress i o (ap (λ (os : List (Option Outcome)). slice_get os i) found ∙ h) in
+    known_outcome course i p.0 o p.2 (r.known i p.0 p.1) in
+    let one : length (map outcome_in ledger.parts.progress) ≡ length ledger.parts.progress =
+    length-map ledger.parts.progress outcome_in in
+    let two : length (map (λ (x : Outcome). let s : Option Outcome = Some x in s) all) ≡ length all =
+    length-map all Some in
+    let same : length (map outcome_in ledger.parts.progress)
+    ≡ length (map (λ (x : Outcome). let s : Option Outcome = Some x in s) all) = ap length found in
+    let run_long : length course.outcomes ≡ length inputs = outcomes_long rules 0 0 inputs (opening rules) in
+    record {
+      legs = legs;
+      outcomes_are = same_known all course.outcomes (omega arith) known;
+      numbers_are = s.counts_are
+          ∙ (ap (map length) legs ∙ map-map length (λ (address : ℕ). legs_at address course.acts) rules.pool);
+    }

@@ -1,0 +1,39 @@
+use Rattle.std.proofs.Common.{◌≡◌, ℕ, List, length, map, refl, sym, ap, ◌∙◌}
+use Rattle.std.specs.Prelude.{flat_map}
+use Rattle.std.proofs.lemmas.List.Folds.{flat_map-map}
+use Rattle.std.proofs.lemmas.Result.{IfOk-at_ok}
+use Rattle.napt_config.specs.Rules.{Rules}
+use Rattle.napt_translate.specs.declared.translator.Leg.{Leg}
+use Rattle.napt_translate.specs.declared.translator.Answer.{Answer}
+use Rattle.napt_translate.specs.Translators.{TranslatorState}
+use Rattle.napt_pool.specs.declared.closing.Ended.{Ended}
+use Rattle.napt_pool.specs.Pools.{starts, accepts}
+use Rattle.napt_sequential.specs.Sequential.{last_clock}
+use Rattle.napt_dispatch.specs.Dispatch.{started, rows_after, IsDispatched}
+use Rattle.napt_dispatch.specs.contracts.worker.WorkerMachine.TheImpl.{ghosts}
+use Rattle.napt_dispatch.proofs.Closed.{both_ended, on_ok_at, workers_shown}
+use Rattle.napt_dispatch.proofs.workers.run_on_pool.Goals as goal
+
+pub returns-clause-run : goal.returns-clause-run
+returns-clause-run g c =
+    let config : Rules = c.args.config.now in
+    let last : ℕ = c.last_clock-last.result in
+    let machine : Ended TranslatorState Leg Answer → TranslatorState = λ e. e.machine in
+    let machines : List TranslatorState = map machine c.in_ok-outcomes.ended.items in
+    let both = both_ended c.dispatch_owned-dispatched.result c.close-closed.result _ _ c.in_ok-outcomes.ensures in
+    let began : starts c.dispatch_owned-dispatched.new.pool ≡ started config (length config.pool) =
+    c.dispatch_owned-dispatched.ensures.starts ∙ (c.in-Ok-start.ensures.starts ∙ c.in-Ok.ensures.made) in
+    let settled = on_ok_at _ _ both.0 c.dispatch_owned-dispatched.ensures.settled in
+    let answered = on_ok_at _ _ both.1 (c.close-closed.ensures.settled settled) in
+    let done : IsDispatched config c.args.inputs.items (accepts c.dispatch_owned-dispatched.new.pool)
+    c.in_ok-outcomes.outcomes.items c.in_ok-outcomes.legs.items =
+    IfOk-at_ok _ both.0 c.dispatch_owned-dispatched.ensures.run answered in
+    let shown : c.in-Ok-bindings.bindings.items ≡ flat_map (rows_after last) machines =
+    c.in-Ok-bindings.ensures
+    ∙ (ap (flat_map (λ (e : Ended TranslatorState Leg Answer). rows_after last e.machine)) c.deref-2.ensures.value
+    ∙ sym (flat_map-map (rows_after last) machine c.in_ok-outcomes.ended.items)) in
+    workers_shown ghosts (λ s leg. refl) config c.args.inputs.items (starts c.dispatch_owned-dispatched.new.pool)
+    (accepts c.dispatch_owned-dispatched.new.pool) machines c.in_ok-outcomes.outcomes.items
+    c.in_ok-outcomes.legs.items last c.in-Ok-bindings.bindings.items
+    began (IfOk-at_ok _ both.1 c.close-closed.ensures.machines) done (c.last_clock-last.ensures
+    ∙ ap (last_clock 0) c.deref.ensures.value) shown

@@ -1,0 +1,84 @@
+-- What a dispatcher offers its workers and takes of them, and what it knows of the run meanwhile.
+--
+-- Right answers so far are the run's (`Dispatching` of napt_sequential), so what is offered next is the run's next
+-- leg. That the answers are right is a premise until the workers are joined, which then tells it.
+use Rattle.std.specs.Prelude.{◌≡◌, ⊤, ℕ, zero, suc, ◌<◌, max, Bool, true, false, List, [], ◌∷◌, ◌++◌, map, length, slice_index, slice_index_or, Result, Ok, Err}
+use Rattle.napt_config.specs.Rules.{Rules}
+use Rattle.napt_table.specs.Bindings.{of}
+use Rattle.napt_table.specs.Opening.{opening}
+use Rattle.napt_table.specs.declared.Row.{Row}
+use Rattle.napt_table.specs.Rows.{rows}
+use Rattle.napt_translate.specs.declared.translator.Leg.{Leg}
+use Rattle.napt_translate.specs.declared.translator.Answer.{Answer}
+use Rattle.napt_translate.specs.Legs.{Kept, kept_replies}
+use Rattle.napt_translate.specs.Translators.{TranslatorState, begun}
+use Rattle.napt_pool.specs.Faults.{is_shut}
+use Rattle.napt_pool.specs.declared.fault.PoolFault.{PoolFault}
+use Rattle.napt_sequential.specs.declared.outcome.Outcome.{Outcome}
+use Rattle.napt_sequential.specs.declared.fault.RunFault.{RunFault}
+use Rattle.napt_sequential.specs.declared.fault.RunFault.TheVariants as faults
+use Rattle.napt_sequential.specs.Inputs.{Arrival}
+use Rattle.napt_sequential.specs.Sequential.{run, legs_at}
+use Rattle.napt_sequential.specs.Dispatching.{IsFront}
+
+-- WORKERS
+
+-- the translators of the first addresses of the pool, before any leg
+abbrev pub started : Rules → ℕ → List TranslatorState
+started rules zero = []
+started rules (suc n) = started rules n ++ begun n rules ∷ []
+
+-- the list of one worker
+abbrev pub of_worker : {X : Type 0} → List (List X) → ℕ → List X
+of_worker lists w = slice_index_or lists w []
+
+-- a fault of a run that has begun, under a gate that promises yes or one that does not
+abbrev pub IsFaultUnder : Bool → RunFault → Type 0
+IsFaultUnder open_gate faults.Memory = ⊤
+IsFaultUnder open_gate faults.TooMany = ⊥
+IsFaultUnder open_gate (faults.Pool fault) = open_gate ≡ true → is_shut fault ≡ false
+
+-- whether a fault says that the gate was shut
+abbrev pub is_gate_fault : RunFault → Bool
+is_gate_fault faults.Memory = false
+is_gate_fault faults.TooMany = false
+is_gate_fault (faults.Pool fault) = is_shut fault
+
+-- the rows that a worker's translator tells at a time
+abbrev pub rows_after : ℕ → TranslatorState → List Row
+rows_after now state = rows state.rules.timers (max now state.table.at) state.table.list
+
+-- WHAT IS OFFERED AND ANSWERED
+
+-- an address's bindings at first, before any leg
+abbrev pub fresh : Rules → ℕ → Kept
+fresh rules address = record { list = of address (opening rules); at = 0 }
+
+-- what was taken of each worker are answers of its translator to what it was offered
+abbrev pub Right : Rules → List (List Leg) → List (List Answer) → Type 0
+Right rules offered taken =
+    (w : ℕ) → w < length rules.pool →
+    let address : ℕ = slice_index rules.pool w in
+    IsFront (of_worker taken w) (kept_replies rules address (of_worker offered w) (fresh rules address))
+
+-- LEGS
+
+-- no address stands twice
+abbrev pub Distinct : List ℕ → Type 0
+Distinct pool = (i j : ℕ) → i < length pool → j < length pool → slice_index pool i ≡ slice_index pool j → i ≡ j
+
+-- THE END
+
+-- a fault of dispatching is told before one of the pool
+abbrev pub first_fault : {D C : Type 0} → Result D RunFault → Result C PoolFault → Result (D × C) RunFault
+first_fault (Err fault) closed = Err fault
+first_fault (Ok dispatched) (Err fault) = Err (faults.Pool fault)
+first_fault (Ok dispatched) (Ok ended) = Ok (dispatched, ended)
+
+-- what a run over the inputs gives, told by a dispatcher
+pub record IsDispatched (rules : Rules) (inputs : List Arrival) (offered : List (List Leg)) (outcomes : List Outcome)
+    (numbers : List ℕ) : Type 0 where
+  pub legs : offered ≡ map (λ address. legs_at address (run rules inputs (opening rules)).acts) rules.pool
+  pub outcomes_are : outcomes ≡ (run rules inputs (opening rules)).outcomes
+  pub numbers_are : numbers ≡ map (λ address. length (legs_at address (run rules inputs (opening rules)).acts))
+      rules.pool

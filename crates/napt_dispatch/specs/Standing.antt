@@ -1,0 +1,228 @@
+-- What stands while a dispatcher hands out the legs of a run.
+--
+-- For each worker: what it was offered, followed by what is held for it, are its legs of the run over the inputs that
+-- were read. A place among what is held stands for a second leg (RFC 4787, REQ-9) that the answer of the first will
+-- tell. That the answers are right is a premise until the workers are joined, which then tells it.
+use Rattle.std.specs.Prelude.{◌≡◌, ℕ, ◌<◌, max, List, [], ◌∷◌, ◌++◌, map, flat_map, length, slice_index, slice_set, slice_get, Option, Some, None}
+use Rattle.napt_wire.specs.declared.Way.{Way}
+use Rattle.napt_wire.specs.declared.Way.TheVariants.{Outgoing, Incoming}
+use Rattle.napt_config.specs.Rules.{Rules}
+use Rattle.napt_table.specs.Opening.{opening}
+use Rattle.napt_translate.specs.declared.translator.Leg.{Leg}
+use Rattle.napt_translate.specs.declared.translator.Answer.{Answer}
+use Rattle.napt_translate.specs.declared.translator.End.{End}
+use Rattle.napt_translate.specs.declared.translator.End.TheVariants as ends
+use Rattle.napt_pool.specs.declared.pool.Pool.{Pool}
+use Rattle.napt_pool.specs.Pools.{accepts, takes}
+use Rattle.napt_sequential.specs.declared.outcome.Outcome.{Outcome}
+use Rattle.napt_sequential.specs.declared.outcome.Outcome.TheVariants as outcomes
+use Rattle.napt_dispatch.specs.declared.dispatcher.Dispatcher.{Dispatcher}
+use Rattle.napt_dispatch.specs.declared.dispatcher.First.{First}
+use Rattle.napt_dispatch.specs.declared.dispatcher.First.TheVariants as firsts
+use Rattle.napt_dispatch.specs.declared.dispatcher.held.Held.{Held}
+use Rattle.napt_dispatch.specs.declared.dispatcher.held.Held.TheVariants.{Ready, Place}
+use Rattle.napt_dispatch.specs.declared.dispatcher.held.Owed.{Owed}
+use Rattle.napt_dispatch.specs.declared.dispatcher.progress.Progress.{Progress}
+use Rattle.napt_dispatch.specs.declared.dispatcher.progress.Progress.TheVariants.{Awaited, Onward, EndedOut, EndedIn}
+use Rattle.napt_dispatch.specs.declared.dispatcher.progress.Second.{Second}
+use Rattle.napt_dispatch.specs.declared.dispatcher.progress.Second.TheVariants as seconds
+use Rattle.napt_sequential.specs.Inputs.{Arrival}
+use Rattle.napt_sequential.specs.Sequential.{Act, Course, run, last_clock, legs_at}
+use Rattle.napt_dispatch.specs.Dispatch.{of_worker, Right}
+use Rattle.napt_sequential.specs.Places.{second_legs}
+
+-- LISTS OF WORKERS
+
+-- one more at the end of a worker's list
+abbrev pub pushed : {X : Type 0} → ℕ → X → List (List X) → List (List X)
+pushed w x lists = slice_set lists w (of_worker lists w ++ x ∷ [])
+
+-- one more at its front
+abbrev pub put_first : {X : Type 0} → ℕ → X → List (List X) → List (List X)
+put_first w x lists = slice_set lists w (x ∷ of_worker lists w)
+
+-- the first of a worker's list left it
+pub record Popped {X : Type 0} (w : ℕ) (x : X) (lists later : List (List X)) : Type 0 where
+  pub rest : List X
+  pub first : of_worker lists w ≡ x ∷ rest
+  pub later_is : later ≡ slice_set lists w rest
+
+-- WHAT A DISPATCHER KEEPS
+
+-- of each worker the number of legs that it was offered, the legs whose answers it owes, and what is held for it; of
+-- each input what is known
+pub record Parts : Type 0 where
+  pub counts : List ℕ
+  pub owed : List (List Owed)
+  pub held : List (List Held)
+  pub progress : List Progress
+
+abbrev pub parts_of : Dispatcher → Parts
+parts_of d = record {
+  counts = d.offered.items;
+  owed = map (λ q. q.items) d.owed.items;
+  held = map (λ q. q.items) d.held.items;
+  progress = d.progress.items;
+}
+
+-- with what each worker was offered, and what was taken of each
+pub record Ledger : Type 0 where
+  pub offered : List (List Leg)
+  pub taken : List (List Answer)
+  pub parts : Parts
+
+abbrev pub ledger_of : {M G : Type 0} → Pool M G Leg Answer → Dispatcher → Ledger
+ledger_of pool d = record { offered = accepts pool; taken = takes pool; parts = parts_of d }
+
+-- a list for each of so many workers
+pub record IsSized (count : ℕ) (parts : Parts) : Type 0 where
+  pub counts : length parts.counts ≡ count
+  pub owed : length parts.owed ≡ count
+  pub held : length parts.held ≡ count
+
+-- WHAT STANDS
+
+abbrev pub owed_of : Leg → Owed
+owed_of leg = record { way = leg.way; now = leg.now }
+
+-- of the legs that a worker was offered, the first were answered, and the others are those that it owes
+pub record IsOwed (offered : List Leg) (taken : List Answer) (owed : List Owed) : Type 0 where
+  pub before : List Leg
+  pub rest : List Leg
+  pub parts : offered ≡ before ++ rest
+  pub long : length before ≡ length taken
+  pub owed_is : owed ≡ map owed_of rest
+
+-- the legs for which something held stands
+abbrev pub resolved : List Act → Held → List Leg
+resolved acts (Ready leg) = leg ∷ []
+resolved acts (Place number) = second_legs number acts
+
+abbrev pub next_leg : ℕ → ℕ → List ℕ → Leg
+next_leg number now packet = record { number = number; now = now; way = Incoming; packet = packet }
+
+-- what is known of an input is so in the run
+abbrev pub IsKnown : Course → ℕ → Progress → Type 0
+IsKnown course number Awaited = Unit {0}
+IsKnown course number (Onward now packet) = second_legs number course.acts ≡ next_leg number now packet ∷ []
+IsKnown course number (EndedOut outcome) = (slice_get course.outcomes number ≡ Some outcome)
+    × (second_legs number course.acts ≡ [])
+IsKnown course number (EndedIn outcome) = slice_get course.outcomes number ≡ Some outcome
+
+-- where the answers are right
+pub record Reaches (rules : Rules) (done all : List Arrival) (ledger : Ledger) : Type 0 where
+  pub reached : (w : ℕ) → w < length rules.pool →
+      of_worker ledger.offered w ++ flat_map (resolved (run rules all (opening rules)).acts)
+      (of_worker ledger.parts.held w)
+      ≡ legs_at (slice_index rules.pool w) (run rules done (opening rules)).acts
+  pub known : (i : ℕ) (p : Progress) → slice_get ledger.parts.progress i ≡ Some p →
+      IsKnown (run rules all (opening rules)) i p
+
+-- after the first inputs of all
+pub record Stands (rules : Rules) (done all : List Arrival) (ledger : Ledger) : Type 0 where
+  pub rest : List Arrival
+  pub whole : done ++ rest ≡ all
+  pub sized : IsSized (length rules.pool) ledger.parts
+  pub offered_many : length ledger.offered ≡ length rules.pool
+  pub taken_many : length ledger.taken ≡ length rules.pool
+  pub counts_are : ledger.parts.counts ≡ map length ledger.offered
+  pub owes : (w : ℕ) → w < length rules.pool → IsOwed (of_worker ledger.offered w) (of_worker ledger.taken w)
+      (of_worker ledger.parts.owed w)
+  pub reaches : Right rules ledger.offered ledger.taken → Reaches rules done all ledger
+
+-- what stood still stands, with no input more
+abbrev pub Keeps : Ledger → Ledger → Type 0
+Keeps ledger later = (rules : Rules) (done all : List Arrival) → Stands rules done all ledger →
+    Stands rules done all later
+
+-- whatever the workers were offered and answered
+abbrev pub KeepsParts : Parts → Parts → Type 0
+KeepsParts parts later =
+    (offered : List (List Leg)) (taken : List (List Answer)) →
+    Keeps (record { offered = offered; taken = taken; parts = parts }) (record {
+      offered = offered;
+      taken = taken;
+      parts = later;
+    })
+
+-- STEPS
+
+abbrev pub with_held : List (List Held) → Parts → Parts
+with_held held parts = record parts { held = held }
+
+abbrev pub with_progress : List Progress → Parts → Parts
+with_progress progress parts = record parts { progress = progress }
+
+-- the leg is first of what is held for the worker
+abbrev pub with_first : ℕ → Leg → Ledger → Ledger
+with_first w leg ledger = record ledger { parts = with_held (put_first w (Ready leg) ledger.parts.held) ledger.parts }
+
+abbrev pub ended : Way → Outcome → Progress
+ended Outgoing outcome = EndedOut outcome
+ended Incoming outcome = EndedIn outcome
+
+-- what the end of a leg that was owed tells of its input
+abbrev pub IsToldBy : Owed → End → Progress → Type 0
+IsToldBy owed (ends.ToOutside packet) p = p ≡ ended owed.way (outcomes.ToOutside packet)
+IsToldBy owed (ends.ToInside packet) p = p ≡ ended owed.way (outcomes.ToInside packet)
+IsToldBy owed (ends.Onward place packet) p = (owed.way ≡ Outgoing) × (p ≡ Onward owed.now packet)
+IsToldBy owed (ends.Dropped cause) p = p ≡ ended owed.way (outcomes.Dropped cause)
+
+-- an answer of worker w was noted
+pub record Noted (w : ℕ) (answer : Answer) (parts later : Parts) : Type 0 where
+  pub owed : Owed
+  pub progress : Progress
+  pub popped : Popped w owed parts.owed later.owed
+  pub told : IsToldBy owed answer.end progress
+  pub counts_are : later.counts ≡ parts.counts
+  pub held_is : later.held ≡ parts.held
+  pub progress_is : later.progress ≡ slice_set parts.progress answer.number progress
+
+-- the second leg of an input, as far as it is known
+abbrev pub IsSecond : ℕ → List Progress → List Progress → Second → Type 0
+IsSecond number progress later seconds.Unknown = later ≡ progress
+IsSecond number progress later seconds.Never = (later ≡ progress) × (outcome : Outcome)
+    × (slice_get progress number ≡ Some (EndedOut outcome))
+IsSecond number progress later (seconds.Known leg) =
+    (later ≡ slice_set progress number Awaited)
+    × (slice_get progress number ≡ Some (Onward leg.now leg.packet)) × (leg ≡ next_leg number leg.now leg.packet)
+
+-- what stood first for worker w: it still does, a place that stands for nothing went, or a leg was taken out
+abbrev pub IsFirst : ℕ → Parts → Parts → First → Type 0
+IsFirst w parts later firsts.Waits = KeepsParts parts later
+IsFirst w parts later firsts.Gone = KeepsParts parts later
+IsFirst w parts later (firsts.Next leg) =
+    (offered : List (List Leg)) (taken : List (List Answer)) →
+    Keeps (record { offered = offered; taken = taken; parts = parts })
+    (with_first w leg (record { offered = offered; taken = taken; parts = later }))
+
+-- one input more was read
+abbrev pub Admits : Rules → ℕ → ℕ → Arrival → Parts → Parts → Type 0
+Admits rules number now input parts later =
+    (offered : List (List Leg)) (taken : List (List Answer)) (done rest : List Arrival) → length done ≡ number →
+    max (last_clock 0 done) input.clock ≡ now →
+    Stands rules done ((done ++ input ∷ []) ++ rest) (record { offered = offered; taken = taken; parts = parts }) →
+    Stands rules (done ++ input ∷ []) ((done ++ input ∷ []) ++ rest) (record {
+      offered = offered;
+      taken = taken;
+      parts =
+          later;
+    })
+
+abbrev pub AdmitsIn : Rules → ℕ → ℕ → Arrival → Ledger → Ledger → Type 0
+AdmitsIn rules number now input ledger later =
+    (done rest : List Arrival) → length done ≡ number → max (last_clock 0 done) input.clock ≡ now →
+    Stands rules done ((done ++ input ∷ []) ++ rest) ledger → Stands rules (done ++ input ∷ []) ((done ++ input ∷ [])
+    ++ rest) later
+
+-- nothing is held and nothing owed
+pub record IsDone (parts : Parts) : Type 0 where
+  pub owed : (w : ℕ) → of_worker parts.owed w ≡ []
+  pub held : (w : ℕ) → of_worker parts.held w ≡ []
+
+-- the outcome that is known
+abbrev pub outcome_in : Progress → Option Outcome
+outcome_in Awaited = None
+outcome_in (Onward now packet) = None
+outcome_in (EndedOut outcome) = Some outcome
+outcome_in (EndedIn outcome) = Some outcome

@@ -1,0 +1,81 @@
+//! Queues, one for each worker.
+
+ghost use Rattle.std.specs.Prelude.{◌≡◌, ◌<◌, ℕ, [], map, length, true, IfOk, OnOk, MatchOption};
+ghost use Rattle.napt_dispatch.specs.Dispatch.{of_worker};
+ghost use Rattle.napt_dispatch.specs.Standing.{pushed, put_first, Popped};
+
+use std::alloc::{AllocError, Global};
+use std::collections::VecDeque;
+
+/// So many empty queues.
+pub(crate) fn empty<T: Drop>(alloc: Global, count: usize) -> Result<Vec<VecDeque<T>>, AllocError>
+    ensures many { IfOk result (λ queues. length queues.items ≡ count) }
+    ensures none { IfOk result (λ queues. (w : ℕ) → of_worker (map (λ q. q.items) queues.items) w
+        ≡ []) }
+{
+    let mut queues = Vec::with_capacity(alloc, count)?;
+    for _ in 0..count {
+        queues.push(VecDeque::new(alloc))?;
+    }
+    Ok(queues)
+}
+
+/// Puts an item at the end of the queue of worker `w`.
+pub(crate) fn push_back<T: Drop>(
+    queues: &mut Vec<VecDeque<T>>,
+    w: u32,
+    item: T,
+) -> Result<(), AllocError>
+    requires { w < length (map (λ q. q.items) queues.old.items) }
+    ensures { OnOk result (map (λ q. q.items) queues.new.items
+        ≡ pushed w item (map (λ q. q.items) queues.old.items)) }
+{
+    let queue = &mut queues[w as usize];
+    queue.push_back(item)?;
+    Ok(())
+}
+
+/// Puts an item at the front of the queue of worker `w`.
+pub(crate) fn push_front<T: Drop>(
+    queues: &mut Vec<VecDeque<T>>,
+    w: u32,
+    item: T,
+) -> Result<(), AllocError>
+    requires { w < length (map (λ q. q.items) queues.old.items) }
+    ensures { OnOk result (map (λ q. q.items) queues.new.items
+        ≡ put_first w item (map (λ q. q.items) queues.old.items)) }
+{
+    let queue = &mut queues[w as usize];
+    queue.push_front(item)?;
+    Ok(())
+}
+
+/// Takes the first item of the queue of worker `w`, where there is one.
+pub(crate) fn pop_front<T>(queues: &mut Vec<VecDeque<T>>, w: u32) -> Option<T>
+    requires { w < length (map (λ q. q.items) queues.old.items) }
+    ensures { MatchOption result (map (λ q. q.items) queues.new.items
+        ≡ map (λ q. q.items) queues.old.items) (λ item.
+        Popped w item (map (λ q. q.items) queues.old.items) (map (λ q. q.items) queues.new.items)) }
+{
+    let queue = &mut queues[w as usize];
+    queue.pop_front()
+}
+
+/// How many items wait for worker `w`.
+pub(crate) fn len_at<T>(queues: &[VecDeque<T>], w: u32) -> usize
+    requires { w < length (map (λ q. q.items) queues.now) }
+{
+    queues[w as usize].len()
+}
+
+/// Whether no item waits for any worker.
+pub(crate) fn are_empty<T>(queues: &[VecDeque<T>]) -> bool
+    ensures { result ≡ true → (w : ℕ) → of_worker (map (λ q. q.items) queues.now) w ≡ [] }
+{
+    for queue in queues {
+        if !queue.is_empty() {
+            return false;
+        }
+    }
+    true
+}

@@ -1,0 +1,29 @@
+//! Copies of inputs, for a run that owns their bytes.
+
+ghost use Rattle.std.specs.Prelude.{◌≡◌, IfOk};
+
+use napt_sequential::Input;
+use std::alloc::{AllocError, Global};
+
+/// A copy, with bytes of its own.
+fn copy_of(alloc: Global, input: &Input) -> Result<Input, AllocError>
+    ensures { IfOk result (λ copy. copy ≡ input.now) }
+{
+    Ok(Input {
+        side: input.side,
+        time: input.time,
+        clock: input.clock,
+        bytes: Vec::from_slice(alloc, &input.bytes)?,
+    })
+}
+
+/// Copies of all inputs.
+pub(crate) fn copies(alloc: Global, inputs: &[Input]) -> Result<Vec<Input>, AllocError>
+    ensures { IfOk result (λ made. made.items ≡ inputs.now) }
+{
+    let mut made = Vec::with_capacity(alloc, inputs.len())?;
+    for input in inputs {
+        made.push(copy_of(alloc, input)?)?;
+    }
+    Ok(made)
+}

@@ -1,0 +1,128 @@
+//! The run over workers on threads of their own.
+
+ghost use Rattle.std.specs.Prelude.{◌≡◌, ◌↔◌, ◌^◌, ◌≤◌, ◌<◌, length, flat_map, vec_len, AllPairs, IfOk, IfErr, Err, true, false};
+ghost use Rattle.napt_config.specs.Rules.{KeepsRules};
+ghost use Rattle.napt_sequential.specs.Sequential as model;
+ghost use Rattle.napt_dispatch.specs.Dispatch.{first_fault, started, rows_after, IsFaultUnder, is_gate_fault};
+ghost use Rattle.napt_sequential.specs.Sound.{AreRowsApart};
+
+use crate::Worker;
+use crate::dispatcher::dispatch_owned;
+use crate::inputs::copies;
+use napt_config::Config;
+use napt_pool::{Ended, Gate, Pool, PoolFault};
+use napt_sequential::{Input, Outcome, Run, RunFault, runs_are_sound};
+use napt_table::Row;
+use napt_translate::Translator;
+use std::alloc::{AllocError, Global};
+use std::sync::{Arc, Wait};
+use std::thread::Threads;
+
+/// The workers of all external addresses before any leg, in the order of the pool.
+fn workers(alloc: Global, config: &Config) -> Result<Vec<Worker>, AllocError>
+    ensures kept { KeepsRules config.now }
+    ensures made { IfOk result (λ made. made.items ≡ started config.now (length config.now.pool)) }
+    ensures many { IfOk result (λ made. vec_len made ≡ length config.now.pool) }
+{
+    let many = config.pool().len() as u32;
+    let mut made = Vec::new(alloc);
+    for index in 0..many {
+        let translator = Translator::new(alloc, index, config.copy(alloc)?)?;
+        made.push(Worker { translator })?;
+    }
+    Ok(made)
+}
+
+/// The bindings that live at a time, in ns, address by address.
+fn bindings(alloc: Global, ended: &[Ended<Worker>], now: u64) -> Result<Vec<Row>, AllocError>
+    ensures { IfOk result (λ made. made.items ≡ flat_map (λ e. rows_after now e.machine)
+        ended.now) }
+{
+    let mut made = Vec::new(alloc);
+    for worker in ended {
+        let rows = worker.machine.bindings(alloc, now)?;
+        made.extend_from_slice(&rows)?;
+    }
+    Ok(made)
+}
+
+/// The greatest clock, in ns; 0 without an input.
+fn last_clock(inputs: &[Input]) -> u64
+    ensures { result ≡ model.last_clock 0 inputs.now }
+{
+    let mut clock = 0u64;
+    for input in inputs {
+        clock = clock.max(input.clock);
+    }
+    clock
+}
+
+/// Runs over the inputs with a worker on a thread of its own for each external address, and gives exactly what `run_plain`
+/// gives, whatever the gate, the size of the rings and the schedule are. The gate is asked by each worker before each leg.
+///
+/// `RunFault::TooMany` comes exactly where there are more than 4,294,967,295 inputs. `RunFault::Pool` tells why a worker
+/// stopped or could not be started; `GateShut` never comes under a gate that promises yes. Before any refusal is told the
+/// workers are closed and joined.
+pub fn run_workers<
+    R: Threads + Wait + Copy + Send + 'static,
+    G: Gate + Send + Sync + Drop + 'static,
+>(rt: &R, alloc: Global, config: &Config, inputs: &[Input], gate: Arc<G>) -> Result<Run, RunFault>
+    ensures run { IfOk result (λ run. run ≡ model.ran config.now inputs.now) }
+    ensures too_many { (result ≡ Err RunFault.TooMany) ↔ (2 ^ 32 ≤ length inputs.now) }
+    ensures one_each { IfOk result (λ run. length run.outcomes ≡ length inputs.now) }
+    ensures apart { IfOk result (λ run. AllPairs AreRowsApart run.bindings) }
+    ensures gate { G.is_open ≡ true → IfErr result (λ fault. is_gate_fault fault ≡ false) }
+{
+    runs_are_sound();
+    let _pool = config.pool();
+    if inputs.len() > 4_294_967_295 {
+        return Err(RunFault::TooMany);
+    }
+    let Ok(inputs) = copies(alloc, inputs) else {
+        return Err(RunFault::Memory);
+    };
+    run_on_pool(rt, alloc, config, inputs, gate)
+}
+
+/// What dispatching and closing come to: a fault of dispatching is told before one of the pool.
+fn first_fault(
+    dispatched: Result<(Vec<Outcome>, Vec<u64>), RunFault>,
+    closed: Result<Vec<Ended<Worker>>, PoolFault>,
+) -> Result<((Vec<Outcome>, Vec<u64>), Vec<Ended<Worker>>), RunFault>
+    ensures { result ≡ first_fault dispatched closed }
+{
+    let dispatched = dispatched?;
+    Ok((dispatched, closed?))
+}
+
+/// The run of `run_workers` over at most 4,294,967,295 inputs, whose bytes move into it.
+///
+/// A refusal is told as by `run_workers`; `RunFault::TooMany` never comes.
+pub fn run_on_pool<
+    R: Threads + Wait + Copy + Send + 'static,
+    G: Gate + Send + Sync + Drop + 'static,
+>(rt: &R, alloc: Global, config: &Config, inputs: Vec<Input>, gate: Arc<G>) -> Result<Run, RunFault>
+    requires few { length inputs.items < 2 ^ 32 }
+    ensures run { IfOk result (λ run. run ≡ model.ran config.now inputs.items) }
+    ensures fault { IfErr result (IsFaultUnder G.is_open) }
+{
+    let Ok(machines) = workers(alloc, config) else {
+        return Err(RunFault::Memory);
+    };
+    let mut pool = match Pool::start(rt, alloc, machines, config.ring(), gate) {
+        Ok(pool) => pool,
+        Err(fault) => return Err(RunFault::Pool(fault)),
+    };
+    let last = last_clock(&inputs);
+    let dispatched = dispatch_owned(rt, alloc, &mut pool, config, inputs);
+    let closed = pool.close(rt, alloc);
+    let ((outcomes, legs), ended) = first_fault(dispatched, closed)?;
+    let Ok(bindings) = bindings(alloc, &ended, last) else {
+        return Err(RunFault::Memory);
+    };
+    Ok(Run {
+        outcomes,
+        bindings,
+        legs,
+    })
+}

@@ -1,7 +1,0 @@
-use Rattle.std.proofs.Common.{◌≡◌, take}
-use Rattle.std.specs.Prelude.{flat_map}
-use Rattle.napt_run.specs.Dispatch.{rows_after}
-use Rattle.napt_run.proofs.workers.bindings.Given as goal
-
-abbrev pub invariant-loop-worker : goal.invariant-loop-worker
-invariant-loop-worker l = l.made.items ≡ flat_map (λ e. rows_after l.now e.machine) (take l.worker-index l.ended)

@@ -1,9 +1,0 @@
-use Rattle.std.proofs.Common.{◌≡◌, ◌≤◌, length}
-use Rattle.napt_run.specs.Dispatch.{started}
-use Rattle.napt_run.proofs.workers.workers.Given as goal
-
-abbrev pub invariant-loop-index : goal.invariant-loop-index
-invariant-loop-index l = record {
-  within : l.index ≤ length l.config.pool;
-  made : l.made.items ≡ started l.config l.index;
-}

@@ -1,0 +1,162 @@
+-- The laws for a dispatcher.
+use Rattle.std.proofs.Common.{◌≡◌, ℕ, suc, ◌+◌, ◌-◌, ◌≤◌, max, List, [], ◌∷◌, ◌++◌, length, Option, Some, None, IfSome, Result, Ok, Err, refl, sym, ◌∙◌, ap, subst, arith, append_assoc}
+use Rattle.std.specs.List.{slice_get}
+use Rattle.napt_wire.specs.declared.Side.{Side}
+use Rattle.napt_wire.specs.declared.Way.{Way}
+use Rattle.napt_wire.specs.declared.Way.TheVariants.{Incoming}
+use Rattle.napt_wire.specs.declared.Cause.{Cause}
+use Rattle.napt_wire.specs.Fields.{destination, kind}
+use Rattle.napt_wire.specs.Reading.{reading}
+use Rattle.napt_wire.specs.Laws.{SourcesLeaveDestinations, ErrorsLeaveDestinations}
+use Rattle.napt_config.specs.Rules.{Rules, place_of}
+use Rattle.napt_table.specs.declared.Binding.{Binding}
+use Rattle.napt_table.specs.Bindings.{of}
+use Rattle.napt_table.specs.Lists.{Each}
+use Rattle.napt_translate.specs.declared.translator.Leg.{Leg}
+use Rattle.napt_translate.specs.declared.translator.Answer.{Answer}
+use Rattle.napt_translate.specs.declared.translator.End.{End}
+use Rattle.napt_translate.specs.declared.translator.End.TheVariants.{ToOutside, ToInside, Onward, Dropped}
+use Rattle.napt_translate.specs.Sides.{refusal, way_from, served_at}
+use Rattle.napt_translate.specs.Legs.{Acted, act, Kept, kept_after, kept_answer, kept_replies}
+use Rattle.napt_sequential.specs.declared.outcome.Outcome.{Outcome}
+use Rattle.napt_sequential.specs.Inputs.{Arrival}
+use Rattle.napt_sequential.specs.Sequential.{Act, Stepped, outcome_of, follow_by, judged, read_as, step, Course, run_from, run}
+use Rattle.napt_sequential.specs.Laws.{answers_at}
+use Rattle.napt_sequential.specs.Dispatching.{IsFront, RightAnswersAreTheRuns, RunsGrow, told, IsTold, AnswersTellOutcomes, OnwardIsForetold}
+use Rattle.napt_sequential.proofs.Grown.{grows}
+use Rattle.napt_sequential.proofs.RunsLocal.{translators_answer_alone}
+use Rattle.napt_sequential.proofs.Steps.{OnwardBy, onward}
+
+-- FRONTS
+
+front_front : {X : Type 0} (xs ys zs : List X) → IsFront xs ys → IsFront ys zs → IsFront xs zs
+front_front xs ys zs h g = (h.0 ++ g.0, sym (append_assoc xs h.0 g.0) ∙ (ap (λ (l : List _). l ++ g.0) h.1 ∙ g.1))
+
+-- the replies to a front are a front of the replies
+replies_front : (rules : Rules) (address : ℕ) (xs rest : List Leg) (own : Kept) →
+    IsFront (kept_replies rules address xs own) (kept_replies rules address (xs ++ rest) own)
+replies_front rules address [] rest own = (kept_replies rules address rest own, refl)
+replies_front rules address (x ∷ xs) rest own =
+    let more : IsFront (kept_replies rules address xs (kept_after rules address x own))
+    (kept_replies rules address (xs ++ rest) (kept_after rules address x own)) = replies_front rules address xs rest
+    (kept_after rules address x own) in
+    (more.0, ap (λ (l : List Answer). kept_answer rules address x own ∷ l) more.1)
+
+pub right_answers : RightAnswersAreTheRuns
+right_answers rules inputs list address given taken front right =
+    let course : Course = run rules inputs list in
+    let own : Kept = record { list = of address list; at = 0 } in
+    front_front taken (kept_replies rules address given own) (answers_at address course.acts) right
+    (subst (λ (l : List Answer). IsFront (kept_replies rules address given own) l)
+    (ap (λ (ls : List Leg). kept_replies rules address ls own) front.1
+    ∙ translators_answer_alone rules inputs list address)
+    (replies_front rules address given front.0 own))
+
+pub runs_grow : RunsGrow
+runs_grow rules inputs input list = grows rules 0 0 inputs input list (length inputs) (omega arith)
+
+-- OUTCOMES
+
+-- the acts of a step have its number, and one that does not go onward tells its outcome
+abbrev TellsHere : ℕ → Outcome → Act → Type 0
+TellsHere number outcome a = (a.leg.number ≡ number) × IfSome (told a.end) (λ o. o ≡ outcome)
+
+end_told : (e : End) → IfSome (told e) (λ o. o ≡ outcome_of e)
+end_told (ToOutside packet) = refl
+end_told (ToInside packet) = refl
+end_told (Onward place packet) = tt
+end_told (Dropped cause) = refl
+
+follow_tells : (rules : Rules) (address : ℕ) (leg : Leg) (list : List Binding) (end : End) →
+    (let first : Acted = record { end = end; list = list } in
+    Each (TellsHere leg.number (follow_by rules address leg first end).outcome)
+    (follow_by rules address leg first end).acts)
+follow_tells rules address leg list (ToOutside packet) = ((refl, refl), tt)
+follow_tells rules address leg list (ToInside packet) = ((refl, refl), tt)
+follow_tells rules address leg list (Dropped cause) = ((refl, refl), tt)
+follow_tells rules address leg list (Onward place packet) =
+    let next : Leg = record leg { way = Incoming; packet = packet } in
+    ((refl, tt), ((refl, end_told (act rules (destination packet).address next list).end), tt))
+
+judged_tells : (rules : Rules) (number now : ℕ) (way : Way) (packet : List ℕ) (refused : Option Cause)
+    (list : List Binding) →
+    Each (TellsHere number (judged rules number now way packet refused list).outcome)
+    (judged rules number now way packet refused list).acts
+judged_tells rules number now way packet (Some cause) list = tt
+judged_tells rules number now way packet None list =
+    let leg : Leg = record { number = number; now = now; way = way; packet = packet } in
+    let first : Acted = act rules (served_at rules way packet) leg list in
+    follow_tells rules (served_at rules way packet) leg first.list first.end
+
+read_tells : (rules : Rules) (number now : ℕ) (side : Side) (read : Result (List ℕ) Cause) (list : List Binding) →
+    Each (TellsHere number (read_as rules number now side read list).outcome)
+    (read_as rules number now side read list).acts
+read_tells rules number now side (Err cause) list = tt
+read_tells rules number now side (Ok packet) list = judged_tells rules number now (way_from side) packet
+    (refusal rules side packet) list
+
+-- as IsTold, of outcomes that begin at a number
+abbrev TellsFrom : ℕ → List Outcome → Act → Type 0
+TellsFrom number all a = (number ≤ a.leg.number) × IfSome (told a.end) (λ o. slice_get all (a.leg.number - number)
+    ≡ Some o)
+
+pub each_append : {X : Type 0} (P : X → Type 0) (xs ys : List X) → Each P xs → Each P ys → Each P (xs ++ ys)
+each_append P [] ys h g = g
+each_append P (x ∷ xs) ys h g = (h.0, each_append P xs ys h.1 g)
+
+pub each_map : {X : Type 0} (P Q : X → Type 0) → ((x : X) → P x → Q x) → (xs : List X) → Each P xs → Each Q xs
+each_map P Q f [] h = tt
+each_map P Q f (x ∷ xs) h = (f x h.0, each_map P Q f xs h.1)
+
+here_from : (number : ℕ) (outcome : Outcome) (all : List Outcome) (a : Act) (o : Option Outcome) → a.leg.number
+    ≡ number → IfSome o (λ x. x ≡ outcome) → IfSome o (λ x. slice_get (outcome ∷ all) (a.leg.number - number) ≡ Some x)
+here_from number outcome all a None e h = tt
+here_from number outcome all a (Some x) e h =
+    let none : a.leg.number - number ≡ 0 = omega arith in
+    ap (slice_get (outcome ∷ all)) none ∙ ap Some (sym h)
+
+later_from : (number : ℕ) (outcome : Outcome) (all : List Outcome) (a : Act) (o : Option Outcome) →
+    number + 1 ≤ a.leg.number → IfSome o (λ x. slice_get all (a.leg.number - (number + 1)) ≡ Some x) →
+    IfSome o (λ x. slice_get (outcome ∷ all) (a.leg.number - number) ≡ Some x)
+later_from number outcome all a None le h = tt
+later_from number outcome all a (Some x) le h =
+    let more : a.leg.number - number ≡ suc (a.leg.number - (number + 1)) = omega arith in
+    ap (slice_get (outcome ∷ all)) more ∙ h
+
+tells_from : (rules : Rules) (number clock : ℕ) (inputs : List Arrival) (list : List Binding) →
+    Each (TellsFrom number (run_from rules number clock inputs list).outcomes)
+    (run_from rules number clock inputs list).acts
+tells_from rules number clock [] list = tt
+tells_from rules number clock (input ∷ inputs) list =
+    let now : ℕ = max clock input.clock in
+    let first : Stepped = step rules number now input list in
+    let rest : Course = run_from rules (number + 1) now inputs first.list in
+    each_append (TellsFrom number (first.outcome ∷ rest.outcomes)) first.acts rest.acts
+    (each_map (TellsHere number first.outcome) (TellsFrom number (first.outcome ∷ rest.outcomes)) (λ a h.
+    let e : a.leg.number ≡ number = h.0 in
+    (omega arith, here_from number first.outcome rest.outcomes a (told a.end) h.0 h.1)) first.acts
+    (read_tells rules number now input.side (reading input.side input.bytes) list))
+    (each_map (TellsFrom (number + 1) rest.outcomes) (TellsFrom number (first.outcome ∷ rest.outcomes)) (λ a h.
+    let e : number + 1 ≤ a.leg.number = h.0 in
+    (omega arith, later_from number first.outcome rest.outcomes a (told a.end) h.0 h.1)) rest.acts
+    (tells_from rules (number + 1) now inputs first.list))
+
+told_from : (all : List Outcome) (a : Act) (o : Option Outcome) →
+    IfSome o (λ x. slice_get all (a.leg.number - 0) ≡ Some x) → IfSome o (λ x. slice_get all a.leg.number ≡ Some x)
+told_from all a None h = tt
+told_from all a (Some x) h = let same : a.leg.number ≡ a.leg.number - 0 = omega arith in ap (slice_get all) same ∙ h
+
+pub answers_tell : AnswersTellOutcomes
+answers_tell rules inputs list =
+    let course : Course = run rules inputs list in
+    each_map (TellsFrom 0 course.outcomes) (IsTold course.outcomes) (λ a h.
+    told_from course.outcomes a (told a.end) h.1) course.acts (tells_from rules 0 0 inputs list)
+
+-- ONWARD
+
+pub foretold : SourcesLeaveDestinations → ErrorsLeaveDestinations → OnwardIsForetold
+foretold packets errors rules address leg list place packet side reads h =
+    let goes : List ℕ → Type 0 = λ q. (destination q).address ≡ (destination leg.packet).address in
+    let to : OnwardBy rules goes leg.way place packet = onward rules leg.packet goes (packets side leg.packet reads)
+    (errors side leg.packet reads) address leg.now list leg.way (kind leg.packet) refl place packet h in
+    record { way = to.0; served = ap (place_of rules) (sym to.2) ∙ to.1; kept = to.2 }

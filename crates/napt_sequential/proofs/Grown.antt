@@ -1,0 +1,175 @@
+-- A run of one input more.
+use Rattle.std.proofs.Common.{◌≡◌, ℕ, suc, ◌+◌, ◌*◌, ◌^◌, ◌<◌, ◌≤◌, max, List, [], ◌∷◌, ◌++◌, length, take, Option, Some, None, Result, Ok, Err, refl, sym, ◌∙◌, ap, subst, arith, append-nil, append_assoc, length-append, get_or}
+use Rattle.std.proofs.lemmas.List.{take_more, length-take-le}
+use Rattle.napt_wire.specs.declared.Side.{Side}
+use Rattle.napt_wire.specs.declared.Way.{Way}
+use Rattle.napt_wire.specs.declared.Cause.{Cause}
+use Rattle.napt_wire.specs.Reading.{reading}
+use Rattle.napt_config.specs.Rules.{Rules}
+use Rattle.napt_table.specs.declared.Binding.{Binding}
+use Rattle.napt_table.specs.Opening.{opening}
+use Rattle.napt_translate.specs.declared.translator.Leg.{Leg}
+use Rattle.napt_translate.specs.declared.translator.End.{End}
+use Rattle.napt_translate.specs.declared.translator.End.TheVariants.{ToOutside, ToInside, Onward, Dropped}
+use Rattle.napt_translate.specs.Sides.{refusal, way_from, served_at}
+use Rattle.napt_translate.specs.Legs.{Acted, act}
+use Rattle.napt_sequential.specs.Inputs.{Arrival}
+use Rattle.napt_sequential.specs.declared.outcome.Outcome.{Outcome}
+use Rattle.napt_sequential.specs.declared.seat.Seat.{Seat}
+use Rattle.napt_sequential.specs.Sequential.{Act, Stepped, follow_by, judged, read_as, step, Course, ahead, run_from, run, last_clock}
+use Rattle.napt_sequential.specs.Seats.{AreSeats, StandBy, Follows, moment_of}
+use Rattle.napt_sequential.specs.Dispatching.{joined}
+
+ahead_joined : (first : Stepped) (course : Course) (next : Stepped) → ahead first (joined course next)
+    ≡ joined (ahead first course) next
+ahead_joined first course next =
+    ap (λ (acts : List Act). record {
+      outcomes = first.outcome ∷ (course.outcomes ++ next.outcome ∷ []);
+      acts = acts;
+      list = next.list;
+    }) (sym (append_assoc first.acts course.acts next.acts))
+
+pub grows : (rules : Rules) (number clock : ℕ) (inputs : List Arrival) (input : Arrival) (list : List Binding)
+    (at : ℕ) → number + length inputs ≡ at →
+    run_from rules number clock (inputs ++ input ∷ []) list
+    ≡ joined (run_from rules number clock inputs list) (step rules at (max (last_clock clock inputs) input.clock) input
+    (run_from rules number clock inputs list).list)
+grows rules number clock [] input list at e =
+    let here : number ≡ at = omega arith in
+    ap (λ (n : ℕ). ahead (step rules n (max clock input.clock) input list) (record {
+      outcomes = [];
+      acts = [];
+      list =
+          (step rules n (max clock input.clock) input list).list;
+    })) here
+    ∙ ap (λ (acts : List Act). record {
+      outcomes = (step rules at (max clock input.clock) input list).outcome ∷ [];
+      acts = acts;
+      list = (step rules at (max clock input.clock) input list).list;
+    })
+    (append-nil (step rules at (max clock input.clock) input list).acts)
+grows rules number clock (i ∷ inputs) input list at e =
+    let now : ℕ = max clock i.clock in
+    let first : Stepped = step rules number now i list in
+    let rest : Course = run_from rules (number + 1) now inputs first.list in
+    ap (ahead first) (grows rules (number + 1) now inputs input first.list at (omega arith))
+    ∙ ahead_joined first rest (step rules at (max (last_clock now inputs) input.clock) input rest.list)
+
+pub clock_more : (clock : ℕ) (inputs : List Arrival) (input : Arrival) → last_clock clock (inputs ++ input ∷ [])
+    ≡ max (last_clock clock inputs) input.clock
+clock_more clock [] input = refl
+clock_more clock (i ∷ inputs) input = clock_more (max clock i.clock) inputs input
+
+-- HOW MANY OUTCOMES, AND LEGS
+
+pub outcomes_long : (rules : Rules) (number clock : ℕ) (inputs : List Arrival) (list : List Binding) →
+    length (run_from rules number clock inputs list).outcomes ≡ length inputs
+outcomes_long rules number clock [] list = refl
+outcomes_long rules number clock (i ∷ inputs) list =
+    ap suc (outcomes_long rules (number + 1) (max clock i.clock) inputs
+    (step rules number (max clock i.clock) i list).list)
+
+follow_few : (rules : Rules) (address : ℕ) (leg : Leg) (first : Acted) (end : End) →
+    length (follow_by rules address leg first end).acts ≤ 2
+follow_few rules address leg first (ToOutside packet) = omega arith
+follow_few rules address leg first (ToInside packet) = omega arith
+follow_few rules address leg first (Dropped cause) = omega arith
+follow_few rules address leg first (Onward place packet) = omega arith
+
+judged_few : (rules : Rules) (number now : ℕ) (way : Way) (packet : List ℕ) (refused : Option Cause)
+    (list : List Binding) → length (judged rules number now way packet refused list).acts ≤ 2
+judged_few rules number now way packet (Some cause) list = omega arith
+judged_few rules number now way packet None list =
+    let leg : Leg = record { number = number; now = now; way = way; packet = packet } in
+    let first : Acted = act rules (served_at rules way packet) leg list in
+    follow_few rules (served_at rules way packet) leg first first.end
+
+read_few : (rules : Rules) (number now : ℕ) (side : Side) (read : Result (List ℕ) Cause) (list : List Binding) →
+    length (read_as rules number now side read list).acts ≤ 2
+read_few rules number now side (Err cause) list = omega arith
+read_few rules number now side (Ok packet) list = judged_few rules number now (way_from side) packet
+    (refusal rules side packet) list
+
+pub acts_few : (rules : Rules) (number clock : ℕ) (inputs : List Arrival) (list : List Binding) →
+    length (run_from rules number clock inputs list).acts ≤ 2 * length inputs
+acts_few rules number clock [] list = omega arith
+acts_few rules number clock (i ∷ inputs) list =
+    let now : ℕ = max clock i.clock in
+    let first : Stepped = step rules number now i list in
+    let rest : Course = run_from rules (number + 1) now inputs first.list in
+    let one : length first.acts ≤ 2 = read_few rules number now i.side (reading i.side i.bytes) list in
+    let more : length rest.acts ≤ 2 * length inputs = acts_few rules (number + 1) now inputs first.list in
+    let all : length (first.acts ++ rest.acts) ≡ length first.acts + length rest.acts =
+    length-append first.acts rest.acts in
+    omega arith
+
+-- ONE MORE OF A LIST OF INPUTS
+
+-- what stands after a step: the clock, the outcomes, and the seats
+pub record NextStands (rules : Rules) (done : List Arrival) (now : ℕ) (told : List Outcome)
+    (standing : List Seat) : Type 0 where
+  pub clock : now ≡ last_clock 0 done
+  pub outcomes : told ≡ (run rules done (opening rules)).outcomes
+  pub seats : AreSeats rules (moment_of rules done) standing
+
+after_one : (rules : Rules) (done : List Arrival) (input : Arrival) (number now : ℕ) → number ≡ length done →
+    now ≡ max (last_clock 0 done) input.clock → (outcomes : List Outcome) (seats : List Seat) (outcome : Outcome) →
+    outcomes ≡ (run rules done (opening rules)).outcomes →
+    Follows rules now (step rules number now input (moment_of rules done).list)
+    (moment_of rules done) seats outcome →
+    NextStands rules (done ++ input ∷ []) now (outcomes ++ outcome ∷ []) seats
+after_one rules done input number now many clock outcomes seats outcome told follows =
+    let course : Course = run rules done (opening rules) in
+    let stepped : Stepped = step rules number now input course.list in
+    let here : step rules (length done) (max (last_clock 0 done) input.clock) input course.list ≡ stepped =
+    ap (λ (n : ℕ). step rules n (max (last_clock 0 done) input.clock) input course.list) (sym many)
+    ∙ ap (λ (t : ℕ). step rules number t input course.list) (sym clock) in
+    let more : run rules (done ++ input ∷ []) (opening rules) ≡ joined course stepped =
+    grows rules 0 0 done input (opening rules) (length done) (omega arith) ∙ ap (joined course) here in
+    let last : now ≡ last_clock 0 (done ++ input ∷ []) = clock ∙ sym (clock_more 0 done input) in
+    record {
+      clock = last;
+      outcomes = ap (λ (os : List Outcome). os ++ outcome ∷ []) told
+          ∙ (ap (λ (o : Outcome). course.outcomes ++ o ∷ []) follows.0 ∙ ap (λ (k : Course). k.outcomes) (sym more));
+      seats =
+          let held : AreSeats rules (record {
+            clock = now;
+            acts = (joined course stepped).acts;
+            list =
+                (joined course stepped).list;
+          }) seats = follows.1 in
+          subst (λ (t : ℕ). AreSeats rules
+          (record {
+            clock = t;
+            acts = (run rules (done ++ input ∷ []) (opening rules)).acts;
+            list =
+                (run rules (done ++ input ∷ []) (opening rules)).list;
+          }) seats) last
+          (subst (λ (k : Course). AreSeats rules (record { clock = now; acts = k.acts; list = k.list }) seats)
+          (sym more) held);
+    }
+
+module _ (rules : Rules) (inputs : List Arrival) (n : ℕ) (input : Arrival) (lt : n < length inputs)
+    (at : get_or inputs n input ≡ input) where
+  pub after_next : (number now : ℕ) → number ≡ n → now ≡ max (last_clock 0 (take n inputs)) input.clock →
+      (outcomes : List Outcome) (seats : List Seat) (outcome : Outcome) →
+      outcomes ≡ (run rules (take n inputs) (opening rules)).outcomes →
+      Follows rules now (step rules number now input (moment_of rules (take n inputs)).list)
+      (moment_of rules (take n inputs)) seats outcome →
+      NextStands rules (take (n + 1) inputs) now (outcomes ++ outcome ∷ []) seats
+  after_next number now is clock outcomes seats outcome told follows =
+      let long : length (take n inputs) ≡ n = length-take-le n inputs (omega arith) in
+      let more : take (n + 1) inputs ≡ take n inputs ++ input ∷ [] = take_more inputs n input lt
+      ∙ ap (λ (x : Arrival). take n inputs ++ x ∷ []) at in
+      subst (λ (done : List Arrival). NextStands rules done now (outcomes ++ outcome ∷ []) seats) (sym more)
+      (after_one rules (take n inputs) input number now (is ∙ sym long) clock outcomes seats outcome told follows)
+
+-- there is room to count two legs more
+pub stands_by : (rules : Rules) (inputs : List Arrival) (n now : ℕ) (seats : List Seat) → n < length inputs →
+    length inputs < 2 ^ 32 → last_clock 0 (take n inputs) ≤ now →
+    AreSeats rules (moment_of rules (take n inputs)) seats → StandBy rules now 2 seats
+stands_by rules inputs n now seats lt few later are =
+    let long : length (take n inputs) ≡ n = length-take-le n inputs (omega arith) in
+    let acts : length (run rules (take n inputs) (opening rules)).acts ≤ 2 * length (take n inputs) =
+    acts_few rules 0 0 (take n inputs) (opening rules) in
+    (moment_of rules (take n inputs), are, later, omega arith)

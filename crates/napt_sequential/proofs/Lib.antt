@@ -1,0 +1,15 @@
+pub mod Alone
+pub mod Begun
+pub mod Dispatched
+pub mod Grown
+pub mod LegsLocal
+pub mod OneInput
+pub mod Places
+pub mod QuotaKept
+pub mod Results
+pub mod Rows
+pub mod RunsLocal
+pub mod Seats
+pub mod Shown
+pub mod Sound
+pub mod Steps

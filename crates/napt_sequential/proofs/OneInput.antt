@@ -1,0 +1,101 @@
+-- One input more.
+use Rattle.std.proofs.Common.{◌≡◌, ℕ, zero, suc, ◌+◌, ◌<◌, max, List, [], ◌∷◌, ◌++◌, length, Option, Some, None, Result, Ok, Err, refl, sym, ◌∙◌, ap, arith, append_assoc, get_or, take, drop, length-take}
+use Rattle.std.proofs.lemmas.List.{take_more, take-append-drop}
+use Rattle.std.specs.Prelude.{slice_get}
+use Rattle.napt_wire.specs.declared.Side.{Side}
+use Rattle.napt_wire.specs.declared.Cause.{Cause}
+use Rattle.napt_wire.specs.Reading.{reading}
+use Rattle.napt_config.specs.Rules.{Rules}
+use Rattle.napt_table.specs.declared.Binding.{Binding}
+use Rattle.napt_table.specs.Opening.{opening}
+use Rattle.napt_translate.specs.Sides.{refusal, way_from, served_at}
+use Rattle.napt_sequential.specs.declared.outcome.Outcome.{Outcome}
+use Rattle.napt_sequential.specs.Inputs.{Arrival}
+use Rattle.napt_sequential.specs.Sequential.{Act, Stepped, Course, refused, admitted, judged, read_as, step, run_from, run, last_clock}
+use Rattle.napt_sequential.specs.Dispatching.{IsFront, joined}
+use Rattle.napt_sequential.specs.Admission.{judged_by, admission_as, admission}
+use Rattle.napt_sequential.proofs.Grown.{clock_more}
+use Rattle.napt_sequential.proofs.Dispatched.{runs_grow}
+
+-- A RUN BEGINS AS THAT OF ITS FIRST INPUTS
+
+pub acts_begin : (rules : Rules) (number clock : ℕ) (xs ys : List Arrival) (list : List Binding) →
+    IsFront (run_from rules number clock xs list).acts (run_from rules number clock (xs ++ ys) list).acts
+acts_begin rules number clock [] ys list = ((run_from rules number clock ys list).acts, refl)
+acts_begin rules number clock (i ∷ xs) ys list =
+    let first : Stepped = step rules number (max clock i.clock) i list in
+    let more : IsFront (run_from rules (number + 1) (max clock i.clock) xs first.list).acts
+    (run_from rules (number + 1) (max clock i.clock) (xs ++ ys) first.list).acts =
+    acts_begin rules (number + 1) (max clock i.clock) xs ys first.list in (
+      more.0,
+      append_assoc first.acts (run_from rules (number + 1) (max clock i.clock) xs first.list).acts more.0
+          ∙ ap (λ (xs : List Act). first.acts ++ xs) more.1,
+    )
+
+pub outcomes_begin : (rules : Rules) (number clock : ℕ) (xs ys : List Arrival) (list : List Binding) →
+    IsFront (run_from rules number clock xs list).outcomes (run_from rules number clock (xs ++ ys) list).outcomes
+outcomes_begin rules number clock [] ys list = ((run_from rules number clock ys list).outcomes, refl)
+outcomes_begin rules number clock (i ∷ xs) ys list =
+    let first : Stepped = step rules number (max clock i.clock) i list in
+    let more : IsFront (run_from rules (number + 1) (max clock i.clock) xs first.list).outcomes
+    (run_from rules (number + 1) (max clock i.clock) (xs ++ ys) first.list).outcomes =
+    outcomes_begin rules (number + 1) (max clock i.clock) xs ys first.list in
+    (more.0, ap (λ (os : List Outcome). first.outcome ∷ os) more.1)
+
+pub get_at : (xs : List Outcome) (o : Outcome) (rest : List Outcome) (n : ℕ) → length xs ≡ n →
+    slice_get ((xs ++ o ∷ []) ++ rest) n ≡ Some o
+get_at [] o rest zero e = refl
+get_at [] o rest (suc n) e = absurd (omega arith)
+get_at (x ∷ xs) o rest zero e = absurd (omega arith)
+get_at (x ∷ xs) o rest (suc n) e = get_at xs o rest n (omega arith)
+
+-- a step by the admission of its input
+abbrev pub step_as : Rules → ℕ → ℕ → Side → Result (List ℕ) Cause → List Binding → Stepped
+step_as rules number now side (Err cause) list = refused cause list
+step_as rules number now side (Ok packet) list = admitted rules (served_at rules (way_from side) packet)
+    (record { number = number; now = now; way = way_from side; packet = packet }) list
+
+judged_is : (rules : Rules) (number now : ℕ) (side : Side) (packet : List ℕ) (cause : Option Cause)
+    (list : List Binding) → judged rules number now (way_from side) packet cause list ≡ step_as rules number now side
+    (judged_by packet cause) list
+judged_is rules number now side packet (Some cause) list = refl
+judged_is rules number now side packet None list = refl
+
+read_is : (rules : Rules) (number now : ℕ) (side : Side) (read : Result (List ℕ) Cause) (list : List Binding) →
+    read_as rules number now side read list ≡ step_as rules number now side (admission_as rules side read) list
+read_is rules number now side (Err cause) list = refl
+read_is rules number now side (Ok packet) list = judged_is rules number now side packet (refusal rules side packet) list
+
+pub step_is : (rules : Rules) (number now : ℕ) (input : Arrival) (admitted_as : Result (List ℕ) Cause)
+    (list : List Binding) → admission rules input ≡ admitted_as → step rules number now input list
+    ≡ step_as rules number now input.side admitted_as list
+step_is rules number now input admitted_as list e = read_is rules number now input.side (reading input.side input.bytes)
+    list ∙ ap (λ (r : Result (List ℕ) Cause). step_as rules number now input.side r list) e
+
+module _ (rules : Rules) (done rest : List Arrival) (input : Arrival) (number now : ℕ) (long : length done ≡ number)
+    (clock : max (last_clock 0 done) input.clock ≡ now) where
+  -- the run of one input more
+  pub grown : (admitted_as : Result (List ℕ) Cause) → admission rules input ≡ admitted_as →
+      run rules (done ++ input ∷ []) (opening rules) ≡ joined (run rules done (opening rules))
+      (step_as rules number now input.side admitted_as (run rules done (opening rules)).list)
+  grown admitted_as is =
+      let r : Course = run rules done (opening rules) in
+      runs_grow rules done input (opening rules)
+      ∙ (ap (λ (n : ℕ). joined r (step rules n (max (last_clock 0 done) input.clock) input r.list)) long
+      ∙ (ap (λ (t : ℕ). joined r (step rules number t input r.list)) clock
+      ∙ ap (joined r) (step_is rules number now input admitted_as r.list is)))
+
+-- A STEP OF THE LOOP
+
+module _ (inputs : List Arrival) (n : ℕ) (lt : n < length inputs) (none : Arrival) where
+  pub whole : (take n inputs ++ get_or inputs n none ∷ []) ++ drop (n + 1) inputs ≡ inputs
+  whole = ap (λ (l : List Arrival). l ++ drop (n + 1) inputs) (sym (take_more inputs n none lt))
+      ∙ take-append-drop (n + 1) inputs
+
+  pub clock_taken : (now : ℕ) → max (last_clock 0 (take n inputs)) (get_or inputs n none).clock ≡ now →
+      last_clock 0 (take (n + 1) inputs) ≡ now
+  clock_taken now e = ap (last_clock 0) (take_more inputs n none lt)
+      ∙ (clock_more 0 (take n inputs) (get_or inputs n none) ∙ e)
+
+  pub long_taken : length (take n inputs) ≡ n
+  long_taken = simp length-take (omega arith)

@@ -1,0 +1,106 @@
+-- Every step keeps the list sound.
+use Rattle.std.proofs.Common.{◌≡◌, ℕ, ◌+◌, max, false, List, [], ◌∷◌, Option, Some, None, Result, Ok, Err, refl}
+use Rattle.napt_wire.specs.declared.Side.{Side}
+use Rattle.napt_wire.specs.declared.Protocol.TheVariants as protocols
+use Rattle.napt_wire.specs.declared.Way.{Way}
+use Rattle.napt_wire.specs.declared.Way.TheVariants.{Outgoing, Incoming}
+use Rattle.napt_wire.specs.declared.Cause.{Cause}
+use Rattle.napt_wire.specs.declared.Kind.{Kind}
+use Rattle.napt_wire.specs.declared.Kind.TheVariants.{Udp, Tcp, Echo, ErrorOf}
+use Rattle.napt_wire.specs.Fields.{source, destination, kind, local_of, local_end, is_error, CanCarry}
+use Rattle.napt_wire.specs.Reading.{reading}
+use Rattle.napt_wire.specs.Laws.{PacketsCarryNumbers}
+use Rattle.napt_config.specs.Rules.{Rules, pair_of}
+use Rattle.napt_table.specs.Inbound.{inbound_of}
+use Rattle.napt_table.specs.declared.Binding.{Binding}
+use Rattle.napt_table.specs.Endpoints.{IsSound, OutStaysSound, InStaysSound, SoundIsApart}
+use Rattle.napt_table.specs.Opening.{opening, OpeningIsSound}
+use Rattle.napt_translate.specs.declared.translator.Leg.{Leg}
+use Rattle.napt_translate.specs.declared.translator.End.{End}
+use Rattle.napt_translate.specs.declared.translator.End.TheVariants.{ToOutside, ToInside, Onward, Dropped}
+use Rattle.napt_translate.specs.Sides.{refusal, way_from, served_at}
+use Rattle.napt_translate.specs.Legs.{no_flags, Acted, act_by, act}
+use Rattle.napt_sequential.specs.Inputs.{Arrival}
+use Rattle.napt_sequential.specs.Sequential.{follow_by, judged, read_as, step, run_from, run}
+use Rattle.napt_sequential.specs.Sound.{RunsAreSound, RunsStayApart}
+
+module _ (carry : PacketsCarryNumbers) (out_sound : OutStaysSound) (in_sound : InStaysSound) (rules : Rules) where
+  -- an incoming leg, whatever the packet
+  sound_in : (address now : ℕ) (packet : List ℕ) (list : List Binding) (kind : Kind) → IsSound (pair_of rules) list →
+      IsSound (pair_of rules) (act_by rules address now packet list Incoming kind).list
+  sound_in address now packet list Udp s = in_sound (pair_of rules) rules.timers (inbound_of rules) address now
+      protocols.Udp (destination packet).number (source packet) no_flags list s
+  sound_in address now packet list (Tcp flags) s = in_sound (pair_of rules) rules.timers (inbound_of rules) address now
+      protocols.Tcp (destination packet).number (source packet) flags list s
+  sound_in address now packet list Echo s = in_sound (pair_of rules) rules.timers (inbound_of rules) address now
+      protocols.Icmp (destination packet).number (source packet) no_flags list s
+  sound_in address now packet list (ErrorOf inner) s = s
+
+  -- an outgoing leg at the address of its host's pairing, of a packet whose source has a number
+  sound_out : (address now : ℕ) (packet : List ℕ) (list : List Binding) (kind : Kind) →
+      address ≡ pair_of rules (local_of kind Outgoing packet).address →
+      (is_error kind ≡ false → CanCarry kind (source packet).number) →
+      IsSound (pair_of rules) list → IsSound (pair_of rules) (act_by rules address now packet list Outgoing kind).list
+  sound_out address now packet list Udp paired carried s =
+      out_sound (pair_of rules) rules.timers rules.quota address now protocols.Udp (source packet)
+      (destination packet) no_flags list s paired (carried refl)
+  sound_out address now packet list (Tcp flags) paired carried s =
+      out_sound (pair_of rules) rules.timers rules.quota address now protocols.Tcp (source packet)
+      (destination packet) flags list s paired (carried refl)
+  sound_out address now packet list Echo paired carried s =
+      out_sound (pair_of rules) rules.timers rules.quota address now protocols.Icmp (source packet)
+      (destination packet) no_flags list s paired tt
+  sound_out address now packet list (ErrorOf inner) paired carried s = s
+
+  -- a first leg
+  sound_first : (number now : ℕ) (side : Side) (bytes packet : List ℕ) → reading side bytes ≡ Ok packet →
+      (way : Way) (list : List Binding) → IsSound (pair_of rules) list →
+      (let leg : Leg = record { number = number; now = now; way = way; packet = packet } in
+      IsSound (pair_of rules) (act rules (served_at rules way packet) leg list).list)
+  unfolding local_end
+  sound_first number now side bytes packet reads Outgoing list s =
+      sound_out (served_at rules Outgoing packet) now packet list (kind packet) refl (carry side bytes packet reads) s
+  sound_first number now side bytes packet reads Incoming list s =
+      sound_in (served_at rules Incoming packet) now packet list (kind packet) s
+
+  sound_follow : (address : ℕ) (leg : Leg) (list : List Binding) (end : End) → IsSound (pair_of rules) list →
+      (let first : Acted = record { end = end; list = list } in
+      IsSound (pair_of rules) (follow_by rules address leg first end).list)
+  sound_follow address leg list (ToOutside packet) s = s
+  sound_follow address leg list (ToInside packet) s = s
+  sound_follow address leg list (Dropped cause) s = s
+  sound_follow address leg list (Onward place packet) s = sound_in (destination packet).address leg.now packet list
+      (kind packet) s
+
+  sound_judged : (number now : ℕ) (side : Side) (bytes packet : List ℕ) → reading side bytes ≡ Ok packet →
+      (way : Way) (refused : Option Cause) (list : List Binding) → IsSound (pair_of rules) list →
+      IsSound (pair_of rules) (judged rules number now way packet refused list).list
+  sound_judged number now side bytes packet reads way (Some cause) list s = s
+  sound_judged number now side bytes packet reads way None list s =
+      let leg : Leg = record { number = number; now = now; way = way; packet = packet } in
+      let address : ℕ = served_at rules way packet in
+      let first : Acted = act rules address leg list in
+      sound_follow address leg first.list first.end (sound_first number now side bytes packet reads way list s)
+
+  sound_read : (number now : ℕ) (side : Side) (bytes : List ℕ) (read : Result (List ℕ) Cause) → reading side bytes
+      ≡ read → (list : List Binding) → IsSound (pair_of rules) list →
+      IsSound (pair_of rules) (read_as rules number now side read list).list
+  sound_read number now side bytes (Err cause) reads list s = s
+  sound_read number now side bytes (Ok packet) reads list s = sound_judged number now side bytes packet reads
+      (way_from side) (refusal rules side packet) list s
+
+  pub run_sound : (number clock : ℕ) (inputs : List Arrival) (list : List Binding) → IsSound (pair_of rules) list →
+      IsSound (pair_of rules) (run_from rules number clock inputs list).list
+  run_sound number clock [] list s = s
+  run_sound number clock (input ∷ inputs) list s =
+      let now : ℕ = max clock input.clock in
+      run_sound (number + 1) now inputs (step rules number now input list).list
+      (sound_read number now input.side input.bytes (reading input.side input.bytes) refl list s)
+
+pub runs_sound : PacketsCarryNumbers → OutStaysSound → InStaysSound → OpeningIsSound → RunsAreSound
+runs_sound carry out_sound in_sound begins rules keeps inputs = run_sound carry out_sound in_sound rules 0 0 inputs
+    (opening rules) (begins rules keeps)
+
+pub runs_apart : SoundIsApart → RunsAreSound → RunsStayApart
+runs_apart apart sound rules keeps inputs = apart (pair_of rules) (run rules inputs (opening rules)).list
+    (sound rules keeps inputs)

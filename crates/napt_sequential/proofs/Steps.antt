@@ -1,0 +1,255 @@
+-- A step at the seats: the legs of one input.
+use Rattle.std.proofs.Common.{◌≡◌, ℕ, ◌<◌, ◌≤◌, Bool, true, false, List, [], ◌∷◌, ◌++◌, length, cond, Option, Some, None, Result, Ok, Err, IsSome, refl, sym, ◌∙◌, ap, subst, append-nil, append_assoc, get_or, ◌==◌}
+use Rattle.std.specs.Prelude.{position, ok_or, is_some, not}
+use Rattle.std.specs.List.{slice_get}
+use Rattle.std.proofs.lemmas.Bool.{eqb-true}
+use Rattle.std.proofs.lemmas.List.Quantifiers.{position-Some}
+use Rattle.std.proofs.lemmas.Option.{slice_get-get_or}
+use Rattle.napt_wire.specs.declared.Side.{Side}
+use Rattle.napt_wire.specs.declared.Side.TheVariants.{Inside, Outside}
+use Rattle.napt_wire.specs.declared.Way.{Way}
+use Rattle.napt_wire.specs.declared.Way.TheVariants.{Outgoing, Incoming}
+use Rattle.napt_wire.specs.declared.Cause.{Cause}
+use Rattle.napt_wire.specs.declared.Cause.TheVariants.{Spoofed, NotOurs, Unsupported}
+use Rattle.napt_wire.specs.declared.Endpoint.{Endpoint}
+use Rattle.napt_wire.specs.declared.Kind.{Kind}
+use Rattle.napt_wire.specs.declared.Kind.TheVariants.{Udp, Tcp, Echo, ErrorOf}
+use Rattle.napt_wire.specs.Fields.{destination, kind, is_error, local_end}
+use Rattle.napt_wire.specs.Rewriting.{with_source, reverted}
+use Rattle.napt_config.specs.Rules.{Rules, KeepsRules, pair_of, place_of}
+use Rattle.napt_config.proofs.Pools.{paired_in_pool, position_of_member}
+use Rattle.napt_table.specs.declared.Binding.{Binding}
+use Rattle.napt_translate.specs.declared.translator.Leg.{Leg}
+use Rattle.napt_translate.specs.declared.translator.End.{End}
+use Rattle.napt_translate.specs.declared.translator.End.TheVariants.{Onward}
+use Rattle.napt_translate.specs.Sides.{is_spoofed, is_not_ours, is_unsupported, refusal, way_from, served_at, routed, route}
+use Rattle.napt_translate.specs.Legs.{Acted, onward_by, end_out, end_in, error_out, error_in, act_by, act}
+use Rattle.napt_sequential.specs.declared.outcome.Outcome.{Outcome}
+use Rattle.napt_sequential.specs.declared.seat.Seat.{Seat}
+use Rattle.napt_sequential.specs.Sequential.{Act, legs_at, Stepped, outcome_of, once, then_in, follow_by, refused, admitted, judged, read_as, step}
+use Rattle.napt_sequential.specs.Inputs.{Arrival}
+use Rattle.napt_wire.specs.Reading.{reading}
+use Rattle.napt_sequential.specs.Seats.{Moment, IsSeat, AreSeats, moment_after, Follows}
+use Rattle.napt_sequential.proofs.RunsLocal.{later_at_once}
+
+-- the address at its place
+pub stands_at : (pool : List ℕ) (address place : ℕ) → position (λ other. other == address) pool ≡ Some place →
+    slice_get pool place ≡ Some address
+stands_at pool address place is =
+    let p : (place < length pool) × ((get_or pool place 0 == address) ≡ true) × ((k : ℕ) → k < place →
+    (get_or pool k 0 == address) ≡ false) = position-Some (λ other. other == address) pool place 0 is in
+    slice_get-get_or pool place 0 p.0 ∙ ap Some (eqb-true (get_or pool place 0) address p.1)
+
+-- ONWARD
+
+-- only on the way out, to the place of the packet's destination; P holds of the packet
+abbrev pub OnwardBy : Rules → (List ℕ → Type 0) → Way → ℕ → List ℕ → Type 0
+OnwardBy rules P way place packet = (way ≡ Outgoing) × (place_of rules (destination packet).address ≡ Some place)
+    × P packet
+
+-- where P holds of a packet that leaves
+module _ (rules : Rules) (p : List ℕ) (P : List ℕ → Type 0) (sources : (end : Endpoint) → P (with_source end p))
+    (errors : is_error (kind p) ≡ true → (end : Endpoint) → P (reverted Outgoing end p)) where
+  onward_from : (gone : List ℕ) → P gone → (found : Option ℕ) → place_of rules (destination gone).address ≡ found →
+      (place : ℕ) (packet : List ℕ) → onward_by found gone ≡ Onward place packet →
+      OnwardBy rules P Outgoing place packet
+  onward_from gone holds None is place packet h = cc
+  onward_from gone holds (Some found) is place packet h =
+      let same : gone ≡ packet = cc in
+      let which : found ≡ place = cc in (
+        refl,
+        ap (λ (x : List ℕ). place_of rules (destination x).address) (sym same) ∙ (is ∙ ap Some which),
+        subst P same holds,
+      )
+
+  onward_out : (address : ℕ) (number : Result ℕ Cause) (place : ℕ) (packet : List ℕ) → end_out rules address p number
+      ≡ Onward place packet → OnwardBy rules P Outgoing place packet
+  onward_out address (Ok number) place packet h =
+      let end : Endpoint = record { address = address; number = number } in
+      onward_from (with_source end p) (sources end) (place_of rules (destination (with_source end p)).address) refl
+      place packet h
+  onward_out address (Err cause) place packet h = cc
+
+  onward_in : (inside : Result Endpoint Cause) (place : ℕ) (packet : List ℕ) → end_in p inside ≡ Onward place packet →
+      OnwardBy rules P Incoming place packet
+  onward_in (Ok end) place packet h = cc
+  onward_in (Err cause) place packet h = cc
+
+  onward_error_out : is_error (kind p) ≡ true → (found : Option Binding) (place : ℕ) (packet : List ℕ) →
+      error_out rules p found ≡ Onward place packet → OnwardBy rules P Outgoing place packet
+  onward_error_out is (Some binding) place packet h =
+      onward_from (reverted Outgoing binding.external p) (errors is binding.external)
+      (place_of rules (destination (reverted Outgoing binding.external p)).address) refl place packet h
+  onward_error_out is None place packet h = cc
+
+  onward_error_in : (found : Option Binding) (place : ℕ) (packet : List ℕ) → error_in p found ≡ Onward place packet →
+      OnwardBy rules P Incoming place packet
+  onward_error_in (Some binding) place packet h = cc
+  onward_error_in None place packet h = cc
+
+  pub onward : (address now : ℕ) (list : List Binding) (way : Way) (k : Kind) → kind p ≡ k →
+      (place : ℕ) (packet : List ℕ) → (act_by rules address now p list way k).end ≡ Onward place packet →
+      OnwardBy rules P way place packet
+  onward address now list Outgoing Udp is place packet h = onward_out address _ place packet h
+  onward address now list Outgoing (Tcp flags) is place packet h = onward_out address _ place packet h
+  onward address now list Outgoing Echo is place packet h = onward_out address _ place packet h
+  onward address now list Outgoing (ErrorOf inner) is place packet h =
+      onward_error_out (ap is_error is) _ place packet h
+  onward address now list Incoming Udp is place packet h = onward_in _ place packet h
+  onward address now list Incoming (Tcp flags) is place packet h = onward_in _ place packet h
+  onward address now list Incoming Echo is place packet h = onward_in _ place packet h
+  onward address now list Incoming (ErrorOf inner) is place packet h = onward_error_in _ place packet h
+
+pub onward_place : (rules : Rules) (address : ℕ) (leg : Leg) (list : List Binding) (place : ℕ) (packet : List ℕ) →
+    (act rules address leg list).end ≡ Onward place packet → place_of rules (destination packet).address ≡ Some place
+onward_place rules address leg list place packet h =
+    let onward_to : OnwardBy rules (λ q. Unit {0}) leg.way place packet = onward rules leg.packet (λ q. Unit {0})
+    (λ end. tt) (λ is end. tt) address leg.now list leg.way (kind leg.packet) refl place packet h in
+    onward_to.1
+
+-- A FIRST LEG ALONE, OR TWO
+
+pub follows_once : (rules : Rules) (address : ℕ) (leg : Leg) (moment : Moment) (seats : List Seat) (end : End) →
+    (act rules address leg moment.list).end ≡ end →
+    follow_by rules address leg (act rules address leg moment.list) end
+    ≡ once address leg (act rules address leg moment.list) →
+    AreSeats rules (moment_after rules address leg moment) seats → (outcome : Outcome) → outcome ≡ outcome_of end →
+    Follows rules leg.now (admitted rules address leg moment.list) moment seats outcome
+follows_once rules address leg moment seats end is alone are outcome told =
+    let first : Acted = act rules address leg moment.list in
+    let e : admitted rules address leg moment.list ≡ once address leg first = ap (follow_by rules address leg first) is
+    ∙ alone in
+    let held : Follows rules leg.now (once address leg first) moment seats outcome =
+    (told ∙ ap outcome_of (sym is), are) in
+    subst (λ (s : Stepped). Follows rules leg.now s moment seats outcome) (sym e) held
+
+pub follows_twice : (rules : Rules) (address : ℕ) (leg : Leg) (moment : Moment) (seats : List Seat) (place : ℕ)
+    (packet : List ℕ) → (act rules address leg moment.list).end ≡ Onward place packet →
+    (let next : Leg = record leg { way = Incoming; packet = packet } in
+    let to : ℕ = (destination packet).address in
+    let between : Moment = moment_after rules address leg moment in
+    AreSeats rules (moment_after rules to next between) seats → (outcome : Outcome) →
+    outcome ≡ outcome_of (act rules to next between.list).end →
+    Follows rules leg.now (admitted rules address leg moment.list) moment seats outcome)
+follows_twice rules address leg moment seats place packet is are outcome told =
+    let first : Acted = act rules address leg moment.list in
+    let next : Leg = record leg { way = Incoming; packet = packet } in
+    let to : ℕ = (destination packet).address in
+    let second : Acted = act rules to next first.list in
+    let e : admitted rules address leg moment.list ≡ then_in address leg first (once to next second) =
+    ap (follow_by rules address leg first) is in
+    let acts : (moment.acts ++ record { address = address; leg = leg; end = first.end } ∷ []) ++ record {
+      address = to;
+      leg = next;
+      end = second.end;
+    } ∷ [] ≡ moment.acts ++ (record { address = address; leg = leg; end = first.end }
+    ∷ record { address = to; leg = next; end = second.end } ∷ []) = append_assoc moment.acts _ _ in
+    let held : Follows rules leg.now (then_in address leg first (once to next second)) moment seats outcome = (
+      told,
+      subst (λ (xs : List Act). AreSeats rules (record { clock = leg.now; acts = xs; list = second.list })
+          seats) acts are,
+    ) in
+    subst (λ (s : Stepped). Follows rules leg.now s moment seats outcome) (sym e) held
+
+-- NO LEG
+
+pub follows_none : (rules : Rules) (now : ℕ) (moment : Moment) (seats : List Seat) → moment.clock ≤ now →
+    AreSeats rules moment seats → (cause : Cause) → Follows rules now (refused cause moment.list) moment seats
+    (let s : Stepped = refused cause moment.list in s.outcome)
+follows_none rules now moment seats later are cause = (
+  refl,
+  record {
+    many = are.many;
+    each = λ place address seat at sits.
+        let is : IsSeat rules place address moment seat = are.each place address seat at sits in
+        record {
+          own = is.own;
+          translator = is.translator;
+          at_once = later_at_once rules address moment.clock now later is.own moment.list is.at_once;
+          legs = subst (λ (xs : List Act). seat.legs ≡ length (legs_at address xs)) (sym (append-nil moment.acts))
+              is.legs;
+        };
+  },
+)
+
+-- ROUTES
+
+-- a host's external address is in the pool
+pair_in_pool : (rules : Rules) → KeepsRules rules → (host : ℕ) → IsSome (place_of rules (pair_of rules host))
+pair_in_pool rules keeps host = position_of_member rules.pool (pair_of rules host)
+    (paired_in_pool rules.pool rules.pairs host keeps.pool.some keeps.pairs.externals)
+
+no_cause : (a b c : Bool) → cond a (Some Spoofed) (cond b (Some NotOurs) (cond c (Some Unsupported) None)) ≡ None →
+    b ≡ false
+no_cause true b c h = cc
+no_cause false true c h = cc
+no_cause false false c h = refl
+
+some_is : (o : Option ℕ) → not (is_some o) ≡ false → IsSome o
+some_is (Some x) h = refl
+some_is None h = cc
+
+-- the address that serves a packet that is not refused is in the pool
+served_in_pool : (rules : Rules) → KeepsRules rules → (side : Side) (packet : List ℕ) → refusal rules side packet
+    ≡ None → IsSome (place_of rules (served_at rules (way_from side) packet))
+served_in_pool rules keeps Inside packet h = pair_in_pool rules keeps (local_end Outgoing packet).address
+served_in_pool rules keeps Outside packet h = some_is (place_of rules (destination packet).address)
+    (no_cause (is_spoofed rules Outside packet) (is_not_ours rules Outside packet) (is_unsupported rules Outside packet)
+    h)
+
+routed_ok : (rules : Rules) (address : ℕ) (refused : Option Cause) (place : ℕ) → routed rules address refused
+    ≡ Ok place → refused ≡ None
+routed_ok rules address (Some cause) place h = cc
+routed_ok rules address None place h = refl
+
+placed : (o : Option ℕ) (cause : Cause) → IsSome o → ok_or o NotOurs ≡ Err cause → ⊥
+placed (Some place) cause some h = cc
+placed None cause some h = cc
+
+routed_err : (rules : Rules) (address : ℕ) (refused : Option Cause) (cause : Cause) →
+    (refused ≡ None → IsSome (place_of rules address)) → routed rules address refused ≡ Err cause → refused ≡ Some cause
+routed_err rules address (Some other) cause served h = cc
+routed_err rules address None cause served h = absurd (placed (place_of rules address) cause (served refl) h)
+
+pub route_ok : (rules : Rules) (side : Side) (packet : List ℕ) (place : ℕ) → route rules side packet ≡ Ok place →
+    refusal rules side packet ≡ None
+unfolding route
+route_ok rules side packet place h = routed_ok rules (served_at rules (way_from side) packet)
+    (refusal rules side packet) place h
+
+pub route_err : (rules : Rules) → KeepsRules rules → (side : Side) (packet : List ℕ) (cause : Cause) →
+    route rules side packet ≡ Err cause → refusal rules side packet ≡ Some cause
+unfolding route
+route_err rules keeps side packet cause h = routed_err rules (served_at rules (way_from side) packet)
+    (refusal rules side packet) cause (served_in_pool rules keeps side packet) h
+
+-- ONE INPUT
+
+pub step_unread : (rules : Rules) (number now : ℕ) (input : Arrival) (list : List Binding) (cause : Cause) →
+    reading input.side input.bytes ≡ Err cause → step rules number now input list ≡ refused cause list
+step_unread rules number now input list cause reads =
+    ap (λ (r : Result (List ℕ) Cause). read_as rules number now input.side r list) reads
+
+pub step_refused : (rules : Rules) (number now : ℕ) (input : Arrival) (list : List Binding) (packet : List ℕ)
+    (cause : Cause) → reading input.side input.bytes ≡ Ok packet → refusal rules input.side packet ≡ Some cause →
+    step rules number now input list ≡ refused cause list
+step_refused rules number now input list packet cause reads against =
+    ap (λ (r : Result (List ℕ) Cause). read_as rules number now input.side r list) reads
+    ∙ ap (λ (o : Option Cause). judged rules number now (way_from input.side) packet o list) against
+
+pub step_admitted : (rules : Rules) (number now : ℕ) (input : Arrival) (list : List Binding) (packet : List ℕ) →
+    reading input.side input.bytes ≡ Ok packet → refusal rules input.side packet ≡ None →
+    step rules number now input list ≡ admitted rules (served_at rules (way_from input.side) packet)
+    (record { number = number; now = now; way = way_from input.side; packet = packet }) list
+step_admitted rules number now input list packet reads free =
+    ap (λ (r : Result (List ℕ) Cause). read_as rules number now input.side r list) reads
+    ∙ ap (λ (o : Option Cause). judged rules number now (way_from input.side) packet o list) free
+
+-- the bytes that were copied read as the input's
+pub reads_as : (input copy : Arrival) (bytes : List ℕ) (read : Result (List ℕ) Cause) → copy ≡ input →
+    bytes ≡ copy.bytes → reading copy.side bytes ≡ read → reading input.side input.bytes ≡ read
+reads_as input copy bytes read shown copied is = ap (λ (a : Arrival). reading a.side a.bytes) (sym shown)
+    ∙ (ap (reading copy.side) (sym copied) ∙ is)
+
+pub side_as : (input copy : Arrival) → copy ≡ input → copy.side ≡ input.side
+side_as input copy shown = ap (λ (a : Arrival). a.side) shown

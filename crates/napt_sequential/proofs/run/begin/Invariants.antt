@@ -1,0 +1,10 @@
+use Rattle.std.proofs.Common.{◌≡◌, ◌≤◌, length}
+use Rattle.napt_sequential.proofs.Begun.{AreFresh}
+use Rattle.napt_sequential.proofs.run.begin.Given as goal
+
+abbrev pub invariant-loop-index : goal.invariant-loop-index
+invariant-loop-index l = record {
+  many : length l.seats.items ≡ l.index;
+  within : l.index ≤ length l.config.pool;
+  fresh : AreFresh l.config l.seats.items;
+}

@@ -1,0 +1,47 @@
+use Rattle.std.proofs.Common.{◌≡◌, ℕ, ◌+◌, ◌≤◌, max, List, length, take, sym, ◌∙◌, ap, subst, arith}
+use Rattle.std.proofs.lemmas.List.{length-take-le}
+use Rattle.napt_table.specs.Opening.{opening}
+use Rattle.napt_sequential.specs.Inputs.{Arrival}
+use Rattle.napt_sequential.specs.declared.outcome.Outcome.{Outcome}
+use Rattle.napt_sequential.specs.Sequential.{last_clock, step}
+use Rattle.napt_sequential.specs.Seats.{Follows, moment_of}
+use Rattle.napt_sequential.proofs.Grown.{NextStands, outcomes_long, after_next, stands_by}
+use Rattle.napt_sequential.proofs.run.step_all.Goals as goal
+
+pub step-requires-clause-stand : goal.step-requires-clause-stand
+step-requires-clause-stand c =
+    let n : ℕ = c.loop-input.input-index in
+    let before = c.loop-input.invariant in
+    let was : c.loop-input.clock ≡ last_clock 0 (take n c.args.inputs.now) = before.clock in
+    let now : c.max-clock.result ≡ max c.loop-input.clock c.input.inside.clock = c.max-clock.ensures in
+    let later : last_clock 0 (take n c.args.inputs.now) ≤ c.max-clock.result = omega arith in
+    stands_by c.args.config.now c.args.inputs.now n c.max-clock.result c.loop-input.seats c.loop-input-test.true
+    c.requires.few later before.seats
+
+pub loop-input-preserved : goal.loop-input-preserved
+loop-input-preserved c =
+    let n : ℕ = c.loop-input.input-index in
+    let inputs : List Arrival = c.args.inputs.now in
+    let input : Arrival = c.input-item.result in
+    let before : NextStands c.args.config.now (take n inputs) c.loop-input.clock c.loop-input.outcomes.items
+    c.loop-input.seats = c.loop-input.invariant in
+    let was : c.loop-input.clock ≡ last_clock 0 (take n inputs) = before.clock in
+    let clock : c.input.inside.clock ≡ input.clock = ap (λ (a : Arrival). a.clock) c.input.view_is in
+    let now : c.max-clock.result ≡ max (last_clock 0 (take n inputs)) input.clock = c.max-clock.ensures
+    ∙ (ap (λ (t : ℕ). max t c.input.inside.clock) was ∙ ap (max (last_clock 0 (take n inputs))) clock) in
+    let later : last_clock 0 (take n inputs) ≤ c.max-clock.result = omega arith in
+    let long : length (take n inputs) ≡ n = length-take-le n inputs (omega (arith, c.loop-input-test.true)) in
+    let number : c.len-number.result ≡ n =
+    (let told = outcomes_long c.args.config.now 0 0 (take n inputs) (opening c.args.config.now) in let same =
+    ap length before.outcomes in let len = c.len-number.ensures in let ok = c.loop-input.outcomes.ok.0 in
+    omega arith) in
+    let follows : Follows c.args.config.now c.max-clock.result
+    (step c.args.config.now c.len-number.result c.max-clock.result input
+    (moment_of c.args.config.now (take n inputs)).list) (moment_of c.args.config.now (take n inputs))
+    c.step.new.seats c.in_ok-outcome.outcome
+    = c.in_ok-outcome.ensures (moment_of c.args.config.now (take n inputs)) before.seats later in
+    subst (λ (os : List Outcome). NextStands c.args.config.now (take (n + 1) inputs) c.max-clock.result os
+    c.step.new.seats) (sym c.in_ok-push.ensures.items)
+    (after_next c.args.config.now inputs n input c.loop-input-test.true (sym c.input-item.is) c.len-number.result
+    c.max-clock.result number now c.loop-input.outcomes.items c.step.new.seats c.in_ok-outcome.outcome
+    before.outcomes follows)

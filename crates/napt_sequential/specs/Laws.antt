@@ -1,0 +1,61 @@
+-- The legs of one external address, on that address's bindings alone, are answered as in the whole run, and leave
+-- what the run leaves there: so each address can have a translator of its own.
+use Rattle.std.specs.Prelude.{◌≡◌, ℕ, ◌≤◌, List, [], ◌∷◌, map}
+use Rattle.napt_config.specs.Rules.{Rules}
+use Rattle.napt_table.specs.declared.Binding.{Binding}
+use Rattle.napt_table.specs.Bindings.{of}
+use Rattle.napt_table.specs.Life.{purge}
+use Rattle.napt_translate.specs.declared.translator.Answer.{Answer}
+use Rattle.napt_translate.specs.declared.translator.Leg.{Leg}
+use Rattle.napt_translate.specs.Legs.{Acted, act, kept_replies, kept_after_all}
+use Rattle.napt_sequential.specs.Inputs.{Arrival}
+use Rattle.napt_sequential.specs.Sequential.{Act, Course, run, last_clock, acts_at, legs_at}
+
+abbrev pub answer_of : Act → Answer
+answer_of a = record { number = a.leg.number; end = a.end }
+
+-- the answers that the legs of an address have in a run
+abbrev pub answers_at : ℕ → List Act → List Answer
+answers_at address acts = map answer_of (acts_at address acts)
+
+-- the answers to legs that act at an address one after another on a list, and the list that they leave
+abbrev pub replies : Rules → ℕ → List Leg → List Binding → List Answer
+replies rules address [] list = []
+replies rules address (leg ∷ legs) list =
+    let acted : Acted = act rules address leg list in
+    record { number = leg.number; end = acted.end } ∷ replies rules address legs acted.list
+
+abbrev pub after : Rules → ℕ → List Leg → List Binding → List Binding
+after rules address [] list = list
+after rules address (leg ∷ legs) list = after rules address legs (act rules address leg list).list
+
+abbrev pub LegsAnswerAlone : Type 0
+LegsAnswerAlone = (rules : Rules) (inputs : List Arrival) (list : List Binding) (address : ℕ) →
+    let course : Course = run rules inputs list in
+    replies rules address (legs_at address course.acts) (of address list) ≡ answers_at address course.acts
+
+-- purged at any time from the last clock on
+abbrev pub LegsLeaveTheirOwn : Type 0
+LegsLeaveTheirOwn = (rules : Rules) (inputs : List Arrival) (list : List Binding) (address now : ℕ) →
+    last_clock 0 inputs ≤ now →
+    let course : Course = run rules inputs list in
+    purge rules.timers now (after rules address (legs_at address course.acts) (of address list))
+    ≡ purge rules.timers now (of address course.list)
+
+-- THE SAME OF A TRANSLATOR, which has a time of its own
+
+-- a translator that begins with an address's bindings answers the legs of that address as the run does
+abbrev pub TranslatorsAnswerAlone : Type 0
+TranslatorsAnswerAlone = (rules : Rules) (inputs : List Arrival) (list : List Binding) (address : ℕ) →
+    let course : Course = run rules inputs list in
+    kept_replies rules address (legs_at address course.acts) (record { list = of address list; at = 0 })
+    ≡ answers_at address course.acts
+
+-- and is left with that address's bindings of the run
+abbrev pub TranslatorsKeepTheirOwn : Type 0
+TranslatorsKeepTheirOwn = (rules : Rules) (inputs : List Arrival) (list : List Binding) (address now : ℕ) →
+    last_clock 0 inputs ≤ now →
+    let course : Course = run rules inputs list in
+    purge rules.timers now (kept_after_all rules address (legs_at address course.acts)
+    (record { list = of address list; at = 0 })).list
+    ≡ purge rules.timers now (of address course.list)

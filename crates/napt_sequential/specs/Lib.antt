@@ -1,0 +1,10 @@
+pub mod Inputs
+pub mod Sequential
+pub mod Faults
+pub mod Seats
+pub mod Sound
+pub mod QuotaKept
+pub mod Laws
+pub mod Dispatching
+pub mod Admission
+pub mod Places

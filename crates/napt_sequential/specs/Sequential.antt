@@ -1,0 +1,150 @@
+-- The sequential translator: what a run over a list of inputs gives, on one list of bindings.
+--
+-- Each input is read, judged by its side, and taken through the bindings of the external address that serves it (RFC
+-- 3022, sections 4.1 to 4.3). What an inside host sends to an external address of the pool comes in again there at
+-- once (RFC 4787, REQ-9, hairpinning). A run's time is the greatest clock so far, so it never goes back.
+use Rattle.std.specs.Prelude.{ℕ, ◌+◌, ◌==◌, max, length, List, [], ◌∷◌, ◌++◌, map, filter, flat_map, Option, Some, None, Result, Ok, Err}
+use Rattle.napt_wire.specs.declared.Side.{Side}
+use Rattle.napt_wire.specs.declared.Way.{Way}
+use Rattle.napt_wire.specs.declared.Way.TheVariants.{Incoming}
+use Rattle.napt_wire.specs.declared.Cause.{Cause}
+use Rattle.napt_wire.specs.Fields.{destination}
+use Rattle.napt_wire.specs.Reading.{reading}
+use Rattle.napt_config.specs.Rules.{Rules}
+use Rattle.napt_table.specs.declared.Binding.{Binding}
+use Rattle.napt_table.specs.declared.Row.{Row}
+use Rattle.napt_table.specs.Bindings.{of}
+use Rattle.napt_table.specs.Opening.{opening}
+use Rattle.napt_table.specs.Rows.{rows}
+use Rattle.napt_translate.specs.declared.translator.Leg.{Leg}
+use Rattle.napt_translate.specs.declared.translator.End.{End}
+use Rattle.napt_translate.specs.declared.translator.End.TheVariants as ends
+use Rattle.napt_translate.specs.Sides.{refusal, way_from, served_at}
+use Rattle.napt_translate.specs.Legs.{Acted, act}
+use Rattle.napt_sequential.specs.declared.outcome.Outcome.{Outcome}
+use Rattle.napt_sequential.specs.declared.outcome.Outcome.TheVariants.{ToOutside, ToInside, Dropped}
+use Rattle.napt_sequential.specs.Inputs.{Arrival}
+
+-- ONE INPUT
+
+-- a leg that acted: at which external address, and how it ended
+pub record Act : Type 0 where
+  pub address : ℕ
+  pub leg : Leg
+  pub end : End
+
+-- what an input gives: its outcome, the legs that acted, and the list of bindings
+pub record Stepped : Type 0 where
+  pub outcome : Outcome
+  pub acts : List Act
+  pub list : List Binding
+
+-- the outcome is that of the last leg
+abbrev pub outcome_of : End → Outcome
+outcome_of (ends.ToOutside packet) = ToOutside packet
+outcome_of (ends.ToInside packet) = ToInside packet
+outcome_of (ends.Onward place packet) = ToOutside packet
+outcome_of (ends.Dropped cause) = Dropped cause
+
+abbrev pub once : ℕ → Leg → Acted → Stepped
+once address leg acted = record {
+  outcome = outcome_of acted.end;
+  acts = record { address = address; leg = leg; end = acted.end } ∷ [];
+  list = acted.list;
+}
+
+-- a first leg, and the second that follows at once where the packet goes onward: in, at the address that it was sent to
+abbrev pub then_in : ℕ → Leg → Acted → Stepped → Stepped
+then_in address leg first second = record {
+  outcome = second.outcome;
+  acts = record { address = address; leg = leg; end = first.end } ∷ second.acts;
+  list = second.list;
+}
+
+abbrev pub follow_by : Rules → ℕ → Leg → Acted → End → Stepped
+follow_by rules address leg first (ends.Onward place packet) =
+    let next : Leg = record leg { way = Incoming; packet = packet } in
+    let to : ℕ = (destination packet).address in
+    then_in address leg first (once to next (act rules to next first.list))
+follow_by rules address leg first (ends.ToOutside packet) = once address leg first
+follow_by rules address leg first (ends.ToInside packet) = once address leg first
+follow_by rules address leg first (ends.Dropped cause) = once address leg first
+
+abbrev pub follow : Rules → ℕ → Leg → Acted → Stepped
+follow rules address leg first = follow_by rules address leg first first.end
+
+-- a cause drops the input, and no leg acts
+abbrev pub refused : Cause → List Binding → Stepped
+refused cause list = record { outcome = Dropped cause; acts = []; list = list }
+
+abbrev pub admitted : Rules → ℕ → Leg → List Binding → Stepped
+admitted rules address leg list = follow rules address leg (act rules address leg list)
+
+abbrev pub judged : Rules → ℕ → ℕ → Way → List ℕ → Option Cause → List Binding → Stepped
+judged rules number now way packet (Some cause) list = refused cause list
+judged rules number now way packet None list =
+    admitted rules (served_at rules way packet) (record { number = number; now = now; way = way; packet = packet }) list
+
+abbrev pub read_as : Rules → ℕ → ℕ → Side → Result (List ℕ) Cause → List Binding → Stepped
+read_as rules number now side (Err cause) list = refused cause list
+read_as rules number now side (Ok packet) list = judged rules number now (way_from side) packet
+    (refusal rules side packet) list
+
+-- the input of a number, at a time
+abbrev pub step : Rules → ℕ → ℕ → Arrival → List Binding → Stepped
+step rules number now input list = read_as rules number now input.side (reading input.side input.bytes) list
+
+-- ALL INPUTS
+
+pub record Course : Type 0 where
+  pub outcomes : List Outcome
+  pub acts : List Act
+  pub list : List Binding
+
+-- a step, and the course of what comes after it
+abbrev pub ahead : Stepped → Course → Course
+ahead first rest = record { outcomes = first.outcome ∷ rest.outcomes; acts = first.acts ++ rest.acts; list = rest.list }
+
+-- from a number, a clock and a list on
+abbrev pub run_from : Rules → ℕ → ℕ → List Arrival → List Binding → Course
+run_from rules number clock [] list = record { outcomes = []; acts = []; list = list }
+run_from rules number clock (input ∷ inputs) list =
+    let now : ℕ = max clock input.clock in
+    let first : Stepped = step rules number now input list in
+    ahead first (run_from rules (number + 1) now inputs first.list)
+
+abbrev pub run : Rules → List Arrival → List Binding → Course
+run rules inputs list = run_from rules 0 0 inputs list
+
+-- the time of the last input, from a clock on
+abbrev pub last_clock : ℕ → List Arrival → ℕ
+last_clock clock [] = clock
+last_clock clock (input ∷ inputs) = last_clock (max clock input.clock) inputs
+
+-- THE LEGS OF ONE ADDRESS
+
+abbrev pub acts_at : ℕ → List Act → List Act
+acts_at address acts = filter (λ a. a.address == address) acts
+
+abbrev pub legs_at : ℕ → List Act → List Leg
+legs_at address acts = map (λ a. a.leg) (acts_at address acts)
+
+-- WHAT A RUN GIVES
+
+pub record Ran : Type 0 where
+  pub outcomes : List Outcome
+  -- the rows of each external address in the order of the pool
+  pub bindings : List Row
+  -- how many legs acted at each of them
+  pub legs : List ℕ
+
+abbrev pub ran_of : Rules → ℕ → Course → Ran
+ran_of rules now course = record {
+  outcomes = course.outcomes;
+  bindings = flat_map (λ address. rows rules.timers now (of address course.list)) rules.pool;
+  legs = map (λ address. length (legs_at address course.acts)) rules.pool;
+}
+
+-- from the bindings that the configuration opens with to those that live at the last clock
+unfoldable pub ran : Rules → List Arrival → Ran
+ran rules inputs = ran_of rules (last_clock 0 inputs) (run rules inputs (opening rules))

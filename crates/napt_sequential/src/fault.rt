@@ -1,0 +1,34 @@
+//! Why a run over inputs ends early.
+
+ghost use Rattle.std.specs.Prelude.{◌≡◌};
+ghost use Rattle.napt_sequential.specs.declared.fault.RunFault.TheVariants.{Memory, Pool};
+
+use napt_pool::PoolFault;
+use std::alloc::AllocError;
+
+/// Why a run over inputs gives no outcomes.
+#[derive(Clone, Copy, Debug, PartialEq, Eq)]
+pub enum RunFault {
+    /// Memory ran out.
+    Memory,
+    /// There are more than 4,294,967,295 inputs.
+    TooMany,
+    /// A worker stopped early, or the workers could not be started.
+    Pool(PoolFault),
+}
+
+impl From<AllocError> for RunFault {
+    ghost from_gives = { λ _ fault. fault ≡ Memory };
+
+    fn from(_error: AllocError) -> RunFault {
+        RunFault::Memory
+    }
+}
+
+impl From<PoolFault> for RunFault {
+    ghost from_gives = { λ refused fault. fault ≡ Pool refused };
+
+    fn from(refused: PoolFault) -> RunFault {
+        RunFault::Pool(refused)
+    }
+}

@@ -1,0 +1,23 @@
+//! What a run is given.
+
+use napt_wire::Side;
+use std::marker::Model;
+
+/// One packet that came, from either side. Its number is its place in the list of inputs, from 0.
+#[derive(Debug, Drop)]
+pub struct Input {
+    pub side: Side,
+    /// When it arrived, in nanoseconds since 1970-01-01 00:00:00 UTC.
+    pub time: u64,
+    /// The greatest arrival time so far, that of this input included, in nanoseconds.
+    pub clock: u64,
+    pub bytes: Vec<u8>,
+}
+
+impl Model for Input {
+    ghost use Rattle.napt_sequential.specs.Inputs.{Arrival};
+
+    ghost Value = { Arrival };
+
+    ghost view = { λ i. record { side = i.side; time = i.time; clock = i.clock; bytes = i.bytes.items } };
+}

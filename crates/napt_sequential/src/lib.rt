@@ -1,0 +1,21 @@
+//! The sequential translator: what a run over a list of inputs gives, and the laws of runs.
+//!
+//! [`run_plain`] takes the inputs through the translators of all external addresses on one thread. The laws say of every run
+//! what holds of its bindings, and what whoever runs each address apart can rely on.
+#![tactic(auto)]
+
+mod fault;
+mod input;
+mod laws;
+mod outcome;
+mod run;
+mod seat;
+
+pub use fault::RunFault;
+pub use input::Input;
+pub use laws::{
+    legs_are_local, places_stand_for_legs, right_answers, runs_are_sound, runs_keep_the_quota,
+    translators_are_local,
+};
+pub use outcome::{Outcome, Run};
+pub use run::{run_plain, way_from};

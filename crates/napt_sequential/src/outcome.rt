@@ -1,0 +1,35 @@
+//! What a run gives.
+
+use napt_table::Row;
+use napt_wire::{Cause, Packet};
+use std::marker::Model;
+
+/// What became of an input.
+#[derive(Drop)]
+pub enum Outcome {
+    /// The packet leaves to the outside.
+    ToOutside(Packet),
+    /// The packet goes to an inside host.
+    ToInside(Packet),
+    Dropped(Cause),
+}
+
+/// What a run over a list of inputs gives.
+#[derive(Drop)]
+pub struct Run {
+    /// One for each input, in their order.
+    pub outcomes: Vec<Outcome>,
+    /// The bindings that live at the last clock, 0 without an input: those of each external address in the order of the
+    /// pool, and of one address by protocol (ICMP, TCP, UDP) and external number.
+    pub bindings: Vec<Row>,
+    /// How many legs acted at each external address, in the order of the pool.
+    pub legs: Vec<u64>,
+}
+
+impl Model for Run {
+    ghost use Rattle.napt_sequential.specs.Sequential.{Ran};
+
+    ghost Value = { Ran };
+
+    ghost view = { λ run. record { outcomes = run.outcomes.items; bindings = run.bindings.items; legs = run.legs.items } };
+}

@@ -1,0 +1,36 @@
+//! The translators of a run, each with the number of its legs.
+
+ghost use Rattle.std.specs.Prelude.{◌≡◌, ◌-◌, ◌^◌, ◌<◌, IfOk, OnOk};
+
+use napt_table::Row;
+use napt_translate::{End, Leg, Translator};
+use std::alloc::{AllocError, Global};
+
+/// A translator of one external address, and how many legs acted there.
+#[derive(Drop)]
+pub(crate) struct Seat {
+    pub(crate) translator: Translator,
+    pub(crate) legs: u64,
+}
+
+impl Seat {
+    ghost use Rattle.napt_sequential.specs.Seats.{end_at, seat_after, rows_at};
+
+    /// Takes a leg, and answers how it ends.
+    pub(crate) fn take(&mut self, alloc: Global, leg: Leg) -> Result<End, AllocError>
+        requires { self.old.legs < 2 ^ 64 - 1 }
+        ensures end { IfOk result (λ end. end ≡ end_at leg self.old) }
+        ensures left { OnOk result (self.new ≡ seat_after leg self.old) }
+    {
+        let answer = self.translator.translate(alloc, leg)?;
+        self.legs += 1;
+        Ok(answer.end)
+    }
+
+    /// The bindings that live at a time, in ns.
+    pub(crate) fn bindings(&self, alloc: Global, now: u64) -> Result<Vec<Row>, AllocError>
+        ensures { IfOk result (λ made. made.items ≡ rows_at now self.now) }
+    {
+        self.translator.bindings(alloc, now)
+    }
+}
