@@ -33,15 +33,20 @@ use napt_sequential::{Input, Outcome, RunFault, places_stand_for_legs, right_ans
 use napt_translate::{Answer, Leg, onward, route};
 use napt_wire::{Cause, Packet, Side};
 use progress::{
-    Progress, STRANGER, Second, Stranger, all_awaited, all_known, second_leg, told_by, write,
+    Progress, STRANGER, Second, Stranger, all_awaited, all_known, is_unknown, second_leg, told_by,
+    write,
 };
-use queues::{are_empty, empty, len_at, pop_front, push_back, push_front};
+use queues::{are_empty, empty, first_of, len_at, pop_front, push_back, push_front};
 use std::alloc::{AllocError, Global};
 use std::collections::VecDeque;
 use std::sync::Wait;
 
 /// The most legs and places that are held. No input is read while fewer than two more would fit.
 const MOST_HELD: u64 = 65_536;
+
+/// After so many inputs the answers of one worker are looked at, of each in its turn. Each look may fetch what another
+/// processor wrote, so fewer looks cost less; a ring has room for as many legs as are served between two looks.
+const LOOK_EACH: usize = 4;
 
 /// What stands first for a worker.
 #[derive(Drop)]
@@ -56,6 +61,8 @@ enum First {
 /// What a dispatcher knows of its workers and of the run.
 #[derive(Drop)]
 pub(crate) struct Dispatcher {
+    /// How many legs a worker may owe.
+    ring: usize,
     /// How many legs each worker was offered.
     offered: Vec<u64>,
     /// The legs whose answers each worker owes, oldest first.
@@ -69,14 +76,20 @@ pub(crate) struct Dispatcher {
 }
 
 impl Dispatcher {
-    /// For so many workers and inputs.
-    fn new(alloc: Global, workers: usize, inputs: usize) -> Result<Dispatcher, AllocError>
+    /// For so many workers, with rings for so many legs, and inputs.
+    fn new(
+        alloc: Global,
+        workers: usize,
+        ring: usize,
+        inputs: usize,
+    ) -> Result<Dispatcher, AllocError>
         ensures sized { IfOk result (λ d. IsSized workers (parts_of d)) }
         ensures counts { IfOk result (λ d. d.offered.items ≡ replicate workers 0) }
         ensures idle { IfOk result (λ d. IsDone (parts_of d)) }
         ensures progress { IfOk result (λ d. d.progress.items ≡ replicate inputs AwaitedInput) }
     {
         Ok(Dispatcher {
+            ring,
             offered: vec![in alloc; 0; workers]?,
             owed: empty(alloc, workers)?,
             held: empty(alloc, workers)?,
@@ -134,6 +147,20 @@ impl Dispatcher {
                     Ok(First::Next(leg))
                 }
             },
+        }
+    }
+
+    /// Whether nothing can be offered to worker `w` now: its ring is full, or a place that waits stands first.
+    fn waits(&self, w: u32) -> bool
+        requires held { w < length (parts_of self.now).held }
+        requires owed { w < length (parts_of self.now).owed }
+    {
+        if len_at(&self.owed, w) >= self.ring {
+            return true;
+        }
+        match first_of(&self.held, w) {
+            Some(Held::Place(number)) => is_unknown(&self.progress, *number),
+            _ => false,
         }
     }
 
@@ -230,6 +257,9 @@ impl Dispatcher {
             (ledger_of pool.new self.new)) }
         ensures fault { IfErr result (IsFaultUnder G.is_open) }
     {
+        if self.waits(w) {
+            return Ok(false);
+        }
         let Ok(first) = self.first(w) else {
             return Err(RunFault::Memory);
         };
@@ -471,16 +501,16 @@ impl Dispatcher {
         unreachable!()
     }
 
-    /// Takes what answers worker `w` has, and where there were any offers what may then be offered.
+    /// Takes what answers a worker has, if there is one, and where there were any offers what may then be offered.
     fn look_at<R: Wait, G: Gate>(
         &mut self,
         rt: &R,
         alloc: Global,
         pool: &mut Pool<Worker, G>,
-        w: u32,
+        found: Option<u32>,
         count: u32,
     ) -> Result<(), RunFault>
-        requires place { w < count }
+        requires place { IfSome found (λ w. w < count) }
         requires count { count ≤ length (starts pool.old) }
         requires sized { IsSized (length (starts pool.old)) (parts_of self.old) }
         ensures starts { starts pool.new ≡ starts pool.old }
@@ -489,11 +519,15 @@ impl Dispatcher {
             (ledger_of pool.new self.new)) }
         ensures fault { IfErr result (IsFaultUnder G.is_open) }
     {
-        if self.take_there(rt, alloc, pool, w)? {
-            self.offer_all(alloc, pool, count)?;
-            return Ok(());
+        match found {
+            None => Ok(()),
+            Some(w) => {
+                if self.take_there(rt, alloc, pool, w)? {
+                    self.offer_all(alloc, pool, count)?;
+                }
+                Ok(())
+            }
         }
-        Ok(())
     }
 }
 
@@ -582,7 +616,7 @@ impl Dispatcher {
         }
     }
 
-    /// Serves all inputs, in their order; their bytes move. After each one worker's answers are taken, each in its turn.
+    /// Serves all inputs, in their order; their bytes move. Between them the answers of one worker after the other are taken.
     fn serve_all<R: Wait, G: Gate>(
         &mut self,
         rt: &R,
@@ -613,11 +647,22 @@ impl Dispatcher {
             self.make_room(rt, alloc, pool, count as u32)?;
             let found = self.admit(config, number as u64, clock, input)?;
             self.offer_to(alloc, pool, found)?;
-            let turn = (number % count) as u32;
+            let turn = turn_after(number, count);
             self.look_at(rt, alloc, pool, turn, count as u32)?;
         }
         Ok(())
     }
+}
+
+/// The worker whose answers are looked at after the input of a number.
+fn turn_after(number: usize, count: usize) -> Option<u32>
+    requires { (0 < count) × (count < 2 ^ 32) }
+    ensures { IfSome result (λ w. w < count) }
+{
+    if number % LOOK_EACH > 0 {
+        return None;
+    }
+    Some((number / LOOK_EACH % count) as u32)
 }
 
 /// The place in the pool at which a first leg may be answered onward.
@@ -704,7 +749,7 @@ pub(crate) fn dispatch_owned<R: Wait, G: Gate>(
 {
     let count = config.pool().len();
     let many = inputs.len();
-    let Ok(mut dispatcher) = Dispatcher::new(alloc, count, many) else {
+    let Ok(mut dispatcher) = Dispatcher::new(alloc, count, config.ring(), many) else {
         return Err(RunFault::Memory);
     };
     dispatcher.serve_all(rt, alloc, pool, config, inputs)?;

@@ -79,9 +79,10 @@ pub(crate) fn records_sent(
     ensures outside_few { IfOk result (λ sent. length sent.to_outside.items ≤ length times.now) }
     ensures inside_few { IfOk result (λ sent. length sent.to_inside.items ≤ length times.now) }
 {
+    let most = outcomes.len();
     let mut sent = Sent {
-        to_outside: Vec::new(alloc),
-        to_inside: Vec::new(alloc),
+        to_outside: Vec::with_capacity(alloc, most)?,
+        to_inside: Vec::with_capacity(alloc, most)?,
     };
     for (time, outcome) in times.iter().zip(outcomes) {
         push_outcome(&mut sent, *time, outcome)?;

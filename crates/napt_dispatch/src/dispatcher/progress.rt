@@ -89,6 +89,17 @@ pub(crate) fn write(
     Ok(())
 }
 
+/// Whether nothing is known of the second leg of the input of a number.
+pub(crate) fn is_unknown(all: &[Progress], number: u64) -> bool {
+    if number >= all.len() as u64 {
+        return true;
+    }
+    !matches!(
+        all[number as usize],
+        Progress::Onward(_, _) | Progress::EndedOut(_)
+    )
+}
+
 /// The second leg of the input of a number, taken out where it is known.
 pub(crate) fn second_leg(all: &mut Vec<Progress>, number: u64) -> Second
     ensures { IsSecond number all.old.items all.new.items result }

@@ -61,6 +61,13 @@ pub(crate) fn pop_front<T>(queues: &mut Vec<VecDeque<T>>, w: u32) -> Option<T>
     queue.pop_front()
 }
 
+/// The first item of the queue of worker `w`, where there is one.
+pub(crate) fn first_of<T>(queues: &[VecDeque<T>], w: u32) -> Option<&T>
+    requires { w < length (map (λ q. q.items) queues.now) }
+{
+    queues[w as usize].front()
+}
+
 /// How many items wait for worker `w`.
 pub(crate) fn len_at<T>(queues: &[VecDeque<T>], w: u32) -> usize
     requires { w < length (map (λ q. q.items) queues.now) }
