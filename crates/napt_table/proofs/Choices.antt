@@ -6,7 +6,7 @@ use Rattle.napt_bits.specs.Sets.{IsFirstAbsent}
 use Rattle.napt_wire.specs.declared.Protocol.{Protocol}
 use Rattle.napt_wire.specs.declared.Protocol.TheVariants.{Icmp, Tcp, Udp}
 use Rattle.napt_table.specs.declared.Class.{Class}
-use Rattle.napt_table.specs.Lists.{counted}
+use Rattle.napt_binding.specs.Lists.{counted}
 use Rattle.napt_table.specs.Choice.{port_class, class_of, candidate, candidates}
 use Rattle.napt_table.specs.Places.{port_place, place_of}
 

@@ -1,7 +1,5 @@
 -- The candidates of a number, place by place.
-use Rattle.std.proofs.Common.{◌≡◌, ◌≢◌, ℕ, zero, suc, ◌+◌, ◌-◌, ◌*◌, ◌/◌, ◌%◌, ◌<◌, ◌≤◌, ◌⊎◌, inl, inr, ◌==◌}
-use Rattle.std.proofs.Common.{Bool, true, false, cond, nat_lt, List, ◌∷◌, map, length, slice_index_or}
-use Rattle.std.proofs.Common.{refl, sym, ◌∙◌, ap, subst, arith, ◌↔◌}
+use Rattle.std.proofs.Common.{◌≡◌, ◌≢◌, ℕ, zero, suc, ◌+◌, ◌-◌, ◌*◌, ◌/◌, ◌%◌, ◌<◌, ◌≤◌, ◌⊎◌, inl, inr, ◌==◌, Bool, true, false, cond, nat_lt, List, ◌∷◌, map, length, slice_index_or, refl, sym, ◌∙◌, ap, subst, arith, ◌↔◌}
 use Rattle.std.proofs.Math.Nat.{mod-eq_of_lt, add-mod_left, zero-add}
 use Rattle.std.proofs.lemmas.Nat.{mod_below}
 use Rattle.std.proofs.lemmas.Bool.Decides.{nat_tests}
@@ -11,7 +9,7 @@ use Rattle.napt_wire.specs.declared.Protocol.TheVariants.{Icmp, Tcp, Udp}
 use Rattle.napt_table.specs.declared.Class.{Class}
 use Rattle.napt_table.specs.Choice.{candidate, candidates, class_of, port_class}
 use Rattle.napt_table.specs.Classes.{IsPortFor, IsNumberFor}
-use Rattle.napt_table.specs.Lists.{counted}
+use Rattle.napt_binding.specs.Lists.{counted}
 
 length-counted : (g : ℕ → ℕ) (first many : ℕ) → length (map g (counted first many)) ≡ many
 length-counted g first zero = refl

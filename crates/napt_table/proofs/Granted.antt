@@ -9,16 +9,16 @@ use Rattle.napt_wire.specs.declared.Cause.TheVariants.{OverQuota, NoPort}
 use Rattle.napt_wire.specs.declared.Endpoint.{Endpoint}
 use Rattle.napt_wire.specs.declared.Flags.{Flags}
 use Rattle.napt_config.specs.declared.settings.Timers.{Timers}
-use Rattle.napt_table.specs.declared.Binding.{Binding}
+use Rattle.napt_binding.specs.declared.Binding.{Binding}
 use Rattle.napt_table.specs.declared.part.Part.{Part}
 use Rattle.napt_table.specs.declared.parts.Parts.{Parts as AllParts}
-use Rattle.napt_table.specs.Bindings.{is_of_inside}
+use Rattle.napt_binding.specs.Bindings.{is_of_inside}
 use Rattle.napt_table.specs.Choice.{choice}
 use Rattle.napt_table.specs.Counts.{count_in}
 use Rattle.napt_table.specs.Endpoints.{key, Apart}
 use Rattle.napt_table.specs.Held.{seen, Shows}
 use Rattle.napt_table.specs.Hosts.{count_held}
-use Rattle.napt_table.specs.Life.{is_live, with_live_flows}
+use Rattle.napt_binding.specs.Life.{is_live, with_live_flows}
 use Rattle.napt_table.specs.Part.{held, number_at, IsSamePlace, IsPurged}
 use Rattle.napt_table.specs.Parts.{part_of, AreOf, AreCounted, AllShow}
 use Rattle.napt_table.specs.Quota.{count_for, reaches}

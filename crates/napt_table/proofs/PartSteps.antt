@@ -5,28 +5,27 @@ use Rattle.napt_wire.specs.declared.Protocol.{Protocol}
 use Rattle.napt_wire.specs.declared.Cause.TheVariants.{Filtered}
 use Rattle.napt_wire.specs.declared.Endpoint.{Endpoint}
 use Rattle.napt_wire.specs.declared.Flags.{Flags}
-use Rattle.napt_table.specs.declared.inbound.Inbound.{Inbound}
+use Rattle.napt_binding.specs.declared.inbound.Inbound.{Inbound}
 use Rattle.napt_config.specs.declared.settings.Timers.{Timers}
-use Rattle.napt_table.specs.declared.Binding.{Binding}
+use Rattle.napt_binding.specs.declared.Binding.{Binding}
 use Rattle.napt_table.specs.declared.part.Part.{Part}
 use Rattle.napt_table.specs.declared.event.Event.{Event}
-use Rattle.napt_table.specs.Lists.{change_first}
-use Rattle.napt_table.specs.Bindings.{has_number}
-use Rattle.napt_table.specs.Filtering.{permits}
-use Rattle.napt_table.specs.Steps.{sent, fresh, received, In, in_found, in_purged, out_made, out_found, out_purged}
+use Rattle.napt_binding.specs.Lists.{change_first}
+use Rattle.napt_binding.specs.Bindings.{has_number, is_of_inside, same_protocol}
+use Rattle.napt_binding.specs.Filtering.{permits}
+use Rattle.napt_binding.specs.Traffic.{sent, received}
+use Rattle.napt_table.specs.Steps.{fresh, In, in_found, in_purged, out_made, out_found, out_purged}
 use Rattle.napt_table.specs.Quota.{granted}
 use Rattle.napt_table.specs.Counts.{are_counted}
 use Rattle.napt_table.specs.declared.parts.Parts.{Parts as AllParts}
-use Rattle.napt_table.specs.Bindings.{is_of_inside, same_protocol}
 use Rattle.napt_table.specs.Endpoints.{Key}
-use Rattle.napt_table.proofs.Finds.{find_other, find_passed_over}
-use Rattle.napt_table.proofs.Sound.{sent_key}
-use Rattle.std.proofs.lemmas.Bool.{true≢false}
+use Rattle.napt_binding.proofs.Finds.{find_other, find_passed_over}
+use Rattle.napt_table.proofs.Sound.{sent_key, received_key}
 use Rattle.napt_table.specs.Part.{IsPart, AreDue, IsSamePlace}
 use Rattle.napt_table.specs.Parts.{part_of, IsOf, AreOf, AreCounted}
 use Rattle.napt_table.specs.Events.{played, played_all}
-use Rattle.napt_table.proofs.Sound.{received_key}
 use Rattle.napt_table.proofs.Seen.{protocol_is, same_itself, changed_other, inside_protocol, not_has}
+use Rattle.std.proofs.lemmas.Bool.{true≢false}
 
 -- a part after a step
 pub kept_of : (address : ℕ) (timers : Timers) (at : ℕ) (q : Protocol) (old new : Part) → IsOf address timers at q old →

@@ -1,13 +1,10 @@
--- Counts by address.
-use Rattle.std.specs.Prelude.{ℕ, ◌<◌, Bool, nat_eq, unwrap_or, Option, Some, None, IfSome}
+-- Counts by inside host.
+use Rattle.std.specs.Prelude.{ℕ, ◌<◌, Bool, Option, Some, None, IfSome}
 use Rattle.std.specs.Option.{is_some}
-use Rattle.std.specs.HashMap.{get, spare}
-use Rattle.napt_table.specs.declared.addresses.Addresses.{Addresses}
+use Rattle.std.specs.HashMap.{spare}
+use Rattle.napt_binding.specs.declared.addresses.Addresses.{Addresses}
+use Rattle.napt_binding.specs.Counts.{count_at}
 use Rattle.napt_table.specs.declared.host_counts.HostCounts.{HostCounts}
-
--- an address without an entry has none
-abbrev pub count_at : Addresses → ℕ → ℕ
-count_at addresses address = unwrap_or (get nat_eq addresses.counts address) 0
 
 -- whether bindings are counted by host
 abbrev pub are_counted : HostCounts → Bool

@@ -8,13 +8,15 @@
 ghost use Rattle.std.specs.Prelude.{◌≡◌, ◌≢◌, ℕ, ◌+◌, ◌-◌, ◌≤◌, ◌<◌, ◌^◌, true, false, not, Some, None, Ok, Err, OnOk, IfSome, cond, ◌==◌, ◌&&◌};
 ghost use Rattle.std.specs.Option.{option_map};
 ghost use Rattle.napt_wire.specs.declared.Cause.TheVariants.{NoBinding};
-ghost use Rattle.napt_table.specs.Held.{seen, entered, left_by, HeldIsPurgedLater};
+ghost use Rattle.napt_binding.specs.Traffic.{entered, left_by};
+ghost use Rattle.napt_table.specs.Held.{seen, HeldIsPurgedLater};
 ghost use Rattle.napt_table.specs.Counts.{are_counted, count_in, HasPlace};
 
+use crate::Row;
 use crate::host_counts::HostCounts;
 use crate::numbers::Numbers;
 use crate::outgoing::Outgoing;
-use crate::{Binding, Flows, Inbound, Row};
+use napt_binding::{Binding, Flows, Inbound};
 use napt_config::Timers;
 use napt_due::Due;
 use napt_wire::{Cause, Endpoint, Flags, Protocol};
@@ -44,11 +46,11 @@ impl Part {
     ghost use Rattle.std.specs.Prelude.{All, IfOk};
     ghost use Rattle.std.specs.HashMap.{spare};
     ghost use Rattle.napt_config.specs.Rules.{AreTimers};
-    ghost use Rattle.napt_table.specs.Life.{is_live};
+    ghost use Rattle.napt_binding.specs.Life.{is_live};
     ghost use Rattle.napt_table.specs.Places.{is_used};
     ghost use Rattle.napt_table.specs.Hosts.{held_for};
     ghost use Rattle.napt_table.specs.Part.{held, number_at, pair_eq, IsPart, AreDue, AreDueBut, IsSamePlace, IsPurged, HasRoom, come_up};
-    ghost use Rattle.napt_table.specs.declared.Binding.{Binding};
+    ghost use Rattle.napt_binding.specs.declared.Binding.{Binding};
 
     /// Nothing is held; whether bindings are counted by host is said.
     pub(crate) fn new(
@@ -347,12 +349,13 @@ impl Part {
     ghost use Rattle.napt_wire.specs.declared.Way.TheVariants.{Outgoing as WayOut};
     ghost use Rattle.napt_wire.specs.declared.Cause.TheVariants.{NoPort};
     ghost use Rattle.napt_config.specs.Rules.{AreTimers};
-    ghost use Rattle.napt_table.specs.declared.Binding.{Binding};
+    ghost use Rattle.napt_binding.specs.declared.Binding.{Binding};
     ghost use Rattle.napt_table.specs.Choice.{choice};
     ghost use Rattle.napt_table.specs.Held.{Shows, redirect_of};
-    ghost use Rattle.napt_table.specs.Life.{is_live, live_flows, with_live_flows};
-    ghost use Rattle.napt_table.specs.Lists.{change_first};
-    ghost use Rattle.napt_table.specs.Steps.{is_flow_of, used, with_flow, sent, out_made};
+    ghost use Rattle.napt_binding.specs.Life.{is_live, live_flows, with_live_flows};
+    ghost use Rattle.napt_binding.specs.Lists.{change_first};
+    ghost use Rattle.napt_binding.specs.Traffic.{is_flow_of, used, with_flow, sent};
+    ghost use Rattle.napt_table.specs.Steps.{out_made};
     ghost use Rattle.napt_table.specs.Part.{held, number_at, IsPart, AreDue, IsSamePlace, HasRoom};
 
     /// A redirect, neither of whose ends is taken. It never expires, so it has no entry in the queue. Where memory is
@@ -489,7 +492,7 @@ impl Part {
 
 impl Part {
     ghost use Rattle.std.specs.Prelude.{List, map};
-    ghost use Rattle.napt_table.specs.declared.Binding.{Binding};
+    ghost use Rattle.napt_binding.specs.declared.Binding.{Binding};
     ghost use Rattle.napt_table.specs.Endpoints.{key, Apart};
     ghost use Rattle.napt_table.specs.Held.{Shows};
     ghost use Rattle.napt_table.specs.Steps.{in_purged};
