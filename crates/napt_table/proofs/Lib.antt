@@ -11,6 +11,7 @@ pub mod Classes
 pub mod Seen
 pub mod Choices
 pub mod Queues
+pub mod Changes
 pub mod Sends
 pub mod Enters
 pub mod PartSteps
