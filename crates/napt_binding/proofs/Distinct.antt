@@ -13,7 +13,7 @@ use Rattle.napt_binding.specs.declared.flows.many.Many.{Many}
 use Rattle.napt_binding.specs.Many.{place_at, IsMany}
 use Rattle.napt_binding.specs.Slots.{somes, Stands, AreDistinct}
 use Rattle.napt_binding.specs.Traffic.{is_flow_of}
-use Rattle.napt_binding.proofs.Lists.{any_index}
+use Rattle.napt_binding.proofs.Lists.{any_index, any_last}
 use Rattle.napt_binding.proofs.Manys.{endpoint_is, endpoint_same, no_place}
 use Rattle.napt_binding.proofs.Slots.{any_none, somes_pushed}
 
@@ -53,13 +53,6 @@ distinct_set [] i d flow e h = tt
 distinct_set (f ∷ flows) zero d flow e h = (ap (λ (r : Endpoint). list_any (is_flow_of r) flows) e ∙ h.0, h.1)
 distinct_set (f ∷ flows) (suc i) d flow e h =
     (same_any f.remote flows i d flow e ∙ h.0, distinct_set flows i d flow e h.1)
-
-any_last : (t : Flow → Bool) (flows : List Flow) (flow : Flow) → list_any t flows ≡ false → t flow ≡ false →
-    list_any t (flows ++ flow ∷ []) ≡ false
-any_last t [] flow h g = ap (λ v. v || false) g
-any_last t (f ∷ flows) flow h g =
-    let q : (t f ≡ false) × (list_any t flows ≡ false) = or_parts (t f) (list_any t flows) h in
-    ap (λ v. v || list_any t (flows ++ flow ∷ [])) q.0 ∙ any_last t flows flow q.1 g
 
 pub distinct_pushed : (flows : List Flow) (flow : Flow) → list_any (is_flow_of flow.remote) flows ≡ false →
     AreDistinct flows → AreDistinct (flows ++ flow ∷ [])

@@ -155,6 +155,13 @@ pub any_pushed : {X : Type 0} (t : X → Bool) (xs : List X) (y : X) → t y ≡
 any_pushed t [] y h = ap (λ v. v || false) h
 any_pushed t (x ∷ xs) y h = grind (arith, any_pushed t xs y h)
 
+pub any_last : {X : Type 0} (t : X → Bool) (xs : List X) (y : X) → list_any t xs ≡ false → t y ≡ false →
+    list_any t (xs ++ y ∷ []) ≡ false
+any_last t [] y none h = ap (λ v. v || false) h
+any_last t (x ∷ xs) y none h =
+    let p : (t x ≡ false) × (list_any t xs ≡ false) = or_parts (t x) (list_any t xs) none in
+    ap (λ v. v || list_any t (xs ++ y ∷ [])) p.0 ∙ any_last t xs y p.1 h
+
 pub any_index : {X : Type 0} (t : X → Bool) (xs : List X) (i : ℕ) (d : X) → i < length xs → t (get_or xs i d) ≡ true →
     list_any t xs ≡ true
 any_index t [] i d lt h = absurd (omega arith)

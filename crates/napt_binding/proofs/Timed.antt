@@ -34,10 +34,6 @@ later_recent : (now seconds earlier time : ℕ) → earlier ≤ time → is_rece
     is_recent now earlier seconds ≡ false
 later_recent now seconds earlier time le h = grind (arith, nat_tests, le, h)
 
-earlier_recent : (now seconds earlier time : ℕ) → earlier ≤ time → is_recent now earlier seconds ≡ true →
-    is_recent now time seconds ≡ true
-earlier_recent now seconds earlier time le h = grind (arith, nat_tests, le, h)
-
 no_time : (times : List (Option ℕ)) → HasNoTime times → (i time : ℕ) → Stands times i time → ⊥
 no_time [] none i time h = cc
 no_time (o ∷ times) none zero time h = let z = none zero (omega arith) in cc
@@ -127,17 +123,6 @@ module _ (timers : Timers) (now : ℕ) (slots : List (Option Flow)) where
         | true ↦ λ e. established i flow.last (stands_established slots i flow h e)
         | false ↦ λ e. others i flow.last (stands_other slots i flow h e)
       ] refl
-
--- the place of an earliest time, or none
-pub none_outlived : (now seconds : ℕ) (times : List (Option ℕ)) (time : ℕ) →
-    ((other place : ℕ) → Stands times place other → time ≤ other) → is_recent now time seconds ≡ true →
-    (place other : ℕ) → Stands times place other → is_recent now other seconds ≡ true
-none_outlived now seconds times time earliest h place other stands = earlier_recent now seconds time other
-    (earliest other place stands) h
-
-pub none_at_all : (now seconds : ℕ) (times : List (Option ℕ)) → HasNoTime times → (place other : ℕ) →
-    Stands times place other → is_recent now other seconds ≡ true
-none_at_all now seconds times none place other stands = absurd (no_time times none place other stands)
 
 pub dead_others : (timers : Timers) (now : ℕ) (slots : List (Option Flow)) (times : List (Option ℕ))
     (found : Option ℕ) → times ≡ map other_time slots →

@@ -98,27 +98,12 @@ impl Flows {
         Flows { kept: Kept::Empty }
     }
 
-    /// The flows of a binding through which a first packet goes out at `now` (ns); flags count for TCP alone. They take no memory of
-    /// their own.
-    pub fn begun(
-        _alloc: Global,
-        timers: Timers,
-        now: u64,
-        protocol: Protocol,
-        remote: Endpoint,
-        flags: Flags,
-    ) -> Result<Flows, AllocError>
+    /// The flows of a binding through which a first packet goes out. They take no memory of their own.
+    pub fn begun(_alloc: Global, timers: Timers, sent: Sent) -> Result<Flows, AllocError>
         requires { AreTimers timers }
-        ensures { IfOk result (λ flows. life.live_flows timers now protocol flows
-            ≡ change_first (traffic.is_flow_of remote) (traffic.used protocol Way.Outgoing flags now)
-            (traffic.with_flow remote now [])) }
+        ensures { IfOk result (λ flows. packets.standing_at timers sent flows
+            ≡ packets.used_by sent []) }
     {
-        let sent = Sent {
-            protocol,
-            remote,
-            flags,
-            now,
-        };
         Ok(Flows {
             kept: Kept::One(sent.begun()),
         })

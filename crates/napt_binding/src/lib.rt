@@ -15,6 +15,7 @@ pub use addresses::Addresses;
 pub use flows::Flows;
 pub use inbound::Inbound;
 use napt_wire::{Endpoint, Protocol};
+pub use sent::Sent;
 
 /// What a TCP flow was seen to do: a SYN and a FIN of each side, and a reset (RFC 5382, REQ-2 and REQ-5).
 #[derive(Clone, Copy, Debug, PartialEq, Eq)]

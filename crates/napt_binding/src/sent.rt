@@ -1,4 +1,4 @@
-//! A packet that goes out through a binding.
+//! A packet that goes out.
 
 ghost use Rattle.std.specs.Prelude.{◌≡◌};
 ghost use Rattle.napt_binding.specs.Sent as packets;
@@ -7,15 +7,18 @@ ghost use Rattle.napt_binding.specs.Traffic as traffic;
 use crate::Flow;
 use napt_wire::{Endpoint, Flags, Protocol, Way};
 
-/// What a packet that goes out does to a flow of its binding depends on these.
+/// A packet that goes out, and when.
 #[derive(Clone, Copy)]
-pub(crate) struct Sent {
-    pub(crate) protocol: Protocol,
-    pub(crate) remote: Endpoint,
+pub struct Sent {
+    pub protocol: Protocol,
+    /// Its source.
+    pub inside: Endpoint,
+    /// Its destination.
+    pub remote: Endpoint,
     /// Outside TCP they do not count.
-    pub(crate) flags: Flags,
+    pub flags: Flags,
     /// The time, in ns.
-    pub(crate) now: u64,
+    pub now: u64,
 }
 
 impl Sent {

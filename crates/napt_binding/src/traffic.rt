@@ -92,6 +92,7 @@ impl Binding {
         }
         let sent = Sent {
             protocol: self.protocol,
+            inside: self.inside,
             remote,
             flags,
             now,

@@ -16,7 +16,6 @@ ghost use Rattle.napt_table.specs.Tables.{TablesShareNothing, TablesAreNumbered}
 mod event;
 mod host_counts;
 mod numbers;
-mod outgoing;
 mod part;
 mod parts;
 mod rows;

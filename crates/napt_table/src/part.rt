@@ -15,8 +15,7 @@ ghost use Rattle.napt_table.specs.Counts.{are_counted, count_in, HasPlace};
 use crate::Row;
 use crate::host_counts::HostCounts;
 use crate::numbers::Numbers;
-use crate::outgoing::Outgoing;
-use napt_binding::{Binding, Flows, Inbound};
+use napt_binding::{Binding, Flows, Inbound, Sent};
 use napt_config::Timers;
 use napt_due::Due;
 use napt_wire::{Cause, Endpoint, Flags, Protocol};
@@ -399,7 +398,7 @@ impl Part {
         &mut self,
         alloc: Global,
         number: u16,
-        packet: Outgoing,
+        packet: Sent,
     ) -> Result<(), AllocError>
         requires { AreTimers self.old.timers }
         ensures place { IsSamePlace self.old self.new }
@@ -421,7 +420,7 @@ impl Part {
     }
 
     /// Takes the memory for a new binding through which the packet goes out, and begins its flows. What is held stays as it is.
-    pub(crate) fn prepare(&mut self, alloc: Global, packet: Outgoing) -> Result<Flows, AllocError>
+    pub(crate) fn prepare(&mut self, alloc: Global, packet: Sent) -> Result<Flows, AllocError>
         requires { AreTimers self.old.timers }
         ensures place { IsSamePlace self.old self.new }
         ensures held { (n : ℕ) → held self.new n ≡ held self.old n }
@@ -437,18 +436,11 @@ impl Part {
     {
         self.make_room()?;
         let protocol = self.numbers.protocol();
-        Flows::begun(
-            alloc,
-            self.timers,
-            packet.now,
-            protocol,
-            packet.remote,
-            packet.flags,
-        )
+        Flows::begun(alloc, self.timers, Sent { protocol, ..packet })
     }
 
     /// A new binding with these flows, through which the packet goes out: its number, or `NoPort`. It takes no memory.
-    pub(crate) fn begin(&mut self, packet: Outgoing, flows: Flows) -> Result<u16, Cause>
+    pub(crate) fn begin(&mut self, packet: Sent, flows: Flows) -> Result<u16, Cause>
         requires room { HasRoom self.old }
         requires part { IsPart self.old }
         requires due { AreDue self.old }
