@@ -1,5 +1,5 @@
 -- Bindings that live and have no dead flows, and what packets leave of them.
-use Rattle.std.proofs.Common.{◌≡◌, ℕ, ◌-◌, ◌*◌, ◌<◌, Bool, true, false, not, ◌&&◌, ◌||◌, cond, List, [], ◌∷◌, ◌++◌, length, map, refl, sym, ◌∙◌, ap, subst, arith}
+use Rattle.std.proofs.Common.{◌≡◌, ℕ, ◌-◌, ◌*◌, ◌<◌, Bool, true, false, not, ◌&&◌, cond, List, [], ◌∷◌, ◌++◌, length, map, refl, sym, ◌∙◌, ap, subst, arith}
 use Rattle.std.specs.Prelude.{filter, nat_lt}
 use Rattle.std.specs.List.{list_any}
 use Rattle.std.proofs.lemmas.Bool.{lt-ltb}
@@ -24,6 +24,17 @@ use Rattle.napt_binding.specs.Life.{is_live_flow, is_live, with_live_flows, purg
 use Rattle.napt_binding.specs.Traffic.{is_flow_of, used, with_flow, sent, refreshed, received}
 use Rattle.napt_binding.proofs.Lists.{each_filter, filter_all, each_changed, each_pushed, any_of, some_any, long_changed, long_pushed}
 use Rattle.napt_binding.proofs.Purges.{live_same}
+
+-- a binding of these
+abbrev pub binding_of : Protocol → Endpoint → Endpoint → Bool → ℕ → List Flow → Binding
+binding_of protocol inside external fixed last flows = record {
+  protocol = protocol;
+  inside = inside;
+  external = external;
+  fixed = fixed;
+  last = last;
+  flows = flows;
+}
 
 -- in TCP each flow is live
 abbrev pub FlowsLive : Protocol → Timers → ℕ → List Flow → Type 0
@@ -117,15 +128,8 @@ with_some remote now flows = elim (list_any (is_flow_of remote) flows) as (λ v.
 -- a binding through which a packet went out
 pub sent_fresh_by : (protocol : Protocol) (timers : Timers) → AreTimers timers → (remote : Endpoint) (flags : Flags)
     (now : ℕ) (inside external : Endpoint) (flows : List Flow) → FlowsLive protocol timers now flows →
-    (let b : Binding = record {
-      protocol = protocol;
-      inside = inside;
-      external = external;
-      fixed = false;
-      last = now;
-      flows = change_first (is_flow_of remote) (used protocol Outgoing flags now) (with_flow remote now flows);
-    } in
-    IsFresh timers now b)
+    IsFresh timers now (binding_of protocol inside external false now
+    (change_first (is_flow_of remote) (used protocol Outgoing flags now) (with_flow remote now flows)))
 sent_fresh_by Icmp timers t remote flags now inside external flows h =
     record { live = now_live now timers.icmp (omega (arith, t.icmp.low)); flows = tt }
 sent_fresh_by Udp timers t remote flags now inside external flows h =
@@ -176,22 +180,9 @@ no_flows Tcp timers now = tt
 
 received_fresh_by : (protocol : Protocol) (timers : Timers) → AreTimers timers → (remote : Endpoint) (flags : Flags)
     (now : ℕ) (inside external : Endpoint) (fixed : Bool) (last : ℕ) (flows : List Flow) →
-    (let b : Binding = record {
-      protocol = protocol;
-      inside = inside;
-      external = external;
-      fixed = fixed;
-      last = last;
-      flows = flows;
-    } in IsFresh timers now b) →
-    (let c : Binding = record {
-      protocol = protocol;
-      inside = inside;
-      external = external;
-      fixed = fixed;
-      last = last;
-      flows = change_first (is_flow_of remote) (used protocol Incoming flags now) flows;
-    } in IsFresh timers now c)
+    IsFresh timers now (binding_of protocol inside external fixed last flows) →
+    IsFresh timers now (binding_of protocol inside external fixed last
+    (change_first (is_flow_of remote) (used protocol Incoming flags now) flows))
 received_fresh_by Icmp timers t remote flags now inside external fixed last flows h =
     record { live = h.live; flows = tt }
 received_fresh_by Udp timers t remote flags now inside external fixed last flows h =
@@ -219,14 +210,8 @@ received_fresh_by Tcp timers t remote flags now inside external false last flows
 
 refreshed_fresh_by : (protocol : Protocol) (timers : Timers) → AreTimers timers → (now : ℕ) (inside external : Endpoint)
     (fixed : Bool) (last : ℕ) (flows : List Flow) →
-    (let b : Binding = record {
-      protocol = protocol;
-      inside = inside;
-      external = external;
-      fixed = fixed;
-      last = last;
-      flows = flows;
-    } in IsFresh timers now b → IsFresh timers now (refreshed Both now b))
+    IsFresh timers now (binding_of protocol inside external fixed last flows) →
+    IsFresh timers now (refreshed Both now (binding_of protocol inside external fixed last flows))
 refreshed_fresh_by Icmp timers t now inside external fixed last flows h = h
 refreshed_fresh_by Tcp timers t now inside external fixed last flows h = h
 refreshed_fresh_by Udp timers t now inside external true last flows h = h

@@ -7,6 +7,7 @@ pub mod Named
 pub mod Tables
 pub mod Opened
 pub mod Orders
+pub mod Ports
 pub mod Classes
 pub mod Seen
 pub mod Choices
