@@ -4,7 +4,7 @@ use Rattle.std.specs.HashMap.{get, spare}
 use Rattle.napt_wire.specs.declared.Endpoint.{Endpoint}
 use Rattle.napt_binding.specs.declared.Flow.{Flow}
 use Rattle.napt_binding.specs.Lists.{pair_eq}
-use Rattle.napt_binding.specs.Counts.{count_at}
+use Rattle.napt_binding.specs.Counts.{count_at, room_of}
 use Rattle.napt_binding.specs.Slots.{Stands, count_of}
 use Rattle.napt_binding.specs.declared.flows.many.Many.{Many}
 
@@ -23,4 +23,4 @@ pub record IsMany (many : Many) : Type 0 where
 pub record HasRoom (many : Many) : Type 0 where
   pub slots : 0 < many.slots.room
   pub places : 0 < spare many.places
-  pub addresses : 0 < spare many.addresses.counts
+  pub addresses : 0 < room_of many.addresses

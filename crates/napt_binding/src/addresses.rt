@@ -12,8 +12,7 @@ pub struct Addresses {
 }
 
 impl Addresses {
-    ghost use Rattle.std.specs.HashMap.{spare};
-    ghost use Rattle.napt_binding.specs.Counts.{count_at};
+    ghost use Rattle.napt_binding.specs.Counts.{count_at, room_of};
 
     /// Nothing is counted. It takes no memory.
     pub fn new(alloc: Global) -> Addresses
@@ -27,7 +26,7 @@ impl Addresses {
     /// Makes room for one more address; `AllocError` where its memory is refused, which changes no count.
     pub fn reserve(&mut self) -> Result<(), AllocError>
         ensures counts { (address : ℕ) → count_at self.new address ≡ count_at self.old address }
-        ensures room { OnOk result (0 < spare self.new.counts) }
+        ensures room { OnOk result (0 < room_of self.new) }
     {
         self.counts.reserve(1)
     }
@@ -54,7 +53,7 @@ impl Addresses {
 
     /// One more of the address, where there is room for it. It takes no memory.
     pub fn put(&mut self, address: u32)
-        requires room { 0 < spare self.old.counts }
+        requires room { 0 < room_of self.old }
         requires fits { count_at self.old address + 1 < 2 ^ 64 }
         ensures { (other : ℕ) → count_at self.new other ≡ count_at self.old other
             + cond {A = ℕ} (address == other) 1 0 }
@@ -70,7 +69,7 @@ impl Addresses {
     pub fn take(&mut self, address: u32)
         ensures counts { (other : ℕ) → count_at self.new other ≡ count_at self.old other
             - cond {A = ℕ} (address == other) 1 0 }
-        ensures room { spare self.old.counts ≤ spare self.new.counts }
+        ensures room { room_of self.old ≤ room_of self.new }
     {
         if let Some(count) = self.counts.get_mut(&address) {
             if *count > 1 {

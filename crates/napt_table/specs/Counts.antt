@@ -1,9 +1,8 @@
 -- Counts by inside host.
 use Rattle.std.specs.Prelude.{ℕ, ◌<◌, Bool, Option, Some, None, IfSome}
 use Rattle.std.specs.Option.{is_some}
-use Rattle.std.specs.HashMap.{spare}
 use Rattle.napt_binding.specs.declared.addresses.Addresses.{Addresses}
-use Rattle.napt_binding.specs.Counts.{count_at}
+use Rattle.napt_binding.specs.Counts.{count_at, room_of}
 use Rattle.napt_table.specs.declared.host_counts.HostCounts.{HostCounts}
 
 -- whether bindings are counted by host
@@ -20,4 +19,4 @@ count_in hosts host = count_by hosts.counts host
 
 -- there is room for one more host, where they are counted
 abbrev pub HasPlace : HostCounts → Type 0
-HasPlace hosts = IfSome hosts.counts (λ counts. 0 < spare counts.counts)
+HasPlace hosts = IfSome hosts.counts (λ counts. 0 < room_of counts)
