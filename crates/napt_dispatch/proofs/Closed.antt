@@ -4,7 +4,7 @@ use Rattle.std.proofs.lemmas.List.{length-map}
 use Rattle.std.specs.Prelude.{slice_index, slice_index_or, flat_map, IfErr, OnOk}
 use Rattle.napt_config.specs.Rules.{Rules}
 use Rattle.napt_table.specs.declared.Row.{Row}
-use Rattle.napt_table.specs.Bindings.{of}
+use Rattle.napt_binding.specs.Bindings.{of}
 use Rattle.napt_table.specs.Opening.{opening}
 use Rattle.napt_table.specs.Rows.{rows, rows_of}
 use Rattle.napt_translate.specs.declared.translator.Leg.{Leg}

@@ -13,7 +13,7 @@ use Rattle.napt_wire.specs.declared.Side.TheVariants.{Inside, Outside}
 use Rattle.napt_wire.specs.Fields.{destination}
 use Rattle.napt_wire.specs.Packet.{IsPacket}
 use Rattle.napt_config.specs.Rules.{Rules, place_of}
-use Rattle.napt_table.specs.Lists.{Each}
+use Rattle.napt_binding.specs.Lists.{Each}
 use Rattle.napt_table.specs.Opening.{opening}
 use Rattle.napt_translate.specs.declared.translator.Leg.{Leg}
 use Rattle.napt_translate.specs.declared.translator.Answer.{Answer}

@@ -4,7 +4,7 @@
 -- leg. That the answers are right is a premise until the workers are joined, which then tells it.
 use Rattle.std.specs.Prelude.{◌≡◌, ⊤, ℕ, zero, suc, ◌<◌, max, Bool, true, false, List, [], ◌∷◌, ◌++◌, map, length, slice_index, slice_index_or, Result, Ok, Err}
 use Rattle.napt_config.specs.Rules.{Rules}
-use Rattle.napt_table.specs.Bindings.{of}
+use Rattle.napt_binding.specs.Bindings.{of}
 use Rattle.napt_table.specs.Opening.{opening}
 use Rattle.napt_table.specs.declared.Row.{Row}
 use Rattle.napt_table.specs.Rows.{rows}

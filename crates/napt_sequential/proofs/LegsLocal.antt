@@ -11,13 +11,13 @@ use Rattle.napt_wire.specs.declared.Kind.{Kind}
 use Rattle.napt_wire.specs.declared.Kind.TheVariants.{Udp, Tcp, Echo, ErrorOf}
 use Rattle.napt_wire.specs.Fields.{source, destination, kind}
 use Rattle.napt_config.specs.Rules.{Rules}
-use Rattle.napt_table.specs.Inbound.{inbound_of}
-use Rattle.napt_table.specs.declared.Binding.{Binding}
-use Rattle.napt_table.specs.Bindings.{same_protocol, same_endpoint, of, is_at, is_of_inside, has_number}
-use Rattle.napt_table.specs.Life.{purge}
+use Rattle.napt_binding.specs.Inbound.{inbound_of}
+use Rattle.napt_binding.specs.declared.Binding.{Binding}
+use Rattle.napt_binding.specs.Bindings.{same_protocol, same_endpoint, of, is_at, is_of_inside, has_number}
+use Rattle.napt_binding.specs.Life.{purge}
 use Rattle.napt_table.specs.Steps.{Out, In, out_purged, in_purged}
-use Rattle.napt_table.proofs.Lists.{find_filter}
-use Rattle.napt_table.proofs.Locality.{of_purge, purge_purge}
+use Rattle.napt_binding.proofs.Lists.{find_filter}
+use Rattle.napt_binding.proofs.Purges.{of_purge, purge_purge}
 use Rattle.napt_table.proofs.StepsLocal.{out_local, out_other, in_local, in_other}
 use Rattle.napt_translate.specs.declared.translator.Leg.{Leg}
 use Rattle.napt_sequential.specs.Seats.{Agrees}

@@ -6,7 +6,7 @@ use Rattle.napt_wire.specs.declared.Side.{Side}
 use Rattle.napt_wire.specs.declared.Cause.{Cause}
 use Rattle.napt_wire.specs.Reading.{reading}
 use Rattle.napt_config.specs.Rules.{Rules}
-use Rattle.napt_table.specs.declared.Binding.{Binding}
+use Rattle.napt_binding.specs.declared.Binding.{Binding}
 use Rattle.napt_table.specs.Opening.{opening}
 use Rattle.napt_translate.specs.Sides.{refusal, way_from, served_at}
 use Rattle.napt_sequential.specs.declared.outcome.Outcome.{Outcome}

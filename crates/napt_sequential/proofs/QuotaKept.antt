@@ -13,8 +13,8 @@ use Rattle.napt_wire.specs.Fields.{source, destination, kind}
 use Rattle.napt_wire.specs.Reading.{reading}
 use Rattle.napt_config.specs.Rules.{Rules, pair_of}
 use Rattle.napt_config.specs.declared.settings.Redirect.{Redirect}
-use Rattle.napt_table.specs.Inbound.{inbound_of}
-use Rattle.napt_table.specs.declared.Binding.{Binding}
+use Rattle.napt_binding.specs.Inbound.{inbound_of}
+use Rattle.napt_binding.specs.declared.Binding.{Binding}
 use Rattle.napt_table.specs.Opening.{redirected, opening}
 use Rattle.napt_table.specs.Quota.{count_for}
 use Rattle.napt_table.specs.QuotaKept.{OutKeepsQuota, InKeepsQuota}

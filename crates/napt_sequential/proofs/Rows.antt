@@ -4,11 +4,11 @@ use Rattle.std.specs.Prelude.{AllPairs, filter, flat_map, nat_le}
 use Rattle.std.proofs.lemmas.Bool.{eqb-true}
 use Rattle.napt_config.specs.Rules.{Rules, KeepsRules}
 use Rattle.napt_config.specs.declared.settings.Timers.{Timers}
-use Rattle.napt_table.specs.declared.Binding.{Binding}
+use Rattle.napt_binding.specs.declared.Binding.{Binding}
 use Rattle.napt_table.specs.declared.Row.{Row}
-use Rattle.napt_table.specs.Lists.{Each}
-use Rattle.napt_table.specs.Bindings.{is_at, of}
-use Rattle.napt_table.specs.Life.{is_live, with_live_flows, purge}
+use Rattle.napt_binding.specs.Lists.{Each}
+use Rattle.napt_binding.specs.Bindings.{is_at, of}
+use Rattle.napt_binding.specs.Life.{is_live, with_live_flows, purge}
 use Rattle.napt_table.specs.Endpoints.{AreApart}
 use Rattle.napt_table.specs.Rows.{row, rank, put, in_order, rows}
 use Rattle.napt_table.specs.Opening.{opening}

@@ -9,8 +9,8 @@ use Rattle.napt_wire.specs.declared.Kind.TheVariants.{Udp, Tcp, Echo, ErrorOf}
 use Rattle.napt_wire.specs.Fields.{kind}
 use Rattle.napt_wire.specs.Reading.{reading}
 use Rattle.napt_config.specs.Rules.{Rules}
-use Rattle.napt_table.specs.declared.Binding.{Binding}
-use Rattle.napt_table.specs.Bindings.{of}
+use Rattle.napt_binding.specs.declared.Binding.{Binding}
+use Rattle.napt_binding.specs.Bindings.{of}
 use Rattle.napt_translate.specs.declared.translator.Leg.{Leg}
 use Rattle.napt_translate.specs.declared.translator.Answer.{Answer}
 use Rattle.napt_translate.specs.declared.translator.End.{End}

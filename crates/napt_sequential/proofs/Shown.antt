@@ -3,7 +3,7 @@ use Rattle.std.proofs.Common.{◌≡◌, ℕ, ◌≤◌, max, List, length, map,
 use Rattle.std.specs.Prelude.{flat_map}
 use Rattle.napt_config.specs.Rules.{Rules}
 use Rattle.napt_table.specs.declared.Row.{Row}
-use Rattle.napt_table.specs.Bindings.{of}
+use Rattle.napt_binding.specs.Bindings.{of}
 use Rattle.napt_table.specs.Opening.{opening}
 use Rattle.napt_table.specs.Rows.{rows, rows_of}
 use Rattle.napt_translate.specs.Translators.{TranslatorState}

@@ -11,8 +11,8 @@ use Rattle.napt_wire.specs.Fields.{source, destination, kind, local_of, local_en
 use Rattle.napt_wire.specs.Reading.{reading}
 use Rattle.napt_wire.specs.Laws.{PacketsCarryNumbers}
 use Rattle.napt_config.specs.Rules.{Rules, pair_of}
-use Rattle.napt_table.specs.Inbound.{inbound_of}
-use Rattle.napt_table.specs.declared.Binding.{Binding}
+use Rattle.napt_binding.specs.Inbound.{inbound_of}
+use Rattle.napt_binding.specs.declared.Binding.{Binding}
 use Rattle.napt_table.specs.Endpoints.{IsSound, OutStaysSound, InStaysSound, SoundIsApart}
 use Rattle.napt_table.specs.Opening.{opening, OpeningIsSound}
 use Rattle.napt_translate.specs.declared.translator.Leg.{Leg}

@@ -18,7 +18,7 @@ use Rattle.napt_wire.specs.Fields.{destination, kind, is_error, local_end}
 use Rattle.napt_wire.specs.Rewriting.{with_source, reverted}
 use Rattle.napt_config.specs.Rules.{Rules, KeepsRules, pair_of, place_of}
 use Rattle.napt_config.proofs.Pools.{paired_in_pool, position_of_member}
-use Rattle.napt_table.specs.declared.Binding.{Binding}
+use Rattle.napt_binding.specs.declared.Binding.{Binding}
 use Rattle.napt_translate.specs.declared.translator.Leg.{Leg}
 use Rattle.napt_translate.specs.declared.translator.End.{End}
 use Rattle.napt_translate.specs.declared.translator.End.TheVariants.{Onward}

@@ -2,9 +2,9 @@
 -- what the run leaves there: so each address can have a translator of its own.
 use Rattle.std.specs.Prelude.{◌≡◌, ℕ, ◌≤◌, List, [], ◌∷◌, map}
 use Rattle.napt_config.specs.Rules.{Rules}
-use Rattle.napt_table.specs.declared.Binding.{Binding}
-use Rattle.napt_table.specs.Bindings.{of}
-use Rattle.napt_table.specs.Life.{purge}
+use Rattle.napt_binding.specs.declared.Binding.{Binding}
+use Rattle.napt_binding.specs.Bindings.{of}
+use Rattle.napt_binding.specs.Life.{purge}
 use Rattle.napt_translate.specs.declared.translator.Answer.{Answer}
 use Rattle.napt_translate.specs.declared.translator.Leg.{Leg}
 use Rattle.napt_translate.specs.Legs.{Acted, act, kept_replies, kept_after_all}

@@ -3,10 +3,10 @@
 use Rattle.std.specs.Prelude.{◌≡◌, ℕ, ◌+◌, ◌<◌, ◌≤◌, ◌^◌, max, length, List, [], ◌∷◌, ◌++◌, Some}
 use Rattle.std.specs.List.{slice_get}
 use Rattle.napt_config.specs.Rules.{Rules}
-use Rattle.napt_table.specs.declared.Binding.{Binding}
+use Rattle.napt_binding.specs.declared.Binding.{Binding}
 use Rattle.napt_table.specs.declared.Row.{Row}
-use Rattle.napt_table.specs.Bindings.{of}
-use Rattle.napt_table.specs.Life.{purge}
+use Rattle.napt_binding.specs.Bindings.{of}
+use Rattle.napt_binding.specs.Life.{purge}
 use Rattle.napt_table.specs.Opening.{opening}
 use Rattle.napt_table.specs.Rows.{rows}
 use Rattle.napt_translate.specs.declared.translator.Leg.{Leg}

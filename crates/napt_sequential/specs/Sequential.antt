@@ -11,9 +11,9 @@ use Rattle.napt_wire.specs.declared.Cause.{Cause}
 use Rattle.napt_wire.specs.Fields.{destination}
 use Rattle.napt_wire.specs.Reading.{reading}
 use Rattle.napt_config.specs.Rules.{Rules}
-use Rattle.napt_table.specs.declared.Binding.{Binding}
+use Rattle.napt_binding.specs.declared.Binding.{Binding}
 use Rattle.napt_table.specs.declared.Row.{Row}
-use Rattle.napt_table.specs.Bindings.{of}
+use Rattle.napt_binding.specs.Bindings.{of}
 use Rattle.napt_table.specs.Opening.{opening}
 use Rattle.napt_table.specs.Rows.{rows}
 use Rattle.napt_translate.specs.declared.translator.Leg.{Leg}

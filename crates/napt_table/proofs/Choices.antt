@@ -1,14 +1,16 @@
 -- The first free place from a number's own on, wrapping, is its first free candidate.
-use Rattle.std.proofs.Common.{◌≡◌, ℕ, zero, suc, ◌+◌, ◌-◌, ◌*◌, ◌/◌, ◌%◌, ◌^◌, ◌<◌, ◌≤◌, Bool, true, false, not, cond, map, Option, Some, None, refl, sym, ◌∙◌, ap, subst, arith, eqb, ltb}
-use Rattle.std.specs.Prelude.{find, nat_lt}
+use Rattle.std.proofs.Common.{◌≡◌, ℕ, zero, suc, ◌+◌, ◌-◌, ◌*◌, ◌/◌, ◌%◌, ◌^◌, ◌<◌, ◌≤◌, Bool, true, false, not, cond, map, Option, Some, None, refl, sym, ◌∙◌, ap, subst, arith, ltb}
+use Rattle.std.specs.Prelude.{find}
 use Rattle.std.proofs.lemmas.Bool.Decides.{nat_tests}
+use Rattle.std.proofs.Math.Nat.{mod-eq_of_lt, add-mod_left}
 use Rattle.napt_bits.specs.Sets.{IsFirstAbsent}
 use Rattle.napt_wire.specs.declared.Protocol.{Protocol}
 use Rattle.napt_wire.specs.declared.Protocol.TheVariants.{Icmp, Tcp, Udp}
 use Rattle.napt_table.specs.declared.Class.{Class}
-use Rattle.napt_table.specs.Lists.{counted}
+use Rattle.napt_binding.specs.Lists.{counted}
 use Rattle.napt_table.specs.Choice.{port_class, class_of, candidate, candidates}
 use Rattle.napt_table.specs.Places.{port_place, place_of}
+use Rattle.napt_table.proofs.Ports.{by_class}
 
 -- FIND AMONG THE NUMBERS FROM ONE ON
 
@@ -60,73 +62,23 @@ module _ (free : ℕ → Bool) (at : ℕ → ℕ) where
 pub record Stands (place : ℕ → ℕ) (class : Class) (p : ℕ) : Type 0 where
   pub within : (p - class.least) / class.apart < class.many
   pub place_is : (q : ℕ) → q < class.many → place (class.least + class.apart * q) ≡ place class.least + q
-  pub low : (x : ℕ) → x < class.many → x % class.many ≡ x
-  pub wraps : (x : ℕ) → x < class.many → (class.many + x) % class.many ≡ x
 
 port_stands : (p : ℕ) → p < 2 ^ 16 → Stands port_place (port_class p) p
-port_stands p lt = elim (nat_lt p 1024) as (λ v. nat_lt p 1024 ≡ v →
-    Stands port_place (cond v (cond (eqb (p % 2) 1) (record { least = 1; many = 512; apart = 2 })
-    (record { least = 2; many = 511; apart = 2 }))
-    (cond (eqb (p % 2) 1) (record { least = 1025; many = 32256; apart = 2 }) (record {
-      least = 1024;
-      many = 32256;
-      apart = 2;
-    }))) p) [
-      | true ↦ λ e. let low : p < 1024 = grind (arith, nat_tests) in elim (eqb (p % 2) 1) as (λ v. eqb (p % 2) 1 ≡ v →
-          Stands port_place (cond v (record { least = 1; many = 512; apart = 2 }) (record {
-            least = 2;
-            many = 511;
-            apart =
-                2;
-          })) p) [
-            | true ↦ λ f. record {
-              within = omega arith;
-              place_is = λ q l. omega arith;
-              low = λ x l. omega arith;
-              wraps = λ x l.
-                  omega arith;
-            }
-            | false ↦ λ f. let even : p % 2 ≡ 0 = grind (arith, nat_tests) in record {
-              within = omega arith;
-              place_is = λ q l.
-                  omega arith;
-              low = λ x l. omega arith;
-              wraps = λ x l. omega arith;
-            }
-          ] refl
-      | false ↦ λ e. elim (eqb (p % 2) 1) as (λ v. eqb (p % 2) 1 ≡ v →
-          Stands port_place (cond v (record { least = 1025; many = 32256; apart = 2 }) (record {
-            least = 1024;
-            many = 32256;
-            apart = 2;
-          })) p) [
-            | true ↦ λ f. record {
-              within = omega arith;
-              place_is = λ q l. omega arith;
-              low = λ x l. omega arith;
-              wraps = λ x l.
-                  omega arith;
-            }
-            | false ↦ λ f. let even : p % 2 ≡ 0 = grind (arith, nat_tests) in record {
-              within = omega arith;
-              place_is = λ q l.
-                  omega arith;
-              low = λ x l. omega arith;
-              wraps = λ x l. omega arith;
-            }
-          ] refl
-    ] refl
+port_stands p lt = by_class (λ class. Stands port_place class p) p
+    (λ e f. let low : p < 1024 = grind (arith, nat_tests, e) in
+    record { within = omega arith; place_is = λ q l. omega arith })
+    (λ e f. let low : p < 1024 = grind (arith, nat_tests, e) in
+    record { within = omega arith; place_is = λ q l. omega arith })
+    (λ e f. record { within = omega arith; place_is = λ q l. omega arith })
+    (λ e f. record { within = omega arith; place_is = λ q l. omega arith })
 
 pub stands : (protocol : Protocol) (p : ℕ) → p < 2 ^ 16 → Stands (place_of protocol) (class_of protocol p) p
-stands Icmp p lt = record {
-  within = omega arith;
-  place_is = λ q l. omega arith;
-  low = λ x l. omega arith;
-  wraps =
-      λ x l. omega arith;
-}
+stands Icmp p lt = record { within = omega arith; place_is = λ q l. omega arith }
 stands Tcp p lt = port_stands p lt
 stands Udp p lt = port_stands p lt
+
+wraps : (many x : ℕ) → x < many → (many + x) % many ≡ x
+wraps many x lt = add-mod_left many x ∙ mod-eq_of_lt lt
 
 -- THE CHOICE
 
@@ -144,13 +96,13 @@ module _ (used : ℕ → Bool) (place : ℕ → ℕ) (class : Class) (p : ℕ) (
   near : (j : ℕ) → k + j < class.many → not (used (place (candidate class p j)))
       ≡ not (used (place class.least + (k + j)))
   near j lt =
-      ap (λ (q : ℕ). not (used (place (class.least + class.apart * q)))) (s.low (k + j) lt)
+      ap (λ (q : ℕ). not (used (place (class.least + class.apart * q)))) (mod-eq_of_lt lt)
       ∙ ap (λ (n : ℕ). not (used n)) (s.place_is (k + j) lt)
 
   far : (j q : ℕ) → k + j ≡ class.many + q → q < class.many → not (used (place (candidate class p j)))
       ≡ not (used (place class.least + q))
   far j q e lt =
-      let m : (k + j) % class.many ≡ q = ap (λ (n : ℕ). n % class.many) e ∙ s.wraps q lt in
+      let m : (k + j) % class.many ≡ q = ap (λ (n : ℕ). n % class.many) e ∙ wraps class.many q lt in
       ap (λ (q : ℕ). not (used (place (class.least + class.apart * q)))) m
       ∙ ap (λ (n : ℕ). not (used n)) (s.place_is q lt)
 
@@ -166,7 +118,7 @@ module _ (used : ℕ → Bool) (place : ℕ → ℕ) (class : Class) (p : ℕ) (
       (near j lt ∙ ap (λ (n : ℕ). not (used n)) e ∙ ap not h.2)
       (λ i less. near i (omega arith) ∙ ap not (h.3 (place class.least + (k + i)) (omega arith) (omega arith)))
       ∙ (let q : k + j ≡ x - place class.least = omega arith in
-      ap (λ (n : ℕ). Some (class.least + class.apart * n)) (s.low (k + j) lt ∙ q))
+      ap (λ (n : ℕ). Some (class.least + class.apart * n)) (mod-eq_of_lt lt ∙ q))
 
   -- it is before that
   pub found_far : (x : ℕ) → IsFirstAbsent used first end None → IsFirstAbsent used (place class.least) first (Some x) →
@@ -189,7 +141,7 @@ module _ (used : ℕ → Bool) (place : ℕ → ℕ) (class : Class) (p : ℕ) (
             let r : ℕ = k + i - class.many in
             far i r (omega arith) (omega arith) ∙ ap not (h.3 (place class.least + r) (omega arith) (omega arith))
       ] refl)
-      ∙ ap (λ (n : ℕ). Some (class.least + class.apart * n)) (ap (λ (n : ℕ). n % class.many) e ∙ s.wraps q lt)
+      ∙ ap (λ (n : ℕ). Some (class.least + class.apart * n)) (ap (λ (n : ℕ). n % class.many) e ∙ wraps class.many q lt)
 
   pub found_nowhere : IsFirstAbsent used first end None → IsFirstAbsent used (place class.least) first None →
       find (λ n. not (used (place n))) (map (candidate class p) (counted 0 class.many)) ≡ None

@@ -1,7 +1,5 @@
 -- The candidates of a number, place by place.
-use Rattle.std.proofs.Common.{◌≡◌, ◌≢◌, ℕ, zero, suc, ◌+◌, ◌-◌, ◌*◌, ◌/◌, ◌%◌, ◌<◌, ◌≤◌, ◌⊎◌, inl, inr, ◌==◌}
-use Rattle.std.proofs.Common.{Bool, true, false, cond, nat_lt, List, ◌∷◌, map, length, slice_index_or}
-use Rattle.std.proofs.Common.{refl, sym, ◌∙◌, ap, subst, arith, ◌↔◌}
+use Rattle.std.proofs.Common.{◌≡◌, ◌≢◌, ℕ, zero, suc, ◌+◌, ◌-◌, ◌*◌, ◌/◌, ◌%◌, ◌<◌, ◌≤◌, ◌⊎◌, inl, inr, Bool, true, false, nat_lt, List, ◌∷◌, map, length, slice_index_or, refl, sym, ◌∙◌, ap, subst, arith, ◌↔◌}
 use Rattle.std.proofs.Math.Nat.{mod-eq_of_lt, add-mod_left, zero-add}
 use Rattle.std.proofs.lemmas.Nat.{mod_below}
 use Rattle.std.proofs.lemmas.Bool.Decides.{nat_tests}
@@ -11,7 +9,8 @@ use Rattle.napt_wire.specs.declared.Protocol.TheVariants.{Icmp, Tcp, Udp}
 use Rattle.napt_table.specs.declared.Class.{Class}
 use Rattle.napt_table.specs.Choice.{candidate, candidates, class_of, port_class}
 use Rattle.napt_table.specs.Classes.{IsPortFor, IsNumberFor}
-use Rattle.napt_table.specs.Lists.{counted}
+use Rattle.napt_binding.specs.Lists.{counted}
+use Rattle.napt_table.proofs.Ports.{by_class}
 
 length-counted : (g : ℕ → ℕ) (first many : ℕ) → length (map g (counted first many)) ≡ many
 length-counted g first zero = refl
@@ -208,45 +207,9 @@ high_even port is high even =
     (λ n h _. above-false n 1024 (omega (arith, h)))
     (λ n _ small parity side. high_between 1024 32256 n side small parity (omega arith) refl)
 
-is_odd : (port : ℕ) → (port % 2 == 1) ≡ true → port % 2 ≡ 1
-is_odd port e = grind (arith, nat_tests, e)
-
-is_even : (port : ℕ) → (port % 2 == 1) ≡ false → port % 2 ≡ 0
-is_even port e = let differs : port % 2 ≢ 1 = grind (arith, nat_tests, e) in
-    let small : port % 2 < 2 = omega arith in
-    omega (arith, differs, small)
-
-abbrev low_class : Bool → Class
-low_class odd = cond odd (record { least = 1; many = 512; apart = 2 }) (record { least = 2; many = 511; apart = 2 })
-
-abbrev high_class : Bool → Class
-high_class odd =
-    cond odd (record { least = 1025; many = 32256; apart = 2 }) (record { least = 1024; many = 32256; apart = 2 })
-
-low_span : (port : ℕ) → IsPortFor port port → nat_lt port 1024 ≡ true →
-    Spans (low_class (port % 2 == 1)) port (IsPortFor port)
-low_span port is low =
-    elim (port % 2 == 1) as (λ odd. (port % 2 == 1) ≡ odd → Spans (low_class odd) port (IsPortFor port)) [
-      | true ↦ λ odd. low_odd port is low (is_odd port odd)
-      | false ↦ λ odd. low_even port is low (is_even port odd)
-    ] refl
-
-high_span : (port : ℕ) → IsPortFor port port → nat_lt port 1024 ≡ false →
-    Spans (high_class (port % 2 == 1)) port (IsPortFor port)
-high_span port is high =
-    elim (port % 2 == 1) as (λ odd. (port % 2 == 1) ≡ odd → Spans (high_class odd) port (IsPortFor port)) [
-      | true ↦ λ odd. high_odd port is high (is_odd port odd)
-      | false ↦ λ odd. high_even port is high (is_even port odd)
-    ] refl
-
 ports_span : (port : ℕ) → IsPortFor port port → Spans (port_class port) port (IsPortFor port)
-ports_span port is =
-    let odd = port % 2 == 1 in
-    elim (nat_lt port 1024) as (λ low. nat_lt port 1024 ≡ low →
-    Spans (cond low (low_class odd) (high_class odd)) port (IsPortFor port)) [
-      | true ↦ λ low. low_span port is low
-      | false ↦ λ high. high_span port is high
-    ] refl
+ports_span port is = by_class (λ class. Spans class port (IsPortFor port)) port (low_odd port is) (low_even port is)
+    (high_odd port is) (high_even port is)
 
 pub spans : (protocol : Protocol) (number : ℕ) → IsNumberFor protocol number number →
     Spans (class_of protocol number) number (IsNumberFor protocol number)

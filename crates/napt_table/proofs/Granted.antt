@@ -1,7 +1,7 @@
 -- A packet that goes out, on the parts of a table and on the list.
 use Rattle.std.proofs.Common.{◌≡◌, ◌≢◌, ℕ, ◌+◌, Bool, true, false, cond, List, map, Option, Some, None, Result, Ok, Err, refl, sym, ◌∙◌, ap, subst, arith}
 use Rattle.std.specs.Prelude.{find, ok_or, OnErr}
-use Rattle.std.specs.Option.{is_some}
+use Rattle.std.specs.Option.{is_some, option_map}
 use Rattle.napt_wire.specs.declared.Protocol.{Protocol}
 use Rattle.napt_wire.specs.declared.Protocol.TheVariants.{Icmp, Tcp, Udp}
 use Rattle.napt_wire.specs.declared.Cause.{Cause}
@@ -9,23 +9,27 @@ use Rattle.napt_wire.specs.declared.Cause.TheVariants.{OverQuota, NoPort}
 use Rattle.napt_wire.specs.declared.Endpoint.{Endpoint}
 use Rattle.napt_wire.specs.declared.Flags.{Flags}
 use Rattle.napt_config.specs.declared.settings.Timers.{Timers}
-use Rattle.napt_table.specs.declared.Binding.{Binding}
+use Rattle.napt_binding.specs.declared.Binding.{Binding}
+use Rattle.napt_due.specs.Queue.{Queue}
+use Rattle.napt_table.specs.declared.host_counts.HostCounts.{HostCounts}
 use Rattle.napt_table.specs.declared.part.Part.{Part}
 use Rattle.napt_table.specs.declared.parts.Parts.{Parts as AllParts}
-use Rattle.napt_table.specs.Bindings.{is_of_inside}
+use Rattle.napt_binding.specs.Bindings.{is_of_inside}
 use Rattle.napt_table.specs.Choice.{choice}
 use Rattle.napt_table.specs.Counts.{count_in}
 use Rattle.napt_table.specs.Endpoints.{key, Apart}
 use Rattle.napt_table.specs.Held.{seen, Shows}
 use Rattle.napt_table.specs.Hosts.{count_held}
-use Rattle.napt_table.specs.Life.{is_live, with_live_flows}
+use Rattle.napt_binding.specs.Life.{is_live, with_live_flows}
 use Rattle.napt_table.specs.Part.{held, number_at, IsSamePlace, IsPurged}
-use Rattle.napt_table.specs.Parts.{part_of, AreOf, AreCounted, AllShow}
+use Rattle.napt_table.specs.Parts.{part_of, IsOf, AreOf, AreCounted, AllShow}
 use Rattle.napt_table.specs.Quota.{count_for, reaches}
+use Rattle.napt_binding.specs.Traffic.{sent}
 use Rattle.napt_table.specs.Steps.{Out, out_made, out_found, out_purged}
 use Rattle.napt_table.proofs.Hosts.{count_is_held}
-use Rattle.napt_table.proofs.PartSteps.{by_protocol, out_others, all_of}
-use Rattle.napt_table.proofs.Sends.{seen_is, same_part, same_due}
+use Rattle.napt_table.proofs.PartSteps.{by_protocol, out_others, all_of, all_counted, protocols_of, externals_of}
+use Rattle.napt_table.proofs.Changes.{inside_same}
+use Rattle.napt_table.proofs.Sends.{seen_is, same_everywhere, known, unknown, same_part, same_due, known_answer, known_shows, not_found}
 
 -- where what is held under the protocol shows the list of a step, and nothing else is seen to have changed, all show it
 pub all_sent : (quota : Option ℕ) (timers : Timers) (address now : ℕ) (protocol : Protocol) (inside remote : Endpoint)
@@ -76,6 +80,22 @@ module _ (protocol : Protocol) (old new : AllParts) (others : (q : Protocol) →
       (same_part (part_of old protocol) (part_of new protocol) (all protocol).is place.timers_is place.address_is
       numbers place.counting_is counts holds ends)
       (same_due (part_of old protocol) (part_of new protocol) (all protocol).due place entries holds)
+
+-- a packet that was refused memory for its flow leaves the parts as they are
+pub refused_of : (protocol : Protocol) (old new : AllParts) → ((q : Protocol) → q ≢ protocol → part_of new q
+    ≡ part_of old q) → IsSamePlace (part_of old protocol) (part_of new protocol) →
+    (part_of new protocol).by_inside ≡ (part_of old protocol).by_inside →
+    (part_of new protocol).due ≡ (part_of old protocol).due →
+    (part_of new protocol).numbers ≡ (part_of old protocol).numbers →
+    (part_of new protocol).hosts ≡ (part_of old protocol).hosts → (number : ℕ) →
+    ((n : ℕ) → n ≢ number → held (part_of new protocol) n ≡ held (part_of old protocol) n) →
+    held (part_of new protocol) number ≡ held (part_of old protocol) number →
+    (address : ℕ) (timers : Timers) (at : ℕ) → AreOf address timers at old → AreOf address timers at new
+refused_of protocol old new others place insides dues numbers hosts number elsewhere here =
+    mid_of protocol old new others place
+    (same_everywhere (held (part_of old protocol)) (held (part_of new protocol)) number elsewhere here)
+    (inside_same (part_of old protocol) (part_of new protocol) insides) (ap (λ (q : Queue). q.entries) dues) numbers
+    (λ host. ap (λ (h : HostCounts). count_in h host) hosts)
 
 -- THE PURGE
 
@@ -187,3 +207,95 @@ module _ (quota : Option ℕ) (address now : ℕ) (protocol : Protocol) (inside 
     pub made_list : (out_purged quota address now protocol inside remote flags list).list
         ≡ (out_made list address now protocol inside remote flags result).list
     made_list = ap (λ (o : Out). o.list) made_is
+
+-- A PACKET WHOSE BINDING IS FOUND
+
+pub record IsKnown (quota : Option ℕ) (timers : Timers) (address now : ℕ) (protocol : Protocol)
+    (inside remote : Endpoint) (flags : Flags) (old : Part) (number : ℕ) (list : List Binding) : Type 0 where
+  pub binding : Binding
+  pub is : seen old.timers now (held old number) ≡ Some binding
+  pub answer : Ok number ≡ (out_purged quota address now protocol inside remote flags list).number
+  pub shows : (new : ℕ → Option Binding) → ((n : ℕ) → n ≢ number → new n ≡ held old n) →
+      seen timers now (new number) ≡ Some (sent remote flags now binding) →
+      Shows timers now address protocol new (out_purged quota address now protocol inside remote flags list).list
+
+pub known_in : (quota : Option ℕ) (timers : Timers) (address now : ℕ) (protocol : Protocol) (inside remote : Endpoint)
+    (flags : Flags) (old : Part) (number : ℕ) → IsOf address timers now protocol old →
+    (number_at old inside ≡ None → Some number ≡ None) →
+    ((n : ℕ) → number_at old inside ≡ Some n → Some number ≡ option_map (λ b. n) (seen old.timers now (held old n))) →
+    (list : List Binding) → Apart (map key list) → Shows timers now address protocol (held old) list →
+    IsKnown quota timers address now protocol inside remote flags old number list
+known_in quota timers address now protocol inside remote flags old number of none some list apart shows =
+    let there = known old.timers now (held old) (number_at old inside) number (Some number) refl none some in
+    let is : seen timers now (held old number) ≡ Some there.1.0 =
+    subst (λ (t : Timers). seen t now (held old number) ≡ Some there.1.0) of.timers_is there.1.1 in
+    let protocols = protocols_of address timers now protocol old of in
+    let externals = externals_of address timers now protocol old of in
+    record {
+      binding = there.1.0;
+      is = there.1.1;
+      answer = known_answer timers quota now address protocol inside remote flags (held old) (number_at old) list apart
+          shows protocols externals of.is.inside_is of.is.number_is number there.1.0 there.0 is;
+      shows = known_shows timers quota now address protocol inside remote flags (held old) (number_at old) list apart
+          shows protocols externals of.is.inside_is of.is.number_is number there.1.0 there.0 is;
+    }
+
+-- A PACKET WHOSE BINDING IS NOT: memory is taken, and what is dead goes
+
+pub record IsReady (quota : Option ℕ) (timers : Timers) (address now : ℕ) (protocol : Protocol) (inside : Endpoint)
+    (old gone : AllParts) (list : List Binding) : Type 0 where
+  pub of : AreOf address timers now gone
+  pub shows : AllShow address timers now gone list
+  pub same : (q : Protocol) (n : ℕ) → seen timers now (held (part_of gone q) n)
+      ≡ seen timers now (held (part_of old q) n)
+  pub none : find (is_of_inside address protocol inside) list ≡ None
+  pub reached : reaches quota (count_for address inside.address list)
+      ≡ reaches quota ((count_in gone.icmp.hosts inside.address + count_in gone.tcp.hosts inside.address)
+      + count_in gone.udp.hosts inside.address)
+
+module _ (quota : Option ℕ) (timers : Timers) (address now : ℕ) (protocol : Protocol) (inside remote : Endpoint)
+    (flags : Flags) (old mid gone : AllParts) (others : (q : Protocol) → q ≢ protocol → part_of mid q ≡ part_of old q)
+    (place : IsSamePlace (part_of old protocol) (part_of mid protocol))
+    (holds : (n : ℕ) → held (part_of mid protocol) n ≡ held (part_of old protocol) n)
+    (ends : (e : Endpoint) → number_at (part_of mid protocol) e ≡ number_at (part_of old protocol) e)
+    (entries : (part_of mid protocol).due.entries ≡ (part_of old protocol).due.entries)
+    (numbers : (part_of mid protocol).numbers ≡ (part_of old protocol).numbers)
+    (counts : (host : ℕ) → count_in (part_of mid protocol).hosts host ≡ count_in (part_of old protocol).hosts host)
+    (purged : (q : Protocol) → IsPurged now (part_of mid q) (part_of gone q)) where
+  pub ready : AreOf address timers now old → AreCounted (is_some quota) old →
+      ((n : ℕ) → number_at (part_of old protocol) inside ≡ Some n →
+      None ≡ option_map (λ b. n) (seen (part_of old protocol).timers now (held (part_of old protocol) n))) →
+      (list : List Binding) → Apart (map key list) → AllShow address timers now old list →
+      IsReady quota timers address now protocol inside old gone list
+  ready all counted absent list apart shows =
+      let part = part_of old protocol in
+      let of = all protocol in
+      let all_mid = mid_of protocol old mid others place holds ends entries numbers counts address timers now all in
+      let show = gone_show address timers now mid gone all_mid purged list
+      (mid_show protocol old mid others place holds address timers now list shows) in
+      record {
+        of = gone_of address timers now mid gone all_mid purged;
+        shows = show;
+        same = λ q n. gone_seen address timers now mid gone all_mid purged q n
+            ∙ ap (seen timers now) (mid_held protocol old mid others place holds q n);
+        none = not_found timers quota now address protocol inside remote flags (held part) (number_at part) list apart
+            (shows protocol) (protocols_of address timers now protocol part of)
+            (externals_of address timers now protocol part of) of.is.inside_is of.is.number_is
+            (λ n h. subst (λ (t : Timers). seen t now (held part n) ≡ None) of.timers_is
+            (unknown part.timers now (held part) (number_at part inside) None refl absent n h));
+        reached = gone_reaches address timers now mid gone all_mid purged quota inside.address list apart show
+            (gone_counted address timers now mid gone all_mid purged (is_some quota)
+            (all_counted protocol old mid others place (is_some quota) counted));
+      }
+
+-- the choice among what the part shows is that of the list
+pub chosen_in : (timers : Timers) (address now : ℕ) (protocol : Protocol) (gone : Part) →
+    IsOf address timers now protocol gone → (number : ℕ) (result : Result ℕ Cause) →
+    ((l : List Binding) → Shows gone.timers now gone.address gone.numbers.protocol (held gone) l →
+    result ≡ ok_or (choice l gone.numbers.protocol gone.address number) NoPort) →
+    (list : List Binding) → Shows timers now address protocol (held gone) list →
+    result ≡ ok_or (choice list protocol address number) NoPort
+chosen_in timers address now protocol gone of number result answer list =
+    said_of gone address timers protocol of.address_is of.timers_is of.protocol_is
+    (λ t a q. (l : List Binding) → Shows t now a q (held gone) l → result ≡ ok_or (choice l q a number) NoPort) answer
+    list

@@ -1,20 +1,18 @@
-pub mod Lists
-pub mod Locality
 pub mod Quotas
 pub mod QuotaKept
 pub mod StepsLocal
 pub mod Live
 pub mod Sound
-pub mod Standing
 pub mod Named
 pub mod Tables
 pub mod Opened
 pub mod Orders
+pub mod Ports
 pub mod Classes
-pub mod Finds
 pub mod Seen
 pub mod Choices
 pub mod Queues
+pub mod Changes
 pub mod Sends
 pub mod Enters
 pub mod PartSteps
@@ -23,7 +21,3 @@ pub mod TableSteps
 pub mod Opening
 pub mod Listed
 pub mod Hosts
-mod Slots
-mod Timed
-mod Manys
-mod Distinct

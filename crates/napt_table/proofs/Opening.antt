@@ -12,11 +12,11 @@ use Rattle.napt_wire.specs.declared.Endpoint.{Endpoint}
 use Rattle.napt_config.specs.Rules.{Rules, KeepsRules, AreSingle, is_double, pair_of}
 use Rattle.napt_config.specs.declared.settings.Redirect.{Redirect}
 use Rattle.napt_config.specs.declared.settings.Timers.{Timers}
-use Rattle.napt_table.specs.Inbound.{inbound_of}
-use Rattle.napt_table.specs.declared.Binding.{Binding}
+use Rattle.napt_binding.specs.Inbound.{inbound_of}
+use Rattle.napt_binding.specs.declared.Binding.{Binding}
 use Rattle.napt_table.specs.declared.part.Part.{Part}
 use Rattle.napt_table.specs.declared.parts.Parts.{Parts as AllParts}
-use Rattle.napt_table.specs.Bindings.{same_protocol, is_at, of, has_number, is_of_inside}
+use Rattle.napt_binding.specs.Bindings.{same_protocol, is_at, of, has_number, is_of_inside}
 use Rattle.napt_table.specs.Endpoints.{key, Apart}
 use Rattle.napt_table.specs.Held.{redirect_of, seen}
 use Rattle.napt_table.specs.Parts.{part_of, IsOf, AreOf, AreCounted, AllShow}
@@ -29,7 +29,7 @@ use Rattle.napt_table.specs.Part.{held, number_at, IsDue, IsPart, AreDue, IsSame
 use Rattle.napt_table.specs.Shown.{list_of, shown, KeepsItsList}
 use Rattle.napt_table.specs.Tables.{TableState, IsTable, opened}
 use Rattle.napt_table.specs.declared.table.Table.TheInside.{Inside}
-use Rattle.napt_table.proofs.Finds.{Once, find_pushed, find_passed_over, any_found, none_passes}
+use Rattle.napt_binding.proofs.Finds.{Once, find_pushed, find_passed_over, any_found, none_passes}
 use Rattle.napt_table.proofs.PartSteps.{played_more}
 use Rattle.napt_table.proofs.Opened.{apart_redirects, opened_is_table}
 use Rattle.napt_table.proofs.Seen.{protocol_is, same_itself, has_it, inside_it, not_has, number_of_it, once_number, once_inside, found_seen}

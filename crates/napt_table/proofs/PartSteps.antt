@@ -2,31 +2,31 @@
 use Rattle.std.proofs.Common.{◌≡◌, ◌≢◌, ℕ, ◌≤◌, Bool, true, false, ◌&&◌, cond, List, [], ◌∷◌, ◌++◌, Option, Some, None, Ok, Err, refl, sym, ◌∙◌, ap, subst, eqb}
 use Rattle.std.specs.Prelude.{find}
 use Rattle.napt_wire.specs.declared.Protocol.{Protocol}
+use Rattle.napt_wire.specs.declared.Protocol.TheVariants.{Icmp, Tcp, Udp}
 use Rattle.napt_wire.specs.declared.Cause.TheVariants.{Filtered}
 use Rattle.napt_wire.specs.declared.Endpoint.{Endpoint}
 use Rattle.napt_wire.specs.declared.Flags.{Flags}
-use Rattle.napt_table.specs.declared.inbound.Inbound.{Inbound}
+use Rattle.napt_binding.specs.declared.inbound.Inbound.{Inbound}
 use Rattle.napt_config.specs.declared.settings.Timers.{Timers}
-use Rattle.napt_table.specs.declared.Binding.{Binding}
+use Rattle.napt_binding.specs.declared.Binding.{Binding}
 use Rattle.napt_table.specs.declared.part.Part.{Part}
 use Rattle.napt_table.specs.declared.event.Event.{Event}
-use Rattle.napt_table.specs.Lists.{change_first}
-use Rattle.napt_table.specs.Bindings.{has_number}
-use Rattle.napt_table.specs.Filtering.{permits}
-use Rattle.napt_table.specs.Steps.{sent, fresh, received, In, in_found, in_purged, out_made, out_found, out_purged}
+use Rattle.napt_binding.specs.Lists.{change_first}
+use Rattle.napt_binding.specs.Bindings.{has_number, is_of_inside, same_protocol}
+use Rattle.napt_binding.specs.Filtering.{permits}
+use Rattle.napt_binding.specs.Traffic.{sent, received}
+use Rattle.napt_table.specs.Steps.{fresh, In, in_found, in_purged, out_made, out_found, out_purged}
 use Rattle.napt_table.specs.Quota.{granted}
 use Rattle.napt_table.specs.Counts.{are_counted}
 use Rattle.napt_table.specs.declared.parts.Parts.{Parts as AllParts}
-use Rattle.napt_table.specs.Bindings.{is_of_inside, same_protocol}
 use Rattle.napt_table.specs.Endpoints.{Key}
-use Rattle.napt_table.proofs.Finds.{find_other, find_passed_over}
-use Rattle.napt_table.proofs.Sound.{sent_key}
-use Rattle.std.proofs.lemmas.Bool.{true≢false}
-use Rattle.napt_table.specs.Part.{IsPart, AreDue, IsSamePlace}
+use Rattle.napt_binding.proofs.Finds.{find_other, find_passed_over}
+use Rattle.napt_table.proofs.Sound.{sent_key, received_key}
+use Rattle.napt_table.specs.Part.{held, IsPart, AreDue, IsSamePlace}
 use Rattle.napt_table.specs.Parts.{part_of, IsOf, AreOf, AreCounted}
 use Rattle.napt_table.specs.Events.{played, played_all}
-use Rattle.napt_table.proofs.Sound.{received_key}
 use Rattle.napt_table.proofs.Seen.{protocol_is, same_itself, changed_other, inside_protocol, not_has}
+use Rattle.std.proofs.lemmas.Bool.{true≢false}
 
 -- a part after a step
 pub kept_of : (address : ℕ) (timers : Timers) (at : ℕ) (q : Protocol) (old new : Part) → IsOf address timers at q old →
@@ -39,6 +39,47 @@ kept_of address timers at q old new of is due same = record {
   timers_is = same.timers_is ∙ of.timers_is;
   protocol_is = same.protocol_same ∙ of.protocol_is;
 }
+
+-- what a part of the protocol holds is of it, and at the address
+module _ (address : ℕ) (timers : Timers) (at : ℕ) (protocol : Protocol) (part : Part)
+    (of : IsOf address timers at protocol part) where
+  pub protocols_of : (n : ℕ) (b : Binding) → held part n ≡ Some b → b.protocol ≡ protocol
+  protocols_of n b h = of.is.protocol_is n b h ∙ of.protocol_is
+
+  pub externals_of : (n : ℕ) (b : Binding) → held part n ≡ Some b →
+      b.external ≡ record { address = address; number = n }
+  externals_of n b h = of.is.external_is n b h
+      ∙ ap (λ (a : ℕ). let x : Endpoint = record { address = a; number = n } in x) of.address_is
+
+-- the parts with another one under the protocol
+abbrev pub set_part : AllParts → Protocol → Part → AllParts
+set_part parts Icmp part = record parts { icmp = part }
+set_part parts Tcp part = record parts { tcp = part }
+set_part parts Udp part = record parts { udp = part }
+
+-- what holds of the new part, and of each that was there
+pub with_part : (P : Protocol → Part → Type 0) (parts : AllParts) (protocol : Protocol) (new : Part) → P protocol new →
+    ((q : Protocol) → P q (part_of parts q)) → (q : Protocol) → P q (part_of (set_part parts protocol new) q)
+with_part P parts Icmp new here all Icmp = here
+with_part P parts Icmp new here all Tcp = all Tcp
+with_part P parts Icmp new here all Udp = all Udp
+with_part P parts Tcp new here all Icmp = all Icmp
+with_part P parts Tcp new here all Tcp = here
+with_part P parts Tcp new here all Udp = all Udp
+with_part P parts Udp new here all Icmp = all Icmp
+with_part P parts Udp new here all Tcp = all Tcp
+with_part P parts Udp new here all Udp = here
+
+pub set_of : (protocol : Protocol) (parts : AllParts) (new : Part) → IsPart new → AreDue new →
+    IsSamePlace (part_of parts protocol) new → (address : ℕ) (timers : Timers) (at : ℕ) →
+    AreOf address timers at parts → AreOf address timers at (set_part parts protocol new)
+set_of protocol parts new is due same address timers at all = with_part (IsOf address timers at) parts protocol new
+    (kept_of address timers at protocol (part_of parts protocol) new (all protocol) is due same) all
+
+pub set_counted : (protocol : Protocol) (parts : AllParts) (new : Part) → IsSamePlace (part_of parts protocol) new →
+    (counted : Bool) → AreCounted counted parts → AreCounted counted (set_part parts protocol new)
+set_counted protocol parts new same counted are = with_part (λ q p. are_counted p.hosts ≡ counted) parts protocol new
+    (same.counting_is ∙ are protocol) are
 
 -- other protocols are as before
 pub in_others : (inbound : Inbound) (timers : Timers) (address now : ℕ) (protocol : Protocol) (number : ℕ)

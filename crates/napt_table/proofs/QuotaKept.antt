@@ -1,6 +1,5 @@
 -- No step takes a host past its quota.
-use Rattle.std.proofs.Common.{◌≡◌, ℕ, ◌+◌, ◌<◌, ◌≤◌, Bool, true, false, cond, List, [], ◌∷◌, ◌++◌, length, map}
-use Rattle.std.proofs.Common.{Option, Some, None, Result, Ok, Err, refl, sym, ◌∙◌, subst, eqb, eqb-true, arith}
+use Rattle.std.proofs.Common.{◌≡◌, ℕ, ◌+◌, ◌<◌, ◌≤◌, Bool, true, false, cond, List, [], ◌∷◌, ◌++◌, length, map, Option, Some, None, Result, Ok, Err, refl, sym, ◌∙◌, subst, eqb, eqb-true, arith}
 use Rattle.std.specs.Prelude.{filter, find}
 use Rattle.std.proofs.lemmas.Bool.{and_parts, leb-false, true≢false}
 use Rattle.napt_wire.specs.declared.Protocol.{Protocol}
@@ -11,18 +10,18 @@ use Rattle.napt_wire.specs.declared.Endpoint.{Endpoint}
 use Rattle.napt_wire.specs.declared.Flags.{Flags}
 use Rattle.napt_config.specs.declared.settings.Refresh.{Refresh}
 use Rattle.napt_config.specs.declared.settings.Timers.{Timers}
-use Rattle.napt_table.specs.declared.inbound.Inbound.{Inbound}
-use Rattle.napt_table.specs.declared.Binding.{Binding}
+use Rattle.napt_binding.specs.declared.inbound.Inbound.{Inbound}
+use Rattle.napt_binding.specs.declared.Binding.{Binding}
 use Rattle.napt_table.specs.declared.event.Event.{Event}
 use Rattle.napt_table.specs.declared.event.Event.TheVariants.{Redirected, Sent, Entered}
-use Rattle.napt_table.specs.Lists.{change_first}
-use Rattle.napt_table.specs.Bindings.{is_tcp, is_of_inside, has_number}
-use Rattle.napt_table.specs.Life.{is_live, with_live_flows, purge}
+use Rattle.napt_binding.specs.Lists.{change_first}
+use Rattle.napt_binding.specs.Bindings.{is_tcp, is_of_inside, has_number}
+use Rattle.napt_binding.specs.Life.{is_live, with_live_flows, purge}
 use Rattle.napt_table.specs.Quota.{counts_for, count_for, granted}
-use Rattle.napt_table.specs.Filtering.{permits}
+use Rattle.napt_binding.specs.Filtering.{permits}
 use Rattle.napt_table.specs.Held.{redirect_of}
-use Rattle.napt_table.specs.Steps.{is_flow_of, used, with_flow, sent, refreshes, refreshed, received, fresh}
-use Rattle.napt_table.specs.Steps.{out_made, out_found, In, in_found}
+use Rattle.napt_binding.specs.Traffic.{is_flow_of, used, with_flow, sent, refreshes, refreshed, received}
+use Rattle.napt_table.specs.Steps.{fresh, out_made, out_found, In, in_found}
 use Rattle.napt_table.specs.Events.{played, played_all}
 use Rattle.napt_table.specs.QuotaKept.{PurgeKeepsQuota, OutKeepsQuota, InKeepsQuota, PlayedKeepsQuota}
 use Rattle.napt_table.proofs.Quotas.{granted_is_within}

@@ -1,17 +1,16 @@
 -- What is granted to a new binding is the choice, and needs the bindings of its address alone.
-use Rattle.std.proofs.Common.{◌≡◌, ℕ, Bool, true, false, not, ◌&&◌, cond, List, length, Option, Some, None}
-use Rattle.std.proofs.Common.{Result, Ok, Err, refl, ◌∙◌, ap, eqb}
+use Rattle.std.proofs.Common.{◌≡◌, ℕ, Bool, true, false, not, ◌&&◌, cond, List, length, Option, Some, None, Result, Ok, Err, refl, ◌∙◌, ap, eqb}
 use Rattle.std.specs.Prelude.{ok_or}
 use Rattle.std.proofs.lemmas.Bool.{and_parts}
 use Rattle.napt_wire.specs.declared.Protocol.{Protocol}
 use Rattle.napt_wire.specs.declared.Endpoint.{Endpoint}
 use Rattle.napt_wire.specs.declared.Cause.{Cause}
 use Rattle.napt_wire.specs.declared.Cause.TheVariants.{OverQuota, NoPort}
-use Rattle.napt_table.specs.declared.Binding.{Binding}
-use Rattle.napt_table.specs.Bindings.{same_protocol, of, is_at}
+use Rattle.napt_binding.specs.declared.Binding.{Binding}
+use Rattle.napt_binding.specs.Bindings.{same_protocol, of, is_at}
 use Rattle.napt_table.specs.Choice.{is_free, choice, candidates}
 use Rattle.napt_table.specs.Quota.{counts_for, count_for, reaches, granted}
-use Rattle.napt_table.proofs.Lists.{find_agree, any_filter, filter_narrow}
+use Rattle.napt_binding.proofs.Lists.{find_agree, any_filter, filter_narrow}
 
 -- WHERE A NUMBER IS GRANTED
 

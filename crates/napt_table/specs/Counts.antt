@@ -1,13 +1,9 @@
--- Counts by address.
-use Rattle.std.specs.Prelude.{ℕ, ◌<◌, Bool, nat_eq, unwrap_or, Option, Some, None, IfSome}
+-- Counts by inside host.
+use Rattle.std.specs.Prelude.{ℕ, ◌<◌, Bool, Option, Some, None, IfSome}
 use Rattle.std.specs.Option.{is_some}
-use Rattle.std.specs.HashMap.{get, spare}
-use Rattle.napt_table.specs.declared.addresses.Addresses.{Addresses}
+use Rattle.napt_binding.specs.declared.addresses.Addresses.{Addresses}
+use Rattle.napt_binding.specs.Counts.{count_at, room_of}
 use Rattle.napt_table.specs.declared.host_counts.HostCounts.{HostCounts}
-
--- an address without an entry has none
-abbrev pub count_at : Addresses → ℕ → ℕ
-count_at addresses address = unwrap_or (get nat_eq addresses.counts address) 0
 
 -- whether bindings are counted by host
 abbrev pub are_counted : HostCounts → Bool
@@ -23,4 +19,4 @@ count_in hosts host = count_by hosts.counts host
 
 -- there is room for one more host, where they are counted
 abbrev pub HasPlace : HostCounts → Type 0
-HasPlace hosts = IfSome hosts.counts (λ counts. 0 < spare counts.counts)
+HasPlace hosts = IfSome hosts.counts (λ counts. 0 < room_of counts)

@@ -1,8 +1,8 @@
 -- What happened to a table, and the list that it leaves.
 use Rattle.std.specs.Prelude.{ℕ, List, [], ◌∷◌, ◌++◌, Option}
-use Rattle.napt_table.specs.declared.inbound.Inbound.{Inbound}
+use Rattle.napt_binding.specs.declared.inbound.Inbound.{Inbound}
 use Rattle.napt_config.specs.declared.settings.Timers.{Timers}
-use Rattle.napt_table.specs.declared.Binding.{Binding}
+use Rattle.napt_binding.specs.declared.Binding.{Binding}
 use Rattle.napt_table.specs.declared.event.Event.{Event}
 use Rattle.napt_table.specs.declared.event.Event.TheVariants.{Redirected, Sent, Entered}
 use Rattle.napt_table.specs.Steps.{step_out, step_in}

@@ -3,10 +3,10 @@ use Rattle.std.specs.Prelude.{◌≡◌, ℕ, zero, suc, ◌+◌, ◌==◌, ◌<
 use Rattle.napt_wire.specs.declared.Protocol.{Protocol}
 use Rattle.napt_wire.specs.declared.Protocol.TheVariants.{Icmp, Tcp, Udp}
 use Rattle.napt_config.specs.declared.settings.Timers.{Timers}
-use Rattle.napt_table.specs.declared.Binding.{Binding}
+use Rattle.napt_binding.specs.declared.Binding.{Binding}
 use Rattle.napt_table.specs.Endpoints.{key, Apart}
 use Rattle.napt_table.specs.Held.{Shows}
-use Rattle.napt_table.specs.Life.{is_live}
+use Rattle.napt_binding.specs.Life.{is_live}
 use Rattle.napt_table.specs.Quota.{count_for}
 
 -- whether what is held counts for the host
@@ -23,8 +23,7 @@ count_below test (suc n) = cond {A = ℕ} (test n) 1 0 + count_below test n
 abbrev pub count_held : (ℕ → Option Binding) → ℕ → ℕ
 count_held held host = count_below (λ n. held_for host (held n)) (2 ^ 16)
 
--- LAW: where nothing dead is held, the bindings of a host in the list are those that are held for it, over all
--- protocols
+-- LAW: where nothing dead is held, the bindings of a host in the list are those held for it, over all protocols
 
 abbrev pub CountIsHeld : Type 0
 CountIsHeld = (timers : Timers) (now address host : ℕ) (held : Protocol → ℕ → Option Binding) (list : List Binding) →

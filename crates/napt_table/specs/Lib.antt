@@ -1,12 +1,6 @@
-pub mod Lists
-pub mod Marks
-pub mod Bindings
-pub mod Life
 pub mod Choice
 pub mod Classes
 pub mod Quota
-pub mod Filtering
-pub mod Inbound
 pub mod Steps
 pub mod Endpoints
 pub mod Live
@@ -15,7 +9,6 @@ pub mod Opening
 pub mod Tables
 pub mod Rows
 pub mod Places
-pub mod Ends
 pub mod Held
 pub mod Hosts
 pub mod Part
@@ -24,10 +17,4 @@ pub mod Events
 pub mod QuotaKept
 pub mod Shown
 pub mod Listing
-pub mod Slots
-pub mod SlotsShown
-pub mod Timed
 pub mod Counts
-pub mod Many
-pub mod Kept
-pub mod Sent

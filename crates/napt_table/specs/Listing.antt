@@ -3,7 +3,7 @@ use Rattle.std.specs.Prelude.{ℕ, ◌<◌, ◌^◌, All, List, map, filter, nat
 use Rattle.std.specs.HashMap.{IsUnique, values}
 use Rattle.napt_table.specs.declared.Row.{Row}
 use Rattle.napt_table.specs.declared.part.Part.{Part}
-use Rattle.napt_table.specs.Life.{is_live}
+use Rattle.napt_binding.specs.Life.{is_live}
 use Rattle.napt_table.specs.Rows.{row}
 
 -- those of the bindings that are live at the time

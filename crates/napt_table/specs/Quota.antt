@@ -1,17 +1,15 @@
 -- How many bindings an inside host may have.
 --
 -- RFC 6888, REQ-4: a carrier-grade translator supports limiting the number of external ports for each subscriber, so
--- that no one
--- takes all of them. A host has one external address (RFC 4787, REQ-2), and its bindings there are counted over all
--- protocols.
--- Redirects do not count: the configuration gives them.
+-- that no one takes all of them. A host has one external address (RFC 4787, REQ-2), and its bindings there are counted
+-- over all protocols. Redirects do not count: the configuration gives them.
 use Rattle.std.specs.Prelude.{ℕ, ◌==◌, nat_le, Bool, false, not, ◌&&◌, cond, List, length, filter, Option, Some, None, Result, Err, ok_or}
 use Rattle.napt_wire.specs.declared.Protocol.{Protocol}
 use Rattle.napt_wire.specs.declared.Endpoint.{Endpoint}
 use Rattle.napt_wire.specs.declared.Cause.{Cause}
 use Rattle.napt_wire.specs.declared.Cause.TheVariants.{OverQuota, NoPort}
-use Rattle.napt_table.specs.declared.Binding.{Binding}
-use Rattle.napt_table.specs.Bindings.{is_at}
+use Rattle.napt_binding.specs.declared.Binding.{Binding}
+use Rattle.napt_binding.specs.Bindings.{is_at}
 use Rattle.napt_table.specs.Choice.{choice}
 
 -- whether the binding counts for the host: it is at the address, of any protocol, and no redirect

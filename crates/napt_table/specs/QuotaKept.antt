@@ -4,10 +4,10 @@ use Rattle.napt_wire.specs.declared.Protocol.{Protocol}
 use Rattle.napt_wire.specs.declared.Endpoint.{Endpoint}
 use Rattle.napt_wire.specs.declared.Flags.{Flags}
 use Rattle.napt_config.specs.declared.settings.Timers.{Timers}
-use Rattle.napt_table.specs.declared.inbound.Inbound.{Inbound}
-use Rattle.napt_table.specs.declared.Binding.{Binding}
+use Rattle.napt_binding.specs.declared.inbound.Inbound.{Inbound}
+use Rattle.napt_binding.specs.declared.Binding.{Binding}
 use Rattle.napt_table.specs.declared.event.Event.{Event}
-use Rattle.napt_table.specs.Life.{purge}
+use Rattle.napt_binding.specs.Life.{purge}
 use Rattle.napt_table.specs.Quota.{count_for}
 use Rattle.napt_table.specs.Steps.{step_out, step_in}
 use Rattle.napt_table.specs.Events.{played_all}

@@ -3,8 +3,7 @@
 ghost use Rattle.std.specs.Prelude.{◌≡◌, ℕ, ◌+◌, ◌-◌, ◌^◌, ◌<◌, true, cond, Some, OnOk};
 ghost use Rattle.napt_table.specs.Hosts.{held_for};
 
-use crate::Binding;
-use crate::addresses::Addresses;
+use napt_binding::{Addresses, Binding};
 use std::alloc::{AllocError, Global};
 
 /// How many bindings each inside host has, redirects left out. Nothing is counted where no quota stands.

@@ -1,4 +1,4 @@
-//! The bindings of a translator: which inside endpoint has which external number, for how long, and whom it lets in.
+//! The bindings of one external address: which inside endpoint has which external number, and for how long.
 //!
 //! The rules are those of RFC 3022, RFC 4787, RFC 5382 and RFC 5508; `specs/` states them, each with its sections.
 #![tactic(auto)]
@@ -13,61 +13,18 @@ ghost use Rattle.napt_table.specs.Opening.{OpeningIsSound};
 ghost use Rattle.napt_table.specs.Rows.{RowsAreInOrder};
 ghost use Rattle.napt_table.specs.Tables.{TablesShareNothing, TablesAreNumbered};
 
-mod addresses;
 mod event;
-mod flows;
 mod host_counts;
-mod inbound;
-mod life;
 mod numbers;
-mod outgoing;
 mod part;
 mod parts;
 mod rows;
-mod sent;
-mod session;
 mod table;
-mod traffic;
 
-pub use flows::Flows;
-pub use inbound::Inbound;
+pub use napt_binding::{Binding, Flow, Flows, Inbound, Marks};
 use napt_wire::{Endpoint, Protocol};
 pub use numbers::Numbers;
 pub use table::Table;
-
-/// What a TCP flow was seen to do: a SYN and a FIN of each side, and a reset (RFC 5382, REQ-2 and REQ-5).
-#[derive(Clone, Copy, Debug, PartialEq, Eq)]
-pub struct Marks {
-    pub syn_out: bool,
-    pub syn_in: bool,
-    pub fin_out: bool,
-    pub fin_in: bool,
-    pub reset: bool,
-}
-
-/// The packets between a binding's inside endpoint and one remote endpoint.
-#[derive(Clone, Copy, Debug, PartialEq, Eq)]
-pub struct Flow {
-    pub remote: Endpoint,
-    /// Outside TCP there are none.
-    pub marks: Marks,
-    /// The time at which it was last used, in ns.
-    pub last: u64,
-}
-
-/// An inside endpoint and the external endpoint that stands for it under one protocol (RFC 3022, section 2.2).
-#[derive(Drop)]
-pub struct Binding {
-    pub protocol: Protocol,
-    pub inside: Endpoint,
-    pub external: Endpoint,
-    /// A static redirect: it never expires, passes every remote and keeps no flows.
-    pub fixed: bool,
-    /// The time of the last outgoing packet, in ns; 0 for a redirect.
-    pub last: u64,
-    /// One for each remote endpoint to which a packet went out.
-    pub flows: Flows,
-}
 
 /// What a table tells of one binding.
 #[derive(Clone, Copy, Debug, PartialEq, Eq)]

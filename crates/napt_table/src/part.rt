@@ -8,13 +8,14 @@
 ghost use Rattle.std.specs.Prelude.{◌≡◌, ◌≢◌, ℕ, ◌+◌, ◌-◌, ◌≤◌, ◌<◌, ◌^◌, true, false, not, Some, None, Ok, Err, OnOk, IfSome, cond, ◌==◌, ◌&&◌};
 ghost use Rattle.std.specs.Option.{option_map};
 ghost use Rattle.napt_wire.specs.declared.Cause.TheVariants.{NoBinding};
-ghost use Rattle.napt_table.specs.Held.{seen, entered, left_by, HeldIsPurgedLater};
+ghost use Rattle.napt_binding.specs.Traffic.{entered, left_by};
+ghost use Rattle.napt_table.specs.Held.{seen, HeldIsPurgedLater};
 ghost use Rattle.napt_table.specs.Counts.{are_counted, count_in, HasPlace};
 
+use crate::Row;
 use crate::host_counts::HostCounts;
 use crate::numbers::Numbers;
-use crate::outgoing::Outgoing;
-use crate::{Binding, Flows, Inbound, Row};
+use napt_binding::{Binding, Flows, Inbound, Sent};
 use napt_config::Timers;
 use napt_due::Due;
 use napt_wire::{Cause, Endpoint, Flags, Protocol};
@@ -44,11 +45,11 @@ impl Part {
     ghost use Rattle.std.specs.Prelude.{All, IfOk};
     ghost use Rattle.std.specs.HashMap.{spare};
     ghost use Rattle.napt_config.specs.Rules.{AreTimers};
-    ghost use Rattle.napt_table.specs.Life.{is_live};
+    ghost use Rattle.napt_binding.specs.Life.{is_live};
     ghost use Rattle.napt_table.specs.Places.{is_used};
     ghost use Rattle.napt_table.specs.Hosts.{held_for};
     ghost use Rattle.napt_table.specs.Part.{held, number_at, pair_eq, IsPart, AreDue, AreDueBut, IsSamePlace, IsPurged, HasRoom, come_up};
-    ghost use Rattle.napt_table.specs.declared.Binding.{Binding};
+    ghost use Rattle.napt_binding.specs.declared.Binding.{Binding};
 
     /// Nothing is held; whether bindings are counted by host is said.
     pub(crate) fn new(
@@ -347,12 +348,13 @@ impl Part {
     ghost use Rattle.napt_wire.specs.declared.Way.TheVariants.{Outgoing as WayOut};
     ghost use Rattle.napt_wire.specs.declared.Cause.TheVariants.{NoPort};
     ghost use Rattle.napt_config.specs.Rules.{AreTimers};
-    ghost use Rattle.napt_table.specs.declared.Binding.{Binding};
+    ghost use Rattle.napt_binding.specs.declared.Binding.{Binding};
     ghost use Rattle.napt_table.specs.Choice.{choice};
     ghost use Rattle.napt_table.specs.Held.{Shows, redirect_of};
-    ghost use Rattle.napt_table.specs.Life.{is_live, live_flows, with_live_flows};
-    ghost use Rattle.napt_table.specs.Lists.{change_first};
-    ghost use Rattle.napt_table.specs.Steps.{is_flow_of, used, with_flow, sent, out_made};
+    ghost use Rattle.napt_binding.specs.Life.{is_live, live_flows, with_live_flows};
+    ghost use Rattle.napt_binding.specs.Lists.{change_first};
+    ghost use Rattle.napt_binding.specs.Traffic.{is_flow_of, used, with_flow, sent};
+    ghost use Rattle.napt_table.specs.Steps.{out_made};
     ghost use Rattle.napt_table.specs.Part.{held, number_at, IsPart, AreDue, IsSamePlace, HasRoom};
 
     /// A redirect, neither of whose ends is taken. It never expires, so it has no entry in the queue. Where memory is
@@ -396,7 +398,7 @@ impl Part {
         &mut self,
         alloc: Global,
         number: u16,
-        packet: Outgoing,
+        packet: Sent,
     ) -> Result<(), AllocError>
         requires { AreTimers self.old.timers }
         ensures place { IsSamePlace self.old self.new }
@@ -418,7 +420,7 @@ impl Part {
     }
 
     /// Takes the memory for a new binding through which the packet goes out, and begins its flows. What is held stays as it is.
-    pub(crate) fn prepare(&mut self, alloc: Global, packet: Outgoing) -> Result<Flows, AllocError>
+    pub(crate) fn prepare(&mut self, alloc: Global, packet: Sent) -> Result<Flows, AllocError>
         requires { AreTimers self.old.timers }
         ensures place { IsSamePlace self.old self.new }
         ensures held { (n : ℕ) → held self.new n ≡ held self.old n }
@@ -434,18 +436,11 @@ impl Part {
     {
         self.make_room()?;
         let protocol = self.numbers.protocol();
-        Flows::begun(
-            alloc,
-            self.timers,
-            packet.now,
-            protocol,
-            packet.remote,
-            packet.flags,
-        )
+        Flows::begun(alloc, self.timers, Sent { protocol, ..packet })
     }
 
     /// A new binding with these flows, through which the packet goes out: its number, or `NoPort`. It takes no memory.
-    pub(crate) fn begin(&mut self, packet: Outgoing, flows: Flows) -> Result<u16, Cause>
+    pub(crate) fn begin(&mut self, packet: Sent, flows: Flows) -> Result<u16, Cause>
         requires room { HasRoom self.old }
         requires part { IsPart self.old }
         requires due { AreDue self.old }
@@ -489,7 +484,7 @@ impl Part {
 
 impl Part {
     ghost use Rattle.std.specs.Prelude.{List, map};
-    ghost use Rattle.napt_table.specs.declared.Binding.{Binding};
+    ghost use Rattle.napt_binding.specs.declared.Binding.{Binding};
     ghost use Rattle.napt_table.specs.Endpoints.{key, Apart};
     ghost use Rattle.napt_table.specs.Held.{Shows};
     ghost use Rattle.napt_table.specs.Steps.{in_purged};

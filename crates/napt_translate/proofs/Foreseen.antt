@@ -11,7 +11,7 @@ use Rattle.napt_wire.specs.Rewriting.{with_source, reverted}
 use Rattle.napt_wire.specs.Packet.{IsPacket}
 use Rattle.napt_wire.specs.Laws.{SourcesLeaveDestinations, ErrorsLeaveDestinations}
 use Rattle.napt_config.specs.Rules.{Rules, place_of}
-use Rattle.napt_table.specs.declared.Binding.{Binding}
+use Rattle.napt_binding.specs.declared.Binding.{Binding}
 use Rattle.napt_translate.specs.declared.translator.Leg.{Leg}
 use Rattle.napt_translate.specs.declared.translator.End.TheVariants.{Dropped}
 use Rattle.napt_translate.specs.Ends.{IsForeseen, Foresees}

@@ -8,7 +8,7 @@ use Rattle.napt_wire.specs.declared.Kind.{Kind}
 use Rattle.napt_wire.specs.declared.Kind.TheVariants.{Udp, Tcp, Echo, ErrorOf}
 use Rattle.napt_wire.specs.Fields.{destination, kind, is_error}
 use Rattle.napt_config.specs.Rules.{Rules, place_of}
-use Rattle.napt_table.specs.declared.Binding.{Binding}
+use Rattle.napt_binding.specs.declared.Binding.{Binding}
 use Rattle.napt_translate.specs.Ends.{ErrorsChangeNothing, IsToItsSide, LegsEndAtTheirSide, is_in_or_dropped, InStaysIn}
 use Rattle.napt_translate.specs.Legs.{Kept, act_by, onward_by, gone_out, end_out, end_in, error_out, error_in, time_after}
 

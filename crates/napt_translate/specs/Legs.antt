@@ -17,8 +17,8 @@ use Rattle.napt_wire.specs.declared.Kind.TheVariants.{Udp, Tcp, Echo, ErrorOf}
 use Rattle.napt_wire.specs.Fields.{source, destination, kind}
 use Rattle.napt_wire.specs.Rewriting.{with_source, with_destination, reverted}
 use Rattle.napt_config.specs.Rules.{Rules, place_of}
-use Rattle.napt_table.specs.Inbound.{inbound_of}
-use Rattle.napt_table.specs.declared.Binding.{Binding}
+use Rattle.napt_binding.specs.Inbound.{inbound_of}
+use Rattle.napt_binding.specs.declared.Binding.{Binding}
 use Rattle.napt_table.specs.Steps.{Out, In, step_out, step_in, by_inside, by_number}
 use Rattle.napt_translate.specs.declared.translator.Leg.{Leg}
 use Rattle.napt_translate.specs.declared.translator.Answer.{Answer}

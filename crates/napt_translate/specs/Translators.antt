@@ -3,7 +3,7 @@ use Rattle.std.specs.Prelude.{◌≡◌, ℕ, ◌<◌, List, length, slice_index
 use Rattle.napt_wire.specs.declared.Protocol.{Protocol}
 use Rattle.napt_wire.specs.declared.Flags.{Flags}
 use Rattle.napt_wire.specs.Fields.{source, destination}
-use Rattle.napt_table.specs.Inbound.{inbound_of}
+use Rattle.napt_binding.specs.Inbound.{inbound_of}
 use Rattle.napt_table.specs.Steps.{Out, In, step_out, step_in}
 use Rattle.napt_config.specs.Rules.{Rules, KeepsRules}
 use Rattle.napt_table.specs.Tables.{TableState, opened}

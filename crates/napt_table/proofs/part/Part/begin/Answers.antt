@@ -5,7 +5,7 @@ use Rattle.napt_wire.specs.declared.Cause.TheVariants.{NoPort}
 use Rattle.napt_table.specs.Choice.{candidates}
 use Rattle.napt_table.specs.Places.{is_used}
 use Rattle.napt_table.specs.Part.{held}
-use Rattle.napt_table.proofs.Finds.{passes}
+use Rattle.napt_binding.proofs.Finds.{passes}
 use Rattle.napt_table.proofs.Sends.{none_from, choice_is, made_shows, made_live, made_seen}
 use Rattle.napt_table.proofs.part.Part.begin.Goals as goal
 

@@ -1,0 +1,9 @@
+pub mod Lists
+pub mod Finds
+pub mod Purges
+pub mod Fresh
+mod Slots
+mod Standing
+mod Timed
+mod Manys
+mod Distinct

@@ -1,0 +1,246 @@
+-- Many flows, when one begins, changes or goes.
+use Rattle.std.proofs.Common.{◌≡◌, ◌≢◌, ℕ, ◌+◌, ◌-◌, ◌≤◌, ◌⊎◌, inl, inr, true, false, cond, List, [], ◌∷◌, ◌++◌, length, set, get_or, Option, Some, None, slice_get, refl, sym, ◌∙◌, ap, arith, eqb, eqb-true}
+use Rattle.std.specs.List.{list_any}
+use Rattle.std.proofs.lemmas.Bool.{eq-eqb, and_from, and_parts, true≢false}
+use Rattle.std.proofs.lemmas.Option.{same_Some, get_or_from_slice_get}
+use Rattle.std.proofs.lemmas.List.Sums.{sum_by-set, sum_by_push}
+use Rattle.napt_wire.specs.declared.Endpoint.{Endpoint}
+use Rattle.napt_binding.specs.declared.Flow.{Flow}
+use Rattle.napt_binding.specs.declared.flows.many.Many.{Many}
+use Rattle.napt_binding.specs.Bindings.{same_endpoint}
+use Rattle.napt_binding.specs.Counts.{count_at}
+use Rattle.napt_binding.specs.Many.{place_at, IsMany}
+use Rattle.napt_binding.specs.Slots.{somes, Stands, of_address, count_of}
+use Rattle.napt_binding.specs.Traffic.{is_flow_of}
+use Rattle.napt_binding.proofs.Slots.{stands_within, stands_set, stands_there, stands_elsewhere, stands_pushed, stands_last, stands_still, any_stands, any_none}
+
+-- ENDPOINTS
+
+pub endpoint_is : (a b : Endpoint) → same_endpoint a b ≡ true → a ≡ b
+endpoint_is a b h =
+    let p = and_parts (eqb a.address b.address) (eqb a.number b.number) h in
+    let m : a.address ≡ b.address = eqb-true _ _ p.0 in
+    let n : a.number ≡ b.number = eqb-true _ _ p.1 in
+    λ k. record { address = m k; number = n k }
+
+pub endpoint_same : (a b : Endpoint) → a ≡ b → same_endpoint a b ≡ true
+endpoint_same a b e =
+    and_from (eqb a.address b.address) (eqb a.number b.number)
+    (eq-eqb a.address b.address (ap (λ (x : Endpoint). x.address) e))
+    (eq-eqb a.number b.number (ap (λ (x : Endpoint). x.number) e))
+
+-- which of two a remote is
+either : (a b : Endpoint) → ((a ≡ b) × (same_endpoint a b ≡ true)) ⊎ ((a ≢ b) × (same_endpoint a b ≡ false))
+either a b = elim (same_endpoint a b) as (λ v. same_endpoint a b ≡ v →
+    ((a ≡ b) × (v ≡ true)) ⊎ ((a ≢ b) × (v ≡ false))) [
+      | true ↦ λ e. inl (endpoint_is a b e, refl)
+      | false ↦ λ e. inr ((λ q. true≢false (sym (endpoint_same a b q) ∙ e)), refl)
+    ] refl
+
+-- FOUND OR NOT
+
+pub one : (many : Many) (remote : Endpoint) (i : ℕ) → IsMany many → place_at many remote ≡ Some i →
+    (k : ℕ) (flow : Flow) → Stands many.slots.slots k flow → is_flow_of remote flow ≡ true → k ≡ i
+one many remote i is h k flow stands of =
+    let e : flow.remote ≡ remote = endpoint_is flow.remote remote of in
+    same_Some k i (sym (is.found k flow stands) ∙ (ap (place_at many) e ∙ h))
+
+pub place_of_is : (many : Many) (remote : Endpoint) (i : ℕ) (flow : Flow) → IsMany many → place_at many remote
+    ≡ Some i → Stands many.slots.slots i flow → is_flow_of remote flow ≡ true
+place_of_is many remote i flow is h stands =
+    let s = is.stands remote i h in
+    let same : s.0 ≡ flow = same_Some s.0 flow (same_Some (Some s.0) (Some flow) (sym s.1 ∙ stands)) in
+    endpoint_same flow.remote remote (sym (ap (λ (f : Flow). f.remote) same) ∙ s.2)
+
+pub not_found : (many : Many) (remote : Endpoint) → IsMany many → place_at many remote ≡ None →
+    list_any (is_flow_of remote) (somes many.slots.slots) ≡ false
+not_found many remote is h = any_none (is_flow_of remote) many.slots.slots (λ i flow stands.
+    elim (either flow.remote remote) as (λ r. same_endpoint flow.remote remote ≡ false) [
+      | inl p ↦ let z : None ≡ Some i = sym h ∙ (ap (place_at many) (sym p.0) ∙ is.found i flow stands) in cc
+      | inr p ↦ p.1
+    ])
+
+pub has_found : (many : Many) (remote : Endpoint) (i : ℕ) → IsMany many → place_at many remote ≡ Some i →
+    list_any (is_flow_of remote) (somes many.slots.slots) ≡ true
+has_found many remote i is h =
+    let s = is.stands remote i h in
+    any_stands (is_flow_of remote) many.slots.slots i s.0 s.1 (endpoint_same s.0.remote remote s.2)
+
+pub no_place : (many : Many) (remote : Endpoint) → IsMany many → list_any (is_flow_of remote) (somes many.slots.slots)
+    ≡ false → place_at many remote ≡ None
+no_place many remote is h = elim (place_at many remote) as (λ o. place_at many remote ≡ o → o ≡ None) [
+  | None ↦ λ e. refl
+  | Some i ↦ λ e. absurd (true≢false (sym (has_found many remote i is e) ∙ h))
+] refl
+
+-- WHAT IS KEPT
+
+pub same_many : (old new : Many) → IsMany old → new.slots.slots ≡ old.slots.slots →
+    ((e : Endpoint) → place_at new e ≡ place_at old e) →
+    ((a : ℕ) → count_at new.addresses a ≡ count_at old.addresses a) → IsMany new
+same_many old new is slots places counts = record {
+  stands = λ e i h. let s = is.stands e i (sym (places e) ∙ h) in
+      (s.0, ap (λ (l : List (Option Flow)). slice_get l i) slots ∙ s.1, s.2);
+  found = λ i f h. places f.remote ∙ is.found i f (ap (λ (l : List (Option Flow)). slice_get l i) (sym slots) ∙ h);
+  counted = λ a. counts a ∙ (is.counted a ∙ ap (λ (l : List (Option Flow)). count_of l a) (sym slots));
+}
+
+put_stands : (slots : List (Option Flow)) (old : Endpoint → Option ℕ) (flow : Flow) (e : Endpoint) (i : ℕ) →
+    ((e : Endpoint) (i : ℕ) → old e ≡ Some i → (f : Flow) × Stands slots i f × (f.remote ≡ e)) →
+    cond (same_endpoint flow.remote e) (Some (length slots)) (old e) ≡ Some i →
+    (f : Flow) × Stands (slots ++ Some flow ∷ []) i f × (f.remote ≡ e)
+put_stands slots old flow e i is h = elim (either flow.remote e) as (λ r.
+    (f : Flow) × Stands (slots ++ Some flow ∷ []) i f × (f.remote ≡ e)) [
+      | inl p ↦
+          let at : length slots ≡ i =
+          same_Some (length slots) i (sym (ap (λ v. cond v (Some (length slots)) (old e)) p.1)
+          ∙ h) in
+          (flow, ap (slice_get (slots ++ Some flow ∷ [])) (sym at) ∙ stands_last slots flow, p.0)
+      | inr p ↦
+          let s = is e i (sym (ap (λ v. cond v (Some (length slots)) (old e)) p.1) ∙ h) in
+          (s.0, stands_still slots (Some flow) i s.0 s.1, s.2)
+    ]
+
+put_found : (slots : List (Option Flow)) (old : Endpoint → Option ℕ) (flow : Flow) → old flow.remote ≡ None →
+    ((i : ℕ) (f : Flow) → Stands slots i f → old f.remote ≡ Some i) →
+    (i : ℕ) (f : Flow) → Stands (slots ++ Some flow ∷ []) i f → cond (same_endpoint flow.remote f.remote)
+    (Some (length slots)) (old f.remote) ≡ Some i
+put_found slots old flow absent found i f h = elim (stands_pushed slots (Some flow) i f h) as (λ r.
+    cond (same_endpoint flow.remote f.remote) (Some (length slots)) (old f.remote) ≡ Some i) [
+      | inl p ↦ ap (λ v. cond v (Some (length slots)) (old f.remote)) (endpoint_same flow.remote f.remote
+          (ap (λ (x : Flow). x.remote) (same_Some flow f p.1))) ∙ ap (λ (n : ℕ). Some n) (sym p.0)
+      | inr p ↦ elim (either flow.remote f.remote) as (λ r. cond (same_endpoint flow.remote f.remote)
+          (Some (length slots))
+          (old f.remote) ≡ Some i) [
+            | inl q ↦ let z : None ≡ Some i = sym absent ∙ (ap old q.0 ∙ found i f p) in cc
+            | inr q ↦ ap (λ v. cond v (Some (length slots)) (old f.remote)) q.1 ∙ found i f p
+          ]
+    ]
+
+pub put_many : (old new : Many) (flow : Flow) → IsMany old → place_at old flow.remote ≡ None → new.slots.slots
+    ≡ old.slots.slots ++ Some flow ∷ [] →
+    ((e : Endpoint) → place_at new e ≡ cond (same_endpoint flow.remote e) (Some (length old.slots.slots))
+    (place_at old e)) →
+    ((a : ℕ) → count_at new.addresses a ≡ count_at old.addresses a + cond {A = ℕ} (eqb flow.remote.address a) 1 0) →
+    IsMany new
+put_many old new flow is absent slots places counts = record {
+  stands = λ e i h.
+      let s = put_stands old.slots.slots (place_at old) flow e i is.stands (sym (places e) ∙ h) in
+      (s.0, ap (λ (l : List (Option Flow)). slice_get l i) slots ∙ s.1, s.2);
+  found = λ i f h. places f.remote ∙ put_found old.slots.slots (place_at old) flow absent is.found i f
+      (ap (λ (l : List (Option Flow)). slice_get l i) (sym slots) ∙ h);
+  counted = λ a.
+      let more : count_of (old.slots.slots ++ Some flow ∷ []) a ≡ count_of old.slots.slots a
+      + of_address a (Some flow) = sum_by_push (of_address a) old.slots.slots (Some flow) in
+      counts a ∙ (ap (λ (n : ℕ). n + cond {A = ℕ} (eqb flow.remote.address a) 1 0) (is.counted a)
+      ∙ (sym more ∙ ap (λ (l : List (Option Flow)). count_of l a) (sym slots)));
+}
+
+pub taken_many : (old new : Many) (i : ℕ) (flow : Flow) → IsMany old → Stands old.slots.slots i flow → new.slots.slots
+    ≡ set old.slots.slots i None →
+    ((e : Endpoint) → place_at new e ≡ cond (same_endpoint flow.remote e) None (place_at old e)) →
+    ((a : ℕ) → count_at new.addresses a ≡ count_at old.addresses a - cond {A = ℕ} (eqb flow.remote.address a) 1 0) →
+    IsMany new
+taken_many old new i flow is there slots places counts = record {
+  stands = λ e k h. elim (either flow.remote e) as (λ r. (f : Flow) × Stands new.slots.slots k f × (f.remote ≡ e)) [
+    | inl p ↦ let z : None ≡ Some k = sym (places e ∙ ap (λ v. cond v None (place_at old e)) p.1) ∙ h in cc
+    | inr p ↦
+        let s = is.stands e k (sym (places e ∙ ap (λ v. cond v None (place_at old e)) p.1) ∙ h) in
+        let differs : k ≢ i = λ q.
+        p.0 (ap (λ (x : Flow). x.remote)
+        (same_Some flow s.0 (same_Some (Some flow) (Some s.0) (sym there ∙ (ap (slice_get old.slots.slots) (sym q)
+        ∙ s.1)))) ∙ s.2) in (
+          s.0,
+          ap (λ (l : List (Option Flow)). slice_get l k) slots
+              ∙ stands_elsewhere old.slots.slots i None k s.0 differs s.1,
+          s.2,
+        )
+  ];
+  found = λ k f h.
+      elim (stands_set old.slots.slots i None k f (ap (λ (l : List (Option Flow)). slice_get l k) (sym slots) ∙ h)) as
+      (λ r. place_at new f.remote ≡ Some k) [
+        | inl p ↦ let z : None ≡ Some f = p.1 in cc
+        | inr p ↦ elim (either flow.remote f.remote) as (λ r. place_at new f.remote ≡ Some k) [
+          | inl q ↦ absurd
+              (p.0 (same_Some k i (sym (is.found k f p.1) ∙ (ap (place_at old) (sym q.0) ∙ is.found i flow there))))
+          | inr q ↦ places f.remote ∙ (ap (λ v. cond v None (place_at old f.remote)) q.1 ∙ is.found k f p.1)
+        ]
+      ];
+  counted = λ a.
+      let here : get_or old.slots.slots i None ≡ Some flow = get_or_from_slice_get old.slots.slots i
+      (Some flow) None there in
+      let less : count_of (set old.slots.slots i None) a + of_address a (get_or old.slots.slots i None)
+      ≡ count_of old.slots.slots a + 0 = sum_by-set (of_address a) old.slots.slots i None None
+      (stands_within old.slots.slots i flow there) in
+      let at : of_address a (get_or old.slots.slots i None) ≡ cond {A = ℕ} (eqb flow.remote.address a) 1 0 =
+      ap (of_address a) here in
+      let was : count_at old.addresses a ≡ count_of old.slots.slots a = is.counted a in
+      let now : count_at new.addresses a ≡ count_at old.addresses a - cond {A = ℕ} (eqb flow.remote.address a) 1 0 =
+      counts a in
+      let left : count_at new.addresses a ≡ count_of (set old.slots.slots i None) a = omega arith in
+      left ∙ ap (λ (l : List (Option Flow)). count_of l a) (sym slots);
+}
+
+pub changed_many : (old new : Many) (i : ℕ) (was flow : Flow) → IsMany old → Stands old.slots.slots i was →
+    was.remote ≡ flow.remote → new.slots.slots ≡ set old.slots.slots i (Some flow) →
+    ((e : Endpoint) → place_at new e ≡ place_at old e) →
+    ((a : ℕ) → count_at new.addresses a ≡ count_at old.addresses a) → IsMany new
+changed_many old new i was flow is there same slots places counts = record {
+  stands = λ e k h.
+      let s = is.stands e k (sym (places e) ∙ h) in
+      elim (eqb k i) as (λ v. eqb k i ≡ v → (f : Flow) × Stands new.slots.slots k f × (f.remote ≡ e)) [
+        | true ↦ λ t.
+            let q : k ≡ i = eqb-true k i t in
+            let w : was ≡ s.0 =
+            same_Some was s.0 (same_Some (Some was) (Some s.0) (sym there ∙ (ap (slice_get old.slots.slots) (sym q)
+            ∙ s.1))) in (
+              flow,
+              ap (λ (l : List (Option Flow)). slice_get l k) slots
+                  ∙ (ap (slice_get (set old.slots.slots i (Some flow))) q
+                  ∙ stands_there old.slots.slots i was flow there),
+              sym same ∙ (ap (λ (x : Flow). x.remote) w ∙ s.2),
+            )
+        | false ↦ λ t. (
+          s.0,
+          ap (λ (l : List (Option Flow)). slice_get l k) slots ∙ stands_elsewhere old.slots.slots i
+              (Some flow) k s.0 (λ q. true≢false (sym (eq-eqb k i q) ∙ t)) s.1,
+          s.2,
+        )
+      ] refl;
+  found = λ k f h.
+      elim (stands_set old.slots.slots i (Some flow) k f (ap (λ (l : List (Option Flow)). slice_get l k) (sym slots)
+      ∙ h)) as (λ r. place_at new f.remote ≡ Some k) [
+        | inl p ↦ places f.remote ∙ (ap (place_at old) (sym (same ∙ ap (λ (x : Flow). x.remote) (same_Some flow f p.1)))
+            ∙ (is.found i was there ∙ ap (λ (n : ℕ). Some n) (sym p.0)))
+        | inr p ↦ places f.remote ∙ is.found k f p.1
+      ];
+  counted = λ a.
+      let here : get_or old.slots.slots i None ≡ Some was = get_or_from_slice_get old.slots.slots i
+      (Some was) None there in
+      let less : count_of (set old.slots.slots i (Some flow)) a + of_address a (get_or old.slots.slots i None)
+      ≡ count_of old.slots.slots a + of_address a (Some flow) = sum_by-set (of_address a) old.slots.slots i
+      (Some flow) None (stands_within old.slots.slots i was there) in
+      let at : of_address a (get_or old.slots.slots i None) ≡ of_address a (Some flow) = ap (of_address a) here
+      ∙ ap (λ (e : Endpoint). cond {A = ℕ} (eqb e.address a) 1 0) same in
+      let left : count_of old.slots.slots a ≡ count_of (set old.slots.slots i (Some flow)) a = omega arith in
+      counts a ∙ (is.counted a ∙ (left ∙ ap (λ (l : List (Option Flow)). count_of l a) (sym slots)));
+}
+
+pub few_counted : (many : Many) (address : ℕ) → IsMany many → count_at many.addresses address ≤ length many.slots.slots
+few_counted many address is =
+    let le = Rattle.std.proofs.lemmas.List.Sums.sum_by-le (of_address address) 1 many.slots.slots (λ k d lt.
+    one_at_most (get_or many.slots.slots k d)) in
+    omega (arith, le, is.counted address)
+  where
+    one_at_most : (o : Option Flow) → of_address address o ≤ 1
+    one_at_most None = omega arith
+    one_at_most (Some f) = elim (eqb f.remote.address address) as (λ v. cond {A = ℕ} v 1 0 ≤ 1)
+        [ true ↦ omega arith | false ↦ omega arith ]
+
+pub found_is : (many : Many) (remote : Endpoint) → IsMany many → Rattle.std.specs.Prelude.is_some (place_at many remote)
+    ≡ list_any (is_flow_of remote) (somes many.slots.slots)
+found_is many remote is = elim (place_at many remote) as (λ o. place_at many remote ≡ o →
+    Rattle.std.specs.Prelude.is_some o ≡ list_any (is_flow_of remote) (somes many.slots.slots)) [
+      | None ↦ λ e. sym (not_found many remote is e)
+      | Some i ↦ λ e. sym (has_found many remote i is e)
+    ] refl

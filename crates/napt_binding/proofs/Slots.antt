@@ -1,0 +1,185 @@
+-- What stands in slots, when one is filled or emptied.
+use Rattle.std.proofs.Common.{◌≡◌, ◌≢◌, ℕ, zero, suc, ◌+◌, ◌<◌, ◌⊎◌, inl, inr, Bool, true, false, ◌||◌, cond, List, [], ◌∷◌, ◌++◌, length, map, set, Option, Some, None, nat_lt, refl, sym, ◌∙◌, ap, arith}
+use Rattle.std.specs.Prelude.{filter, ◌==◌}
+use Rattle.std.specs.List.{list_any}
+use Rattle.std.proofs.lemmas.Bool.Decides.{nat_tests}
+use Rattle.std.proofs.lemmas.Option.{same_Some}
+use Rattle.std.proofs.lemmas.List.Sums.{sum_by-cons}
+use Rattle.napt_config.specs.declared.settings.Timers.{Timers}
+use Rattle.napt_binding.specs.declared.Flow.{Flow}
+use Rattle.napt_binding.specs.Lists.{change_first}
+use Rattle.napt_binding.specs.Marks.{is_established}
+use Rattle.napt_binding.specs.Life.{is_recent, is_live_flow}
+use Rattle.napt_binding.specs.Slots.{somes, Stands, established_time, other_time, is_recent_time, of_address, count_of}
+
+module _ {X : Type 0} where
+  pub stands_within : (slots : List (Option X)) (i : ℕ) (x : X) → Stands slots i x → i < length slots
+  stands_within [] i x h = cc
+  stands_within (o ∷ slots) zero x h = omega arith
+  stands_within (o ∷ slots) (suc i) x h = omega (arith, stands_within slots i x h)
+
+  -- what stands after a slot was written
+  pub stands_set : (slots : List (Option X)) (i : ℕ) (o : Option X) (k : ℕ) (y : X) → Stands (set slots i o) k y →
+      ((k ≡ i) × (o ≡ Some y)) ⊎ ((k ≢ i) × Stands slots k y)
+  stands_set [] i o k y h = cc
+  stands_set (z ∷ slots) zero o zero y h = inl (refl, same_Some o (Some y) h)
+  stands_set (z ∷ slots) zero o (suc k) y h = inr ((λ e. absurd (omega (arith, e))), h)
+  stands_set (z ∷ slots) (suc i) o zero y h = inr ((λ e. absurd (omega (arith, e))), h)
+  stands_set (z ∷ slots) (suc i) o (suc k) y h =
+      elim (stands_set slots i o k y h) as (λ r. ((suc k ≡ suc i) × (o ≡ Some y)) ⊎ ((suc k ≢ suc i)
+      × Stands slots k y)) [
+        | inl p ↦ inl (ap suc p.0, p.1)
+        | inr p ↦ inr ((λ e. p.0 (omega (arith, e))), p.1)
+      ]
+
+  pub stands_there : (slots : List (Option X)) (i : ℕ) (x y : X) → Stands slots i x → Stands (set slots i (Some y)) i y
+  stands_there [] i x y h = cc
+  stands_there (o ∷ slots) zero x y h = refl
+  stands_there (o ∷ slots) (suc i) x y h = stands_there slots i x y h
+
+  pub stands_elsewhere : (slots : List (Option X)) (i : ℕ) (o : Option X) (k : ℕ) (y : X) → k ≢ i → Stands slots k y →
+      Stands (set slots i o) k y
+  stands_elsewhere [] i o k y differs h = h
+  stands_elsewhere (z ∷ slots) zero o zero y differs h = absurd (differs refl)
+  stands_elsewhere (z ∷ slots) zero o (suc k) y differs h = h
+  stands_elsewhere (z ∷ slots) (suc i) o zero y differs h = h
+  stands_elsewhere (z ∷ slots) (suc i) o (suc k) y differs h = stands_elsewhere slots i o k y (λ e.
+      differs (ap suc e)) h
+
+  -- after one more slot
+  pub stands_pushed : (slots : List (Option X)) (o : Option X) (k : ℕ) (y : X) → Stands (slots ++ o ∷ []) k y →
+      ((k ≡ length slots) × (o ≡ Some y)) ⊎ Stands slots k y
+  stands_pushed [] o zero y h = inl (refl, same_Some o (Some y) h)
+  stands_pushed [] o (suc k) y h = cc
+  stands_pushed (z ∷ slots) o zero y h = inr h
+  stands_pushed (z ∷ slots) o (suc k) y h =
+      elim (stands_pushed slots o k y h) as (λ r. ((suc k ≡ suc (length slots)) × (o ≡ Some y)) ⊎ Stands slots k y) [
+        | inl p ↦ inl (ap suc p.0, p.1)
+        | inr p ↦ inr p
+      ]
+
+  pub stands_last : (slots : List (Option X)) (y : X) → Stands (slots ++ Some y ∷ []) (length slots) y
+  stands_last [] y = refl
+  stands_last (o ∷ slots) y = stands_last slots y
+
+  pub stands_still : (slots : List (Option X)) (o : Option X) (k : ℕ) (y : X) → Stands slots k y →
+      Stands (slots ++ o ∷ []) k y
+  stands_still [] o k y h = cc
+  stands_still (z ∷ slots) o zero y h = h
+  stands_still (z ∷ slots) o (suc k) y h = stands_still slots o k y h
+
+  -- THE LIST
+
+  pub somes_pushed : (slots : List (Option X)) (y : X) → somes (slots ++ Some y ∷ []) ≡ somes slots ++ y ∷ []
+  somes_pushed [] y = refl
+  somes_pushed (None ∷ slots) y = somes_pushed slots y
+  somes_pushed (Some x ∷ slots) y = ap (λ (l : List X). x ∷ l) (somes_pushed slots y)
+
+  pub any_stands : (t : X → Bool) (slots : List (Option X)) (i : ℕ) (x : X) → Stands slots i x → t x ≡ true →
+      list_any t (somes slots) ≡ true
+  any_stands t [] i x h e = cc
+  any_stands t (None ∷ slots) zero x h e = cc
+  any_stands t (None ∷ slots) (suc i) x h e = any_stands t slots i x h e
+  any_stands t (Some y ∷ slots) zero x h e = let s : y ≡ x = same_Some y x (same_Some (Some y) (Some x) h) in
+      ap (λ v. v || list_any t (somes slots)) (ap t s ∙ e)
+  any_stands t (Some y ∷ slots) (suc i) x h e = grind (arith, any_stands t slots i x h e)
+
+  pub any_none : (t : X → Bool) (slots : List (Option X)) → ((i : ℕ) (x : X) → Stands slots i x → t x ≡ false) →
+      list_any t (somes slots) ≡ false
+  any_none t [] none = refl
+  any_none t (None ∷ slots) none = any_none t slots (λ i x h. none (suc i) x h)
+  any_none t (Some y ∷ slots) none = grind (arith, none zero y refl, any_none t slots (λ i x h. none (suc i) x h))
+
+  pub all_kept : (p : X → Bool) (slots : List (Option X)) → ((i : ℕ) (x : X) → Stands slots i x → p x ≡ true) →
+      filter p (somes slots) ≡ somes slots
+  all_kept p [] all = refl
+  all_kept p (None ∷ slots) all = all_kept p slots (λ i x h. all (suc i) x h)
+  all_kept p (Some y ∷ slots) all = grind (arith, all zero y refl, all_kept p slots (λ i x h. all (suc i) x h))
+
+  -- one that is not kept goes
+  pub kept_emptied : (p : X → Bool) (slots : List (Option X)) (i : ℕ) (x : X) → Stands slots i x → p x ≡ false →
+      filter p (somes (set slots i None)) ≡ filter p (somes slots)
+  kept_emptied p [] i x h e = cc
+  kept_emptied p (None ∷ slots) zero x h e = cc
+  kept_emptied p (None ∷ slots) (suc i) x h e = kept_emptied p slots i x h e
+  kept_emptied p (Some y ∷ slots) zero x h e = let s : y ≡ x = same_Some y x (same_Some (Some y) (Some x) h) in
+      sym (ap (λ v. cond v (y ∷ filter p (somes slots)) (filter p (somes slots))) (ap p s ∙ e))
+  kept_emptied p (Some y ∷ slots) (suc i) x h e = ap (λ (l : List X). cond (p y) (y ∷ l) l)
+      (kept_emptied p slots i x h e)
+
+  pub one_fewer : (slots : List (Option X)) (i : ℕ) (x : X) → Stands slots i x → length (somes (set slots i None))
+      < length (somes slots)
+  one_fewer [] i x h = cc
+  one_fewer (None ∷ slots) zero x h = cc
+  one_fewer (None ∷ slots) (suc i) x h = one_fewer slots i x h
+  one_fewer (Some y ∷ slots) zero x h = omega arith
+  one_fewer (Some y ∷ slots) (suc i) x h = omega (arith, one_fewer slots i x h)
+
+  -- the one that passes is changed where it stands
+  pub kept_set : (p t : X → Bool) (f : X → X) (slots : List (Option X)) (i : ℕ) (x : X) → Stands slots i x →
+      p x ≡ true → p (f x) ≡ true → t x ≡ true →
+      ((k : ℕ) (y : X) → Stands slots k y → t y ≡ true → k ≡ i) → filter p (somes (set slots i (Some (f x))))
+      ≡ change_first t f (filter p (somes slots))
+  kept_set p t f [] i x h kept stays here one = cc
+  kept_set p t f (None ∷ slots) zero x h kept stays here one = cc
+  kept_set p t f (None ∷ slots) (suc i) x h kept stays here one = kept_set p t f slots i x h kept stays here (λ k y g e.
+      let z : suc k ≡ suc i = one (suc k) y g e in omega arith)
+  kept_set p t f (Some y ∷ slots) zero x h kept stays here one =
+      let s : y ≡ x = same_Some y x (same_Some (Some y) (Some x) h) in
+      let kept_y : p y ≡ true = ap p s ∙ kept in
+      let here_y : t y ≡ true = ap t s ∙ here in
+      let same : f x ≡ f y = ap f (sym s) in
+      ap (λ v. cond v (f x ∷ filter p (somes slots)) (filter p (somes slots))) stays
+      ∙ (ap (λ (z : X). z ∷ filter p (somes slots)) same
+      ∙ sym (ap (λ v. change_first t f (cond v (y ∷ filter p (somes slots)) (filter p (somes slots)))) kept_y
+      ∙ ap (λ v. cond v (f y ∷ filter p (somes slots)) (y ∷ change_first t f (filter p (somes slots)))) here_y))
+  kept_set p t f (Some y ∷ slots) (suc i) x h kept stays here one =
+      let rest : filter p (somes (set slots i (Some (f x)))) ≡ change_first t f (filter p (somes slots)) =
+      kept_set p t f slots i x h kept stays here (λ k y g e. let z : suc k ≡ suc i = one (suc k) y g e in
+      omega arith) in
+      let other : t y ≡ false = elim (t y) as (λ v. t y ≡ v → v ≡ false) [
+        | true ↦ λ e. let z : zero ≡ suc i =
+            one zero y refl e in absurd (omega arith)
+        | false ↦ λ e. refl
+      ] refl in
+      grind (arith, rest, other)
+
+-- TIMES
+
+pub any_live : (timers : Timers) (now : ℕ) (slots : List (Option Flow)) →
+    list_any (is_live_flow timers now) (somes slots)
+    ≡ (list_any (is_recent_time now timers.established) (map established_time slots)
+    || list_any (is_recent_time now timers.transitory) (map other_time slots))
+any_live timers now [] = refl
+any_live timers now (None ∷ slots) = any_live timers now slots
+any_live timers now (Some f ∷ slots) =
+    elim (is_established f.marks) as (λ v. (is_recent now f.last (cond v timers.established timers.transitory)
+    || list_any (is_live_flow timers now) (somes slots))
+    ≡ ((is_recent_time now timers.established (cond v (Some f.last) None)
+    || list_any (is_recent_time now timers.established) (map established_time slots))
+    || (is_recent_time now timers.transitory (cond v None (Some f.last))
+    || list_any (is_recent_time now timers.transitory) (map other_time slots)))) [
+      | true ↦ grind (arith, any_live timers now slots)
+      | false ↦ grind (arith, any_live timers now slots)
+    ]
+
+-- COUNTS
+
+pub any_of_address : (address : ℕ) (slots : List (Option Flow)) → list_any (λ flow. flow.remote.address == address)
+    (somes slots) ≡ nat_lt 0 (count_of slots address)
+any_of_address address [] = refl
+any_of_address address (None ∷ slots) =
+    let more : count_of (None ∷ slots) address ≡ 0 + count_of slots address =
+    sum_by-cons (of_address address) None slots in
+    let same : count_of (None ∷ slots) address ≡ count_of slots address = omega arith in
+    any_of_address address slots ∙ ap (nat_lt 0) (sym same)
+any_of_address address (Some f ∷ slots) =
+    let more : count_of (Some f ∷ slots) address ≡ of_address address (Some f) + count_of slots address =
+    sum_by-cons (of_address address) (Some f) slots in
+    elim (f.remote.address == address) as (λ v. count_of (Some f ∷ slots) address ≡ cond {A = ℕ} v 1 0
+    + count_of slots address → (v || list_any (λ flow. flow.remote.address == address) (somes slots))
+    ≡ nat_lt 0 (count_of (Some f ∷ slots) address)) [
+      | true ↦ λ e. grind (arith, nat_tests, e)
+      | false ↦ λ e. let same : count_of (Some f ∷ slots) address ≡ count_of slots address = omega (arith, e) in
+          any_of_address address slots ∙ ap (nat_lt 0) (sym same)
+    ] more

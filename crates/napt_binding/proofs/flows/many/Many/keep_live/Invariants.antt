@@ -1,0 +1,15 @@
+use Rattle.std.proofs.Common.{◌≡◌, length}
+use Rattle.std.specs.Prelude.{filter}
+use Rattle.napt_binding.specs.Life as life
+use Rattle.napt_binding.specs.Slots.{somes}
+use Rattle.napt_binding.specs.Many.{IsMany, HasRoom}
+use Rattle.napt_binding.proofs.flows.many.Many.keep_live.Given as goal
+
+abbrev pub invariant-loop-timers : goal.invariant-loop-timers
+invariant-loop-timers l =
+    IsMany l.self × (filter (life.is_live_flow l.timers l.now) (somes l.self.slots.slots)
+    ≡ filter (life.is_live_flow l.timers l.now) (somes l.fn.self.slots.slots))
+    × (HasRoom l.fn.self → HasRoom l.self)
+
+abbrev pub decreases-loop-timers : goal.decreases-loop-timers
+decreases-loop-timers l = length (somes l.self.slots.slots)

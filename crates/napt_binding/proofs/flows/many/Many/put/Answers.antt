@@ -1,0 +1,13 @@
+use Rattle.std.proofs.Common.{arith}
+use Rattle.napt_binding.proofs.Manys.{put_many, few_counted}
+use Rattle.napt_binding.proofs.flows.many.Many.put.Goals as goal
+
+pub put-requires-clause-fits : goal.put-requires-clause-fits
+put-requires-clause-fits c =
+    let few = few_counted c.args.self.now c.args.flow.remote.address c.requires.many in
+    omega (arith, few, c.put-place.ensures.place, c.put-place.ensures.fits)
+
+pub returns-clause-many : goal.returns-clause-many
+returns-clause-many c =
+    put_many c.args.self.now _ c.args.flow c.requires.many c.requires.absent c.put-place.ensures.slots
+    (λ e. rw (← c.put-place.ensures.place) (c.in-Ok.ensures.updates.0 (e.address, e.number))) c.put.ensures

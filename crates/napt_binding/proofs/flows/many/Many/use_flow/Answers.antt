@@ -1,0 +1,52 @@
+use Rattle.std.proofs.Common.{◌≡◌, ◌∙◌, ap, refl, List, [], ◌∷◌, ◌++◌, false}
+use Rattle.std.specs.List.{list_any}
+use Rattle.napt_binding.specs.declared.Flow.{Flow}
+use Rattle.napt_binding.specs.Marks.{no_marks}
+use Rattle.napt_binding.specs.Life.{live_flows, is_live_flow}
+use Rattle.napt_binding.specs.Slots.{somes}
+use Rattle.napt_binding.specs.Traffic.{is_flow_of}
+use Rattle.napt_binding.proofs.Manys.{no_place}
+use Rattle.napt_binding.proofs.Distinct.{put_next}
+use Rattle.napt_binding.proofs.Standing.{none_left, flow_begun, live_begun}
+use Rattle.napt_binding.proofs.flows.many.Many.use_flow.Goals as goal
+
+pub put-requires-clause-absent : goal.put-requires-clause-absent
+put-requires-clause-absent c =
+    let sent = c.args.sent in
+    let old : List Flow = somes c.args.self.now.slots.slots in
+    let live : List Flow = live_flows c.args.timers sent.now sent.protocol old in
+    let kept : somes c.keep_standing.new.self.slots.slots ≡ live =
+    c.keep_standing.ensures.flows
+    ∙ ap (live_flows c.args.timers sent.now sent.protocol)
+    (c.in_ok-make_room.ensures.flows ∙ ap somes (c.if-use_standing.ensures.same refl)) in
+    let none : list_any (is_flow_of sent.remote) live ≡ false =
+    none_left c.args.timers c.requires.timers sent.now sent.protocol sent.remote sent.flags old
+    (c.if-use_standing.ensures.none refl) in
+    rw c.begun.ensures
+    (no_place c.keep_standing.new.self sent.remote c.keep_standing.ensures.many
+    (ap (list_any (is_flow_of sent.remote)) kept ∙ none))
+
+pub returns-clause-ok : goal.returns-clause-ok
+returns-clause-ok c =
+    let sent = c.args.sent in
+    let old : List Flow = somes c.args.self.now.slots.slots in
+    let live : List Flow = live_flows c.args.timers sent.now sent.protocol old in
+    let kept : somes c.keep_standing.new.self.slots.slots ≡ live =
+    c.keep_standing.ensures.flows
+    ∙ ap (live_flows c.args.timers sent.now sent.protocol)
+    (c.in_ok-make_room.ensures.flows ∙ ap somes (c.if-use_standing.ensures.same refl)) in
+    let is : somes c.put.new.self.slots.slots ≡ live ++ c.begun.result ∷ [] =
+    put_next _ _ _ live c.begun.result c.put.ensures.slots refl kept in
+    ap (live_flows c.args.timers sent.now sent.protocol) (is ∙ ap (λ (f : Flow). live ++ f ∷ []) c.begun.ensures)
+    ∙ flow_begun c.args.timers c.requires.timers sent.now sent.protocol sent.remote sent.flags old
+    (c.if-use_standing.ensures.none refl)
+
+pub returns-clause-live : goal.returns-clause-live
+returns-clause-live c =
+    let sent = c.args.sent in
+    let live : List Flow = somes c.keep_standing.new.self.slots.slots in
+    let is : somes c.put.new.self.slots.slots ≡ live ++ c.begun.result ∷ [] =
+    put_next _ _ _ live c.begun.result c.put.ensures.slots refl refl in
+    ap (list_any (is_live_flow c.args.timers sent.now)) (is ∙ ap (λ (f : Flow). live ++ f ∷ []) c.begun.ensures)
+    ∙ live_begun c.args.timers c.requires.timers sent.now sent.protocol sent.remote sent.flags live
+    (record { remote = sent.remote; marks = no_marks; last = sent.now })

@@ -1,0 +1,40 @@
+use Rattle.std.proofs.Common.{◌≡◌, Some, rules, refl}
+use Rattle.napt_binding.specs.Many.{place_at}
+use Rattle.napt_binding.proofs.Manys.{one, not_found, place_of_is}
+use Rattle.napt_binding.proofs.Standing.{none_at_all, none_stands, flow_stood, live_stood}
+use Rattle.napt_binding.proofs.flows.many.Many.use_standing.Goals as goal
+
+pub returns-in_default-clause-none : goal.returns-in_default-clause-none
+returns-in_default-clause-none c given =
+    let sent = c.args.sent in
+    none_at_all c.args.timers c.requires.timers sent.now sent.protocol sent.remote sent.flags _
+    (not_found c.args.self.now sent.remote c.requires.many (cc))
+
+pub returns-then-not-is_standing-clause-none : goal.returns-then-not-is_standing-clause-none
+returns-then-not-is_standing-clause-none c given =
+    let sent = c.args.sent in
+    none_stands c.args.timers c.requires.timers sent.now sent.protocol sent.remote sent.flags
+    c.args.self.now.slots.slots c.in-Some.place c.in-Some-get.flow c.in-Some-get.ensures.stands (search rules)
+    (one c.args.self.now sent.remote c.in-Some.place c.requires.many (cc))
+
+pub returns-clause-used : goal.returns-clause-used
+returns-clause-used c given =
+    let sent = c.args.sent in
+    let at : place_at c.args.self.now sent.remote ≡ Some c.in-Some.place = cc in
+    let is = c.in-Some-get.ensures.stands in
+    rw (c.change.ensures.slots, c.used.ensures)
+    (flow_stood c.args.timers c.requires.timers sent.now sent.protocol sent.remote sent.flags
+    c.args.self.now.slots.slots c.in-Some.place c.in-Some-get.flow is (search rules)
+    (place_of_is c.args.self.now sent.remote c.in-Some.place c.in-Some-get.flow c.requires.many at is)
+    (one c.args.self.now sent.remote c.in-Some.place c.requires.many at))
+
+pub returns-clause-live : goal.returns-clause-live
+returns-clause-live c given =
+    let sent = c.args.sent in
+    rw (c.change.ensures.slots, c.used.ensures)
+    (live_stood c.args.timers c.requires.timers sent.now sent.protocol sent.remote sent.flags
+    c.args.self.now.slots.slots c.in-Some.place c.in-Some-get.flow c.in-Some-get.ensures.stands)
+
+pub change-requires-clause-stands : goal.change-requires-clause-stands
+change-requires-clause-stands c =
+    (c.in-Some-get.flow, c.in-Some-get.ensures.stands, rw c.used.ensures (refl))

@@ -1,0 +1,44 @@
+-- The bindings of a translator, as one list in the order in which they were made.
+--
+-- RFC 3022, section 2.2: a binding stands for the tuple of local address and port and the registered address and port
+-- that replaces it. RFC 4787, REQ-1: the mapping is the same for every remote endpoint. REQ-2: every session of a host
+-- has the same external address, that of its pairing.
+use Rattle.std.specs.Prelude.{ℕ, ◌==◌, Bool, true, false, ◌&&◌, List, filter}
+use Rattle.napt_wire.specs.declared.Protocol.{Protocol}
+use Rattle.napt_wire.specs.declared.Protocol.TheVariants.{Icmp, Tcp, Udp}
+use Rattle.napt_wire.specs.declared.Endpoint.{Endpoint}
+use Rattle.napt_binding.specs.declared.Binding.{Binding}
+
+abbrev pub same_protocol : Protocol → Protocol → Bool
+same_protocol Icmp Icmp = true
+same_protocol Tcp Tcp = true
+same_protocol Udp Udp = true
+same_protocol _ _ = false
+
+abbrev pub is_tcp : Protocol → Bool
+is_tcp protocol = same_protocol protocol Tcp
+
+abbrev pub is_udp : Protocol → Bool
+is_udp protocol = same_protocol protocol Udp
+
+abbrev pub same_endpoint : Endpoint → Endpoint → Bool
+same_endpoint a b = (a.address == b.address) && (a.number == b.number)
+
+-- WHICH BINDING
+
+abbrev pub is_at : ℕ → Binding → Bool
+is_at address binding = binding.external.address == address
+
+-- the bindings of one external address
+abbrev pub of : ℕ → List Binding → List Binding
+of address list = filter (is_at address) list
+
+-- at the address, under the protocol, of this inside endpoint
+abbrev pub is_of_inside : ℕ → Protocol → Endpoint → Binding → Bool
+is_of_inside address protocol inside binding = is_at address binding && (same_protocol protocol binding.protocol
+    && same_endpoint inside binding.inside)
+
+-- at the address, under the protocol, with this external number
+abbrev pub has_number : ℕ → Protocol → ℕ → Binding → Bool
+has_number address protocol number binding = is_at address binding && (same_protocol protocol binding.protocol
+    && (binding.external.number == number))

@@ -1,0 +1,15 @@
+pub mod Lists
+pub mod Marks
+pub mod Bindings
+pub mod Life
+pub mod Filtering
+pub mod Inbound
+pub mod Traffic
+pub mod Ends
+pub mod Slots
+pub mod SlotsShown
+pub mod Timed
+pub mod Counts
+pub mod Many
+pub mod Kept
+pub mod Sent

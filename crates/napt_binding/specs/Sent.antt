@@ -1,0 +1,26 @@
+-- The flows of a binding, when a packet goes out through it.
+use Rattle.std.specs.Prelude.{List}
+use Rattle.napt_wire.specs.declared.Way.TheVariants.{Outgoing}
+use Rattle.napt_config.specs.declared.settings.Timers.{Timers}
+use Rattle.napt_binding.specs.declared.Flow.{Flow}
+use Rattle.napt_binding.specs.declared.sent.Sent.{Sent}
+use Rattle.napt_binding.specs.Lists.{change_first}
+use Rattle.napt_binding.specs.Marks.{no_marks}
+use Rattle.napt_binding.specs.Life.{live_flows}
+use Rattle.napt_binding.specs.Traffic.{is_flow_of, used, with_flow}
+
+-- the flow that begins with the packet
+abbrev pub begun_by : Sent → Flow
+begun_by sent =
+    used sent.protocol Outgoing sent.flags sent.now
+    (record { remote = sent.remote; marks = no_marks; last = sent.now })
+
+-- the flows that stand when the packet goes out
+abbrev pub standing_at : Timers → Sent → List Flow → List Flow
+standing_at timers sent flows = live_flows timers sent.now sent.protocol flows
+
+-- the flow of the packet's remote is used by it; where there is none, one begins
+abbrev pub used_by : Sent → List Flow → List Flow
+used_by sent flows =
+    change_first (is_flow_of sent.remote) (used sent.protocol Outgoing sent.flags sent.now)
+    (with_flow sent.remote sent.now flows)

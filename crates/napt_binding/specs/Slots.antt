@@ -1,0 +1,46 @@
+-- Flows in slots, in the order in which they began; a flow that goes leaves its slot empty.
+use Rattle.std.specs.Prelude.{◌≡◌, ℕ, ◌==◌, Bool, false, cond, List, [], ◌∷◌, slice_get, sum_by, Option, Some, None}
+use Rattle.std.specs.List.{list_any}
+use Rattle.napt_binding.specs.declared.Flow.{Flow}
+use Rattle.napt_binding.specs.Marks.{is_established}
+use Rattle.napt_binding.specs.Life.{is_recent}
+use Rattle.napt_binding.specs.Traffic.{is_flow_of}
+
+-- what stands in the slots
+abbrev pub somes : {X : Type 0} → List (Option X) → List X
+somes [] = []
+somes (None ∷ slots) = somes slots
+somes (Some x ∷ slots) = x ∷ somes slots
+
+-- no two flows are of one remote
+abbrev pub AreDistinct : List Flow → Type 0
+AreDistinct [] = Unit {0}
+AreDistinct (flow ∷ flows) = (list_any (is_flow_of flow.remote) flows ≡ false) × AreDistinct flows
+
+-- it stands in the slot
+abbrev pub Stands : {X : Type 0} → List (Option X) → ℕ → X → Type 0
+Stands slots place x = slice_get slots place ≡ Some (Some x)
+
+-- when an established flow was last used
+abbrev pub established_time : Option Flow → Option ℕ
+established_time None = None
+established_time (Some flow) = cond (is_established flow.marks) (Some flow.last) None
+
+-- when another flow was last used
+abbrev pub other_time : Option Flow → Option ℕ
+other_time None = None
+other_time (Some flow) = cond (is_established flow.marks) None (Some flow.last)
+
+-- there is a time, less than so many seconds ago
+abbrev pub is_recent_time : ℕ → ℕ → Option ℕ → Bool
+is_recent_time now seconds None = false
+is_recent_time now seconds (Some time) = is_recent now time seconds
+
+-- how many flows of the remote address stand in a slot
+abbrev pub of_address : ℕ → Option Flow → ℕ
+of_address address None = 0
+of_address address (Some flow) = cond (flow.remote.address == address) 1 0
+
+-- how many flows of the remote address stand in the slots
+abbrev pub count_of : List (Option Flow) → ℕ → ℕ
+count_of slots address = sum_by (of_address address) slots

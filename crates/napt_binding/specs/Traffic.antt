@@ -1,0 +1,89 @@
+-- What one packet does to one binding and its flows.
+--
+-- RFC 4787, REQ-6, and RFC 5382, REQ-5: UDP and echo are refreshed by outbound packets, UDP by inbound ones too where
+-- the configuration says so, a TCP flow by its segments in both directions.
+use Rattle.std.specs.Prelude.{ℕ, Bool, false, not, ◌&&◌, cond, List, [], ◌∷◌, ◌++◌, Result, Ok, Err}
+use Rattle.std.specs.List.{list_any}
+use Rattle.napt_wire.specs.declared.Protocol.{Protocol}
+use Rattle.napt_wire.specs.declared.Way.{Way}
+use Rattle.napt_wire.specs.declared.Way.TheVariants.{Outgoing, Incoming}
+use Rattle.napt_wire.specs.declared.Cause.{Cause}
+use Rattle.napt_wire.specs.declared.Cause.TheVariants.{Filtered}
+use Rattle.napt_wire.specs.declared.Endpoint.{Endpoint}
+use Rattle.napt_wire.specs.declared.Flags.{Flags}
+use Rattle.napt_config.specs.declared.settings.Refresh.{Refresh}
+use Rattle.napt_config.specs.declared.settings.Refresh.TheVariants.{Outbound, Both}
+use Rattle.napt_config.specs.declared.settings.Timers.{Timers}
+use Rattle.napt_binding.specs.declared.inbound.Inbound.{Inbound}
+use Rattle.napt_binding.specs.declared.Flow.{Flow}
+use Rattle.napt_binding.specs.declared.Binding.{Binding}
+use Rattle.napt_binding.specs.Lists.{change_first}
+use Rattle.napt_binding.specs.Marks.{no_marks, marked}
+use Rattle.napt_binding.specs.Bindings.{is_tcp, is_udp, same_endpoint}
+use Rattle.napt_binding.specs.Life.{is_standing}
+use Rattle.napt_binding.specs.Filtering.{permits}
+
+-- FLOWS
+
+abbrev pub is_flow_of : Endpoint → Flow → Bool
+is_flow_of remote flow = same_endpoint flow.remote remote
+
+-- used now, and in TCP marked
+abbrev pub used : Protocol → Way → Flags → ℕ → Flow → Flow
+used protocol way flags now flow = record {
+  remote = flow.remote;
+  marks =
+      cond (is_tcp protocol) (marked flow.marks way flags) flow.marks;
+  last = now;
+}
+
+-- the flows with one of the remote, which is appended without marks where there is none
+abbrev pub with_flow : Endpoint → ℕ → List Flow → List Flow
+with_flow remote now flows = cond (list_any (is_flow_of remote) flows) flows (flows ++ record {
+  remote = remote;
+  marks =
+      no_marks;
+  last = now;
+} ∷ [])
+
+-- it is of the remote, and counts
+abbrev pub standing_flow_of : Timers → ℕ → Protocol → Endpoint → Flow → Bool
+standing_flow_of timers now protocol remote flow = is_standing timers now protocol flow && is_flow_of remote flow
+
+-- BINDINGS
+
+-- a binding after a packet went out through it: a redirect stays as it is
+abbrev pub sent : Endpoint → Flags → ℕ → Binding → Binding
+sent remote flags now binding =
+    cond binding.fixed binding
+    (record binding {
+      last = now;
+      flows = change_first (is_flow_of remote) (used binding.protocol Outgoing flags now)
+          (with_flow remote now binding.flows);
+    })
+
+-- whether packets that come in keep the binding alive (RFC 4787, REQ-6): UDP's, where the configuration says so
+abbrev pub refreshes : Refresh → Binding → Bool
+refreshes Outbound binding = false
+refreshes Both binding = is_udp binding.protocol && not binding.fixed
+
+abbrev pub refreshed : Refresh → ℕ → Binding → Binding
+refreshed refresh now binding = cond (refreshes refresh binding) (record binding { last = now }) binding
+
+-- a binding after a packet came in through it: a TCP flow that stands is marked and refreshed
+abbrev pub received : Inbound → Endpoint → Flags → ℕ → Binding → Binding
+received inbound remote flags now binding =
+    cond (is_tcp binding.protocol)
+    (record binding {
+      flows = change_first (is_flow_of remote) (used binding.protocol Incoming flags now) binding.flows;
+    })
+    (refreshed inbound.refresh now binding)
+
+-- what a packet that comes in is told of the binding with its number
+abbrev pub entered : Inbound → Endpoint → Binding → Result Endpoint Cause
+entered inbound remote binding = cond (permits inbound binding remote) (Ok binding.inside) (Err Filtered)
+
+-- the binding that it leaves
+abbrev pub left_by : Inbound → Endpoint → Flags → ℕ → Binding → Binding
+left_by inbound remote flags now binding = cond (permits inbound binding remote)
+    (received inbound remote flags now binding) binding

@@ -1,0 +1,233 @@
+//! The flows of one binding.
+//!
+//! No call walks over more than a few of them.
+
+ghost use Rattle.std.specs.Prelude.{◌≡◌, ◌==◌, ◌≤◌, ℕ, Bool, true, filter, OnOk, OnErr, IfOk, [], ◌∷◌};
+ghost use Rattle.std.specs.List.{list_any};
+ghost use Rattle.napt_config.specs.Rules.{AreTimers};
+ghost use Rattle.napt_binding.specs.Life as life;
+ghost use Rattle.napt_binding.specs.Kept.{flows_of, IsKept};
+ghost use Rattle.napt_binding.specs.Lists.{change_first};
+ghost use Rattle.napt_binding.specs.Sent as packets;
+ghost use Rattle.napt_binding.specs.Slots.{AreDistinct, somes};
+ghost use Rattle.napt_binding.specs.Many.{IsMany};
+ghost use Rattle.napt_binding.specs.Traffic as traffic;
+
+mod few;
+mod many;
+mod slots;
+
+use crate::Flow;
+use crate::sent::Sent;
+use many::Many;
+use napt_config::Timers;
+use napt_wire::{Endpoint, Flags, Protocol, Way};
+use std::alloc::{AllocError, Global};
+use std::marker::Model;
+
+/// How many flows are kept without maps, and walked over at each packet.
+const FEW: usize = 8;
+
+/// How flows are kept. Most bindings have one, and it takes no memory of its own.
+#[derive(Drop)]
+enum Kept {
+    Empty,
+    One(Flow),
+    Few(Vec<Flow>),
+    Many(Box<Many>),
+}
+
+/// The flows of one binding, in the order in which they began, no two of one remote endpoint; contracts see them as a list.
+#[derive(Drop)]
+pub struct Flows {
+    kept: Kept,
+}
+
+impl Model for Flows {
+    ghost use Rattle.std.specs.Prelude.{List};
+    ghost use Rattle.napt_binding.specs.declared.Flow.{Flow};
+
+    ghost Value = { List Flow };
+
+    ghost use Rattle.napt_binding.specs.Kept.{flows_of, IsKept};
+
+    ghost view = { λ flows. flows_of flows.kept };
+
+    ghost invariant = { λ flows. IsKept flows.kept };
+}
+
+/// Whether so many flows of a binding stand that one more is kept with maps.
+fn is_full(flows: &[Flow], timers: Timers, sent: Sent) -> bool
+    requires { AreTimers timers }
+{
+    if flows.len() < FEW {
+        return false;
+    }
+    let standing = flows
+        .iter()
+        .filter(|flow| flow.is_standing(timers, sent.now, sent.protocol));
+    FEW <= standing.count() && few::standing_place(flows, timers, sent).is_none()
+}
+
+/// One flow, after a packet goes out: still one where it is of the packet's remote, or is dead.
+fn after_one(alloc: Global, timers: Timers, sent: Sent, flow: Flow) -> Result<Kept, AllocError>
+    requires { AreTimers timers }
+    ensures kept { IfOk result IsKept }
+    ensures flows { IfOk result (λ kept. packets.standing_at timers sent (flows_of kept)
+        ≡ packets.used_by sent (packets.standing_at timers sent (flow ∷ []))) }
+    ensures live { IfOk result (λ kept.
+        list_any (life.is_live_flow timers sent.now) (flows_of kept) ≡ true) }
+{
+    if !flow.is_standing(timers, sent.now, sent.protocol) {
+        return Ok(Kept::One(sent.begun()));
+    }
+    if flow.is_of(sent.remote) {
+        return Ok(Kept::One(sent.used(flow)));
+    }
+    let mut flows = Vec::new(alloc);
+    flows.push(flow)?;
+    flows.push(sent.begun())?;
+    Ok(Kept::Few(flows))
+}
+
+impl Flows {
+    /// No flows. It takes no memory.
+    pub fn new(_alloc: Global) -> Flows
+        ensures { result ≡ [] }
+    {
+        Flows { kept: Kept::Empty }
+    }
+
+    /// The flows of a binding through which a first packet goes out. They take no memory of their own.
+    pub fn begun(_alloc: Global, timers: Timers, sent: Sent) -> Result<Flows, AllocError>
+        requires { AreTimers timers }
+        ensures { IfOk result (λ flows. packets.standing_at timers sent flows
+            ≡ packets.used_by sent []) }
+    {
+        Ok(Flows {
+            kept: Kept::One(sent.begun()),
+        })
+    }
+
+    /// The last moment at which one of these TCP flows is live, where one is live now.
+    pub(crate) fn last_moment(&self, timers: Timers, now: u64) -> u64
+        requires timers { AreTimers timers }
+        requires live { list_any (life.is_live_flow timers now) self.now ≡ true }
+        ensures later { now ≤ result }
+        ensures lives { (t : ℕ) → t ≤ result → list_any (life.is_live_flow timers t) self.now
+            ≡ true }
+    {
+        match &self.kept {
+            Kept::Empty => now,
+            Kept::One(flow) => flow.last_moment(timers).max(now),
+            Kept::Few(flows) => few::last_moment_of(flows, timers, now),
+            Kept::Many(many) => many.last_moment(timers, now),
+        }
+    }
+
+    /// Whether one of these TCP flows is live.
+    pub(crate) fn has_live(&self, timers: Timers, now: u64) -> bool
+        requires { AreTimers timers }
+        ensures { result ≡ list_any (life.is_live_flow timers now) self.now }
+    {
+        match &self.kept {
+            Kept::Empty => false,
+            Kept::One(flow) => flow.is_live(timers, now),
+            Kept::Few(flows) => flows.iter().any(|flow| flow.is_live(timers, now)),
+            Kept::Many(many) => many.has_live(timers, now),
+        }
+    }
+
+    /// The dead ones of these TCP flows go.
+    pub(crate) fn keep_live(&mut self, timers: Timers, now: u64)
+        requires { AreTimers timers }
+        ensures { self.new ≡ filter (life.is_live_flow timers now) self.old }
+    {
+        match &mut self.kept {
+            Kept::Empty => {}
+            Kept::One(flow) => {
+                if !flow.is_live(timers, now) {
+                    self.kept = Kept::Empty;
+                }
+            }
+            Kept::Few(flows) => few::keep_live(flows, timers, now),
+            Kept::Many(many) => return many.keep_live(timers, now),
+        }
+    }
+
+    /// Whether one of the flows is of the address.
+    pub(crate) fn has_address(&self, address: u32) -> bool
+        ensures { result ≡ list_any (λ flow. flow.remote.address == address) self.now }
+    {
+        match &self.kept {
+            Kept::Empty => false,
+            Kept::One(flow) => flow.remote.address == address,
+            Kept::Few(flows) => flows.iter().any(|flow| flow.remote.address == address),
+            Kept::Many(many) => many.has_address(address),
+        }
+    }
+
+    /// Whether one of the flows is of the remote.
+    pub(crate) fn has_remote(&self, remote: Endpoint) -> bool
+        ensures { result ≡ list_any (traffic.is_flow_of remote) self.now }
+    {
+        match &self.kept {
+            Kept::Empty => false,
+            Kept::One(flow) => flow.is_of(remote),
+            Kept::Few(flows) => flows.iter().any(|flow| flow.is_of(remote)),
+            Kept::Many(many) => many.has_remote(remote),
+        }
+    }
+
+    /// The flow of the packet's remote is used by it; where none lives, one begins. Where memory is refused nothing is changed.
+    pub(crate) fn use_flow(
+        &mut self,
+        alloc: Global,
+        timers: Timers,
+        sent: Sent,
+    ) -> Result<(), AllocError>
+        requires { AreTimers timers }
+        ensures ok { OnOk result (packets.standing_at timers sent self.new
+            ≡ packets.used_by sent (packets.standing_at timers sent self.old)) }
+        ensures live { OnOk result (list_any (life.is_live_flow timers sent.now) self.new ≡ true) }
+        ensures err { OnErr result (self.new ≡ self.old) }
+    {
+        match &mut self.kept {
+            Kept::Empty => {
+                self.kept = Kept::One(sent.begun());
+                return Ok(());
+            }
+            Kept::One(flow) => {
+                self.kept = after_one(alloc, timers, sent, *flow)?;
+                return Ok(());
+            }
+            Kept::Few(flows) => {
+                if !is_full(flows, timers, sent) {
+                    return few::use_flow(flows, timers, sent);
+                }
+                let mut many = Many::of(alloc, flows)?;
+                many.use_flow(alloc, timers, sent)?;
+                self.kept = Kept::Many(Box::new(alloc, many)?);
+                return Ok(());
+            }
+            Kept::Many(many) => return many.use_flow(alloc, timers, sent),
+        }
+    }
+
+    /// The flow of the remote, where there is one, is used now by an incoming segment.
+    pub(crate) fn refresh_flow(&mut self, now: u64, remote: Endpoint, flags: Flags)
+        ensures { self.new ≡ change_first (traffic.is_flow_of remote)
+            (traffic.used Protocol.Tcp Way.Incoming flags now) self.old }
+    {
+        match &mut self.kept {
+            Kept::Empty => {}
+            Kept::One(flow) => {
+                if flow.is_of(remote) {
+                    *flow = flow.used(Protocol::Tcp, Way::Incoming, flags, now);
+                }
+            }
+            Kept::Few(flows) => few::refresh_flow(flows, now, remote, flags),
+            Kept::Many(many) => return many.refresh_flow(now, remote, flags),
+        }
+    }
+}

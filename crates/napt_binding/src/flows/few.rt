@@ -1,0 +1,104 @@
+//! Few flows, one after another.
+
+ghost use Rattle.std.specs.Prelude.{◌≡◌, ◌==◌, ◌≤◌, ℕ, Bool, true, false, position, filter, vec_len, vec_capacity, OnOk, OnErr};
+ghost use Rattle.std.specs.List.{list_any};
+ghost use Rattle.napt_config.specs.Rules.{AreTimers};
+ghost use Rattle.napt_binding.specs.Lists.{change_first};
+ghost use Rattle.napt_binding.specs.Life as life;
+ghost use Rattle.napt_binding.specs.Traffic.{standing_flow_of};
+ghost use Rattle.napt_binding.specs.Sent as packets;
+ghost use Rattle.napt_binding.specs.Slots.{AreDistinct};
+ghost use Rattle.napt_binding.specs.Traffic as traffic;
+
+use crate::Flow;
+use crate::sent::Sent;
+use napt_config::Timers;
+use napt_wire::{Endpoint, Flags, Protocol, Way};
+use std::alloc::AllocError;
+
+/// The last moment at which one of these flows is live, where one is live now.
+pub(super) fn last_moment_of(flows: &[Flow], timers: Timers, now: u64) -> u64
+    requires timers { AreTimers timers }
+    requires live { list_any (life.is_live_flow timers now) flows.now ≡ true }
+    ensures later { now ≤ result }
+    ensures lives { (t : ℕ) → t ≤ result → list_any (life.is_live_flow timers t) flows.now ≡ true }
+{
+    let mut last = now;
+    for flow in flows {
+        last = last.max(flow.last_moment(timers));
+    }
+    last
+}
+
+pub(super) fn flow_place(flows: &[Flow], remote: Endpoint) -> Option<usize>
+    ensures { result ≡ position (traffic.is_flow_of remote) flows.now }
+{
+    flows.iter().position(|flow| flow.is_of(remote))
+}
+
+pub(super) fn standing_place(flows: &[Flow], timers: Timers, sent: Sent) -> Option<usize>
+    requires { AreTimers timers }
+    ensures { result
+        ≡ position (standing_flow_of timers sent.now sent.protocol sent.remote) flows.now }
+{
+    flows.iter().position(|flow| flow.is_standing(timers, sent.now, sent.protocol)
+        && flow.is_of(sent.remote))
+}
+
+/// The dead ones of these TCP flows go.
+pub(super) fn keep_live(flows: &mut Vec<Flow>, timers: Timers, now: u64)
+    requires { AreTimers timers }
+    ensures flows { flows.new.items ≡ filter (life.is_live_flow timers now) flows.old.items }
+    ensures capacity { vec_capacity flows.new ≡ vec_capacity flows.old }
+    ensures bound { vec_len flows.new ≤ vec_len flows.old }
+{
+    flows.retain(|flow| flow.is_live(timers, now));
+}
+
+/// The flows of TCP that are dead go.
+fn keep_standing(flows: &mut Vec<Flow>, timers: Timers, now: u64, protocol: Protocol)
+    requires { AreTimers timers }
+    ensures flows { flows.new.items ≡ life.live_flows timers now protocol flows.old.items }
+    ensures capacity { vec_capacity flows.new ≡ vec_capacity flows.old }
+    ensures bound { vec_len flows.new ≤ vec_len flows.old }
+{
+    if let Protocol::Tcp = protocol {
+        keep_live(flows, timers, now);
+    }
+}
+
+/// The flow of the packet's remote is used by it; where none lives, one begins, and the dead ones go.
+pub(super) fn use_flow(flows: &mut Vec<Flow>, timers: Timers, sent: Sent) -> Result<(), AllocError>
+    requires timers { AreTimers timers }
+    requires distinct { AreDistinct flows.old.items }
+    ensures distinct { AreDistinct flows.new.items }
+    ensures ok { OnOk result (packets.standing_at timers sent flows.new.items
+        ≡ packets.used_by sent (packets.standing_at timers sent flows.old.items)) }
+    ensures live { OnOk result
+        (list_any (life.is_live_flow timers sent.now) flows.new.items ≡ true) }
+    ensures err { OnErr result (flows.new.items ≡ flows.old.items) }
+{
+    if let Some(i) = standing_place(flows, timers, sent) {
+        flows[i] = sent.used(flows[i]);
+        return Ok(());
+    }
+    flows.reserve(1)?;
+    keep_standing(flows, timers, sent.now, sent.protocol);
+    match flows.push(sent.begun()) {
+        Ok(()) => {}
+        Err(_) => unreachable!(),
+    }
+    Ok(())
+}
+
+/// The flow of the remote, where there is one, is used now by an incoming segment.
+pub(super) fn refresh_flow(flows: &mut [Flow], now: u64, remote: Endpoint, flags: Flags)
+    requires distinct { AreDistinct flows.old }
+    ensures distinct { AreDistinct flows.new }
+    ensures flows { flows.new ≡ change_first (traffic.is_flow_of remote)
+        (traffic.used Protocol.Tcp Way.Incoming flags now) flows.old }
+{
+    if let Some(i) = flow_place(flows, remote) {
+        flows[i] = flows[i].used(Protocol::Tcp, Way::Incoming, flags, now);
+    }
+}

@@ -1,0 +1,328 @@
+//! Many flows, which no call walks over.
+
+ghost use Rattle.std.specs.Prelude.{◌≡◌, ◌==◌, ◌≤◌, ◌<◌, ◌++◌, ℕ, Bool, true, false, None, Some, [], ◌∷◌, length, filter, slice_set, OnOk, OnErr, IfOk, IfSome};
+ghost use Rattle.std.specs.List.{list_any};
+ghost use Rattle.napt_config.specs.Rules.{AreTimers};
+ghost use Rattle.napt_binding.specs.declared.Flow.{Flow};
+ghost use Rattle.napt_binding.specs.Life as life;
+ghost use Rattle.napt_binding.specs.Traffic.{standing_flow_of};
+ghost use Rattle.napt_binding.specs.Lists.{change_first};
+ghost use Rattle.napt_binding.specs.Sent as packets;
+ghost use Rattle.napt_binding.specs.Slots.{somes, Stands, AreDistinct};
+ghost use Rattle.napt_binding.specs.Traffic as traffic;
+
+use super::slots::Slots;
+use crate::Flow;
+use crate::addresses::Addresses;
+use crate::sent::Sent;
+use napt_config::Timers;
+use napt_wire::{Endpoint, Flags, Protocol, Way};
+use std::alloc::{AllocError, Global};
+use std::collections::HashMap;
+
+/// Up to so many slots an empty one is left as it is.
+const SPARSE: usize = 64;
+
+/// The flows of a binding that has many.
+#[derive(Drop)]
+pub(crate) struct Many {
+    slots: Slots,
+    /// The slot of a remote address and number.
+    places: HashMap<(u32, u16), usize>,
+    addresses: Addresses,
+}
+
+impl Many {
+    ghost use Rattle.napt_binding.specs.Many.{IsMany, HasRoom, place_at};
+
+    /// No flows. It takes no memory.
+    fn new(alloc: Global) -> Many
+        ensures many { IsMany result }
+        ensures none { result.slots.slots ≡ [] }
+    {
+        Many {
+            slots: Slots::new(alloc),
+            places: HashMap::new(alloc),
+            addresses: Addresses::new(alloc),
+        }
+    }
+
+    /// Makes room for one more flow.
+    fn reserve(&mut self) -> Result<(), AllocError>
+        requires { IsMany self.old }
+        ensures many { IsMany self.new }
+        ensures slots { self.new.slots.slots ≡ self.old.slots.slots }
+        ensures room { OnOk result (HasRoom self.new) }
+    {
+        self.places.reserve(1)?;
+        let slots = &mut self.slots;
+        slots.reserve()?;
+        let addresses = &mut self.addresses;
+        addresses.reserve()
+    }
+
+    /// A flow of a remote that has none, after the others.
+    fn put(&mut self, flow: Flow)
+        requires many { IsMany self.old }
+        requires room { HasRoom self.old }
+        requires absent { place_at self.old flow.remote ≡ None }
+        ensures many { IsMany self.new }
+        ensures slots { self.new.slots.slots ≡ self.old.slots.slots ++ Some flow ∷ [] }
+    {
+        let slots = &mut self.slots;
+        let place = slots.put(flow);
+        let remote = flow.remote;
+        match self.places.insert((remote.address, remote.number), place) {
+            Ok(_) => {}
+            Err(_) => unreachable!(),
+        }
+        let addresses = &mut self.addresses;
+        addresses.put(remote.address);
+    }
+
+    /// The flow in the slot goes.
+    fn take_out(&mut self, place: usize)
+        requires many { IsMany self.old }
+        requires stands { (flow : Flow) × Stands self.old.slots.slots place flow }
+        ensures many { IsMany self.new }
+        ensures slots { self.new.slots.slots ≡ slice_set self.old.slots.slots place None }
+        ensures room { HasRoom self.old → HasRoom self.new }
+    {
+        let Some(flow) = self.slots.get(place) else {
+            return;
+        };
+        let slots = &mut self.slots;
+        slots.set(place, None);
+        let remote = flow.remote;
+        self.places.remove(&(remote.address, remote.number));
+        let addresses = &mut self.addresses;
+        addresses.take(remote.address);
+    }
+
+    /// The flow in the slot changes, and stays one of its remote.
+    fn change(&mut self, place: usize, flow: Flow)
+        requires many { IsMany self.old }
+        requires stands { (was : Flow) × Stands self.old.slots.slots place was
+            × (was.remote ≡ flow.remote) }
+        ensures many { IsMany self.new }
+        ensures slots { self.new.slots.slots ≡ slice_set self.old.slots.slots place (Some flow) }
+    {
+        let slots = &mut self.slots;
+        slots.set(place, Some(flow));
+    }
+
+    /// A TCP flow that is dead goes; whether there was one.
+    fn drop_dead(&mut self, timers: Timers, now: u64) -> bool
+        requires timers { AreTimers timers }
+        requires many { IsMany self.old }
+        ensures many { IsMany self.new }
+        ensures kept { filter (life.is_live_flow timers now) (somes self.new.slots.slots)
+            ≡ filter (life.is_live_flow timers now) (somes self.old.slots.slots) }
+        ensures room { HasRoom self.old → HasRoom self.new }
+        ensures fewer { result ≡ true → length (somes self.new.slots.slots)
+            < length (somes self.old.slots.slots) }
+        ensures none { result ≡ false → somes self.new.slots.slots
+            ≡ filter (life.is_live_flow timers now) (somes self.old.slots.slots) }
+    {
+        let Some(place) = self.slots.dead_place(timers, now) else {
+            return false;
+        };
+        self.take_out(place);
+        true
+    }
+
+    /// The TCP flows that are dead go.
+    pub(super) fn keep_live(&mut self, timers: Timers, now: u64)
+        requires timers { AreTimers timers }
+        requires many { IsMany self.old }
+        ensures many { IsMany self.new }
+        ensures flows { somes self.new.slots.slots ≡ filter (life.is_live_flow timers now)
+            (somes self.old.slots.slots) }
+        ensures room { HasRoom self.old → HasRoom self.new }
+    {
+        while self.drop_dead(timers, now) {}
+    }
+
+    /// The flows of TCP that are dead go.
+    fn keep_standing(&mut self, timers: Timers, now: u64, protocol: Protocol)
+        requires timers { AreTimers timers }
+        requires many { IsMany self.old }
+        ensures many { IsMany self.new }
+        ensures flows { somes self.new.slots.slots ≡ life.live_flows timers now protocol
+            (somes self.old.slots.slots) }
+        ensures room { HasRoom self.old → HasRoom self.new }
+    {
+        if let Protocol::Tcp = protocol {
+            self.keep_live(timers, now);
+        }
+    }
+
+    /// The slot of the remote's flow.
+    fn place_of(&self, remote: Endpoint) -> Option<usize>
+        ensures { result ≡ place_at self.now remote }
+    {
+        Some(*self.places.get(&(remote.address, remote.number))?)
+    }
+
+    /// Whether one of the TCP flows is live.
+    pub(super) fn has_live(&self, timers: Timers, now: u64) -> bool
+        requires { AreTimers timers }
+        ensures { result ≡ list_any (life.is_live_flow timers now) (somes self.now.slots.slots) }
+    {
+        self.slots.has_live(timers, now)
+    }
+
+    /// The last moment at which one of these TCP flows is live, where one is live now.
+    pub(super) fn last_moment(&self, timers: Timers, now: u64) -> u64
+        requires timers { AreTimers timers }
+        requires live { list_any (life.is_live_flow timers now) (somes self.now.slots.slots)
+            ≡ true }
+        ensures later { now ≤ result }
+        ensures lives { (t : ℕ) → t ≤ result → list_any (life.is_live_flow timers t)
+            (somes self.now.slots.slots) ≡ true }
+    {
+        self.slots.last_moment(timers, now)
+    }
+
+    /// Whether one of the flows is of the address.
+    pub(super) fn has_address(&self, address: u32) -> bool
+        requires { IsMany self.now }
+        ensures { result ≡ list_any (λ flow. flow.remote.address == address)
+            (somes self.now.slots.slots) }
+    {
+        self.addresses.has(address)
+    }
+
+    /// Whether one of the flows is of the remote.
+    pub(super) fn has_remote(&self, remote: Endpoint) -> bool
+        requires { IsMany self.now }
+        ensures { result ≡ list_any (traffic.is_flow_of remote) (somes self.now.slots.slots) }
+    {
+        self.place_of(remote).is_some()
+    }
+}
+
+impl Many {
+    ghost use Rattle.napt_binding.specs.Many.{IsMany, HasRoom, place_at};
+
+    /// These flows, no two of one remote.
+    pub(super) fn of(alloc: Global, flows: &[Flow]) -> Result<Many, AllocError>
+        requires { AreDistinct flows.now }
+        ensures many { IfOk result IsMany }
+        ensures flows { IfOk result (λ many. somes many.slots.slots ≡ flows.now) }
+    {
+        let mut many = Many::new(alloc);
+        for flow in flows {
+            many.reserve()?;
+            many.put(*flow);
+        }
+        Ok(many)
+    }
+
+    /// The same flows in slots of which none is empty.
+    fn compacted(&self, alloc: Global) -> Result<Many, AllocError>
+        requires { IsMany self.now }
+        ensures many { IfOk result IsMany }
+        ensures flows { IfOk result (λ many. somes many.slots.slots ≡ somes self.now.slots.slots) }
+    {
+        let mut many = Many::new(alloc);
+        for place in 0..self.slots.len() {
+            if let Some(flow) = self.slots.get(place) {
+                many.reserve()?;
+                many.put(flow);
+            }
+        }
+        Ok(many)
+    }
+
+    /// Whether most slots are empty.
+    fn is_sparse(&self) -> bool {
+        let slots = self.slots.len();
+        SPARSE < slots && self.places.len() < slots / 2
+    }
+
+    /// Makes room for one more flow. Where most slots are empty they go.
+    fn make_room(&mut self, alloc: Global) -> Result<(), AllocError>
+        requires { IsMany self.old }
+        ensures many { IsMany self.new }
+        ensures flows { somes self.new.slots.slots ≡ somes self.old.slots.slots }
+        ensures room { OnOk result (HasRoom self.new) }
+    {
+        if self.is_sparse() {
+            let mut many = self.compacted(alloc)?;
+            many.reserve()?;
+            *self = many;
+            return Ok(());
+        }
+        self.reserve()
+    }
+
+    /// The flow of the packet's remote is used by it, if it stands; whether it does.
+    fn use_standing(&mut self, timers: Timers, sent: Sent) -> bool
+        requires timers { AreTimers timers }
+        requires many { IsMany self.old }
+        ensures many { IsMany self.new }
+        ensures used { result ≡ true →
+            packets.standing_at timers sent (somes self.new.slots.slots)
+            ≡ packets.used_by sent (packets.standing_at timers sent (somes self.old.slots.slots)) }
+        ensures live { result ≡ true →
+            list_any (life.is_live_flow timers sent.now) (somes self.new.slots.slots) ≡ true }
+        ensures same { result ≡ false → self.new.slots.slots ≡ self.old.slots.slots }
+        ensures none { result ≡ false →
+            list_any (standing_flow_of timers sent.now sent.protocol sent.remote)
+            (somes self.old.slots.slots) ≡ false }
+    {
+        let Some(place) = self.place_of(sent.remote) else {
+            return false;
+        };
+        let Some(flow) = self.slots.get(place) else {
+            return false;
+        };
+        if !flow.is_standing(timers, sent.now, sent.protocol) {
+            return false;
+        }
+        self.change(place, sent.used(flow));
+        true
+    }
+
+    /// The flow of the packet's remote is used by it; where none lives, one begins. Where memory is refused no flow is changed.
+    pub(super) fn use_flow(
+        &mut self,
+        alloc: Global,
+        timers: Timers,
+        sent: Sent,
+    ) -> Result<(), AllocError>
+        requires timers { AreTimers timers }
+        requires many { IsMany self.old }
+        ensures many { IsMany self.new }
+        ensures ok { OnOk result (packets.standing_at timers sent (somes self.new.slots.slots)
+            ≡ packets.used_by sent (packets.standing_at timers sent (somes self.old.slots.slots))) }
+        ensures live { OnOk result
+            (list_any (life.is_live_flow timers sent.now) (somes self.new.slots.slots) ≡ true) }
+        ensures err { OnErr result (somes self.new.slots.slots ≡ somes self.old.slots.slots) }
+    {
+        if self.use_standing(timers, sent) {
+            return Ok(());
+        }
+        self.make_room(alloc)?;
+        self.keep_standing(timers, sent.now, sent.protocol);
+        self.put(sent.begun());
+        Ok(())
+    }
+
+    /// The flow of the remote, where there is one, is used now by an incoming segment.
+    pub(super) fn refresh_flow(&mut self, now: u64, remote: Endpoint, flags: Flags)
+        requires { IsMany self.old }
+        ensures many { IsMany self.new }
+        ensures flows { somes self.new.slots.slots ≡ change_first (traffic.is_flow_of remote)
+            (traffic.used Protocol.Tcp Way.Incoming flags now) (somes self.old.slots.slots) }
+    {
+        let Some(place) = self.place_of(remote) else {
+            return;
+        };
+        let Some(flow) = self.slots.get(place) else {
+            return;
+        };
+        self.change(place, flow.used(Protocol::Tcp, Way::Incoming, flags, now));
+    }
+}

@@ -1,0 +1,207 @@
+//! The flows of a binding in slots, with the times of their last use at hand.
+
+ghost use Rattle.std.specs.Prelude.{◌≡◌, ◌<◌, ◌≤◌, ◌+◌, ◌++◌, ◌^◌, ℕ, [], ◌∷◌, Some, true, false, length, slice_set, filter, OnOk, IfSome, IfNone};
+ghost use Rattle.std.specs.List.{list_any};
+ghost use Rattle.napt_config.specs.Rules.{AreTimers};
+ghost use Rattle.napt_binding.specs.declared.Flow.{Flow};
+ghost use Rattle.napt_binding.specs.Life as life;
+ghost use Rattle.napt_binding.specs.Slots as slots;
+ghost use Rattle.napt_binding.specs.Slots.{somes, Stands, is_recent_time};
+
+use crate::Flow;
+use crate::life::{is_recent, last_moment};
+use napt_config::Timers;
+use napt_times::Times;
+use std::alloc::{AllocError, Global};
+use std::marker::Model;
+
+/// A place for each flow, in the order in which they began; a flow that goes leaves its slot empty. Contracts see the slots,
+/// and how many more fit without a growth (`room`).
+#[derive(Drop)]
+pub(crate) struct Slots {
+    flows: Vec<Option<Flow>>,
+    /// When each established flow was last used.
+    established: Times,
+    /// When each other flow was.
+    others: Times,
+}
+
+impl Model for Slots {
+    ghost use Rattle.napt_binding.specs.SlotsShown.{Shown};
+
+    ghost Value = { Shown };
+
+    ghost use Rattle.napt_binding.specs.Timed.{shown, AreTimed};
+
+    ghost view = { shown };
+
+    ghost invariant = { AreTimed };
+}
+
+/// When the flow was last used, if it is established.
+fn established_time(slot: Option<Flow>) -> Option<u64>
+    ensures { result ≡ slots.established_time slot }
+{
+    match slot {
+        Some(flow) if flow.marks.is_established() => Some(flow.last),
+        _ => None,
+    }
+}
+
+/// When the flow was last used, if it is not established.
+fn other_time(slot: Option<Flow>) -> Option<u64>
+    ensures { result ≡ slots.other_time slot }
+{
+    match slot {
+        Some(flow) if !flow.marks.is_established() => Some(flow.last),
+        _ => None,
+    }
+}
+
+/// Whether one of the times is less than so many seconds ago.
+fn is_some_recent(times: &Times, now: u64, seconds: u64) -> bool
+    requires { seconds ≤ 1_000_000_000 }
+    ensures { result ≡ list_any (is_recent_time now seconds) times.now.times }
+{
+    match times.latest() {
+        Some(time) => is_recent(now, time, seconds),
+        None => false,
+    }
+}
+
+/// A place whose time is not less than so many seconds ago.
+fn outlived_place(times: &Times, now: u64, seconds: u64) -> Option<usize>
+    requires { seconds ≤ 1_000_000_000 }
+    ensures some { IfSome result (λ place. (time : ℕ) × Stands times.now.times place time
+        × (life.is_recent now time seconds ≡ false)) }
+    ensures none { IfNone result ((place time : ℕ) → Stands times.now.times place time →
+        life.is_recent now time seconds ≡ true) }
+{
+    let (time, place) = times.earliest()?;
+    if is_recent(now, time, seconds) {
+        None
+    } else {
+        Some(place)
+    }
+}
+
+/// The last moment at which one of the times is less than so many seconds ago, or `now`.
+fn last_moment_of(times: &Times, now: u64, seconds: u64) -> u64
+    requires some { 0 < seconds }
+    requires few { seconds ≤ 1_000_000_000 }
+    ensures later { now ≤ result }
+    ensures lives { (t : ℕ) → now < t → t ≤ result →
+        list_any (is_recent_time t seconds) times.now.times ≡ true }
+{
+    match times.latest() {
+        Some(time) => last_moment(time, seconds).max(now),
+        None => now,
+    }
+}
+
+impl Slots {
+    /// No slots. It takes no memory.
+    pub(crate) fn new(alloc: Global) -> Slots
+        ensures { result.slots ≡ [] }
+    {
+        Slots {
+            flows: Vec::new(alloc),
+            established: Times::new(alloc),
+            others: Times::new(alloc),
+        }
+    }
+
+    /// How many slots there are.
+    pub(crate) fn len(&self) -> usize
+        ensures { result ≡ length self.now.slots }
+    {
+        self.flows.len()
+    }
+
+    /// The flow in the slot.
+    pub(crate) fn get(&self, place: usize) -> Option<Flow>
+        ensures stands { IfSome result (λ flow. Stands self.now.slots place flow) }
+        ensures found { (flow : Flow) → Stands self.now.slots place flow → result ≡ Some flow }
+    {
+        *self.flows.get(place)?
+    }
+
+    /// Makes room for one slot more.
+    pub(crate) fn reserve(&mut self) -> Result<(), AllocError>
+        ensures slots { self.new.slots ≡ self.old.slots }
+        ensures room { OnOk result (0 < self.new.room) }
+    {
+        self.flows.reserve(1)?;
+        let established = &mut self.established;
+        established.reserve()?;
+        let others = &mut self.others;
+        others.reserve()
+    }
+
+    /// A flow in a slot of its own, after the others, where there is room for it: answers its place.
+    pub(crate) fn put(&mut self, flow: Flow) -> usize
+        requires { 0 < self.old.room }
+        ensures place { result ≡ length self.old.slots }
+        ensures fits { result + 1 < 2 ^ 64 }
+        ensures slots { self.new.slots ≡ self.old.slots ++ Some flow ∷ [] }
+    {
+        let place = self.flows.len();
+        match self.flows.push(Some(flow)) {
+            Ok(()) => {}
+            Err(_) => unreachable!(),
+        }
+        let established = &mut self.established;
+        established.put(established_time(Some(flow)));
+        let others = &mut self.others;
+        others.put(other_time(Some(flow)));
+        place
+    }
+
+    /// Fills or empties a slot. It takes no memory.
+    pub(crate) fn set(&mut self, place: usize, slot: Option<Flow>)
+        requires { place < length self.old.slots }
+        ensures slots { self.new.slots ≡ slice_set self.old.slots place slot }
+        ensures room { self.new.room ≡ self.old.room }
+    {
+        self.flows[place] = slot;
+        let established = &mut self.established;
+        established.set(place, established_time(slot));
+        let others = &mut self.others;
+        others.set(place, other_time(slot));
+    }
+
+    /// A place of a TCP flow that is dead. It takes one look.
+    pub(crate) fn dead_place(&self, timers: Timers, now: u64) -> Option<usize>
+        requires { AreTimers timers }
+        ensures some { IfSome result (λ place. (flow : Flow) × Stands self.now.slots place flow
+            × (life.is_live_flow timers now flow ≡ false)) }
+        ensures none { IfNone result ((place : ℕ) (flow : Flow) → Stands self.now.slots place flow →
+            life.is_live_flow timers now flow ≡ true) }
+    {
+        match outlived_place(&self.established, now, timers.established) {
+            Some(place) => Some(place),
+            None => outlived_place(&self.others, now, timers.transitory),
+        }
+    }
+
+    /// Whether one of the TCP flows is live. It takes two looks.
+    pub(crate) fn has_live(&self, timers: Timers, now: u64) -> bool
+        requires { AreTimers timers }
+        ensures { result ≡ list_any (life.is_live_flow timers now) (somes self.now.slots) }
+    {
+        is_some_recent(&self.established, now, timers.established)
+            || is_some_recent(&self.others, now, timers.transitory)
+    }
+
+    /// The last moment at which one of these TCP flows is live, where one is live now. It takes two looks.
+    pub(crate) fn last_moment(&self, timers: Timers, now: u64) -> u64
+        requires timers { AreTimers timers }
+        requires live { list_any (life.is_live_flow timers now) (somes self.now.slots) ≡ true }
+        ensures later { now ≤ result }
+        ensures lives { (t : ℕ) → t ≤ result → list_any (life.is_live_flow timers t)
+            (somes self.now.slots) ≡ true }
+    {
+        let established = last_moment_of(&self.established, now, timers.established);
+        established.max(last_moment_of(&self.others, now, timers.transitory))
+    }
+}

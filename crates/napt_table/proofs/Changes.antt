@@ -1,0 +1,130 @@
+-- A held binding that changes and keeps its ends.
+use Rattle.std.proofs.Common.{◌≡◌, ◌≢◌, ℕ, ◌+◌, ◌*◌, ◌<◌, ◌≤◌, ◌^◌, true, false, not, ◌&&◌, Some, refl, sym, ◌∙◌, ap, subst, arith, eqb, eqb-true, ltb, ◌⊎◌, inl, inr}
+use Rattle.std.specs.Option.{is_some}
+use Rattle.std.proofs.lemmas.Bool.{eq-eqb, true≢false}
+use Rattle.std.proofs.lemmas.Bool.Decides.{nat_tests}
+use Rattle.std.proofs.lemmas.Option.{same_Some}
+use Rattle.napt_wire.specs.declared.Protocol.{Protocol}
+use Rattle.napt_wire.specs.declared.Endpoint.{Endpoint}
+use Rattle.napt_config.specs.Rules.{AreTimers}
+use Rattle.napt_binding.specs.declared.Binding.{Binding}
+use Rattle.napt_binding.specs.Ends.{least_timer}
+use Rattle.napt_binding.specs.Life.{second, is_live}
+use Rattle.napt_binding.specs.Lists.{pair_eq}
+use Rattle.napt_binding.proofs.Purges.{lived}
+use Rattle.napt_table.specs.declared.part.Part.{Part}
+use Rattle.napt_table.specs.declared.host_counts.HostCounts.{HostCounts}
+use Rattle.napt_table.specs.Counts.{are_counted, count_in}
+use Rattle.napt_table.specs.Endpoints.{Key, key}
+use Rattle.napt_table.specs.Hosts.{held_for}
+use Rattle.napt_table.specs.Part.{held, number_at, IsDue, IsPart, AreDue, IsSamePlace}
+use Rattle.napt_table.specs.Places.{is_used}
+use Rattle.napt_table.proofs.Hosts.{count_same}
+
+-- bindings of one host count alike
+for_alike : (host : ℕ) (x y : Binding) → key x ≡ key y → x.fixed ≡ y.fixed → held_for host (Some x)
+    ≡ held_for host (Some y)
+for_alike host x y keys fixed =
+    ap (λ (k : Key). eqb k.inside.address host && not x.fixed) keys ∙ ap (λ v. eqb y.inside.address host && not v) fixed
+
+pub inside_same : (old new : Part) → new.by_inside ≡ old.by_inside → (e : Endpoint) → number_at new e ≡ number_at old e
+inside_same old new insides e = ap (λ (m : _). Rattle.std.specs.HashMap.get pair_eq m (e.address, e.number)) insides
+
+module _ (old new : Part) (number : ℕ) (is : IsPart old) (same : IsSamePlace old new)
+    (insides : new.by_inside ≡ old.by_inside) (numbers : new.numbers ≡ old.numbers) (hosts : new.hosts ≡ old.hosts)
+    (others : (n : ℕ) → n ≢ number → held new n ≡ held old n) (b c : Binding) (here : held old number ≡ Some b)
+    (there : held new number ≡ Some c) (keys : key c ≡ key b) (fixed : c.fixed ≡ b.fixed) where
+  cases : (n : ℕ) (x : Binding) → held new n ≡ Some x →
+      ((n ≡ number) × (c ≡ x)) ⊎ ((n ≢ number) × (held old n ≡ Some x))
+  cases n x h = elim (eqb n number) as (λ v. eqb n number ≡ v →
+      ((n ≡ number) × (c ≡ x)) ⊎ ((n ≢ number) × (held old n ≡ Some x))) [
+        | true ↦ λ t. let e : n ≡ number = eqb-true n number t in
+            inl (e, same_Some c x (sym there ∙ (ap (held new) (sym e) ∙ h)))
+        | false ↦ λ t. let d : n ≢ number = λ e. true≢false (sym (eq-eqb n number e) ∙ t) in
+            inr (d, sym (others n d) ∙ h)
+      ] refl
+
+  pub changed_part : IsPart new
+  changed_part = record {
+    timers_are = subst AreTimers (sym same.timers_is) is.timers_are;
+    protocol_is = λ n x h. elim (cases n x h) [
+      | inl p ↦ sym (ap (λ (y : Binding). y.protocol) p.1) ∙ (ap (λ (k : Key). k.protocol) keys
+          ∙ (is.protocol_is number b here ∙ sym same.protocol_same))
+      | inr o ↦ is.protocol_is n x o.1 ∙ sym same.protocol_same
+    ];
+    external_is = λ n x h. elim (cases n x h) [
+      | inl p ↦ sym (ap (λ (y : Binding). y.external) p.1) ∙ (ap (λ (k : Key). k.external) keys
+          ∙ (is.external_is number b here
+          ∙ (ap (λ (m : ℕ). let y : Endpoint = record { address = old.address; number = m } in y) (sym p.0)
+          ∙ ap (λ (a : ℕ). let y : Endpoint = record { address = a; number = n } in y) (sym same.address_is))))
+      | inr o ↦ is.external_is n x o.1 ∙ ap (λ (a : ℕ). let y : Endpoint = record { address = a; number = n } in y)
+          (sym same.address_is)
+    ];
+    inside_is = λ n x h. elim (cases n x h) [
+      | inl p ↦ inside_same old new insides x.inside
+          ∙ (ap (number_at old) (sym (ap (λ (y : Binding). y.inside) p.1) ∙ ap (λ (k : Key). k.inside) keys)
+          ∙ (is.inside_is number b here ∙ ap (λ (m : ℕ). Some m) (sym p.0)))
+      | inr o ↦ inside_same old new insides x.inside ∙ is.inside_is n x o.1
+    ];
+    number_is = λ e n h.
+        let o = is.number_is e n (sym (inside_same old new insides e) ∙ h) in
+        elim (eqb n number) as (λ v. eqb n number ≡ v → (x : Binding) × (held new n ≡ Some x) × (x.inside ≡ e)) [
+          | true ↦ λ t.
+              let q : n ≡ number = eqb-true n number t in
+              let s : b ≡ o.0 = same_Some b o.0 (sym here ∙ (ap (held old) (sym q) ∙ o.1)) in
+              (c, ap (held new) q ∙ there, ap (λ (k : Key). k.inside) keys ∙ (ap (λ (y : Binding). y.inside) s ∙ o.2))
+          | false ↦ λ t. (o.0, others n (λ q. true≢false (sym (eq-eqb n number q) ∙ t)) ∙ o.1, o.2)
+        ] refl;
+    used_is = λ n lt.
+        ap (λ (u : _). is_used u n) numbers ∙ (is.used_is n lt ∙ elim (eqb n number) as (λ v. eqb n number ≡ v →
+        is_some (held old n) ≡ is_some (held new n)) [
+          | true ↦ λ t. let q : n ≡ number = eqb-true n number t in ap is_some (ap (held old) q ∙ here)
+              ∙ sym (ap is_some (ap (held new) q ∙ there))
+          | false ↦ λ t. ap is_some (sym (others n (λ q. true≢false (sym (eq-eqb n number q) ∙ t))))
+        ] refl);
+    small = λ n x h. elim (cases n x h) [
+      | inl p ↦ subst (λ (m : ℕ). m < 2 ^ 16) (sym p.0) (is.small number b here)
+      | inr o ↦ is.small n x o.1
+    ];
+    counted = λ on host.
+        ap (λ (h : HostCounts). count_in h host) hosts ∙ (is.counted (ap are_counted (sym hosts) ∙ on) host
+        ∙ sym (count_same (held old) (held new) host (λ n lt. elim (eqb n number) as (λ v. eqb n number ≡ v →
+        held_for host (held new n) ≡ held_for host (held old n)) [
+          | true ↦ λ t. let q : n ≡ number = eqb-true n number t in ap (held_for host) (ap (held new) q ∙ there)
+              ∙ (for_alike host c b keys fixed ∙ sym (ap (held_for host) (ap (held old) q ∙ here)))
+          | false ↦ λ t. ap (held_for host) (others n (λ q. true≢false (sym (eq-eqb n number q) ∙ t)))
+        ] refl)));
+  }
+
+  module _ (now : ℕ) (later : old.at ≤ now) (live : is_live old.timers now c ≡ true) (lives : (u : ℕ) → now ≤ u →
+      u < now + least_timer b.protocol old.timers * second → is_live old.timers u b ≡ true →
+      is_live old.timers u c ≡ true) where
+    still_due : IsDue old.timers old.at old.numbers.protocol old.due.entries b number →
+        IsDue old.timers old.at old.numbers.protocol old.due.entries c number
+    still_due d =
+        let near : d.until < old.at + least_timer old.numbers.protocol old.timers * second = d.near in
+        record {
+          until = d.until;
+          entered = d.entered;
+          near = d.near;
+          lives = λ u from to. elim (ltb u now) as (λ v. ltb u now ≡ v → is_live old.timers u c ≡ true) [
+            | true ↦ λ e. let before : u < now = grind (arith, nat_tests) in lived old.timers u now (omega arith) c live
+            | false ↦ λ e.
+                let after : now ≤ u = grind (arith, nat_tests) in
+                let lt : u < now + least_timer old.numbers.protocol old.timers * second = omega arith in
+                lives u after (subst (λ (p : Protocol). u < now + least_timer p old.timers * second)
+                (sym (is.protocol_is number b here)) lt) (d.lives u from to)
+          ] refl;
+        }
+
+    -- what is due stays so, where the binding lives on for as long as a packet keeps it
+    pub changed_due : AreDue old → (n : ℕ) (x : Binding) → held new n ≡ Some x → x.fixed ≡ false →
+        IsDue old.timers old.at old.numbers.protocol old.due.entries x n
+    changed_due due n x h not_fixed = elim (cases n x h) [
+      | inl p ↦
+          let d : IsDue old.timers old.at old.numbers.protocol old.due.entries c number =
+          still_due (due number b here (sym fixed ∙ (ap (λ (y : Binding). y.fixed) p.1 ∙ not_fixed))) in
+          subst (λ (y : Binding). IsDue old.timers old.at old.numbers.protocol old.due.entries y n) p.1
+          (subst (λ (m : ℕ). IsDue old.timers old.at old.numbers.protocol old.due.entries c m) (sym p.0) d)
+      | inr o ↦ due n x o.1 not_fixed
+    ]

@@ -1,0 +1,33 @@
+-- What holds of each class of ports holds of that of a port.
+use Rattle.std.proofs.Common.{◌≡◌, ◌≢◌, ℕ, ◌%◌, ◌<◌, ◌==◌, Bool, true, false, cond, nat_lt, refl, arith}
+use Rattle.std.proofs.lemmas.Bool.Decides.{nat_tests}
+use Rattle.napt_table.specs.declared.Class.{Class}
+use Rattle.napt_table.specs.Choice.{port_class}
+
+odd : (p : ℕ) → (p % 2 == 1) ≡ true → p % 2 ≡ 1
+odd p e = grind (arith, nat_tests, e)
+
+even : (p : ℕ) → (p % 2 == 1) ≡ false → p % 2 ≡ 0
+even p e = let differs : p % 2 ≢ 1 = grind (arith, nat_tests, e) in
+    let small : p % 2 < 2 = omega arith in
+    omega (arith, differs, small)
+
+abbrev low_class : Bool → Class
+low_class v = cond v (record { least = 1; many = 512; apart = 2 }) (record { least = 2; many = 511; apart = 2 })
+
+abbrev high_class : Bool → Class
+high_class v =
+    cond v (record { least = 1025; many = 32256; apart = 2 }) (record { least = 1024; many = 32256; apart = 2 })
+
+pub by_class : (P : Class → Type 0) (p : ℕ) →
+    (nat_lt p 1024 ≡ true → p % 2 ≡ 1 → P (record { least = 1; many = 512; apart = 2 })) →
+    (nat_lt p 1024 ≡ true → p % 2 ≡ 0 → P (record { least = 2; many = 511; apart = 2 })) →
+    (nat_lt p 1024 ≡ false → p % 2 ≡ 1 → P (record { least = 1025; many = 32256; apart = 2 })) →
+    (nat_lt p 1024 ≡ false → p % 2 ≡ 0 → P (record { least = 1024; many = 32256; apart = 2 })) → P (port_class p)
+by_class P p low_odd low_even high_odd high_even =
+    elim (nat_lt p 1024) as (λ v. nat_lt p 1024 ≡ v → P (cond v (low_class (p % 2 == 1)) (high_class (p % 2 == 1)))) [
+      | true ↦ λ e. elim (p % 2 == 1) as (λ v. (p % 2 == 1) ≡ v → P (low_class v))
+          [ true ↦ λ f. low_odd e (odd p f) | false ↦ λ f. low_even e (even p f) ] refl
+      | false ↦ λ e. elim (p % 2 == 1) as (λ v. (p % 2 == 1) ≡ v → P (high_class v))
+          [ true ↦ λ f. high_odd e (odd p f) | false ↦ λ f. high_even e (even p f) ] refl
+    ] refl

@@ -1,9 +1,0 @@
-use Rattle.std.proofs.Common.{◌≡◌, ◌≤◌, length, take}
-use Rattle.napt_table.specs.Slots.{somes}
-use Rattle.napt_table.specs.Many.{IsMany}
-use Rattle.napt_table.proofs.flows.many.Many.compacted.Given as goal
-
-abbrev pub invariant-loop-place : goal.invariant-loop-place
-invariant-loop-place l =
-    IsMany l.many × (somes l.many.slots.slots ≡ somes (take l.place l.self.slots.slots))
-    × (l.place ≤ length l.self.slots.slots)
