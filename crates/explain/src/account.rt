@@ -73,7 +73,7 @@ pub struct Account {
 struct Tables<'a> {
     config: &'a Config,
     ends: Ends,
-    tables: Vec<Box<Table>>,
+    tables: Vec<Table>,
     lives: Vec<Life>,
     latest: BTreeMap<(u8, u32, u16), usize>,
 }
@@ -161,7 +161,7 @@ impl<'a> Tables<'a> {
         let mut tables = Vec::new(alloc);
         for address in config.pool() {
             let table = Table::new(alloc, *address, config)?;
-            tables.push(Box::new(alloc, table)?)?;
+            tables.push(table)?;
         }
         let mut begun = Tables {
             config,
@@ -225,21 +225,8 @@ impl<'a> Tables<'a> {
     /// Takes an input, and answers what it does to the bindings.
     fn take(&mut self, alloc: Global, input: &Input) -> Result<Use, AllocError> {
         let bytes = Vec::from_slice(alloc, &input.bytes)?;
-        let Ok(packet) = Packet::read(input.side, bytes) else {
+        let Some((place, step)) = step_of(self.config, input, bytes) else {
             return Ok(NO_USE);
-        };
-        let Ok(place) = route(self.config, input.side, &packet) else {
-            return Ok(NO_USE);
-        };
-        let Some((protocol, flags)) = carried(packet.kind()) else {
-            return Ok(NO_USE);
-        };
-        let step = Step {
-            now: input.clock,
-            protocol,
-            flags,
-            source: packet.source(),
-            destination: packet.destination(),
         };
         match input.side {
             Side::Inside => self.out(alloc, place, step),
@@ -345,6 +332,21 @@ impl<'a> Tables<'a> {
             life.end = end_between(table, life, now, late);
         }
     }
+}
+
+/// The step of an input, which has these bytes, and the place of the pool where it is taken; none where it uses no binding.
+fn step_of(config: &Config, input: &Input, bytes: Vec<u8>) -> Option<(u32, Step)> {
+    let packet = Packet::read(input.side, bytes).ok()?;
+    let place = route(config, input.side, &packet).ok()?;
+    let (protocol, flags) = carried(packet.kind())?;
+    let step = Step {
+        now: input.clock,
+        protocol,
+        flags,
+        source: packet.source(),
+        destination: packet.destination(),
+    };
+    Some((place, step))
 }
 
 impl Step {

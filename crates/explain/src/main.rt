@@ -7,31 +7,29 @@
 #![tactic(auto)]
 
 mod account;
-mod advice;
-mod capture_kind;
-mod config_place;
 mod names;
 mod options;
-mod picture;
+mod overwritten;
+mod refused;
+mod scene;
 mod shown;
 mod stop;
 mod summary;
-mod svg;
 
 use crate::account::{Account, Ends, account_of};
 use crate::options::Options;
-use crate::picture::Picture;
+use crate::overwritten::refuse_overwritten;
 use crate::stop::Stop;
-use crate::svg::{Totals, drawing_of};
 use napt_capture::{Capture, Watched, read_capture};
 use napt_config::Config;
+use napt_picture::drawing_of;
 use napt_run::merge;
-use std::alloc::Global;
+use std::alloc::{AllocError, Global};
 use std::env::Env;
 use std::io::Read;
 use std::process::ExitCode;
 use std::rt::Files;
-use std::{env, fs};
+use std::{env, fs, io};
 
 fn main(rt: HostRuntime) -> ExitCode {
     match explained(&rt) {
@@ -42,85 +40,136 @@ fn main(rt: HostRuntime) -> ExitCode {
 
 /// Does what the words of the command line ask for.
 fn explained<R: Env + Files + Input + Print + Eprint + AllocGlobal>(rt: &R) -> Result<(), Stop> {
-    let words = match env::args(rt) {
-        Ok(args) => args.collect(rt.alloc())?,
-        Err(_) => return Err(Stop::Usage),
-    };
-    match options::read(rt, words)? {
-        Some(options) => explained_under(rt, &options),
+    let words = words(rt)?;
+    match options::read(rt, &words)? {
+        Some(matches) => explained_under(rt, options::options_of(rt, &matches)?),
         None => Ok(()),
+    }
+}
+
+/// The words of the command line. One that is no text is not understood.
+fn words<R: Env + AllocGlobal>(rt: &R) -> Result<Vec<String>, Stop> {
+    match env::args(rt) {
+        Ok(args) => Ok(args.collect(rt.alloc())?),
+        Err(_) => Err(Stop::Usage),
     }
 }
 
 /// Reads the configuration and the captures, and tells the run.
 fn explained_under<R: Files + Input + Print + Eprint + AllocGlobal>(
     rt: &R,
-    options: &Options,
+    options: Options<'_>,
 ) -> Result<(), Stop> {
-    let config = configuration(rt, options.config.as_ref())?;
-    let inside = match &options.inside {
+    refuse_overwritten(rt, options)?;
+    let config = configuration(rt, options.config)?;
+    let inputs = inputs_of(rt, options)?;
+    run_told(rt, options, &config, &inputs)
+}
+
+/// The packets of both captures, in the order in which napt takes them.
+fn inputs_of<R: Files + Input + Print + Eprint + AllocGlobal>(
+    rt: &R,
+    options: Options<'_>,
+) -> Result<Vec<napt_run::Input>, Stop> {
+    let inside = inside(rt, options)?;
+    let outside = outside(rt, options)?;
+    Ok(merge(rt.alloc(), inside.records, outside.records)?)
+}
+
+fn inside<R: Files + Input + Print + Eprint + AllocGlobal>(
+    rt: &R,
+    options: Options<'_>,
+) -> Result<Capture, Stop> {
+    let bytes = match options.inside {
         Some(path) => file(rt, path)?,
         None => standard_input(rt)?,
     };
-    let inside = capture(rt, "inside", &inside)?;
-    let outside = match &options.outside {
-        Some(path) => capture(rt, "outside", &file(rt, path)?)?,
-        None => Capture {
-            records: Vec::new(rt.alloc()),
-            cut: false,
-        },
-    };
-    let inputs = merge(rt.alloc(), inside.records, outside.records)?;
-    let ends = match options.svg {
-        Some(_) => Ends(picture::MOST),
-        None => Ends(0),
-    };
-    let account = account_of(rt.alloc(), &config, &inputs, ends)?;
-    told(rt, options, &inputs, &account)?;
-    if let Some(path) = &options.svg {
-        let picture = Picture::of(rt.alloc(), &config, &inputs, &account)?;
-        draw(rt, path, &picture, &account)?;
-    }
-    Ok(())
+    capture(rt, "inside", &bytes)
 }
 
-/// Writes the picture of a run to a file. One that cannot be written is told by its name, with the system's reason.
+/// The capture of what comes from the outside; one of no packets where there is none.
+fn outside<R: Files + Print + Eprint + AllocGlobal>(
+    rt: &R,
+    options: Options<'_>,
+) -> Result<Capture, Stop> {
+    match options.outside {
+        Some(path) => capture(rt, "outside", &file(rt, path)?),
+        None => Ok(Capture {
+            records: Vec::new(rt.alloc()),
+            cut: false,
+        }),
+    }
+}
+
+/// Makes the run over the inputs, tells it, and draws it where that is asked for.
+fn run_told<R: Files + Print + Eprint + AllocGlobal>(
+    rt: &R,
+    options: Options<'_>,
+    config: &Config,
+    inputs: &[napt_run::Input],
+) -> Result<(), Stop> {
+    let ends = match options.svg {
+        Some(_) => Ends(scene::MOST),
+        None => Ends(0),
+    };
+    let account = account_of(rt.alloc(), config, inputs, ends)?;
+    told(rt, options, inputs, &account)?;
+    match options.svg {
+        Some(path) => draw(rt, path, config, inputs, &account),
+        None => Ok(()),
+    }
+}
+
+/// Writes the picture of a run to a file, and says where it leaves bindings out. One that cannot be written is told by its name,
+/// with the system's reason.
 fn draw<R: Files + Eprint + AllocGlobal>(
     rt: &R,
     path: &str,
-    picture: &Picture,
+    config: &Config,
+    inputs: &[napt_run::Input],
     account: &Account,
 ) -> Result<(), Stop> {
-    let totals = Totals {
-        packets: account.uses.len(),
-        bindings: account.lives.len(),
-    };
-    let text = drawing_of(rt.alloc(), picture, totals)?;
-    if let Err(error) = fs::write(rt, path, text.as_str()) {
-        let _ = eprintln!(rt; "explain: {path}: {error}");
-        return Err(Stop::File);
+    let text = drawing(rt.alloc(), config, inputs, account)?;
+    match fs::write(rt, path, text.as_str()) {
+        Ok(()) => {
+            tell_left_out(rt, path, account.lives.len());
+            Ok(())
+        }
+        Err(error) => Err(failed_file(rt, path, &error)),
     }
-    if totals.bindings > picture::MOST {
+}
+
+fn drawing(
+    alloc: Global,
+    config: &Config,
+    inputs: &[napt_run::Input],
+    account: &Account,
+) -> Result<String, AllocError> {
+    let scene = scene::scene_of(alloc, config, inputs, account)?;
+    drawing_of(alloc, &scene)
+}
+
+/// Says where a picture leaves out some of so many bindings.
+fn tell_left_out<R: Eprint>(rt: &R, path: &str, bindings: usize) {
+    if bindings > scene::MOST {
         let _ = eprintln!(rt;
-            "explain: {path} shows the first {} of {} bindings",
-            picture::MOST,
-            totals.bindings
+            "explain: {path} shows the first {} of {bindings} bindings",
+            scene::MOST
         );
     }
-    Ok(())
 }
 
 /// Writes the lines that are asked for, the bindings and the summary.
 fn told<R: Print + AllocGlobal>(
     rt: &R,
-    options: &Options,
+    options: Options<'_>,
     inputs: &[napt_run::Input],
     account: &Account,
 ) -> Result<(), Stop> {
     let mut number = 0u64;
     for input in inputs {
         number = number.wrapping_add(1);
-        summary::tell_line(rt, options, number, input, account)?;
+        summary::tell_line(rt, options.choice, number, input, account)?;
     }
     summary::tell_bindings(rt, inputs, account)?;
     summary::tell_counts(rt, account)
@@ -129,19 +178,26 @@ fn told<R: Print + AllocGlobal>(
 /// The configuration that a file holds; the built-in one where there is none. One that is refused is explained.
 fn configuration<R: Files + Print + Eprint + AllocGlobal>(
     rt: &R,
-    path: Option<&String>,
+    path: Option<&str>,
 ) -> Result<Config, Stop> {
-    let Some(path) = path else {
-        return Ok(Config::built_in(rt.alloc())?);
-    };
-    let text = file(rt, path)?;
-    match Config::read(rt.alloc(), &text) {
-        Ok(config) => Ok(config),
-        Err(fault) => {
-            config_place::explain(rt, path, &text, fault)?;
-            Err(Stop::Config)
-        }
+    match path {
+        Some(path) => configuration_of(rt, path, &file(rt, path)?),
+        None => Ok(Config::built_in(rt.alloc())?),
     }
+}
+
+/// The configuration that a text is, which stands at a path.
+fn configuration_of<R: Print + AllocGlobal>(
+    rt: &R,
+    path: &str,
+    text: &[u8],
+) -> Result<Config, Stop> {
+    let fault = match Config::read(rt.alloc(), text) {
+        Ok(config) => return Ok(config),
+        Err(fault) => fault,
+    };
+    refused::tell_config(rt, path, text, fault)?;
+    Err(Stop::Config)
 }
 
 /// The capture that some bytes are. One that is refused is explained.
@@ -149,7 +205,7 @@ fn capture<R: Print + AllocGlobal>(rt: &R, side: &str, bytes: &[u8]) -> Result<C
     match read_capture(rt.alloc(), &mut Watched::new(bytes)) {
         Ok(capture) => Ok(capture),
         Err(fault) => {
-            capture_kind::explain(rt, side, bytes, fault)?;
+            refused::tell_capture(rt, side, bytes, fault)?;
             Err(Stop::Capture)
         }
     }
@@ -157,13 +213,13 @@ fn capture<R: Print + AllocGlobal>(rt: &R, side: &str, bytes: &[u8]) -> Result<C
 
 /// What a file holds. One that cannot be read is told by its name, with the system's reason.
 fn file<R: Files + Eprint + AllocGlobal>(rt: &R, path: &str) -> Result<Vec<u8>, Stop> {
-    match fs::read(rt, path) {
-        Ok(bytes) => Ok(bytes),
-        Err(error) => {
-            let _ = eprintln!(rt; "explain: {path}: {error}");
-            Err(Stop::File)
-        }
-    }
+    fs::read(rt, path).map_err(|error| failed_file(rt, path, &error))
+}
+
+/// Says why a file could not be read or written.
+fn failed_file<R: Eprint>(rt: &R, path: &str, error: &io::Error) -> Stop {
+    let _ = eprintln!(rt; "explain: {path}: {error}");
+    Stop::File
 }
 
 fn standard_input<R: Input + AllocGlobal>(rt: &R) -> Result<Vec<u8>, Stop> {

@@ -3,6 +3,7 @@
 use napt_config::Address;
 use napt_wire::{Cause, Endpoint, Protocol, Side};
 use std::alloc::{AllocError, Global};
+use std::fmt;
 
 pub fn side_name(side: Side) -> &'static str {
     match side {
@@ -19,10 +20,28 @@ pub fn protocol_name(protocol: Protocol) -> &'static str {
     }
 }
 
-/// An endpoint as `10.0.0.2:5000`.
-pub fn endpoint_text(alloc: Global, endpoint: Endpoint) -> Result<String, AllocError> {
-    let address = Address(endpoint.address);
-    format!(in alloc; "{address}:{}", endpoint.number)
+/// An endpoint, shown as `10.0.0.2:5000`.
+#[derive(Clone, Copy)]
+pub struct EndpointText(pub Endpoint);
+
+impl fmt::Display for EndpointText {
+    fn fmt<W: fmt::Write>(&self, f: &mut fmt::Formatter<W>) -> fmt::Result {
+        let address = Address(self.0.address);
+        let number = self.0.number;
+        write!(f, "{address}:{number}")
+    }
+}
+
+/// A time in nanoseconds, shown in seconds with six decimals, as `tcpdump -tt` writes it.
+#[derive(Clone, Copy)]
+pub struct Seconds(pub u64);
+
+impl fmt::Display for Seconds {
+    fn fmt<W: fmt::Write>(&self, f: &mut fmt::Formatter<W>) -> fmt::Result {
+        let seconds = self.0 / 1_000_000_000;
+        let micros = self.0 % 1_000_000_000 / 1000;
+        write!(f, "{seconds}.{micros:06}")
+    }
 }
 
 /// A name in code, as `BadAddress`, as users read it: `bad-address`.
@@ -41,10 +60,4 @@ pub fn hyphened(alloc: Global, name: &str) -> Result<String, AllocError> {
 pub fn cause_name(alloc: Global, cause: Cause) -> Result<String, AllocError> {
     let name = format!(in alloc; "{cause:?}")?;
     hyphened(alloc, &name)
-}
-
-/// A time in nanoseconds as seconds with six decimals, as `tcpdump -tt` writes it.
-pub fn time_text(alloc: Global, time: u64) -> Result<String, AllocError> {
-    let micros = time % 1_000_000_000 / 1000;
-    format!(in alloc; "{}.{micros:06}", time / 1_000_000_000)
 }

@@ -11,8 +11,11 @@ const VERSION: &str = "1.0, proved with rattle-kit-13b logic dac8208d650f15bf";
 const ABOUT: &str =
     "Tells what napt does with each packet of its captures, or why it refuses what it is given.";
 
+const NOT_WRITTEN: &str = "Not written: taken as an option of napt";
+
 const SVG: &str =
-    "Draws the run into this file, in SVG: its bindings (the first 400), hairpins and drops over time";
+    "Draws the run into this file, none that is read, in SVG: its bindings (the first 400), \
+hairpins and drops over time";
 
 const NOTES: &str = "Example:
   explain --config napt.toml --inside inside.pcap --outside outside.pcap --dropped
@@ -22,36 +25,46 @@ A line tells a packet's number, time in seconds, side, the packet, what happened
 
 The words of a call of napt may stand as they are: no output of napt is written. The statuses are those of napt.";
 
-// The options that name a file, each with its meaning, in the order of the help text.
-const FILES: [(&str, &str); 6] = [
+// The options that take a value, each with the value's kind and its meaning, in the order of the help text.
+const VALUES: &[(&str, &str, &str)] = &[
     (
         "config",
+        "FILE",
         "Configuration in TOML [default: the built-in configuration]",
     ),
     (
         "inside",
+        "FILE",
         "Capture of what inside hosts send [default: standard input]",
     ),
     (
         "outside",
+        "FILE",
         "Capture of what comes from the outside [default: no packets]",
     ),
-    ("to-outside", "Not written: taken as an option of napt"),
-    ("to-inside", "Not written: taken as an option of napt"),
-    ("report", "Not written: taken as an option of napt"),
+    ("to-outside", "FILE", NOT_WRITTEN),
+    ("to-inside", "FILE", NOT_WRITTEN),
+    ("report", "FILE", NOT_WRITTEN),
+    ("svg", "FILE", SVG),
+    ("only", "N", "Shows the packet of this number alone"),
+    (
+        "host",
+        "ADDRESS",
+        "Shows the packets that have this address before or after",
+    ),
 ];
 
 /// What is to be explained, and which of its lines are shown.
-#[derive(Drop)]
-pub struct Options {
+#[derive(Clone, Copy)]
+pub struct Options<'m> {
     /// The configuration; absent, the built-in one.
-    pub config: Option<String>,
+    pub config: Option<&'m str>,
     /// The capture of what inside hosts send; absent, standard input.
-    pub inside: Option<String>,
+    pub inside: Option<&'m str>,
     /// The capture of what comes from the outside; absent, no packets.
-    pub outside: Option<String>,
+    pub outside: Option<&'m str>,
     /// Where the picture is drawn; absent, there is none.
-    pub svg: Option<String>,
+    pub svg: Option<&'m str>,
     pub choice: Choice,
 }
 
@@ -66,16 +79,15 @@ pub struct Choice {
     pub dropped: bool,
 }
 
-/// Reads the words, the program's name first. Help, the version and what is wrong with the words are written at once: there
-/// are no options then, or there is an error.
-pub fn read<R: Print + Eprint + AllocGlobal>(
+/// Reads the words, the program's name first. Help, the version and what is wrong with the words are written at once: nothing
+/// is answered then, or there is an error.
+pub fn read<'w, R: Print + Eprint + AllocGlobal>(
     rt: &R,
-    words: Vec<String>,
-) -> Result<Option<Options>, Stop> {
-    let alloc = rt.alloc();
-    let command = explain_command(alloc)?;
-    match command.try_get_matches_from(words.as_slice()) {
-        Ok(matches) => Ok(Some(options_of(rt, &matches)?)),
+    words: &'w [String],
+) -> Result<Option<ArgMatches<'w>>, Stop> {
+    let command = explain_command(rt.alloc())?;
+    match command.try_get_matches_from(words) {
+        Ok(matches) => Ok(Some(matches)),
         Err(error) => {
             told(rt, &error)?;
             Ok(None)
@@ -100,28 +112,24 @@ fn told<R: Print + Eprint + AllocGlobal>(rt: &R, error: &Error) -> Result<(), St
 }
 
 fn explain_command<'a>(alloc: Global) -> Result<Command<'a>, AllocError> {
-    let mut command = Command::new(alloc, "explain")
-        .bin_name("explain")?
-        .version(VERSION)
-        .about(ABOUT)
-        .after_help(NOTES);
-    for (name, meaning) in FILES {
-        command = command.arg(value_arg(alloc, name, "FILE", meaning))?;
+    let mut command = described_command(alloc)?;
+    for (name, value, meaning) in VALUES.iter() {
+        command = command.arg(value_arg(alloc, *name, *value, *meaning))?;
     }
-    command = command.arg(value_arg(alloc, "svg", "FILE", SVG))?;
-    command = command.arg(value_arg(alloc, "only", "N", "Shows the packet of this number alone"))?;
-    command = command.arg(value_arg(
-        alloc,
-        "host",
-        "ADDRESS",
-        "Shows the packets that have this address before or after",
-    ))?;
-    command.arg(
-        Arg::new(alloc, "dropped")
-            .long("dropped")
-            .action(ArgAction::SetTrue)
-            .help("Shows the dropped packets alone"),
-    )
+    command.arg(dropped_arg(alloc))
+}
+
+/// The command without its options.
+fn described_command<'a>(alloc: Global) -> Result<Command<'a>, AllocError> {
+    let command = Command::new(alloc, "explain").bin_name("explain")?;
+    Ok(command.version(VERSION).about(ABOUT).after_help(NOTES))
+}
+
+fn dropped_arg<'a>(alloc: Global) -> Arg<'a> {
+    Arg::new(alloc, "dropped")
+        .long("dropped")
+        .action(ArgAction::SetTrue)
+        .help("Shows the dropped packets alone")
 }
 
 // A plain option that takes a value.
@@ -133,45 +141,21 @@ fn value_arg<'a>(alloc: Global, name: &'a str, value: &'a str, meaning: &'a str)
         .help(meaning)
 }
 
-fn value_of(
-    alloc: Global,
-    matches: &ArgMatches<'_>,
-    name: &str,
-) -> Result<Option<String>, AllocError> {
-    match matches.get_str(name) {
-        Some(text) => Ok(Some(String::from_str(alloc, text)?)),
-        None => Ok(None),
-    }
-}
-
-fn options_of<R: Eprint + AllocGlobal>(rt: &R, matches: &ArgMatches<'_>) -> Result<Options, Stop> {
-    let alloc = rt.alloc();
+/// The options that words are read as. A number or an address that is none is told.
+pub fn options_of<'m, R: Eprint>(rt: &R, matches: &'m ArgMatches<'_>) -> Result<Options<'m>, Stop> {
+    let only = only_of(rt, matches)?;
+    let host = host_of(rt, matches)?;
     Ok(Options {
-        config: value_of(alloc, matches, "config")?,
-        inside: value_of(alloc, matches, "inside")?,
-        outside: value_of(alloc, matches, "outside")?,
-        svg: svg_of(rt, matches)?,
+        config: matches.get_str("config"),
+        inside: matches.get_str("inside"),
+        outside: matches.get_str("outside"),
+        svg: matches.get_str("svg"),
         choice: Choice {
-            only: only_of(rt, matches)?,
-            host: host_of(rt, matches)?,
+            only,
+            host,
             dropped: matches.get_flag("dropped"),
         },
     })
-}
-
-/// The file of the picture, which is none of those that are read.
-fn svg_of<R: Eprint + AllocGlobal>(
-    rt: &R,
-    matches: &ArgMatches<'_>,
-) -> Result<Option<String>, Stop> {
-    let path = value_of(rt.alloc(), matches, "svg")?;
-    for name in ["config", "inside", "outside"] {
-        if path.is_some() && matches.get_str(name) == matches.get_str("svg") {
-            let _ = eprintln!(rt; "explain: --svg names the file of --{name}, which is read");
-            return Err(Stop::Usage);
-        }
-    }
-    Ok(path)
 }
 
 fn only_of<R: Eprint>(rt: &R, matches: &ArgMatches<'_>) -> Result<Option<u64>, Stop> {

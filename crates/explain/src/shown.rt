@@ -1,55 +1,49 @@
 //! Packets in the words of tcpdump's users.
 
-use crate::names::{endpoint_text, protocol_name};
+use crate::names::{EndpointText, protocol_name};
 use napt_config::Address;
 use napt_wire::{Flags, Kind, Packet, Side};
 use std::alloc::{AllocError, Global};
+use std::fmt;
 
 /// A packet, as `udp 10.0.0.2:5000 > 198.51.100.7:3000`.
 pub fn packet_text(alloc: Global, packet: &Packet) -> Result<String, AllocError> {
-    let from = endpoint_text(alloc, packet.source())?;
-    let to = endpoint_text(alloc, packet.destination())?;
+    let (source, destination) = (packet.source(), packet.destination());
+    let (from, to) = (Address(source.address), Address(destination.address));
+    let (source_port, destination_port) = (source.number, destination.number);
     match packet.kind() {
-        Kind::Udp => format!(in alloc; "udp {from} > {to}"),
+        Kind::Udp => { format!(in alloc; "udp {from}:{source_port} > {to}:{destination_port}") }
         Kind::Tcp(flags) => {
-            let flags = flags_text(alloc, flags)?;
-            format!(in alloc; "tcp {from} > {to} [{flags}]")
+            let flags = FlagsText(flags);
+            format!(in alloc; "tcp {from}:{source_port} > {to}:{destination_port} [{flags}]")
         }
         Kind::Echo => {
-            let number = packet.source().number.max(packet.destination().number);
-            let (from, to) = (
-                Address(packet.source().address),
-                Address(packet.destination().address),
-            );
+            let number = source_port.max(destination_port);
             format!(in alloc; "icmp echo {from} > {to} id {number}")
         }
         Kind::ErrorOf(inner) => {
-            let (from, to) = (
-                Address(packet.source().address),
-                Address(packet.destination().address),
-            );
             let name = protocol_name(inner.protocol);
-            let quoted_from = endpoint_text(alloc, inner.source)?;
-            let quoted_to = endpoint_text(alloc, inner.destination)?;
+            let (quoted_from, quoted_to) = (
+                EndpointText(inner.source),
+                EndpointText(inner.destination),
+            );
             format!(in alloc; "icmp error {from} > {to} about {name} {quoted_from} > {quoted_to}")
         }
     }
 }
 
 /// Flags as tcpdump writes them: `S`, `S.`, `F.`, `R`, `.`.
-fn flags_text(alloc: Global, flags: Flags) -> Result<String, AllocError> {
-    let mut text = String::new(alloc);
-    for (is_set, letter) in [
-        (flags.fin, 'F'),
-        (flags.syn, 'S'),
-        (flags.rst, 'R'),
-        (flags.ack, '.'),
-    ] {
-        if is_set {
-            text.push(letter)?;
-        }
+#[derive(Clone, Copy)]
+struct FlagsText(Flags);
+
+impl fmt::Display for FlagsText {
+    fn fmt<W: fmt::Write>(&self, f: &mut fmt::Formatter<W>) -> fmt::Result {
+        let fin = if self.0.fin { "F" } else { "" };
+        let syn = if self.0.syn { "S" } else { "" };
+        let rst = if self.0.rst { "R" } else { "" };
+        let ack = if self.0.ack { "." } else { "" };
+        write!(f, "{fin}{syn}{rst}{ack}")
     }
-    Ok(text)
 }
 
 /// The packet that some bytes are on their arrival; where they are none, what can be said of them.

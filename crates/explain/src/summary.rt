@@ -1,11 +1,11 @@
 //! The lines of an account.
 
 use crate::account::{Account, Note};
-use crate::advice::{advice, meaning};
-use crate::names::{cause_name, endpoint_text, protocol_name, side_name, time_text};
-use crate::options::{Choice, Options};
+use crate::names::{EndpointText, Seconds, cause_name, protocol_name, side_name};
+use crate::options::Choice;
 use crate::shown::{arrival_text, has_address, packet_text};
 use crate::stop::Stop;
+use napt_reasons::{advice, meaning};
 use napt_run::{Input, Outcome};
 use napt_table::Row;
 use napt_wire::{Cause, Kind, Packet, Side};
@@ -14,7 +14,7 @@ use std::alloc::{AllocError, Global};
 /// Writes the line of the packet of a number, from 1, where it is asked for.
 pub fn tell_line<R: Print + AllocGlobal>(
     rt: &R,
-    options: &Options,
+    choice: Choice,
     number: u64,
     input: &Input,
     account: &Account,
@@ -23,22 +23,27 @@ pub fn tell_line<R: Print + AllocGlobal>(
     let (Some(outcome), Some(used)) = (account.outcome_at(at), account.uses.get(at)) else {
         return Ok(());
     };
-    if !is_chosen(options.choice, number, input, outcome) {
+    if !is_chosen(choice, number, input, outcome) {
         return Ok(());
     }
-    let alloc = rt.alloc();
-    let time = time_text(alloc, input.time)?;
+    let line = line_text(rt.alloc(), number, input, outcome, used.note)?;
+    println!(rt; "{line}")?;
+    Ok(())
+}
+
+/// The line of a packet.
+fn line_text(
+    alloc: Global,
+    number: u64,
+    input: &Input,
+    outcome: &Outcome,
+    note: Note,
+) -> Result<String, AllocError> {
+    let time = Seconds(input.time);
     let side = side_name(input.side);
     let before = arrival_text(alloc, input.side, &input.bytes)?;
-    let happened = happened(alloc, input.side, outcome, used.note)?;
-    match outcome {
-        Outcome::ToOutside(packet) | Outcome::ToInside(packet) => {
-            let after = packet_text(alloc, packet)?;
-            println!(rt; "{number} {time} {side:<7} {before} | {happened} | {after}")?;
-        }
-        Outcome::Dropped(_) => println!(rt; "{number} {time} {side:<7} {before} | {happened}")?,
-    }
-    Ok(())
+    let rest = rest_text(alloc, input.side, outcome, note)?;
+    format!(in alloc; "{number} {time} {side:<7} {before} | {rest}")
 }
 
 fn is_chosen(choice: Choice, number: u64, input: &Input, outcome: &Outcome) -> bool {
@@ -57,27 +62,33 @@ fn leaves_with(outcome: &Outcome, host: u32) -> bool {
     }
 }
 
-/// What happened to a packet that came from a side.
-fn happened(
+/// What happened to a packet that came from a side, and the packet as it leaves.
+fn rest_text(
     alloc: Global,
     side: Side,
     outcome: &Outcome,
     note: Note,
 ) -> Result<String, AllocError> {
     match outcome {
-        Outcome::Dropped(cause) => {
-            let name = cause_name(alloc, *cause)?;
-            format!(in alloc; "dropped, {name}: {}", meaning(*cause))
+        Outcome::Dropped(cause) => dropped_text(alloc, *cause),
+        Outcome::ToInside(packet) if side == Side::Inside => hairpin_text(alloc, packet, note),
+        Outcome::ToInside(packet) | Outcome::ToOutside(packet) => {
+            let after = packet_text(alloc, packet)?;
+            format!(in alloc; "{} | {after}", used(packet, note))
         }
-        Outcome::ToInside(packet) => match side {
-            Side::Inside => {
-                let via = endpoint_text(alloc, packet.source())?;
-                format!(in alloc; "hairpin via {via}, {}", used(packet, note))
-            }
-            Side::Outside => String::from_str(alloc, used(packet, note)),
-        },
-        Outcome::ToOutside(packet) => String::from_str(alloc, used(packet, note)),
     }
+}
+
+fn dropped_text(alloc: Global, cause: Cause) -> Result<String, AllocError> {
+    let name = cause_name(alloc, cause)?;
+    format!(in alloc; "dropped, {name}: {}", meaning(cause))
+}
+
+fn hairpin_text(alloc: Global, packet: &Packet, note: Note) -> Result<String, AllocError> {
+    let via = EndpointText(packet.source());
+    let used = used(packet, note);
+    let after = packet_text(alloc, packet)?;
+    format!(in alloc; "hairpin via {via}, {used} | {after}")
 }
 
 /// What a packet that went through did to a binding.
@@ -91,16 +102,9 @@ fn used(packet: &Packet, note: Note) -> &'static str {
 }
 
 /// Writes the bindings that live at the last clock, with their ages.
-pub fn tell_bindings<R: Print + AllocGlobal>(
-    rt: &R,
-    inputs: &[Input],
-    account: &Account,
-) -> Result<(), Stop> {
-    let now = match inputs.last() {
-        Some(input) => input.clock,
-        None => 0,
-    };
-    let time = time_text(rt.alloc(), now)?;
+pub fn tell_bindings<R: Print>(rt: &R, inputs: &[Input], account: &Account) -> Result<(), Stop> {
+    let now = inputs.last().map_or(0, |input| input.clock);
+    let time = Seconds(now);
     println!(rt; "live bindings at {time}: {}", account.run.bindings.len())?;
     for row in &account.run.bindings {
         tell_binding(rt, now, row, account)?;
@@ -108,29 +112,22 @@ pub fn tell_bindings<R: Print + AllocGlobal>(
     Ok(())
 }
 
-fn tell_binding<R: Print + AllocGlobal>(
-    rt: &R,
-    now: u64,
-    row: &Row,
-    account: &Account,
-) -> Result<(), Stop> {
-    let alloc = rt.alloc();
+fn tell_binding<R: Print>(rt: &R, now: u64, row: &Row, account: &Account) -> Result<(), Stop> {
     let name = protocol_name(row.protocol);
-    let inside = endpoint_text(alloc, row.inside)?;
-    let external = endpoint_text(alloc, row.external)?;
+    let inside = EndpointText(row.inside);
+    let external = EndpointText(row.external);
+    print!(rt; "  {name} {inside} at {external}")?;
     if row.fixed {
-        println!(rt; "  {name} {inside} at {external}, a redirect")?;
+        println!(rt; ", a redirect")?;
         return Ok(());
     }
     match account.life_of(row.protocol, row.external) {
         Some(life) => {
-            let made = time_text(alloc, now.saturating_sub(life.made))?;
-            let used = time_text(alloc, now.saturating_sub(life.sent))?;
-            println!(rt;
-                "  {name} {inside} at {external}, made {made} s ago, last used from inside {used} s ago"
-            )?;
+            let made = Seconds(now.saturating_sub(life.made));
+            let used = Seconds(now.saturating_sub(life.sent));
+            println!(rt; ", made {made} s ago, last used from inside {used} s ago")?;
         }
-        None => println!(rt; "  {name} {inside} at {external}")?,
+        None => println!(rt; "")?,
     }
     Ok(())
 }

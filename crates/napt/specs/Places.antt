@@ -1,22 +1,11 @@
 -- Which output is a file that an option before it names.
-use Rattle.std.specs.Prelude.{◌≡◌, ◌==◌, ◌&&◌, ◌||◌, Bool, false, Option, Some, None, bytes_eq, is_some, if◌then◌else◌}
+use Rattle.std.specs.Prelude.{◌≡◌, ◌||◌, Bool, false, Option, Some, None, is_some, if◌then◌else◌}
+use Rattle.napt_files.specs.Place.{is_same}
+use Rattle.napt_files.specs.declared.place.Place.{Place}
 use Rattle.napt.specs.declared.options.Options.{Options}
-use Rattle.napt.specs.declared.place.Node.{Node}
-use Rattle.napt.specs.declared.place.Place.{Place}
-use Rattle.napt.specs.declared.place.Place.TheVariants.{There, New, Words}
 use Rattle.napt.specs.declared.places.Places.{Places}
 use Rattle.napt.specs.declared.stop.Role.{Role}
 use Rattle.napt.specs.declared.stop.Role.TheVariants as role
-
-abbrev pub is_same_node : Node → Node → Bool
-is_same_node a b = a.device == b.device && a.number == b.number
-
--- both are one file: the same node; not there yet, the same name in the same folder; else the same path
-abbrev pub is_same : Place → Place → Bool
-is_same (There a) (There b) = is_same_node a b
-is_same (New a a_name) (New b b_name) = is_same_node a b && bytes_eq a_name.now b_name.now
-is_same (Words a) (Words b) = bytes_eq a.now b.now
-is_same _ _ = false
 
 -- the place, if there is one, is this file
 abbrev pub is_there : Place → Option Place → Bool

@@ -4,7 +4,6 @@
 mod config_file;
 mod files;
 mod options;
-mod place;
 mod places;
 mod program;
 mod stop;

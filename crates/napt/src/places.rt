@@ -4,8 +4,8 @@ ghost use Rattle.napt.specs.Places.{ArePlacesOf, is_again, is_input, is_placed, 
 ghost use Rattle.napt.specs.Program.{IsStopOf};
 
 use crate::options::Options;
-use crate::place::{Place, is_same, place_of};
 use crate::stop::{Role, Stop};
+use napt_files::{Place, is_same, place_of};
 use std::rt::Files;
 
 /// The place of the file that each option names, and of the standard streams that stand for absent ones.

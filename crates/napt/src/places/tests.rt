@@ -1,6 +1,6 @@
 use super::{Places, output_named_again};
-use crate::place::{Node, Place};
 use crate::stop::Role;
+use napt_files::{Node, Place};
 
 const NOTHING: Places<'static> = Places {
     config: None,

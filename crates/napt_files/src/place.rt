@@ -1,6 +1,6 @@
 //! Where a file stands, so that one file is known under several paths.
 ghost use Rattle.std.specs.Prelude.{◌≡◌};
-ghost use Rattle.napt.specs.Places.{is_same, is_same_node};
+ghost use Rattle.napt_files.specs.Place.{is_same, is_same_node};
 
 use std::fs;
 use std::fs::Metadata;

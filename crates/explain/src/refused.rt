@@ -1,0 +1,56 @@
+//! What is told of a configuration or a capture that napt refuses.
+
+use crate::names::hyphened;
+use crate::stop::Stop;
+use napt_capture::CaptureFault;
+use napt_config::ConfigFault;
+use napt_reasons::{Reason, capture_reasons, config_reasons};
+use std::alloc::AllocError;
+
+/// Writes that the configuration of a path, which is this text, is refused by a fault, and why.
+pub fn tell_config<R: Print + AllocGlobal>(
+    rt: &R,
+    path: &str,
+    text: &[u8],
+    fault: ConfigFault,
+) -> Result<(), Stop> {
+    let code = format!(in rt.alloc(); "{fault:?}")?;
+    tell_refusal(rt, "configuration", path, &code)?;
+    tell_reasons(rt, config_reasons(rt.alloc(), text, fault))
+}
+
+/// Writes that the capture of a side, which is these bytes, is refused by a fault, and why.
+pub fn tell_capture<R: Print + AllocGlobal>(
+    rt: &R,
+    side: &str,
+    bytes: &[u8],
+    fault: CaptureFault,
+) -> Result<(), Stop> {
+    let code = format!(in rt.alloc(); "{fault:?}")?;
+    tell_refusal(rt, "capture", side, &code)?;
+    tell_reasons(rt, capture_reasons(rt.alloc(), bytes, fault))
+}
+
+/// Writes that a file is refused, by a fault's name in code.
+fn tell_refusal<R: Print + AllocGlobal>(
+    rt: &R,
+    kind: &str,
+    file: &str,
+    code: &str,
+) -> Result<(), Stop> {
+    let name = hyphened(rt.alloc(), code)?;
+    println!(rt; "the {kind} {file} is refused: {name}")?;
+    Ok(())
+}
+
+fn tell_reasons<R: Print>(rt: &R, reasons: Result<Vec<Reason>, AllocError>) -> Result<(), Stop> {
+    for reason in &reasons? {
+        tell_reason(rt, reason)?;
+    }
+    Ok(())
+}
+
+fn tell_reason<R: Print>(rt: &R, reason: &Reason) -> Result<(), Stop> {
+    println!(rt; "  {:<9} {}", reason.title, reason.text)?;
+    Ok(())
+}

@@ -1,0 +1,259 @@
+//! Where everything in a picture stands, in pixels.
+
+use crate::scene::{Binding, BindingKind, Pass, Scene};
+use crate::span::{LEFT, RIGHT, Span};
+use std::alloc::{AllocError, Global};
+use std::collections::{BTreeMap, BTreeSet};
+
+/// The line above the first lane.
+pub const HEAD: u64 = 80;
+
+/// The height of a bar with its label.
+const ROW: u64 = 34;
+
+/// The height of the row of a cause.
+const CAUSE_ROW: u64 = 20;
+
+/// What a lane has above its first row and below its last.
+const PAD: u64 = 5;
+
+/// The width of a letter of a label.
+const LETTER: u64 = 7;
+
+/// A lane, from a line to a line.
+#[derive(Clone, Copy)]
+pub struct Lane {
+    pub top: u64,
+    pub bottom: u64,
+}
+
+/// The bar of a binding.
+#[derive(Clone, Copy)]
+pub struct Bar {
+    /// The binding's place in the scene.
+    pub place: usize,
+    /// The column where the label begins.
+    pub label_at: u64,
+    /// The columns of its making, its last packet and its end.
+    pub made: u64,
+    pub used: u64,
+    pub end: u64,
+    pub top: u64,
+}
+
+/// What a mark says of a packet, in the order in which marks are drawn.
+#[derive(Clone, Copy, PartialEq, Eq, PartialOrd, Ord)]
+pub enum MarkKind {
+    /// It went out at the bar of the mark's top.
+    Out,
+    /// It came in there.
+    Into,
+    /// It went out there and came in at the bar of another top.
+    Hairpin,
+    /// It was dropped for the cause of the row of the mark's top.
+    Dropped,
+}
+
+/// What a packet leaves in the picture. Packets that fall together leave one mark.
+#[derive(Clone, Copy, PartialEq, Eq, PartialOrd, Ord)]
+pub struct Mark {
+    pub kind: MarkKind,
+    pub column: u64,
+    pub top: u64,
+    /// The top of the bar where a hairpin comes in; else the mark's own.
+    pub into: u64,
+}
+
+/// Where everything in a picture stands.
+#[derive(Drop)]
+pub struct Layout {
+    pub span: Span,
+    /// One for each lane of the scene.
+    pub lanes: Vec<Lane>,
+    /// The bars, lane by lane.
+    pub bars: Vec<Bar>,
+    /// The top of the row of each cause.
+    pub causes: Vec<u64>,
+    pub marks: BTreeSet<Mark>,
+    /// The line below all lanes and rows.
+    pub bottom: u64,
+    /// The tops of the bars, by the places of their bindings.
+    tops: BTreeMap<usize, u64>,
+}
+
+/// The bar of the binding at a place of the scene, at the top of the picture.
+fn bar_of(span: Span, place: usize, binding: &Binding) -> Bar {
+    let made = span.column_of(binding.made);
+    let widest = RIGHT.saturating_sub(label_width(&binding.label));
+    let mut bar = Bar {
+        place,
+        label_at: made.min(widest),
+        made,
+        used: span.column_of(binding.used),
+        end: span.column_of(binding.end),
+        top: 0,
+    };
+    if binding.kind == BindingKind::Redirect {
+        (bar.made, bar.used, bar.end) = (LEFT, RIGHT, RIGHT);
+        bar.label_at = LEFT.min(widest);
+    }
+    bar
+}
+
+fn label_width(label: &str) -> u64 {
+    (label.len() as u64).saturating_mul(LETTER)
+}
+
+/// The columns that a bar takes with its label, the last one with what keeps it from the next bar.
+fn columns_of(bar: Bar, label: &str) -> (u64, u64) {
+    let label_end = bar.label_at.saturating_add(label_width(label));
+    (
+        bar.made.min(bar.label_at),
+        bar.end.max(label_end).saturating_add(LETTER),
+    )
+}
+
+/// The first row that is free from a column on, of rows that are taken up to theirs; it is taken up to another column.
+fn row_for(taken: &mut Vec<u64>, from: u64, to: u64) -> Result<usize, AllocError> {
+    let at = match taken.iter().position(|end| *end <= from) {
+        Some(at) => at,
+        None => taken.len(),
+    };
+    match taken.get_mut(at) {
+        Some(end) => *end = to,
+        None => taken.push(to)?,
+    }
+    Ok(at)
+}
+
+impl Layout {
+    /// The places of what a scene shows.
+    pub fn of(alloc: Global, scene: &Scene) -> Result<Layout, AllocError> {
+        let mut layout = Layout {
+            span: Span::of(&scene.passes),
+            lanes: Vec::new(alloc),
+            bars: Vec::new(alloc),
+            causes: Vec::new(alloc),
+            marks: BTreeSet::new(alloc),
+            bottom: HEAD,
+            tops: BTreeMap::new(alloc),
+        };
+        layout.add_all(alloc, scene)?;
+        Ok(layout)
+    }
+
+    fn add_all(&mut self, alloc: Global, scene: &Scene) -> Result<(), AllocError> {
+        self.add_lanes(alloc, scene.lanes.len(), &scene.bindings)?;
+        self.add_causes(scene.causes.len())?;
+        self.add_marks(&scene.passes)
+    }
+
+    /// So many lanes, with the bars of their bindings.
+    fn add_lanes(
+        &mut self,
+        alloc: Global,
+        many: usize,
+        bindings: &[Binding],
+    ) -> Result<(), AllocError> {
+        for lane in 0..many {
+            self.add_lane(alloc, lane, bindings)?;
+        }
+        Ok(())
+    }
+
+    /// A lane, with the bars of its bindings.
+    fn add_lane(
+        &mut self,
+        alloc: Global,
+        lane: usize,
+        bindings: &[Binding],
+    ) -> Result<(), AllocError> {
+        let top = self.bottom;
+        let mut taken = Vec::new(alloc);
+        for (place, binding) in bindings.iter().enumerate() {
+            if binding.lane == lane {
+                self.add_bar(&mut taken, top, place, binding)?;
+            }
+        }
+        let rows = ROW.saturating_mul((taken.len() as u64).max(1));
+        let bottom = top.saturating_add(rows).saturating_add(PAD + PAD);
+        self.bottom = bottom;
+        self.lanes.push(Lane { top, bottom })?;
+        Ok(())
+    }
+
+    /// The bar of a binding in the first row of its lane that is free for it, where the rows are taken up to some columns.
+    fn add_bar(
+        &mut self,
+        taken: &mut Vec<u64>,
+        lane_top: u64,
+        place: usize,
+        binding: &Binding,
+    ) -> Result<(), AllocError> {
+        let mut bar = bar_of(self.span, place, binding);
+        let (from, to) = columns_of(bar, &binding.label);
+        let row = row_for(taken, from, to)?;
+        let above = ROW.saturating_mul(row as u64);
+        bar.top = lane_top.saturating_add(PAD).saturating_add(above);
+        self.tops.insert(place, bar.top)?;
+        self.bars.push(bar)?;
+        Ok(())
+    }
+
+    /// A row for each of so many causes.
+    fn add_causes(&mut self, many: usize) -> Result<(), AllocError> {
+        for _ in 0..many {
+            self.causes.push(self.bottom)?;
+            self.bottom = self.bottom.saturating_add(CAUSE_ROW);
+        }
+        Ok(())
+    }
+
+    fn add_marks(&mut self, passes: &[Pass]) -> Result<(), AllocError> {
+        for pass in passes {
+            self.add_pass(*pass)?;
+        }
+        Ok(())
+    }
+
+    /// The marks of a packet that was dropped, went out through a binding, came in through one, or did both.
+    fn add_pass(&mut self, pass: Pass) -> Result<(), AllocError> {
+        let dropped = self.row_of(pass.dropped);
+        let out = self.top_of(pass.out);
+        let into = self.top_of(pass.into);
+        self.add_mark(MarkKind::Dropped, pass.clock, dropped, dropped)?;
+        self.add_mark(MarkKind::Out, pass.clock, out, out)?;
+        self.add_mark(MarkKind::Into, pass.clock, into, into)?;
+        self.add_mark(MarkKind::Hairpin, pass.clock, out, into)
+    }
+
+    /// A mark at a time, where both of its tops are there.
+    fn add_mark(
+        &mut self,
+        kind: MarkKind,
+        clock: u64,
+        top: Option<u64>,
+        into: Option<u64>,
+    ) -> Result<(), AllocError> {
+        if let (Some(top), Some(into)) = (top, into) {
+            let column = self.span.column_of(clock);
+            self.marks.insert(Mark {
+                kind,
+                column,
+                top,
+                into,
+            })?;
+        }
+        Ok(())
+    }
+
+    /// The top of the row of the cause at a place.
+    fn row_of(&self, place: Option<usize>) -> Option<u64> {
+        self.causes.get(place?).copied()
+    }
+
+    /// The top of the bar of the binding at a place, if the picture shows it.
+    fn top_of(&self, place: Option<usize>) -> Option<u64> {
+        self.tops.get(&place?).copied()
+    }
+}

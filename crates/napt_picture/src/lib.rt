@@ -1,0 +1,13 @@
+//! A picture of a run in SVG: over time the bindings of each external address as bars, the packets as strokes upon them, the
+//! hairpins as arrows between them, and the dropped packets below.
+//!
+//! The caller says what is shown (`Scene`), in its own words and with times in ns; `drawing_of` puts it in its place and draws it.
+#![tactic(auto)]
+
+mod layout;
+mod scene;
+mod span;
+mod svg;
+
+pub use crate::scene::{Binding, BindingKind, Pass, Scene};
+pub use crate::svg::drawing_of;

@@ -1,0 +1,57 @@
+//! What a picture shows.
+
+/// What a picture shows, from the top down.
+#[derive(Drop)]
+pub struct Scene {
+    /// The line above the lanes.
+    pub head: String,
+    /// The names of the lanes.
+    pub lanes: Vec<String>,
+    /// The bindings, of which each has a bar.
+    pub bindings: Vec<Binding>,
+    /// The names of the rows of causes for which packets were dropped.
+    pub causes: Vec<String>,
+    /// The packets, in the order of their times.
+    pub passes: Vec<Pass>,
+}
+
+/// What a binding is, which is the colour of its bar.
+#[derive(Clone, Copy, PartialEq, Eq)]
+pub enum BindingKind {
+    Udp,
+    Tcp,
+    Icmp,
+    /// It stands before the first packet and after the last, whatever its times are.
+    Redirect,
+}
+
+/// A binding from its making to its end, with times in ns.
+#[derive(Drop)]
+pub struct Binding {
+    pub kind: BindingKind,
+    /// The place of its lane, from 0; where there is none, it is not shown.
+    pub lane: usize,
+    /// The words at its bar.
+    pub label: String,
+    /// The words that a viewer shows for its bar.
+    pub title: String,
+    /// When it was made.
+    pub made: u64,
+    /// When a packet last went through it.
+    pub used: u64,
+    /// From when on it is gone.
+    pub end: u64,
+}
+
+/// What a packet did, with the places of bindings and of causes in the scene, from 0.
+#[derive(Clone, Copy)]
+pub struct Pass {
+    /// Its time, in ns.
+    pub clock: u64,
+    /// The binding that it went out through.
+    pub out: Option<usize>,
+    /// The binding that it came in through; a hairpin has both.
+    pub into: Option<usize>,
+    /// The cause for which it was dropped.
+    pub dropped: Option<usize>,
+}

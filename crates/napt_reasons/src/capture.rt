@@ -1,0 +1,149 @@
+//! What a capture that is refused seems to be, and the command that turns it into one that napt reads.
+
+ghost use Rattle.std.specs.Prelude.{◌≤◌, ◌+◌, IfOk, OnOk, vec_len};
+
+use crate::reason::{Reason, add};
+use napt_capture::CaptureFault;
+use std::alloc::{AllocError, Global};
+
+/// What some bytes seem to be.
+#[derive(Clone, Copy)]
+enum Form {
+    Empty,
+    Pcapng,
+    Gzip,
+    /// A libpcap capture of this link type, as its bytes are ordered and its fractions counted.
+    Pcap(Spelling, u32),
+    /// None of these, or a libpcap capture that ends within its header.
+    Unknown,
+}
+
+/// The four spellings of a libpcap capture.
+#[derive(Clone, Copy)]
+struct Spelling {
+    is_big: bool,
+    is_nano: bool,
+}
+
+/// The first four bytes of some bytes.
+fn first_four(bytes: &[u8]) -> [u8; 4] {
+    match bytes.first_chunk::<4>() {
+        Some(four) => *four,
+        None => [0; 4],
+    }
+}
+
+fn form_of(bytes: &[u8]) -> Form {
+    if bytes.is_empty() {
+        return Form::Empty;
+    }
+    match first_four(bytes) {
+        [0x0a, 0x0d, 0x0d, 0x0a] => Form::Pcapng,
+        [0x1f, 0x8b, _, _] => Form::Gzip,
+        [0xd4, 0xc3, 0xb2, 0xa1] => pcap(bytes, false, false),
+        [0x4d, 0x3c, 0xb2, 0xa1] => pcap(bytes, false, true),
+        [0xa1, 0xb2, 0xc3, 0xd4] => pcap(bytes, true, false),
+        [0xa1, 0xb2, 0x3c, 0x4d] => pcap(bytes, true, true),
+        _ => Form::Unknown,
+    }
+}
+
+/// A libpcap capture, whose link type stands at 20.
+fn pcap(bytes: &[u8], is_big: bool, is_nano: bool) -> Form {
+    let link = match bytes.get(20..24) {
+        Some(rest) => first_four(rest),
+        None => return Form::Unknown,
+    };
+    let link = if is_big {
+        u32::from_be_bytes(link)
+    } else {
+        u32::from_le_bytes(link)
+    };
+    Form::Pcap(Spelling { is_big, is_nano }, link)
+}
+
+/// The name of a link type, and how many bytes stand before the IP header.
+fn link_name(link: u32) -> Option<(&'static str, u32)> {
+    match link {
+        0 => Some(("BSD loopback", 4)),
+        1 => Some(("Ethernet", 14)),
+        113 => Some(("Linux cooked, version 1", 16)),
+        276 => Some(("Linux cooked, version 2", 20)),
+        _ => None,
+    }
+}
+
+/// Why `read_capture` refuses some bytes by this fault: the fault in words, what the bytes seem to be, and what to do where that is
+/// known. There are two reasons at least. Fails only where memory runs out.
+pub fn capture_reasons(
+    alloc: Global,
+    bytes: &[u8],
+    fault: CaptureFault,
+) -> Result<Vec<Reason>, AllocError>
+    ensures { IfOk result (λ reasons. 2 ≤ vec_len reasons) }
+{
+    let mut reasons = Vec::new(alloc);
+    add(&mut reasons, "why", format!(in alloc; "{fault}"))?;
+    add_form(alloc, &mut reasons, form_of(bytes))?;
+    Ok(reasons)
+}
+
+/// Adds what some bytes seem to be, and the command that makes a capture for napt of them where one is known.
+fn add_form(alloc: Global, reasons: &mut Vec<Reason>, form: Form) -> Result<(), AllocError>
+    ensures { OnOk result (vec_len reasons.old + 1 ≤ vec_len reasons.new) }
+{
+    add(reasons, "it is", form_text(alloc, form))?;
+    match form {
+        Form::Empty | Form::Unknown => Ok(()),
+        Form::Pcapng => {
+            let command = "editcap -F pcap -C 14 -T rawip in.pcap raw.pcap (for Ethernet)";
+            add(reasons, "do", String::from_str(alloc, command))
+        }
+        Form::Gzip => {
+            let command = "gunzip < in.pcap.gz > in.pcap";
+            add(reasons, "do", String::from_str(alloc, command))
+        }
+        Form::Pcap(_, link) => add_cut(alloc, reasons, link),
+    }
+}
+
+/// Adds the command that cuts the headers of a link type, where these are known.
+fn add_cut(alloc: Global, reasons: &mut Vec<Reason>, link: u32) -> Result<(), AllocError>
+    ensures { OnOk result (vec_len reasons.old ≤ vec_len reasons.new) }
+{
+    match link_name(link) {
+        Some((_, cut)) => {
+            let command = format!(in alloc; "editcap -F pcap -C {cut} -T rawip in.pcap raw.pcap");
+            add(reasons, "do", command)
+        }
+        None => Ok(()),
+    }
+}
+
+/// A form in words.
+fn form_text(alloc: Global, form: Form) -> Result<String, AllocError> {
+    match form {
+        Form::Empty => String::from_str(alloc, "empty"),
+        Form::Pcapng => String::from_str(alloc, "pcapng"),
+        Form::Gzip => String::from_str(alloc, "compressed by gzip"),
+        Form::Unknown => String::from_str(alloc, "no capture that is known here"),
+        Form::Pcap(spelling, link) => pcap_text(alloc, spelling, link),
+    }
+}
+
+fn pcap_text(alloc: Global, spelling: Spelling, link: u32) -> Result<String, AllocError> {
+    let order = match spelling.is_big {
+        true => "big-endian",
+        false => "little-endian",
+    };
+    let unit = match spelling.is_nano {
+        true => "nanoseconds",
+        false => "microseconds",
+    };
+    match link_name(link) {
+        Some((name, _)) => {
+            format!(in alloc; "a libpcap capture of {name} (link type {link}), {order}, {unit}")
+        }
+        None => format!(in alloc; "a libpcap capture of link type {link}, {order}, {unit}"),
+    }
+}

@@ -1,0 +1,143 @@
+//! Why a configuration is refused.
+
+ghost use Rattle.std.specs.Prelude.{◌≤◌, ◌+◌, IfOk, OnOk, vec_len};
+
+use crate::expected::{expected_at, shape_of};
+use crate::part::{Place, Refused};
+use crate::reason::{Reason, add};
+use napt_config::ConfigFault;
+use std::alloc::{AllocError, Global};
+use toml::Value;
+
+/// Why `Config::read` refuses a text by this fault: the place, the value there and what was expected; or the line that is no TOML;
+/// or the fault in words where it has no place. There is a reason at least. Fails only where memory runs out.
+pub fn config_reasons(
+    alloc: Global,
+    text: &[u8],
+    fault: ConfigFault,
+) -> Result<Vec<Reason>, AllocError>
+    ensures { IfOk result (λ reasons. 1 ≤ vec_len reasons) }
+{
+    let mut reasons = Vec::new(alloc);
+    match str::from_utf8(text) {
+        Ok(text) => add_for_text(alloc, &mut reasons, text, fault)?,
+        Err(_) => {
+            let why = String::from_str(alloc, "it is not UTF-8");
+            add(&mut reasons, "why", why)?;
+        }
+    }
+    Ok(reasons)
+}
+
+fn add_for_text(
+    alloc: Global,
+    reasons: &mut Vec<Reason>,
+    text: &str,
+    fault: ConfigFault,
+) -> Result<(), AllocError>
+    ensures { OnOk result (vec_len reasons.old + 1 ≤ vec_len reasons.new) }
+{
+    match toml::table_from_str(alloc, text) {
+        Ok(table) => add_for_table(
+            reasons,
+            Refused {
+                alloc,
+                text,
+                table: &table,
+                fault,
+            },
+        ),
+        Err(error) if fault == ConfigFault::NotToml => {
+            add_for_syntax(alloc, reasons, text, &error)
+        }
+        Err(_) => Err(AllocError),
+    }
+}
+
+/// Adds why a text is no TOML: the line, from 1, and what the reader says.
+fn add_for_syntax(
+    alloc: Global,
+    reasons: &mut Vec<Reason>,
+    text: &str,
+    error: &toml::de::Error,
+) -> Result<(), AllocError>
+    ensures { OnOk result (vec_len reasons.old + 1 ≤ vec_len reasons.new) }
+{
+    if let Some(span) = error.span() {
+        let line = line_of(text, span.start);
+        add(reasons, "line", format!(in alloc; "{line}"))?;
+    }
+    add(reasons, "why", String::from_str(alloc, error.message()))
+}
+
+/// The line that a place of a text is in, from 1.
+fn line_of(text: &str, place: usize) -> usize {
+    let before = text.as_bytes().get(..place).unwrap_or(text.as_bytes());
+    let ends = before.iter().filter(|byte| **byte == b'\n').count();
+    ends.saturating_add(1)
+}
+
+/// Adds why a table is refused: the place, the value there and what was expected, or the fault in words where it has no place.
+fn add_for_table(reasons: &mut Vec<Reason>, refused: Refused<'_>) -> Result<(), AllocError>
+    ensures { OnOk result (vec_len reasons.old + 1 ≤ vec_len reasons.new) }
+{
+    match refused.place()? {
+        Some(place) => add_for_place(reasons, refused, place),
+        None => add_why(reasons, refused),
+    }
+}
+
+/// Adds the fault in words.
+fn add_why(reasons: &mut Vec<Reason>, refused: Refused<'_>) -> Result<(), AllocError>
+    ensures { OnOk result (vec_len reasons.old + 1 ≤ vec_len reasons.new) }
+{
+    let fault = refused.fault;
+    add(reasons, "why", format!(in refused.alloc; "{fault}"))
+}
+
+fn add_for_place<'t>(
+    reasons: &mut Vec<Reason>,
+    refused: Refused<'t>,
+    place: Place<'t>,
+) -> Result<(), AllocError>
+    ensures { OnOk result (vec_len reasons.old + 1 ≤ vec_len reasons.new) }
+{
+    add(reasons, "at", place_text(refused.alloc, place))?;
+    let value = value_text(refused.alloc, refused.value(place));
+    add(reasons, "value", value)?;
+    match expected(refused.fault, place) {
+        Some(text) => add(reasons, "expected", String::from_str(refused.alloc, text)),
+        None => add_why(reasons, refused),
+    }
+}
+
+/// A place as `redirect[2].external`.
+fn place_text(alloc: Global, place: Place<'_>) -> Result<String, AllocError> {
+    let key = place.key;
+    match (place.entry, place.field) {
+        (None, None) => format!(in alloc; "{key}"),
+        (None, Some(field)) => format!(in alloc; "{key}.{field}"),
+        (Some(at), None) => format!(in alloc; "{key}[{at}]"),
+        (Some(at), Some(field)) => format!(in alloc; "{key}[{at}].{field}"),
+    }
+}
+
+fn value_text(alloc: Global, value: Option<&Value>) -> Result<String, AllocError> {
+    match value {
+        None => String::from_str(alloc, "none"),
+        Some(Value::String(text)) => format!(in alloc; "{text:?}"),
+        Some(Value::Integer(number)) => format!(in alloc; "{number}"),
+        Some(other) => format!(in alloc; "of type {}", other.type_str()),
+    }
+}
+
+/// What was expected at a place, if that says more than the fault.
+fn expected(fault: ConfigFault, place: Place<'_>) -> Option<&'static str> {
+    let field = place.field.unwrap_or("");
+    match fault {
+        ConfigFault::BadShape | ConfigFault::Missing => {
+            Some(shape_of(place.key, place.entry, field))
+        }
+        fault => expected_at(fault, place.key, field),
+    }
+}

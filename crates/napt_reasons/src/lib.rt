@@ -1,0 +1,15 @@
+//! Why napt refuses a configuration or a capture, or drops packets, in words for people: where a configuration has its fault, what a
+//! capture seems to be, what a cause means, and what to do.
+#![tactic(auto)]
+
+mod capture;
+mod cause;
+mod config;
+mod expected;
+mod part;
+mod reason;
+
+pub use crate::capture::capture_reasons;
+pub use crate::cause::{advice, meaning};
+pub use crate::config::config_reasons;
+pub use crate::reason::Reason;

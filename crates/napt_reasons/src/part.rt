@@ -1,0 +1,288 @@
+//! Which part of a configuration has its fault.
+//!
+//! No rule of a configuration stands here. The part is found by `Config::read` itself, which is the judge of each part: the
+//! text is read again with parts left out, and the fault stands in the part without which it goes.
+
+use napt_config::{Config, ConfigFault};
+use std::alloc::{AllocError, Global};
+use toml::{Table, Value};
+
+/// The keys in the order in which they are judged.
+const KEYS: &[&str] = &[
+    "pool", "inside", "filter", "refresh", "timers", "ring", "quota", "pair", "redirect",
+];
+
+/// What stands before a configuration of which the pool alone is judged.
+const NO_PREFIX: &str = "inside = [\"255.255.255.255/32\"]\n";
+
+/// The keys inside a key, in the order in which they are judged.
+fn fields_of(key: &str) -> &'static [&'static str] {
+    match key {
+        "timers" => &["udp", "tcp-established", "tcp-transitory", "icmp"],
+        "pair" => &["host", "external"],
+        "redirect" => &["protocol", "inside", "external"],
+        _ => &[],
+    }
+}
+
+/// The names of a table that are not left out.
+#[derive(Clone, Copy)]
+enum Kept<'t> {
+    Alone(&'t str),
+    /// Of those in the order in which they are judged the first ones.
+    First(&'static [&'static str]),
+}
+
+impl<'t> Kept<'t> {
+    /// The names up to the one at a place.
+    fn up_to(names: &'static [&'static str], place: usize) -> Kept<'t> {
+        Kept::First(names.get(..place.saturating_add(1)).unwrap_or(names))
+    }
+
+    fn has(self, name: &str) -> bool {
+        match self {
+            Kept::Alone(kept) => kept == name,
+            Kept::First(kept) => kept.iter().any(|other| *other == name),
+        }
+    }
+}
+
+/// Leaves out of a table what is not kept.
+fn keep(table: &mut Table, kept: Kept<'_>) {
+    table.retain(|name, _| kept.has(name.as_str()));
+}
+
+/// A part of a configuration.
+#[derive(Clone, Copy)]
+struct Part<'t> {
+    keys: Kept<'t>,
+    /// The last of its keys.
+    key: &'t str,
+    /// The last entry of the key's list; absent, it is whole.
+    entry: Option<usize>,
+    /// The fields of that entry, or of the table at the key; absent, all.
+    fields: Option<Kept<'t>>,
+}
+
+/// A place in a configuration.
+#[derive(Clone, Copy)]
+pub struct Place<'t> {
+    pub key: &'t str,
+    /// The entry of the key's list, from 0.
+    pub entry: Option<usize>,
+    /// The field of that entry, or of the table at the key.
+    pub field: Option<&'t str>,
+}
+
+/// A text that is refused, the table that it is, and its fault.
+#[derive(Clone, Copy)]
+pub struct Refused<'t> {
+    pub alloc: Global,
+    pub text: &'t str,
+    pub table: &'t Table,
+    pub fault: ConfigFault,
+}
+
+impl<'t> Refused<'t> {
+    /// The place that has the fault: a key, with its entry and its field as far as these can be told.
+    pub fn place(self) -> Result<Option<Place<'t>>, AllocError> {
+        match self.key()? {
+            Some(part) => Ok(Some(self.place_in(part)?)),
+            None => Ok(None),
+        }
+    }
+
+    /// The part of the first key that has the fault.
+    fn key(self) -> Result<Option<Part<'t>>, AllocError> {
+        match self.fault {
+            ConfigFault::UnknownKey => self.unknown_key(),
+            _ => self.known_key(),
+        }
+    }
+
+    /// The place that has the fault of a key's part.
+    fn place_in(self, part: Part<'t>) -> Result<Place<'t>, AllocError> {
+        let entry = self.entry(part)?;
+        let field = self.field(Part { entry, ..part })?;
+        Ok(Place {
+            key: part.key,
+            entry,
+            field,
+        })
+    }
+
+    /// The field that has the fault of a part.
+    fn field(self, part: Part<'_>) -> Result<Option<&'t str>, AllocError> {
+        match self.fault {
+            ConfigFault::UnknownKey => self.unknown_field(part),
+            ConfigFault::Missing => Ok(self.missing_field(part)),
+            _ => self.known_field(part),
+        }
+    }
+
+    /// Whether a part has the fault, as `Config::read` reads it.
+    fn is_in(self, part: Part<'_>) -> Result<bool, AllocError> {
+        let Ok(mut table) = toml::table_from_str(self.alloc, self.text) else {
+            return Err(AllocError);
+        };
+        keep(&mut table, part.keys);
+        if narrow(&mut table, part).is_none() {
+            return Ok(false);
+        }
+        match toml::table_to_string(self.alloc, &table) {
+            Ok(text) => self.is_fault_of(part, &text),
+            Err(_) => Err(AllocError),
+        }
+    }
+
+    /// Whether the text of a part has the fault. The pool is judged with a prefix, so that this is not missed.
+    fn is_fault_of(self, part: Part<'_>, text: &str) -> Result<bool, AllocError> {
+        let head = if part.key == "pool" { NO_PREFIX } else { "" };
+        let text = format!(in self.alloc; "{head}{text}")?;
+        match Config::read(self.alloc, text.as_bytes()) {
+            Ok(_) => Ok(false),
+            Err(fault) => Ok(fault == self.fault),
+        }
+    }
+
+    /// The part up to the first key that has the fault.
+    fn known_key(self) -> Result<Option<Part<'t>>, AllocError> {
+        for (at, key) in KEYS.iter().enumerate() {
+            let part = Part {
+                keys: Kept::up_to(KEYS, at),
+                key: *key,
+                entry: None,
+                fields: None,
+            };
+            let is_meant = at > 0 || self.fault != ConfigFault::PoolInside;
+            if is_meant && self.is_in(part)? {
+                return Ok(Some(part));
+            }
+        }
+        Ok(None)
+    }
+
+    /// The first key of the table that is unknown, or has an unknown key inside.
+    fn unknown_key(self) -> Result<Option<Part<'t>>, AllocError> {
+        for key in self.table.keys() {
+            let part = Part {
+                keys: Kept::Alone(key.as_str()),
+                key: key.as_str(),
+                entry: None,
+                fields: None,
+            };
+            if self.is_in(part)? {
+                return Ok(Some(part));
+            }
+        }
+        Ok(None)
+    }
+
+    /// The entry of the key's list that has the fault: the last of the fewest that have it. A list that is too long has none.
+    fn entry(self, part: Part<'_>) -> Result<Option<usize>, AllocError> {
+        let many = match self.fault {
+            ConfigFault::TooMany => 0,
+            _ => entry_count(self.table, part.key),
+        };
+        for at in 0..many {
+            let entry = Some(at);
+            if self.is_in(Part { entry, ..part })? {
+                return Ok(entry);
+            }
+        }
+        Ok(None)
+    }
+
+    /// The first field that has the fault with those that are judged before it.
+    fn known_field(self, part: Part<'_>) -> Result<Option<&'t str>, AllocError> {
+        let names = fields_of(part.key);
+        for (at, name) in names.iter().enumerate() {
+            let fields = Some(Kept::up_to(names, at));
+            if self.is_in(Part { fields, ..part })? {
+                return Ok(Some(*name));
+            }
+        }
+        Ok(None)
+    }
+
+    /// The first field that is unknown.
+    fn unknown_field(self, part: Part<'_>) -> Result<Option<&'t str>, AllocError> {
+        let Some(Value::Table(table)) = value_at(self.table, part.key, part.entry) else {
+            return Ok(None);
+        };
+        for name in table.keys() {
+            let fields = Some(Kept::Alone(name.as_str()));
+            if self.is_in(Part { fields, ..part })? {
+                return Ok(Some(name.as_str()));
+            }
+        }
+        Ok(None)
+    }
+
+    /// The first field that is not there.
+    fn missing_field(self, part: Part<'_>) -> Option<&'t str> {
+        let value = value_at(self.table, part.key, part.entry);
+        let names = fields_of(part.key);
+        names.iter().find(|name| !has_field(value, **name)).copied()
+    }
+
+    /// The value at a place.
+    pub fn value(self, place: Place<'t>) -> Option<&'t Value> {
+        let value = value_at(self.table, place.key, place.entry)?;
+        match place.field {
+            Some(name) => field_of(value, name),
+            None => Some(value),
+        }
+    }
+}
+
+/// Leaves out the entries and the fields that are not in a part; answers nothing where the place of these is not there.
+fn narrow(table: &mut Table, part: Part<'_>) -> Option<()> {
+    if part.entry.is_none() && part.fields.is_none() {
+        return Some(());
+    }
+    let value = table.get_mut(part.key)?;
+    let value = match part.entry {
+        Some(at) => last_entry(value, at)?,
+        None => value,
+    };
+    if let Some(kept) = part.fields {
+        keep(value.as_table_mut()?, kept);
+    }
+    Some(())
+}
+
+/// Leaves out the entries of a list behind one, and answers that one.
+fn last_entry(value: &mut Value, last: usize) -> Option<&mut Value> {
+    let entries = value.as_array_mut()?;
+    entries.truncate(last.saturating_add(1));
+    entries.get_mut(last)
+}
+
+/// How many entries a key's list has.
+fn entry_count(table: &Table, key: &str) -> usize {
+    match table.get(key) {
+        Some(Value::Array(entries)) => entries.len(),
+        _ => 0,
+    }
+}
+
+/// The value at a key, or at one of its entries.
+fn value_at<'a>(table: &'a Table, key: &str, entry: Option<usize>) -> Option<&'a Value> {
+    let value = table.get(key)?;
+    match entry {
+        Some(at) => value.as_array()?.get(at),
+        None => Some(value),
+    }
+}
+
+fn field_of<'a>(value: &'a Value, name: &str) -> Option<&'a Value> {
+    value.as_table()?.get(name)
+}
+
+fn has_field(value: Option<&Value>, name: &str) -> bool {
+    match value {
+        Some(value) => field_of(value, name).is_some(),
+        None => false,
+    }
+}

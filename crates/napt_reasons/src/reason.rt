@@ -1,0 +1,26 @@
+//! One thing that is said of what is refused.
+
+ghost use Rattle.std.specs.Prelude.{◌≡◌, ◌+◌, OnOk, vec_len};
+
+use std::alloc::AllocError;
+
+/// One thing that is said of what is refused.
+#[derive(Drop)]
+pub struct Reason {
+    /// What it is about: `why`, `at`, `value`, `expected`, `line`, `it is` or `do`.
+    pub title: &'static str,
+    pub text: String,
+}
+
+/// Adds a reason to others. Fails where its text does, and where memory runs out.
+pub fn add(
+    reasons: &mut Vec<Reason>,
+    title: &'static str,
+    text: Result<String, AllocError>,
+) -> Result<(), AllocError>
+    ensures { OnOk result (vec_len reasons.new ≡ vec_len reasons.old + 1) }
+{
+    let text = text?;
+    reasons.push(Reason { title, text })?;
+    Ok(())
+}
