@@ -1,4 +1,4 @@
-//! Hosts inside (RFC 1918), and external addresses and hosts outside (RFC 5737).
+//! Hosts inside (RFC 1918), external addresses and hosts outside (RFC 5737), and a second of their time.
 
 ghost use Rattle.std.specs.Prelude.{◌≡◌, ◌+◌};
 
