@@ -1,39 +1,21 @@
 //! Devices that move a byte at a time, and go wrong at each of their calls in turn.
 ghost use Rattle.std.specs.Prelude.{◌<◌};
 
-use crate::captures::{answer_of_front, one_packet};
-use crate::packets::UDP_QUERY;
+use crate::captures::answer_of_front;
 use napt_capture::{
     CaptureFault, Faulty, Plan, Trouble, Watched, WriteFault, read_capture, write_text,
 };
 use napt_config::Config;
 use napt_pool::OpenGate;
 use napt_run::{Fault, Which, run_captures};
+use napt_samples::captures::{ONE_PACKET, WRITTEN};
+use napt_samples::packets::UDP_QUERY;
 use napt_wire::Side;
 use std::alloc::{AllocError, Global};
 use std::process::Abort;
 use std::sync::{Arc, Wait};
 use std::test::Fail;
 use std::thread::Threads;
-
-/// What a run over the capture of one packet writes to the outside.
-const WRITTEN: [u8; 70] = [
-    0x4d, 0x3c, 0xb2, 0xa1, // nanoseconds, little-endian
-    2, 0, 4, 0, // version 2.4
-    0, 0, 0, 0, 0, 0, 0, 0, // zone, digits
-    0, 0, 4, 0, // snapshot length
-    0x65, 0, 0, 0, // raw IP
-    1, 0, 0, 0, 0, 0x65, 0xcd, 0x1d, // 1 s and 500,000,000 ns
-    30, 0, 0, 0, 30, 0, 0, 0, // captured and original length
-    0x45, 0x00, 0x00, 0x1e, // the query as it left from 203.0.113.1
-    0x00, 0x01, 0x00, 0x00, // identification 1, no flags, offset 0
-    0x40, 0x11, 0x14, 0x92, // lifetime 64, UDP, checksum
-    0xcb, 0x00, 0x71, 0x01, // source 203.0.113.1
-    0xc6, 0x33, 0x64, 0x07, // destination 198.51.100.7
-    0x13, 0x88, 0x00, 0x35, // ports 5000 and 53
-    0x00, 0x0a, 0x1d, 0x77, // length 10, checksum
-    0x68, 0x69, // payload
-];
 
 /// Moves all that is asked, and never goes wrong.
 const GOOD: Plan = Plan {
@@ -86,7 +68,6 @@ fn run_one<T: Threads + Wait + Copy + Send + 'static>(
     requires report { 0 < plans.report.most }
 {
     let config = Config::built_in(alloc)?;
-    let bytes = one_packet(alloc)?;
     let gate = Arc::new(alloc, OpenGate)?;
     let mut to_outside = Faulty::new(Watched::new(Vec::new(alloc)), plans.to_outside);
     let mut report = Faulty::new(Watched::new(Vec::new(alloc)), plans.report);
@@ -96,7 +77,7 @@ fn run_one<T: Threads + Wait + Copy + Send + 'static>(
         rt,
         alloc,
         &config,
-        &mut Faulty::new(Watched::new(bytes.as_slice()), plans.inside),
+        &mut Faulty::new(Watched::new(ONE_PACKET.as_slice()), plans.inside),
         from_outside,
         &mut to_outside,
         to_inside,
@@ -114,8 +95,7 @@ fn run_one<T: Threads + Wait + Copy + Send + 'static>(
 fn read(alloc: Global, plan: Plan) -> Result<Result<(usize, bool), CaptureFault>, AllocError>
     requires { 0 < plan.most }
 {
-    let bytes = one_packet(alloc)?;
-    let mut source = Faulty::new(Watched::new(bytes.as_slice()), plan);
+    let mut source = Faulty::new(Watched::new(ONE_PACKET.as_slice()), plan);
     Ok(read_capture(alloc, &mut source).map(|capture| (capture.records.len(), capture.cut)))
 }
 
@@ -139,10 +119,9 @@ fn each_read_of_a_run_fails(rt: HostRuntime) -> Result<(), Fail> {
 
 #[test]
 fn bytes_come_one_by_one(rt: HostRuntime) -> Result<(), Fail> {
-    let bytes = one_packet(rt.alloc())?;
     for most in [1, 2, 7, 29, 70] {
         let plan = Plan { most, ..GOOD };
-        let mut source = Faulty::new(Watched::new(bytes.as_slice()), plan);
+        let mut source = Faulty::new(Watched::new(ONE_PACKET.as_slice()), plan);
         let capture = read_capture(rt.alloc(), &mut source)?;
         assert_eq!(rt; (capture.records.len(), capture.cut), (1, false));
         for record in &capture.records {
@@ -182,14 +161,11 @@ fn each_write_of_a_run_goes_wrong(rt: HostRuntime) -> Result<(), Fail> {
     for trouble in [Trouble::Fails, Trouble::TakesNone] {
         for taken in 0..70 {
             let to_outside = slow(taken as u64 + 1, trouble);
-            let written = run_one(
-                &rt,
-                rt.alloc(),
-                Plans {
-                    to_outside,
-                    ..ALL_GOOD
-                },
-            )?;
+            let plans = Plans {
+                to_outside,
+                ..ALL_GOOD
+            };
+            let written = run_one(&rt, rt.alloc(), plans)?;
             assert_cut_short(&rt, &written, taken);
         }
     }
@@ -200,25 +176,19 @@ fn each_write_of_a_run_goes_wrong(rt: HostRuntime) -> Result<(), Fail> {
 #[test]
 fn flush_of_a_run_fails(rt: HostRuntime) -> Result<(), Fail> {
     let to_outside = slow(71, Trouble::Fails);
-    let written = run_one(
-        &rt,
-        rt.alloc(),
-        Plans {
-            to_outside,
-            ..ALL_GOOD
-        },
-    )?;
+    let plans = Plans {
+        to_outside,
+        ..ALL_GOOD
+    };
+    let written = run_one(&rt, rt.alloc(), plans)?;
     assert_cut_short(&rt, &written, 70);
 
     let to_outside = slow(72, Trouble::Fails);
-    let written = run_one(
-        &rt,
-        rt.alloc(),
-        Plans {
-            to_outside,
-            ..ALL_GOOD
-        },
-    )?;
+    let plans = Plans {
+        to_outside,
+        ..ALL_GOOD
+    };
+    let written = run_one(&rt, rt.alloc(), plans)?;
     assert_eq!(rt; written.answer, Ok(()));
     assert_eq!(rt; written.to_outside.as_slice(), WRITTEN.as_slice());
     assert!(rt; written.report.starts_with(b"packets 1\nto outside 1\n"));

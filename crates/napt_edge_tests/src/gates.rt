@@ -1,10 +1,11 @@
 //! Gates that stay shut.
 
-use crate::packets::RESOLVER;
-use crate::runs::{MILLISECOND, TWO, host, input};
+use crate::runs::{MILLISECOND, input};
 use napt_config::Config;
 use napt_pool::{Gate, PoolFault};
 use napt_run::{RunFault, run_workers};
+use napt_samples::hosts::{RESOLVER, host};
+use napt_samples::settings::TWO_ADDRESSES;
 use napt_wire::Side;
 use std::sync::Arc;
 use std::sync::atomic::{AtomicU64, Ordering};
@@ -44,7 +45,7 @@ fn gate_stays_shut_to_one_turn(rt: HostRuntime) -> Result<(), Fail> {
     let asks = AtomicU64::new(0);
     let gate = Arc::new(alloc, Shut { asks })?;
     let watched = Arc::try_clone(&gate)?;
-    let config = Config::read(alloc, TWO.as_bytes())?;
+    let config = Config::read(alloc, TWO_ADDRESSES.as_bytes())?;
     let mut inputs = Vec::new(alloc);
     for k in 0..5u64 {
         let time = k * MILLISECOND;
@@ -97,7 +98,7 @@ fn fault_of_dispatching_is_told_first(rt: HostRuntime) -> Result<(), Fail> {
     let alloc = rt.alloc();
     let asks = AtomicU64::new(0);
     let gate = Arc::new(alloc, SecondFirst { asks })?;
-    let config = Config::read(alloc, TWO.as_bytes())?;
+    let config = Config::read(alloc, TWO_ADDRESSES.as_bytes())?;
     let mut inputs = Vec::new(alloc);
     for last in [2, 3] {
         inputs.push(input(alloc, Side::Inside, MILLISECOND, host(last, 5000), RESOLVER)?)?;

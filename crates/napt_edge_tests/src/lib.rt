@@ -1,4 +1,4 @@
-//! Tests of the public calls at the edges: of what is read, of the tables' rules and of the runs. There is nothing here but tests.
+//! Tests of the public calls at the edges: of what is read and of the runs. There is nothing here but tests.
 #![tactic(auto)]
 
 #[cfg(test)]
@@ -8,16 +8,8 @@ mod devices;
 #[cfg(test)]
 mod gates;
 #[cfg(test)]
-mod numbers;
-#[cfg(test)]
-mod packets;
-#[cfg(test)]
 mod reading;
 #[cfg(test)]
 mod runs;
 #[cfg(test)]
-mod sessions;
-#[cfg(test)]
 mod settings;
-#[cfg(test)]
-mod tables;

@@ -1,15 +1,13 @@
 //! Packets at the edges of what is read (RFC 791, 768, 9293, 792; RFC 5508, section 4).
 
-use crate::packets::{PORT_UNREACHABLE, TCP_SYN, UDP_QUERY, mend, put};
+use napt_samples::packets::{PORT_UNREACHABLE, TCP_SYN, UDP_QUERY};
+use napt_samples::{Change, changed, mended};
 use napt_wire::{Cause, Packet, Side};
 use std::alloc::{AllocError, Global};
 use std::test::Fail;
 
 /// Where the datagram that an ICMP error quotes begins, behind a header of 20 bytes.
 const QUOTED: usize = 28;
-
-/// Bytes that stand at a place in place of what stood there.
-type Change<'a> = (usize, &'a [u8]);
 
 /// A packet with changes in it, and why it is not read.
 #[derive(Clone, Copy)]
@@ -63,18 +61,14 @@ fn cause_of(alloc: Global, side: Side, bytes: &[u8]) -> Result<Option<Cause>, Fa
 }
 
 /// The packet with its changes, the header's checksum right, and those of an ICMP error and of the header that it quotes.
-fn changed(alloc: Global, row: Row) -> Result<Vec<u8>, AllocError> {
-    let mut bytes = Vec::from_slice(alloc, row.packet)?;
-    for (place, new) in row.changes {
-        put(&mut bytes, *place, new);
+fn packet_of(alloc: Global, row: Row) -> Result<Vec<u8>, AllocError> {
+    let bytes = changed(alloc, row.packet, row.changes)?;
+    let bytes = mended(alloc, &bytes, 0, 20, 10)?;
+    if row.side == Side::Inside {
+        return Ok(bytes);
     }
-    mend(&mut bytes, 0, 20, 10);
-    if row.side == Side::Outside {
-        let end = bytes.len();
-        mend(&mut bytes, QUOTED, QUOTED + 20, QUOTED + 10);
-        mend(&mut bytes, 20, end, 22);
-    }
-    Ok(bytes)
+    let bytes = mended(alloc, &bytes, QUOTED, QUOTED + 20, QUOTED + 10)?;
+    mended(alloc, &bytes, 20, bytes.len(), 22)
 }
 
 #[test]
@@ -104,7 +98,7 @@ fn changed_packets(rt: HostRuntime) -> Result<(), Fail> {
         error(&[(43, &[2])], Some(Cause::BadInner)),
     ];
     for (place, row) in rows.iter().enumerate() {
-        let bytes = changed(rt.alloc(), *row)?;
+        let bytes = packet_of(rt.alloc(), *row)?;
         assert_eq!(rt;
             cause_of(rt.alloc(), row.side, &bytes)?,
             row.cause,
@@ -134,12 +128,11 @@ fn quoting(alloc: Global, header: u8, quoted: usize) -> Result<Vec<u8>, AllocErr
     bytes.extend_from_slice(&PORT_UNREACHABLE[QUOTED + 20..])?;
     bytes.truncate(QUOTED.saturating_add(quoted));
     let end = bytes.len();
-    put(&mut bytes, QUOTED, &[0x40 + header / 4]);
-    put(&mut bytes, 3, &[end.min(255) as u8]);
-    mend(&mut bytes, QUOTED, QUOTED + header as usize, QUOTED + 10);
-    mend(&mut bytes, 0, 20, 10);
-    mend(&mut bytes, 20, end, 22);
-    Ok(bytes)
+    let (words, length) = ([0x40 + header / 4], [end.min(255) as u8]);
+    let bytes = changed(alloc, &bytes, &[(QUOTED, &words), (3, &length)])?;
+    let bytes = mended(alloc, &bytes, QUOTED, QUOTED + header as usize, QUOTED + 10)?;
+    let bytes = mended(alloc, &bytes, 0, 20, 10)?;
+    mended(alloc, &bytes, 20, end, 22)
 }
 
 /// An error must quote the header and eight bytes of what it is about.

@@ -1,9 +1,11 @@
 //! Runs with as many workers as there may be, and with a pair.
 
-use crate::packets::{RESOLVER, udp};
 use napt_config::Config;
 use napt_pool::OpenGate;
 use napt_run::{Input, Outcome, Run, run_plain, run_workers};
+use napt_samples::hosts::{CLIENT, RESOLVER, external, host};
+use napt_samples::settings::TWO_ADDRESSES;
+use napt_samples::udp;
 use napt_wire::{Endpoint, Side};
 use std::alloc::{AllocError, Global};
 use std::process::Abort;
@@ -18,25 +20,8 @@ const SIXTEEN: &str =
 '203.0.113.6', '203.0.113.7', '203.0.113.8', '203.0.113.9', '203.0.113.10', '203.0.113.11', '203.0.113.12', \
 '203.0.113.13', '203.0.113.14', '203.0.113.15', '203.0.113.16']\ninside = ['10.0.0.0/8']\nring = 1\n";
 
-pub(crate) const TWO: &str = "pool = ['203.0.113.1', '203.0.113.2']\ninside = ['10.0.0.0/8']\n";
-
 /// 10.0.0.2, to which the second address is given.
 const PAIR: &str = "[[pair]]\nhost = '10.0.0.2'\nexternal = '203.0.113.2'\n";
-
-/// 10.0.0.N and 203.0.113.N with a port.
-pub(crate) fn host(last: u32, number: u16) -> Endpoint {
-    Endpoint {
-        address: 0x0A00_0000 | last,
-        number,
-    }
-}
-
-fn external(last: u32, number: u16) -> Endpoint {
-    Endpoint {
-        address: 0xCB00_7100 | last,
-        number,
-    }
-}
 
 /// A UDP packet that comes from a side at a time, in ns.
 pub(crate) fn input(
@@ -58,7 +43,7 @@ pub(crate) fn input(
 /// in each millisecond.
 fn all_to_all(alloc: Global) -> Result<Vec<Input>, AllocError> {
     let mut inputs = Vec::new(alloc);
-    for k in 0..272u32 {
+    for k in 0..272u16 {
         let from = host(16 + k % 16, 7000);
         let to = if k < 16 {
             RESOLVER
@@ -110,13 +95,13 @@ fn sixteen_workers(rt: HostRuntime) -> Result<(), Fail> {
 #[test]
 fn pair_decides_the_address(rt: HostRuntime) -> Result<(), Fail> {
     let alloc = rt.alloc();
-    let paired = format!(in alloc; "{TWO}{PAIR}")?;
-    let rows: [(&str, u32, [u64; 2]); 2] = [(TWO, 1, [2, 0]), (&paired, 2, [0, 2])];
+    let paired = format!(in alloc; "{TWO_ADDRESSES}{PAIR}")?;
+    let rows: [(&str, u16, [u64; 2]); 2] = [(TWO_ADDRESSES, 1, [2, 0]), (&paired, 2, [0, 2])];
     for (text, last, legs) in rows {
         let config = Config::read(alloc, text.as_bytes())?;
-        let (client, outside) = (host(2, 5000), external(last, 5000));
+        let outside = external(last, 5000);
         let mut inputs = Vec::new(alloc);
-        inputs.push(input(alloc, Side::Inside, 0, client, RESOLVER)?)?;
+        inputs.push(input(alloc, Side::Inside, 0, CLIENT, RESOLVER)?)?;
         inputs.push(input(alloc, Side::Outside, 1, RESOLVER, outside)?)?;
         let run = run_plain(alloc, &config, &inputs)?;
         assert_ends(&rt, &run, 1, 1);
@@ -126,7 +111,7 @@ fn pair_decides_the_address(rt: HostRuntime) -> Result<(), Fail> {
                     assert_eq!(rt; packet.bytes(), udp(alloc, outside, RESOLVER)?.as_slice());
                 }
                 Outcome::ToInside(packet) => {
-                    assert_eq!(rt; packet.bytes(), udp(alloc, RESOLVER, client)?.as_slice());
+                    assert_eq!(rt; packet.bytes(), udp(alloc, RESOLVER, CLIENT)?.as_slice());
                 }
                 Outcome::Dropped(cause) => panic!(rt; "{cause:?}"),
             }

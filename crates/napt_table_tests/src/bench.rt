@@ -1,49 +1,13 @@
 //! A table whose caller keeps what it owes.
 
 use napt_config::Config;
+use napt_samples::flags::NO_FLAGS;
+use napt_samples::hosts::EXTERNAL;
+use napt_samples::settings::ONE_ADDRESS;
 use napt_table::{Row, Table};
 use napt_wire::{Cause, Endpoint, Flags, Protocol};
 use std::alloc::Global;
 use std::test::Fail;
-
-/// 203.0.113.1
-pub(crate) const EXTERNAL: u32 = 0xCB00_7101;
-
-/// 10.0.0.2:5000, 10.0.0.3:5000 and 198.51.100.7:53.
-pub(crate) const CLIENT: Endpoint = Endpoint {
-    address: 0x0A00_0002,
-    number: 5000,
-};
-
-pub(crate) const SECOND_CLIENT: Endpoint = Endpoint {
-    address: 0x0A00_0003,
-    number: 5000,
-};
-
-pub(crate) const RESOLVER: Endpoint = Endpoint {
-    address: 0xC633_6407,
-    number: 53,
-};
-
-/// The pool is 203.0.113.1, and 10.0.0.0/8 is inside.
-const ONE_ADDRESS: &str = "pool = [\"203.0.113.1\"]\ninside = [\"10.0.0.0/8\"]\n";
-
-pub(crate) const SECOND: u64 = 1_000_000_000;
-
-pub(crate) const NO_FLAGS: Flags = Flags {
-    fin: false,
-    syn: false,
-    rst: false,
-    ack: false,
-};
-
-/// 10.0.0.0 and so many more.
-pub(crate) fn host(many: u16, number: u16) -> Endpoint {
-    Endpoint {
-        address: 0x0A00_0000 + u32::from(many),
-        number,
-    }
-}
 
 /// The configuration with these settings whose pool is 203.0.113.1.
 pub(crate) fn settings_of(alloc: Global, settings: &str) -> Result<Config, Fail> {

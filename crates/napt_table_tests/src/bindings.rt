@@ -1,7 +1,12 @@
 //! Which numbers are given, and what the table tells of them.
 
-use crate::bench::{Bench, CLIENT, EXTERNAL, NO_FLAGS, RESOLVER, SECOND, SECOND_CLIENT, host};
+use crate::bench::Bench;
 use napt_config::Config;
+use napt_samples::flags::NO_FLAGS;
+use napt_samples::hosts::{
+    CLIENT, EXTERNAL, RESOLVER, SECOND, SECOND_CLIENT, SECOND_RESOLVER, external, host, remote,
+};
+use napt_samples::settings::{TWO_ADDRESSES, WEB_REDIRECT};
 use napt_table::Row;
 use napt_wire::{Cause, Endpoint, Protocol};
 use std::alloc::Global;
@@ -10,12 +15,11 @@ use std::test::Fail;
 #[test]
 fn one_binding_for_all_remotes(rt: HostRuntime) -> Result<(), Fail> {
     let mut bench = Bench::with(rt.alloc(), "")?;
-    let other = Endpoint {
-        address: 0xC633_6408,
-        number: 53,
-    };
     assert_eq!(rt; bench.udp_out(SECOND, CLIENT, RESOLVER)?, Ok(5000));
-    assert_eq!(rt; bench.udp_out(2 * SECOND, CLIENT, other)?, Ok(5000));
+    assert_eq!(rt;
+        bench.udp_out(2 * SECOND, CLIENT, SECOND_RESOLVER)?,
+        Ok(5000)
+    );
     assert_eq!(rt; bench.rows(2 * SECOND)?.len(), 1);
     assert_eq!(rt; bench.table.at(), 2 * SECOND);
     Ok(())
@@ -34,18 +38,37 @@ fn next_number_of_its_class(rt: HostRuntime) -> Result<(), Fail> {
         (3, 1022, 2),
     ];
     for (many, port, number) in sent {
-        assert_eq!(rt;
-            bench.udp_out(SECOND, host(many, port), RESOLVER)?,
-            Ok(number)
-        );
-    }
-    let remote = Endpoint {
-        address: RESOLVER.address,
-        number: 0,
-    };
-    for (many, number) in [(2, 65_535), (3, 0)] {
-        let answer = bench.send(SECOND, Protocol::Icmp, host(many, 65_535), remote, NO_FLAGS)?;
+        let answer = bench.udp_out(SECOND, host(many, port), RESOLVER)?;
         assert_eq!(rt; answer, Ok(number));
+    }
+    for (many, number) in [(2, 65_535), (3, 0)] {
+        let inside = host(many, 65_535);
+        let answer = bench.send(SECOND, Protocol::Icmp, inside, remote(0), NO_FLAGS)?;
+        assert_eq!(rt; answer, Ok(number));
+    }
+    Ok(())
+}
+
+/// The classes are odd and even, and below 1024 and from there on; each wraps within itself (RFC 4787, REQ-3 and REQ-4).
+#[test]
+fn borders_of_the_classes(rt: HostRuntime) -> Result<(), Fail> {
+    // each from a host of its own: the port it sends from, and the one it gets
+    let sent = [
+        (1023, 1023),
+        (1023, 1),
+        (1024, 1024),
+        (1024, 1026),
+        (1025, 1025),
+        (1025, 1027),
+        (65_534, 65_534),
+        (65_534, 1028),
+    ];
+    let mut bench = Bench::with(rt.alloc(), "")?;
+    let mut many = 2u16;
+    for (port, number) in sent {
+        let answer = bench.udp_out(SECOND, host(many, port), RESOLVER)?;
+        assert_eq!(rt; answer, Ok(number), "from {port}");
+        many = many.saturating_add(1);
     }
     Ok(())
 }
@@ -57,11 +80,8 @@ fn full_class(rt: HostRuntime) -> Result<(), Fail> {
         let answer = bench.udp_out(SECOND, host(256 + k, 2), RESOLVER)?;
         assert_eq!(rt; answer, Ok(2 + 2 * k));
     }
-    let one_more = host(256 + 511, 2);
-    assert_eq!(rt;
-        bench.udp_out(SECOND, one_more, RESOLVER)?,
-        Err(Cause::NoPort)
-    );
+    let refused = bench.udp_out(SECOND, host(256 + 511, 2), RESOLVER)?;
+    assert_eq!(rt; refused, Err(Cause::NoPort));
     assert_eq!(rt; bench.rows(SECOND)?.len(), 511);
     let odd = host(256 + 511, 1);
     assert_eq!(rt; bench.udp_out(SECOND, odd, RESOLVER)?, Ok(1));
@@ -69,17 +89,8 @@ fn full_class(rt: HostRuntime) -> Result<(), Fail> {
     Ok(())
 }
 
-/// Redirects at two addresses, one of them by the pair of its host.
+/// Beside the web's, redirects at the first address, one of them by the pair of its host.
 const REDIRECTS: &str = r#"
-pool = ["203.0.113.1", "203.0.113.2"]
-inside = ["10.0.0.0/8"]
-[[pair]]
-host = "10.0.0.5"
-external = "203.0.113.1"
-[[redirect]]
-protocol = "tcp"
-inside = "10.0.0.3:80"
-external = 8080
 [[redirect]]
 protocol = "udp"
 inside = "10.0.0.2:53"
@@ -88,32 +99,36 @@ external = 53
 protocol = "tcp"
 inside = "10.0.0.5:22"
 external = 2222
+[[pair]]
+host = "10.0.0.5"
+external = "203.0.113.1"
 "#;
 
 /// A row of a redirect.
-fn redirected(protocol: Protocol, inside: Endpoint, address: u32, number: u16) -> Row {
+fn redirected(protocol: Protocol, inside: Endpoint, external: Endpoint) -> Row {
     Row {
         protocol,
         inside,
-        external: Endpoint { address, number },
+        external,
         fixed: true,
     }
 }
 
 fn of_redirects(alloc: Global) -> Result<Config, Fail> {
-    Ok(Config::read(alloc, REDIRECTS.as_bytes())?)
+    let text = format!(in alloc; "{TWO_ADDRESSES}{WEB_REDIRECT}{REDIRECTS}")?;
+    Ok(Config::read(alloc, text.as_bytes())?)
 }
 
 fn shell() -> Row {
-    redirected(Protocol::Tcp, host(5, 22), EXTERNAL, 2222)
+    redirected(Protocol::Tcp, host(5, 22), external(1, 2222))
 }
 
 fn web() -> Row {
-    redirected(Protocol::Tcp, host(3, 80), EXTERNAL + 1, 8080)
+    redirected(Protocol::Tcp, host(3, 80), external(2, 8080))
 }
 
 fn names() -> Row {
-    redirected(Protocol::Udp, host(2, 53), EXTERNAL, 53)
+    redirected(Protocol::Udp, host(2, 53), external(1, 53))
 }
 
 #[test]
@@ -152,18 +167,14 @@ fn passing(protocol: Protocol, inside: Endpoint, number: u16) -> Row {
     Row {
         protocol,
         inside,
-        external: Endpoint {
-            address: EXTERNAL,
-            number,
-        },
+        external: external(1, number),
         fixed: false,
     }
 }
 
 #[test]
 fn rows_in_order(rt: HostRuntime) -> Result<(), Fail> {
-    let settings = "[[redirect]]\nprotocol = \"tcp\"\ninside = \"10.0.0.3:80\"\nexternal = 8080\n";
-    let mut bench = Bench::with(rt.alloc(), settings)?;
+    let mut bench = Bench::with(rt.alloc(), WEB_REDIRECT)?;
     let sent = [
         (Protocol::Udp, host(3, 5001), 5001),
         (Protocol::Udp, host(2, 5001), 5003),
@@ -175,7 +186,7 @@ fn rows_in_order(rt: HostRuntime) -> Result<(), Fail> {
         let answer = bench.send(SECOND, protocol, inside, RESOLVER, NO_FLAGS)?;
         assert_eq!(rt; answer, Ok(number));
     }
-    let web = redirected(Protocol::Tcp, host(3, 80), EXTERNAL, 8080);
+    let web = redirected(Protocol::Tcp, host(3, 80), external(1, 8080));
     let echo = passing(Protocol::Icmp, host(9, 60_000), 60_000);
     let client = passing(Protocol::Tcp, CLIENT, 5000);
     let udp = [

@@ -15,6 +15,8 @@ mod quota;
 #[cfg(test)]
 mod remotes;
 #[cfg(test)]
+mod sessions;
+#[cfg(test)]
 mod times;
 #[cfg(test)]
 mod twins;

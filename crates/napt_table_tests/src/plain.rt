@@ -1,7 +1,7 @@
 //! A table kept as a plain list, of which each call walks all: a second body, of which nothing is proved but that it is safe.
 
-use crate::bench::SECOND;
 use napt_config::{Config, Filter, Refresh, Timers};
+use napt_samples::hosts::SECOND;
 use napt_table::{Marks, Row};
 use napt_wire::{Cause, Endpoint, Flags, Protocol, Way};
 use std::alloc::{AllocError, Global};

@@ -1,11 +1,13 @@
 //! How many bindings a host may have: of the table, and of the plain list.
 
-use crate::bench::{
-    Bench, CLIENT, EXTERNAL, NO_FLAGS, RESOLVER, SECOND, SECOND_CLIENT, host, settings_of,
-};
+use crate::bench::{Bench, settings_of};
 use crate::plain::PlainTable;
 use crate::twins::Sent;
-use napt_wire::{Cause, Endpoint, Flags, Protocol};
+use napt_samples::flags::{NO_FLAGS, SYN};
+use napt_samples::hosts::{
+    CLIENT, EXTERNAL, RESOLVER, SECOND, SECOND_CLIENT, SECOND_RESOLVER, SERVER, host,
+};
+use napt_wire::{Cause, Endpoint, Protocol};
 use std::alloc::Global;
 use std::test::Fail;
 
@@ -30,10 +32,10 @@ fn udp(now: u64, inside: Endpoint, answer: Result<u16, Cause>) -> Case {
     }
 }
 
-/// To 198.51.100.8:53.
+/// To 198.51.100.9:53.
 fn udp_elsewhere(now: u64, inside: Endpoint, answer: Result<u16, Cause>) -> Case {
     let mut case = udp(now, inside, answer);
-    case.sent.remote.address = 0xC633_6408;
+    case.sent.remote = SECOND_RESOLVER;
     case
 }
 
@@ -44,16 +46,8 @@ fn syn(now: u64, inside: Endpoint, answer: Result<u16, Cause>) -> Case {
         sent: Sent {
             protocol: Protocol::Tcp,
             inside,
-            remote: Endpoint {
-                address: RESOLVER.address,
-                number: 80,
-            },
-            flags: Flags {
-                fin: false,
-                syn: true,
-                rst: false,
-                ack: false,
-            },
+            remote: SERVER,
+            flags: SYN,
         },
         answer,
     }

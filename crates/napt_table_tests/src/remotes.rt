@@ -2,8 +2,9 @@
 
 ghost use Rattle.std.specs.Prelude.{ℕ, ◌<◌};
 
-use crate::bench::{NO_FLAGS, RESOLVER, SECOND, host};
 use crate::twins::{Counts, Draws, HOSTS, Sent, Twins};
+use napt_samples::flags::{NO_FLAGS, SYN, SYN_ACK};
+use napt_samples::hosts::{RESOLVER, SECOND, host};
 use napt_wire::{Endpoint, Flags, Protocol};
 use std::alloc::Global;
 use std::test::Fail;
@@ -48,13 +49,6 @@ const LATER: [u64; 8] = [
     7440 * SECOND,
     u64::MAX,
 ];
-
-const SYN: Flags = Flags {
-    syn: true,
-    ..NO_FLAGS
-};
-
-const SYN_ACK: Flags = Flags { ack: true, ..SYN };
 
 fn remote(many: u64) -> Endpoint
     requires { many < 320 }

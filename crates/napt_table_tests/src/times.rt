@@ -1,6 +1,11 @@
 //! How long bindings live, and whom they let in.
 
-use crate::bench::{Bench, CLIENT, NO_FLAGS, RESOLVER, SECOND, SECOND_CLIENT, host};
+use crate::bench::Bench;
+use napt_samples::flags::{ACK, FIN_ACK, NO_FLAGS, RST, SYN, SYN_ACK};
+use napt_samples::hosts::{
+    CLIENT, RESOLVER, SECOND, SECOND_CLIENT, SECOND_RESOLVER, SERVER, host, remote,
+};
+use napt_samples::settings::WEB_REDIRECT;
 use napt_wire::{Cause, Endpoint, Flags, Protocol};
 use std::alloc::Global;
 use std::test::Fail;
@@ -49,17 +54,13 @@ fn inbound_udp_refreshes(rt: HostRuntime) -> Result<(), Fail> {
 
 #[test]
 fn filtered_udp_does_not_refresh(rt: HostRuntime) -> Result<(), Fail> {
-    let stranger = Endpoint {
-        address: 0xC633_6409,
-        number: 53,
-    };
     let mut bench = Bench::with(
         rt.alloc(),
         "filter = \"address-port\"\nrefresh = \"both\"\n",
     )?;
     assert_eq!(rt; bench.udp_out(10 * SECOND, CLIENT, RESOLVER)?, Ok(5000));
     assert_eq!(rt;
-        bench.udp_in(309 * SECOND, 5000, stranger)?,
+        bench.udp_in(309 * SECOND, 5000, SECOND_RESOLVER)?,
         Err(Cause::Filtered)
     );
     assert_eq!(rt;
@@ -88,14 +89,7 @@ fn inbound_echo_does_not_refresh(rt: HostRuntime) -> Result<(), Fail> {
 
 #[test]
 fn filters(rt: HostRuntime) -> Result<(), Fail> {
-    let stranger = Endpoint {
-        address: 0xC633_6409,
-        number: 53,
-    };
-    let other_port = Endpoint {
-        address: RESOLVER.address,
-        number: 99,
-    };
+    let other_port = remote(99);
     let (passed, refused) = (Ok(CLIENT), Err(Cause::Filtered));
     let cases = [
         ("independent", [passed, passed, passed]),
@@ -108,54 +102,16 @@ fn filters(rt: HostRuntime) -> Result<(), Fail> {
         )?;
         let mut bench = Bench::with(rt.alloc(), &settings)?;
         assert_eq!(rt; bench.udp_out(SECOND, CLIENT, RESOLVER)?, Ok(5000));
-        for (remote, answer) in [stranger, other_port, RESOLVER].into_iter().zip(expected) {
+        for (remote, answer) in [SECOND_RESOLVER, other_port, RESOLVER]
+            .into_iter()
+            .zip(expected)
+        {
             assert_eq!(rt; bench.udp_in(2 * SECOND, 5000, remote)?, answer);
             assert_eq!(rt; bench.udp_in(2 * SECOND, 5353, remote)?, Ok(host(3, 53)));
         }
     }
     Ok(())
 }
-
-/// 198.51.100.7:80
-const SERVER: Endpoint = Endpoint {
-    address: RESOLVER.address,
-    number: 80,
-};
-
-const SYN: Flags = Flags {
-    fin: false,
-    syn: true,
-    rst: false,
-    ack: false,
-};
-
-const SYN_ACK: Flags = Flags {
-    fin: false,
-    syn: true,
-    rst: false,
-    ack: true,
-};
-
-const ACK: Flags = Flags {
-    fin: false,
-    syn: false,
-    rst: false,
-    ack: true,
-};
-
-const FIN_ACK: Flags = Flags {
-    fin: true,
-    syn: false,
-    rst: false,
-    ack: true,
-};
-
-const RST: Flags = Flags {
-    fin: false,
-    syn: false,
-    rst: true,
-    ack: false,
-};
 
 /// A segment of the client to the server.
 fn client(bench: &mut Bench, now: u64, flags: Flags) -> Result<bool, Fail> {
@@ -209,13 +165,8 @@ fn tcp_lives_while_closing(rt: HostRuntime) -> Result<(), Fail> {
 
 #[test]
 fn tcp_lives_in_a_redirect(rt: HostRuntime) -> Result<(), Fail> {
-    let settings = "[[redirect]]\nprotocol = \"tcp\"\ninside = \"10.0.0.3:80\"\nexternal = 8080\n";
-    let mut bench = Bench::with(rt.alloc(), settings)?;
-    let remote = Endpoint {
-        address: SERVER.address,
-        number: 4000,
-    };
-    let answer = bench.receive(0, Protocol::Tcp, 8080, remote, SYN)?;
+    let mut bench = Bench::with(rt.alloc(), WEB_REDIRECT)?;
+    let answer = bench.receive(0, Protocol::Tcp, 8080, remote(4000), SYN)?;
     assert_eq!(rt; answer, Ok(host(3, 80)));
     Ok(())
 }

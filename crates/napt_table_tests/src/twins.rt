@@ -2,8 +2,10 @@
 
 ghost use Rattle.std.specs.Prelude.{ℕ, ◌<◌};
 
-use crate::bench::{Bench, EXTERNAL, NO_FLAGS, RESOLVER, SECOND, host, settings_of};
+use crate::bench::{Bench, settings_of};
 use crate::plain::PlainTable;
+use napt_samples::flags::NO_FLAGS;
+use napt_samples::hosts::{EXTERNAL, RESOLVER, SECOND, host};
 use napt_wire::{Cause, Endpoint, Flags, Protocol};
 use std::alloc::Global;
 use std::test::Fail;

@@ -1,28 +1,24 @@
 //! Packets from translator to translator, each to the byte.
 
-mod packets;
-
 use napt_config::Config;
+use napt_samples::changed;
+use napt_samples::hosts::{CLIENT, SECOND, external, host};
+use napt_samples::packets::{
+    ABOUT_REPLY_TO_POOL, ABOUT_SHORT_SYN, ABOUT_SHORT_SYN_INSIDE, ABOUT_SYN, ABOUT_SYN_INSIDE,
+    ECHO_REQUEST, ECHO_REQUEST_OUT, ECHO_TO_POOL, HAIRPIN, HAIRPIN_ERROR, HAIRPIN_ERROR_INSIDE,
+    HAIRPIN_ERROR_ONWARD, HAIRPIN_INSIDE, HAIRPIN_ONWARD, OTHER_ANSWER, OWN_HAIRPIN,
+    OWN_HAIRPIN_ONWARD, PORT_UNREACHABLE, PORT_UNREACHABLE_INSIDE, SECOND_ECHO_REPLY,
+    SECOND_ECHO_REPLY_INSIDE, SECOND_ECHO_REQUEST, SECOND_ECHO_REQUEST_OUT, SECOND_UDP_ANSWER,
+    SERVER_QUERY, SERVER_QUERY_OUT, SERVER_QUERY_SECOND_OUT, SERVER_SYN, SERVER_SYN_INSIDE,
+    TCP_SYN, TCP_SYN_OUT, UDP_ANSWER, UDP_ANSWER_INSIDE, UDP_QUERY, UDP_QUERY_OUT,
+};
+use napt_samples::settings::{ONE_ADDRESS, TWO_ADDRESSES, WEB_REDIRECT};
 use napt_table::Row;
 use napt_translate::{Answer, End, Leg, Translator, onward, route};
-use napt_wire::{Cause, Endpoint, Packet, Protocol, Side, Way};
-use packets as wire;
+use napt_wire::{Cause, Packet, Protocol, Side, Way};
 use std::alloc::Global;
 use std::process::Abort;
 use std::test::Fail;
-
-const SECOND: u64 = 1_000_000_000;
-
-/// One external address, and two.
-const ONE: &str = "pool = [\"203.0.113.1\"]\ninside = [\"10.0.0.0/8\"]\n";
-
-const TWO: &str = "pool = [\"203.0.113.1\", \"203.0.113.2\"]\ninside = [\"10.0.0.0/8\"]\n";
-
-const FIRST: u32 = 0xCB00_7101;
-
-const CLIENT: u32 = 0x0A00_0002;
-
-const SERVER: u32 = 0x0A00_0003;
 
 /// Where a packet ends, with its bytes there.
 #[derive(Clone, Copy)]
@@ -58,11 +54,8 @@ fn sent<'a>(now: u64, bytes: &'a [u8], want: Want<'a>) -> Case<'a> {
 /// A packet from the outside, to the first translator.
 fn received<'a>(now: u64, bytes: &'a [u8], want: Want<'a>) -> Case<'a> {
     Case {
-        place: 0,
-        now,
         side: Side::Outside,
-        bytes,
-        want,
+        ..sent(now, bytes, want)
     }
 }
 
@@ -70,10 +63,7 @@ fn received<'a>(now: u64, bytes: &'a [u8], want: Want<'a>) -> Case<'a> {
 fn sent_to_second<'a>(now: u64, bytes: &'a [u8], want: Want<'a>) -> Case<'a> {
     Case {
         place: 1,
-        now,
-        side: Side::Inside,
-        bytes,
-        want,
+        ..sent(now, bytes, want)
     }
 }
 
@@ -179,68 +169,40 @@ fn rows(alloc: Global, all: &[Translator], now: u64) -> Result<Vec<Row>, Fail> {
     Ok(translator.bindings(alloc, now)?)
 }
 
-fn row(protocol: Protocol, inside: (u32, u16), external: (u32, u16), fixed: bool) -> Row {
+/// A binding of 10.0.0.2:5000 to 203.0.113.1:5000.
+fn row(protocol: Protocol) -> Row {
     Row {
         protocol,
-        inside: Endpoint {
-            address: inside.0,
-            number: inside.1,
-        },
-        external: Endpoint {
-            address: external.0,
-            number: external.1,
-        },
-        fixed,
+        inside: CLIENT,
+        external: external(1, 5000),
+        fixed: false,
     }
 }
 
 #[test]
 fn one_packet(rt: HostRuntime) -> Result<(), Fail> {
-    let mut all = translators(rt.alloc(), ONE)?;
+    let mut all = translators(rt.alloc(), ONE_ADDRESS)?;
     let cases = [
-        received(SECOND, &wire::UDP_ANSWER, Want::Dropped(Cause::NoBinding)),
-        sent(
-            SECOND,
-            &wire::UDP_QUERY,
-            Want::ToOutside(&wire::UDP_QUERY_OUT),
-        ),
-        received(
-            2 * SECOND,
-            &wire::UDP_ANSWER,
-            Want::ToInside(&wire::UDP_ANSWER_INSIDE),
-        ),
-        sent(3 * SECOND, &wire::SYN, Want::ToOutside(&wire::SYN_OUT)),
+        received(SECOND, &UDP_ANSWER, Want::Dropped(Cause::NoBinding)),
+        sent(SECOND, &UDP_QUERY, Want::ToOutside(&UDP_QUERY_OUT)),
+        received(2 * SECOND, &UDP_ANSWER, Want::ToInside(&UDP_ANSWER_INSIDE)),
+        sent(3 * SECOND, &TCP_SYN, Want::ToOutside(&TCP_SYN_OUT)),
     ];
     for case in cases {
         play(&rt, rt.alloc(), &mut all, case)?;
     }
-    let live = [
-        row(Protocol::Tcp, (CLIENT, 5000), (FIRST, 5000), false),
-        row(Protocol::Udp, (CLIENT, 5000), (FIRST, 5000), false),
-    ];
+    let live = [row(Protocol::Tcp), row(Protocol::Udp)];
     assert_eq!(rt; rows(rt.alloc(), &all, 0)?.as_slice(), live.as_slice());
     Ok(())
 }
 
 #[test]
 fn filters(rt: HostRuntime) -> Result<(), Fail> {
-    let text = format!(in rt.alloc(); "{ONE}filter = \"address-port\"\n")?;
+    let text = format!(in rt.alloc(); "{ONE_ADDRESS}filter = \"address-port\"\n")?;
     let cases = [
-        sent(
-            SECOND,
-            &wire::UDP_QUERY,
-            Want::ToOutside(&wire::UDP_QUERY_OUT),
-        ),
-        received(
-            2 * SECOND,
-            &wire::OTHER_ANSWER,
-            Want::Dropped(Cause::Filtered),
-        ),
-        received(
-            2 * SECOND,
-            &wire::UDP_ANSWER,
-            Want::ToInside(&wire::UDP_ANSWER_INSIDE),
-        ),
+        sent(SECOND, &UDP_QUERY, Want::ToOutside(&UDP_QUERY_OUT)),
+        received(2 * SECOND, &OTHER_ANSWER, Want::Dropped(Cause::Filtered)),
+        received(2 * SECOND, &UDP_ANSWER, Want::ToInside(&UDP_ANSWER_INSIDE)),
     ];
     play_all(&rt, rt.alloc(), &text, &cases)
 }
@@ -249,51 +211,35 @@ fn filters(rt: HostRuntime) -> Result<(), Fail> {
 #[test]
 fn clock_never_goes_back(rt: HostRuntime) -> Result<(), Fail> {
     let cases = [
-        sent(
-            100 * SECOND,
-            &wire::UDP_QUERY,
-            Want::ToOutside(&wire::UDP_QUERY_OUT),
-        ),
-        sent(
-            40 * SECOND,
-            &wire::UDP_QUERY,
-            Want::ToOutside(&wire::UDP_QUERY_OUT),
-        ),
+        sent(100 * SECOND, &UDP_QUERY, Want::ToOutside(&UDP_QUERY_OUT)),
+        sent(40 * SECOND, &UDP_QUERY, Want::ToOutside(&UDP_QUERY_OUT)),
         received(
             399_999_999_999,
-            &wire::UDP_ANSWER,
-            Want::ToInside(&wire::UDP_ANSWER_INSIDE),
+            &UDP_ANSWER,
+            Want::ToInside(&UDP_ANSWER_INSIDE),
         ),
-        received(
-            400 * SECOND,
-            &wire::UDP_ANSWER,
-            Want::Dropped(Cause::NoBinding),
-        ),
-        received(0, &wire::UDP_ANSWER, Want::Dropped(Cause::NoBinding)),
+        received(400 * SECOND, &UDP_ANSWER, Want::Dropped(Cause::NoBinding)),
+        received(0, &UDP_ANSWER, Want::Dropped(Cause::NoBinding)),
     ];
-    play_all(&rt, rt.alloc(), ONE, &cases)
+    play_all(&rt, rt.alloc(), ONE_ADDRESS, &cases)
 }
 
 #[test]
 fn echoes(rt: HostRuntime) -> Result<(), Fail> {
     let cases = [
+        sent(SECOND, &ECHO_REQUEST, Want::ToOutside(&ECHO_REQUEST_OUT)),
         sent(
             SECOND,
-            &wire::ECHO_REQUEST,
-            Want::ToOutside(&wire::ECHO_REQUEST_OUT),
-        ),
-        sent(
-            SECOND,
-            &wire::SECOND_ECHO_REQUEST,
-            Want::ToOutside(&wire::SECOND_ECHO_REQUEST_OUT),
+            &SECOND_ECHO_REQUEST,
+            Want::ToOutside(&SECOND_ECHO_REQUEST_OUT),
         ),
         received(
             SECOND,
-            &wire::SECOND_ECHO_REPLY,
-            Want::ToInside(&wire::SECOND_ECHO_REPLY_INSIDE),
+            &SECOND_ECHO_REPLY,
+            Want::ToInside(&SECOND_ECHO_REPLY_INSIDE),
         ),
     ];
-    play_all(&rt, rt.alloc(), ONE, &cases)
+    play_all(&rt, rt.alloc(), ONE_ADDRESS, &cases)
 }
 
 /// From one host to the external endpoint of another, through both of their addresses.
@@ -302,34 +248,30 @@ fn hairpin(rt: HostRuntime) -> Result<(), Fail> {
     let cases = [
         sent_to_second(
             SECOND,
-            &wire::SERVER_QUERY,
-            Want::ToOutside(&wire::SERVER_QUERY_SECOND_OUT),
+            &SERVER_QUERY,
+            Want::ToOutside(&SERVER_QUERY_SECOND_OUT),
         ),
         sent(
             2 * SECOND,
-            &wire::HAIRPIN,
-            Want::Hairpin(1, &wire::HAIRPIN_ONWARD, &wire::HAIRPIN_INSIDE),
+            &HAIRPIN,
+            Want::Hairpin(1, &HAIRPIN_ONWARD, &HAIRPIN_INSIDE),
         ),
     ];
-    play_all(&rt, rt.alloc(), TWO, &cases)
+    play_all(&rt, rt.alloc(), TWO_ADDRESSES, &cases)
 }
 
 /// The same through one address.
 #[test]
 fn hairpin_at_one_address(rt: HostRuntime) -> Result<(), Fail> {
     let cases = [
-        sent(
-            SECOND,
-            &wire::SERVER_QUERY,
-            Want::ToOutside(&wire::SERVER_QUERY_OUT),
-        ),
+        sent(SECOND, &SERVER_QUERY, Want::ToOutside(&SERVER_QUERY_OUT)),
         sent(
             2 * SECOND,
-            &wire::OWN_HAIRPIN,
-            Want::Hairpin(0, &wire::OWN_HAIRPIN_ONWARD, &wire::HAIRPIN_INSIDE),
+            &OWN_HAIRPIN,
+            Want::Hairpin(0, &OWN_HAIRPIN_ONWARD, &HAIRPIN_INSIDE),
         ),
     ];
-    play_all(&rt, rt.alloc(), ONE, &cases)
+    play_all(&rt, rt.alloc(), ONE_ADDRESS, &cases)
 }
 
 /// A packet from inside, as it leaves, an error about it, and the error as it reaches the inside. The error changes
@@ -342,29 +284,17 @@ fn assert_error_comes_in<'x>(
     error: &'x [u8],
     inside: &'x [u8],
 ) -> Result<(), Fail> {
-    let mut all = translators(alloc, ONE)?;
-    play(
-        rt,
-        alloc,
-        &mut all,
-        received(0, error, Want::Dropped(Cause::NoBinding)),
-    )?;
-    play(
-        rt,
-        alloc,
-        &mut all,
-        sent(SECOND, query, Want::ToOutside(out)),
-    )?;
+    let mut all = translators(alloc, ONE_ADDRESS)?;
+    let early = received(0, error, Want::Dropped(Cause::NoBinding));
+    play(rt, alloc, &mut all, early)?;
+    let sent = sent(SECOND, query, Want::ToOutside(out));
+    play(rt, alloc, &mut all, sent)?;
     let before = rows(alloc, &all, SECOND)?;
     assert_eq!(rt; before.len(), 1);
     let late = received(10_000 * SECOND, error, Want::Dropped(Cause::NoBinding));
     play(rt, alloc, &mut all, late)?;
-    play(
-        rt,
-        alloc,
-        &mut all,
-        received(2 * SECOND, error, Want::ToInside(inside)),
-    )?;
+    let told = received(2 * SECOND, error, Want::ToInside(inside));
+    play(rt, alloc, &mut all, told)?;
     let after = rows(alloc, &all, SECOND)?;
     assert_eq!(rt; after.as_slice(), before.as_slice());
     Ok(())
@@ -375,10 +305,10 @@ fn error_comes_in(rt: HostRuntime) -> Result<(), Fail> {
     assert_error_comes_in(
         &rt,
         rt.alloc(),
-        &wire::UDP_QUERY,
-        &wire::UDP_QUERY_OUT,
-        &wire::PORT_UNREACHABLE,
-        &wire::PORT_UNREACHABLE_INSIDE,
+        &UDP_QUERY,
+        &UDP_QUERY_OUT,
+        &PORT_UNREACHABLE,
+        &PORT_UNREACHABLE_INSIDE,
     )
 }
 
@@ -386,11 +316,11 @@ fn error_comes_in(rt: HostRuntime) -> Result<(), Fail> {
 #[test]
 fn error_about_a_segment(rt: HostRuntime) -> Result<(), Fail> {
     let rows: [(&[u8], &[u8]); 2] = [
-        (&wire::ABOUT_SYN, &wire::ABOUT_SYN_INSIDE),
-        (&wire::ABOUT_SHORT_SYN, &wire::ABOUT_SHORT_SYN_INSIDE),
+        (&ABOUT_SYN, &ABOUT_SYN_INSIDE),
+        (&ABOUT_SHORT_SYN, &ABOUT_SHORT_SYN_INSIDE),
     ];
     for (error, inside) in rows {
-        assert_error_comes_in(&rt, rt.alloc(), &wire::SYN, &wire::SYN_OUT, error, inside)?;
+        assert_error_comes_in(&rt, rt.alloc(), &TCP_SYN, &TCP_SYN_OUT, error, inside)?;
     }
     Ok(())
 }
@@ -399,72 +329,59 @@ fn error_about_a_segment(rt: HostRuntime) -> Result<(), Fail> {
 #[test]
 fn error_through_a_hairpin(rt: HostRuntime) -> Result<(), Fail> {
     let cases = [
+        sent_to_second(SECOND, &HAIRPIN_ERROR, Want::Dropped(Cause::NoBinding)),
         sent_to_second(
             SECOND,
-            &wire::HAIRPIN_ERROR,
-            Want::Dropped(Cause::NoBinding),
-        ),
-        sent_to_second(
-            SECOND,
-            &wire::SERVER_QUERY,
-            Want::ToOutside(&wire::SERVER_QUERY_SECOND_OUT),
+            &SERVER_QUERY,
+            Want::ToOutside(&SERVER_QUERY_SECOND_OUT),
         ),
         sent(
             2 * SECOND,
-            &wire::HAIRPIN,
-            Want::Hairpin(1, &wire::HAIRPIN_ONWARD, &wire::HAIRPIN_INSIDE),
+            &HAIRPIN,
+            Want::Hairpin(1, &HAIRPIN_ONWARD, &HAIRPIN_INSIDE),
         ),
         sent_to_second(
             3 * SECOND,
-            &wire::HAIRPIN_ERROR,
-            Want::Hairpin(0, &wire::HAIRPIN_ERROR_ONWARD, &wire::HAIRPIN_ERROR_INSIDE),
+            &HAIRPIN_ERROR,
+            Want::Hairpin(0, &HAIRPIN_ERROR_ONWARD, &HAIRPIN_ERROR_INSIDE),
         ),
     ];
-    play_all(&rt, rt.alloc(), TWO, &cases)
+    play_all(&rt, rt.alloc(), TWO_ADDRESSES, &cases)
 }
 
 #[test]
 fn redirects(rt: HostRuntime) -> Result<(), Fail> {
-    let redirect = "[[redirect]]\nprotocol = \"tcp\"\ninside = \"10.0.0.3:80\"\nexternal = 8080\n";
-    let text = format!(in rt.alloc(); "{ONE}{redirect}")?;
+    let text = format!(in rt.alloc(); "{ONE_ADDRESS}{WEB_REDIRECT}")?;
     let mut all = translators(rt.alloc(), &text)?;
-    let fixed = [row(Protocol::Tcp, (SERVER, 80), (FIRST, 8080), true)];
-    assert_eq!(rt; rows(rt.alloc(), &all, 0)?.as_slice(), fixed.as_slice());
-    let syn = received(
-        SECOND,
-        &wire::SERVER_SYN,
-        Want::ToInside(&wire::SERVER_SYN_INSIDE),
-    );
+    let fixed = Row {
+        protocol: Protocol::Tcp,
+        inside: host(3, 80),
+        external: external(1, 8080),
+        fixed: true,
+    };
+    assert_eq!(rt; rows(rt.alloc(), &all, 0)?.as_slice(), [fixed].as_slice());
+    let syn = received(SECOND, &SERVER_SYN, Want::ToInside(&SERVER_SYN_INSIDE));
     play(&rt, rt.alloc(), &mut all, syn)
 }
 
 /// Where a packet goes in the configuration of two addresses, or why it may not cross.
 fn routed(alloc: Global, side: Side, bytes: &[u8]) -> Result<Result<u32, Cause>, Fail> {
-    let config = Config::read(alloc, TWO.as_bytes())?;
+    let config = Config::read(alloc, TWO_ADDRESSES.as_bytes())?;
     let packet = read(alloc, side, bytes)?;
     Ok(route(&config, side, &packet))
-}
-
-/// The bytes with others in place of those at 10, the header's checksum and its addresses.
-fn readdressed(alloc: Global, bytes: &[u8], header: [u8; 10]) -> Result<Vec<u8>, Fail> {
-    let mut copy = Vec::from_slice(alloc, bytes)?;
-    for (byte, new) in copy.iter_mut().skip(10).zip(header.iter()) {
-        *byte = *new;
-    }
-    Ok(copy)
 }
 
 #[test]
 fn places(rt: HostRuntime) -> Result<(), Fail> {
     let rows: [(Side, &[u8], u32); 7] = [
-        (Side::Inside, &wire::UDP_QUERY, 0),
-        (Side::Inside, &wire::SERVER_QUERY, 1),
-        (Side::Inside, &wire::HAIRPIN, 0),
+        (Side::Inside, &UDP_QUERY, 0),
+        (Side::Inside, &SERVER_QUERY, 1),
+        (Side::Inside, &HAIRPIN, 0),
         // an error goes by the destination of what it quotes
-        (Side::Inside, &wire::HAIRPIN_ERROR, 1),
-        (Side::Outside, &wire::UDP_ANSWER, 0),
-        (Side::Outside, &wire::PORT_UNREACHABLE, 0),
-        (Side::Outside, &wire::SECOND_UDP_ANSWER, 1),
+        (Side::Inside, &HAIRPIN_ERROR, 1),
+        (Side::Outside, &UDP_ANSWER, 0),
+        (Side::Outside, &PORT_UNREACHABLE, 0),
+        (Side::Outside, &SECOND_UDP_ANSWER, 1),
     ];
     for (side, bytes, place) in rows {
         assert_eq!(rt; routed(rt.alloc(), side, bytes)?, Ok(place));
@@ -475,58 +392,33 @@ fn places(rt: HostRuntime) -> Result<(), Fail> {
 #[test]
 fn changed_packets(rt: HostRuntime) -> Result<(), Fail> {
     let alloc = rt.alloc();
-    let rows: [(Side, &[u8], [u8; 10], Cause); 6] = [
+    // the header's checksum and its addresses
+    let from_inside = [
         // from 11.0.0.2, and to 10.0.0.9
-        (
-            Side::Inside,
-            &wire::UDP_QUERY,
-            [0x45, 0x92, 11, 0, 0, 2, 198, 51, 100, 7],
-            Cause::Spoofed,
-        ),
-        (
-            Side::Inside,
-            &wire::UDP_QUERY,
-            [0x66, 0xc4, 10, 0, 0, 2, 10, 0, 0, 9],
-            Cause::NotOurs,
-        ),
+        ([0x45, 0x92, 11, 0, 0, 2, 198, 51, 100, 7], Cause::Spoofed),
+        ([0x66, 0xc4, 10, 0, 0, 2, 10, 0, 0, 9], Cause::NotOurs),
+    ];
+    for (header, cause) in from_inside {
+        let bytes = changed(alloc, &UDP_QUERY, &[(10, &header)])?;
+        assert_eq!(rt; routed(alloc, Side::Inside, &bytes)?, Err(cause));
+    }
+    let from_outside = [
         // from 10.0.0.9 and 203.0.113.1, and to 203.0.113.3 and 10.0.0.2
+        ([0x34, 0xc1, 10, 0, 0, 9, 203, 0, 113, 1], Cause::Spoofed),
+        ([0x02, 0xc8, 203, 0, 113, 1, 203, 0, 113, 1], Cause::Spoofed),
         (
-            Side::Outside,
-            &wire::UDP_ANSWER,
-            [0x34, 0xc1, 10, 0, 0, 9, 203, 0, 113, 1],
-            Cause::Spoofed,
-        ),
-        (
-            Side::Outside,
-            &wire::UDP_ANSWER,
-            [0x02, 0xc8, 203, 0, 113, 1, 203, 0, 113, 1],
-            Cause::Spoofed,
-        ),
-        (
-            Side::Outside,
-            &wire::UDP_ANSWER,
             [0x14, 0x8d, 198, 51, 100, 7, 203, 0, 113, 3],
             Cause::NotOurs,
         ),
-        (
-            Side::Outside,
-            &wire::UDP_ANSWER,
-            [0x46, 0x8f, 198, 51, 100, 7, 10, 0, 0, 2],
-            Cause::NotOurs,
-        ),
+        ([0x46, 0x8f, 198, 51, 100, 7, 10, 0, 0, 2], Cause::NotOurs),
     ];
-    for (side, bytes, header, cause) in rows {
-        let bytes = readdressed(alloc, bytes, header)?;
-        assert_eq!(rt; routed(alloc, side, &bytes)?, Err(cause));
+    for (header, cause) in from_outside {
+        let bytes = changed(alloc, &UDP_ANSWER, &[(10, &header)])?;
+        assert_eq!(rt; routed(alloc, Side::Outside, &bytes)?, Err(cause));
     }
-    for bytes in [
-        wire::ECHO_TO_POOL.as_slice(),
-        wire::ABOUT_REPLY_TO_POOL.as_slice(),
-    ] {
-        assert_eq!(rt;
-            routed(alloc, Side::Inside, bytes)?,
-            Err(Cause::Unsupported)
-        );
+    for bytes in [ECHO_TO_POOL.as_slice(), ABOUT_REPLY_TO_POOL.as_slice()] {
+        let found = routed(alloc, Side::Inside, bytes)?;
+        assert_eq!(rt; found, Err(Cause::Unsupported));
     }
     Ok(())
 }
@@ -534,12 +426,12 @@ fn changed_packets(rt: HostRuntime) -> Result<(), Fail> {
 #[test]
 fn destinations_in_the_pool(rt: HostRuntime) -> Result<(), Fail> {
     let alloc = rt.alloc();
-    let config = Config::read(alloc, TWO.as_bytes())?;
+    let config = Config::read(alloc, TWO_ADDRESSES.as_bytes())?;
     let rows: [(&[u8], Option<u32>); 4] = [
-        (&wire::HAIRPIN, Some(1)),
-        (&wire::OWN_HAIRPIN, Some(0)),
-        (&wire::HAIRPIN_ERROR, Some(0)),
-        (&wire::UDP_QUERY, None),
+        (&HAIRPIN, Some(1)),
+        (&OWN_HAIRPIN, Some(0)),
+        (&HAIRPIN_ERROR, Some(0)),
+        (&UDP_QUERY, None),
     ];
     for (bytes, place) in rows {
         let packet = read(alloc, Side::Inside, bytes)?;

@@ -1,48 +1,11 @@
 //! How long TCP sessions live (RFC 5382, REQ-2 and REQ-5).
 
-use crate::tables::{Bench, SECOND};
+use crate::bench::Bench;
+use napt_samples::flags::{ACK, FIN_ACK, SYN, SYN_ACK};
+use napt_samples::hosts::{CLIENT, SECOND, SERVER};
 use napt_wire::{Cause, Endpoint, Flags, Protocol, Way};
 use std::alloc::Global;
 use std::test::Fail;
-
-/// 10.0.0.2:5000 and 198.51.100.7:80
-const CLIENT: Endpoint = Endpoint {
-    address: 0x0A00_0002,
-    number: 5000,
-};
-
-const SERVER: Endpoint = Endpoint {
-    address: 0xC633_6407,
-    number: 80,
-};
-
-const ACK: Flags = Flags {
-    fin: false,
-    syn: false,
-    rst: false,
-    ack: true,
-};
-
-const SYN: Flags = Flags {
-    fin: false,
-    syn: true,
-    rst: false,
-    ack: false,
-};
-
-const SYN_ACK: Flags = Flags {
-    fin: false,
-    syn: true,
-    rst: false,
-    ack: true,
-};
-
-const FIN_ACK: Flags = Flags {
-    fin: true,
-    syn: false,
-    rst: false,
-    ack: true,
-};
 
 /// The segments of a session, one in each second from 0 on, and how many seconds it lives after the last.
 #[derive(Clone, Copy)]

@@ -1,0 +1,35 @@
+//! The control bits of the segments of a session (RFC 9293, section 3.1).
+
+use napt_wire::Flags;
+
+/// A segment in the midst of a session that acknowledges nothing; also what a packet without control bits has.
+pub const NO_FLAGS: Flags = Flags {
+    fin: false,
+    syn: false,
+    rst: false,
+    ack: false,
+};
+
+/// Opens a session.
+pub const SYN: Flags = Flags {
+    syn: true,
+    ..NO_FLAGS
+};
+
+/// Acknowledges, in an open session.
+pub const ACK: Flags = Flags {
+    ack: true,
+    ..NO_FLAGS
+};
+
+/// Resets a session.
+pub const RST: Flags = Flags {
+    rst: true,
+    ..NO_FLAGS
+};
+
+/// Answers a SYN.
+pub const SYN_ACK: Flags = Flags { ack: true, ..SYN };
+
+/// Ends one way of a session.
+pub const FIN_ACK: Flags = Flags { fin: true, ..ACK };
