@@ -200,15 +200,26 @@ fn configuration_of<R: Print + AllocGlobal>(
     Err(Stop::Config)
 }
 
-/// The capture that some bytes are. One that is refused is explained.
+/// The capture that some bytes are. One that is refused is explained, and one that is cut is told.
 fn capture<R: Print + AllocGlobal>(rt: &R, side: &str, bytes: &[u8]) -> Result<Capture, Stop> {
     match read_capture(rt.alloc(), &mut Watched::new(bytes)) {
-        Ok(capture) => Ok(capture),
+        Ok(capture) => {
+            tell_cut(rt, side, capture.cut)?;
+            Ok(capture)
+        }
         Err(fault) => {
             refused::tell_capture(rt, side, bytes, fault)?;
             Err(Stop::Capture)
         }
     }
+}
+
+/// Says of a capture that ends inside a record that its last packet is left out.
+fn tell_cut<R: Print>(rt: &R, side: &str, cut: bool) -> Result<(), Stop> {
+    if cut {
+        println!(rt; "the capture {side} is cut: its last packet is not whole, and is left out")?;
+    }
+    Ok(())
 }
 
 /// What a file holds. One that cannot be read is told by its name, with the system's reason.

@@ -132,7 +132,7 @@ fn tell_binding<R: Print>(rt: &R, now: u64, row: &Row, account: &Account) -> Res
     Ok(())
 }
 
-/// Writes how many packets ended in which way, and what to do where more than half of them were dropped for one cause.
+/// Writes how many packets ended in which way, and what to do where more than a fifth of them were dropped for one cause.
 pub fn tell_counts<R: Print + AllocGlobal>(rt: &R, account: &Account) -> Result<(), Stop> {
     let outcomes = account.run.outcomes.as_slice();
     println!(rt; "packets: {}", outcomes.len())?;
@@ -156,8 +156,8 @@ fn tell_cause<R: Print + AllocGlobal>(
     let name = cause_name(rt.alloc(), cause)?;
     println!(rt; "  {many} dropped, {name}: {}", meaning(cause))?;
     match advice(cause) {
-        Some(text) if many > outcomes.len() / 2 => {
-            println!(rt; "    most packets end so: {text}")?;
+        Some(text) if many > outcomes.len() / 5 => {
+            println!(rt; "    many packets end so: {text}")?;
         }
         _ => {}
     }

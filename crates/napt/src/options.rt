@@ -16,7 +16,8 @@ const NOTES: &str = "Examples:
   napt --config napt.toml --inside inside.pcap --outside outside.pcap \\
        --to-outside to-outside.pcap --to-inside to-inside.pcap --report report.txt
 
-Exit status, and the line on standard error that says why:
+Exit status, and the line on standard error that says why (explain with the same
+words tells where in a file, and what to do):
   0  done, without a line
   2  napt: usage
        an unknown option, one that stands twice, or one without its file

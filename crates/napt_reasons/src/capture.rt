@@ -94,29 +94,51 @@ fn add_form(alloc: Global, reasons: &mut Vec<Reason>, form: Form) -> Result<(), 
 {
     add(reasons, "it is", form_text(alloc, form))?;
     match form {
-        Form::Empty | Form::Unknown => Ok(()),
+        Form::Empty => Ok(()),
+        Form::Unknown => {
+            let text = "save it in the format pcap; napt reads libpcap captures of raw IPv4";
+            add(reasons, "do", String::from_str(alloc, text))
+        }
         Form::Pcapng => {
-            let command = "editcap -F pcap -C 14 -T rawip in.pcap raw.pcap (for Ethernet)";
-            add(reasons, "do", String::from_str(alloc, command))
+            let command = "editcap -F nsecpcap -C 14 -T rawip in.pcapng raw.pcap";
+            add(reasons, "do", String::from_str(alloc, command))?;
+            let more =
+                "14 is for Ethernet, 18 for a VLAN tag, 16 or 20 for Linux cooked, 0 for raw IP";
+            add(reasons, "", String::from_str(alloc, more))
         }
         Form::Gzip => {
             let command = "gunzip < in.pcap.gz > in.pcap";
             add(reasons, "do", String::from_str(alloc, command))
         }
-        Form::Pcap(_, link) => add_cut(alloc, reasons, link),
+        Form::Pcap(spelling, link) => add_cut(alloc, reasons, spelling, link),
     }
 }
 
 /// Adds the command that cuts the headers of a link type, where these are known.
-fn add_cut(alloc: Global, reasons: &mut Vec<Reason>, link: u32) -> Result<(), AllocError>
+fn add_cut(
+    alloc: Global,
+    reasons: &mut Vec<Reason>,
+    spelling: Spelling,
+    link: u32,
+) -> Result<(), AllocError>
     ensures { OnOk result (vec_len reasons.old ≤ vec_len reasons.new) }
 {
-    match link_name(link) {
-        Some((_, cut)) => {
-            let command = format!(in alloc; "editcap -F pcap -C {cut} -T rawip in.pcap raw.pcap");
-            add(reasons, "do", command)
-        }
-        None => Ok(()),
+    let Some((_, cut)) = link_name(link) else {
+        return Ok(());
+    };
+    let format = match spelling.is_nano {
+        true => "nsecpcap",
+        false => "pcap",
+    };
+    let command = format!(in alloc; "editcap -F {format} -C {cut} -T rawip in.pcap raw.pcap");
+    add(reasons, "do", command)?;
+    match link {
+        1 => add(
+            reasons,
+            "",
+            String::from_str(alloc, "where the packets have a VLAN tag, -C 18"),
+        ),
+        _ => Ok(()),
     }
 }
 

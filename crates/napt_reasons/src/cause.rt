@@ -31,7 +31,7 @@ pub fn advice(cause: Cause) -> Option<&'static str> {
             "the capture was made with a snapshot length: capture whole packets (tcpdump -s 0)",
         ),
         Cause::NotIpv4 => Some(
-            "link headers were left in the capture, or the recipe that cuts them was used twice",
+            "link headers or a VLAN tag were left in the capture, or the recipe that cuts them was used twice",
         ),
         Cause::BadHeader => Some(
             "link headers were cut at the wrong place, or the card leaves total lengths 0: switch its offload off",
@@ -39,9 +39,11 @@ pub fn advice(cause: Cause) -> Option<&'static str> {
         Cause::BadChecksum => Some(
             "the checksum was left to the network card: switch its offload off, or capture at the other end",
         ),
-        Cause::Spoofed => Some("the captures are exchanged, or a prefix is missing in `inside`"),
+        Cause::Spoofed => Some(
+            "the captures are exchanged, one is of both interfaces, or a prefix is missing in `inside`",
+        ),
         Cause::NotOurs => Some(
-            "the capture has traffic that does not cross the gateway, or `pool` lacks an address",
+            "the capture is of both interfaces or has traffic that does not cross the gateway, or `pool` lacks an address",
         ),
         Cause::NoBinding => Some(
             "the inside capture lacks what was sent before, or `pool` is not that of the gateway that was captured",

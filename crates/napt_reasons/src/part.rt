@@ -100,8 +100,15 @@ impl<'t> Refused<'t> {
         }
     }
 
-    /// The place that has the fault of a key's part.
+    /// The place that has the fault of a key's part. A key that no configuration has is a place itself, whatever stands at it.
     fn place_in(self, part: Part<'t>) -> Result<Place<'t>, AllocError> {
+        if !KEYS.iter().any(|key| *key == part.key) {
+            return Ok(Place {
+                key: part.key,
+                entry: None,
+                field: None,
+            });
+        }
         let entry = self.entry(part)?;
         let field = self.field(Part { entry, ..part })?;
         Ok(Place {
