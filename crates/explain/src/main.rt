@@ -10,6 +10,7 @@ mod account;
 mod names;
 mod options;
 mod overwritten;
+mod progress;
 mod refused;
 mod scene;
 mod shown;
@@ -19,6 +20,7 @@ mod summary;
 use crate::account::{Account, Ends, account_of};
 use crate::options::Options;
 use crate::overwritten::refuse_overwritten;
+use crate::progress::Progress;
 use crate::stop::Stop;
 use napt_capture::{Capture, Watched, read_capture};
 use napt_config::Config;
@@ -112,8 +114,10 @@ fn run_told<R: Files + Print + Eprint + AllocGlobal>(
         Some(_) => Ends(scene::MOST),
         None => Ends(0),
     };
+    let progress = Progress::of(rt, inputs.len());
+    progress.tell_begin(rt);
     let account = account_of(rt.alloc(), config, inputs, ends)?;
-    told(rt, options, inputs, &account)?;
+    told(rt, options, inputs, &account, progress)?;
     match options.svg {
         Some(path) => draw(rt, path, config, inputs, &account),
         None => Ok(()),
@@ -160,17 +164,20 @@ fn tell_left_out<R: Eprint>(rt: &R, path: &str, bindings: usize) {
 }
 
 /// Writes the lines that are asked for, the bindings and the summary.
-fn told<R: Print + AllocGlobal>(
+fn told<R: Print + Eprint + AllocGlobal>(
     rt: &R,
     options: Options<'_>,
     inputs: &[napt_run::Input],
     account: &Account,
+    progress: Progress,
 ) -> Result<(), Stop> {
     let mut number = 0u64;
     for input in inputs {
         number = number.wrapping_add(1);
         summary::tell_line(rt, options.choice, number, input, account)?;
+        progress.tell(rt, number);
     }
+    progress.tell_end(rt);
     summary::tell_bindings(rt, inputs, account)?;
     summary::tell_counts(rt, account)
 }
