@@ -41,6 +41,26 @@ module _ (times : List (Option ℕ)) (spans : List Span) (q : ℕ) (lt : q < len
     | false ↦ λ t. let ne : i ≢ q = λ e. true≢false (sym (eq-eqb i q e) ∙ t) in elsewhere i ne apart (others i ne)
   ] refl
 
+  -- where the span was right before, all are
+  module _ (same : joined_at times spans q ≡ at spans q) where
+    each_at : (j : ℕ) → at new j ≡ at spans j
+    each_at j = elim (eqb j q) as (λ v. eqb j q ≡ v → at new j ≡ at spans j) [
+      | true ↦ λ t. let P : ℕ → Type 0 = λ n. at new n ≡ at spans n in
+          subst P (sym (eqb-true j q t)) (get_or-set_same spans q (joined_at times spans q) no_times lt ∙ same)
+      | false ↦ λ t. other_at j (λ e. true≢false (sym (eq-eqb j q e) ∙ t))
+    ] refl
+
+    before : ((i : ℕ) → i ≢ q → IsRight times spans i) → (i : ℕ) → IsRight times spans i
+    before others i = elim (eqb i q) as (λ v. eqb i q ≡ v → IsRight times spans i) [
+      | true ↦ λ t. let P : ℕ → Type 0 = λ n. IsRight times spans n in subst P (sym (eqb-true i q t)) (sym same)
+      | false ↦ λ t. others i (λ e. true≢false (sym (eq-eqb i q e) ∙ t))
+    ] refl
+
+    pub unchanged : ((i : ℕ) → i ≢ q → IsRight times spans i) → (i : ℕ) → IsRight times new i
+    unchanged others i =
+        each_at i
+        ∙ (before others i ∙ sym (same_joined times times spans new i refl (each_at (2 * i + 1)) (each_at (2 * i + 2))))
+
 pub default_pushed : (spans : List Span) (i : ℕ) → at (spans ++ no_times ∷ []) i ≡ at spans i
 default_pushed [] zero = refl
 default_pushed [] (suc i) = refl

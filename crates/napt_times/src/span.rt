@@ -2,11 +2,11 @@
 //!
 //! The places are the nodes of a binary tree: under place `i` are the places `2 i + 1` and `2 i + 2`, where there are such.
 
-ghost use Rattle.std.specs.Prelude.{◌≡◌, ◌≢◌, ℕ, ◌+◌, ◌*◌, ◌<◌, length, slice_set};
+ghost use Rattle.std.specs.Prelude.{◌≡◌, ◌≢◌, ℕ, ◌+◌, ◌*◌, ◌<◌, length, slice_set, false};
 ghost use Rattle.napt_times.specs.Spans.{earlier, later, no_times, span_at, joined, joined_at, IsRight};
 
 /// An earliest time, with its place, and the latest time of those at a place and at all places under it.
-#[derive(Clone, Copy)]
+#[derive(Clone, Copy, PartialEq, Eq)]
 pub(crate) struct Span {
     pub(crate) earliest: Option<(u64, usize)>,
     pub(crate) latest: Option<u64>,
@@ -69,18 +69,23 @@ pub(crate) fn span_at(spans: &[Span], place: usize) -> Span
     }
 }
 
-/// Makes the span at a place right by what stands at the place and under it.
-fn mend_at(times: &[Option<u64>], spans: &mut [Span], place: usize)
+/// Makes the span at a place right by what stands at the place and under it. Says whether that changed it.
+fn mend_at(times: &[Option<u64>], spans: &mut [Span], place: usize) -> bool
     requires lengths { length times.now ≡ length spans.old }
     requires within { place < length times.now }
-    ensures { spans.new ≡ slice_set spans.old place (joined_at times.now spans.old place) }
+    ensures mended { spans.new ≡ slice_set spans.old place (joined_at times.now spans.old place) }
+    ensures unchanged { result ≡ false →
+        joined_at times.now spans.old place ≡ span_at spans.old place }
 {
     let left = span_at(spans, 2 * place + 1);
     let right = span_at(spans, 2 * place + 2);
-    spans[place] = joined(place, times[place], left, right);
+    let span = joined(place, times[place], left, right);
+    let changes = span != spans[place];
+    spans[place] = span;
+    changes
 }
 
-/// Makes all spans right where at most that at one place is not.
+/// Makes all spans right where at most that at one place is not. It goes no further up than to a span that does not change.
 pub(crate) fn mend(times: &[Option<u64>], spans: &mut [Span], from: usize)
     requires lengths { length times.now ≡ length spans.old }
     requires within { from < length times.now }
@@ -88,9 +93,7 @@ pub(crate) fn mend(times: &[Option<u64>], spans: &mut [Span], from: usize)
     ensures { (i : ℕ) → IsRight times.now spans.new i }
 {
     let mut place = from;
-    mend_at(times, spans, place);
-    while place > 0 {
+    while mend_at(times, spans, place) && place > 0 {
         place = (place - 1) / 2;
-        mend_at(times, spans, place);
     }
 }
