@@ -9,6 +9,7 @@
 
 mod answers;
 mod backoff;
+mod close_buffers;
 mod closing;
 mod fault;
 mod gate;
@@ -16,9 +17,8 @@ mod joining;
 mod machine;
 mod message;
 mod pool;
-mod room;
-mod serve;
 mod starting;
+mod thread_state;
 mod worker;
 
 pub use backoff::Backoff;

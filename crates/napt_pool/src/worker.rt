@@ -3,15 +3,15 @@ ghost use Rattle.std.specs.Prelude.{◌≡◌, ◌+◌, ◌≤◌, true, false, 
 ghost use Rattle.rtrb.specs.Ring.{sent, IsPair};
 ghost use Rattle.napt_pool.specs.Histories.{accepted, taken};
 ghost use Rattle.napt_pool.specs.declared.message.Message.TheVariants.{Work};
-ghost use Rattle.napt_pool.specs.Benches.{Worked};
+ghost use Rattle.napt_pool.specs.ThreadStates.{HasRun};
 
 use crate::answers::{pop_answer, send_close};
 use crate::closing::Closing;
 use crate::fault::{OfferRefused, PoolFault, Stop};
 use crate::gate::Gate;
 use crate::machine::Machine;
-use crate::message::{Honest, Message, Reply};
-use crate::serve::{Bench, Left};
+use crate::message::{GateProtocol, Message, Reply};
+use crate::thread_state::{ThreadEnd, ThreadState};
 use rtrb::{Consumer, Producer, PushError, RingBuffer};
 use std::alloc::Global;
 use std::marker::PhantomData;
@@ -20,33 +20,33 @@ use std::sync::{Arc, Wait};
 use std::thread;
 use std::thread::{Promise, PromisedHandle, Threads};
 
-/// What a worker's thread was given to work with.
+/// What a worker's thread promises: its end follows from the state in which it began.
 #[derive(Drop)]
-pub(crate) struct Begun<M: Machine, G: Gate> {
-    pub(crate) bench: Snapshot<Bench<M, G>>,
+pub(crate) struct ThreadPromise<M: Machine, G: Gate> {
+    pub(crate) initial: Snapshot<ThreadState<M, G>>,
     gate: PhantomData<G>,
 }
 
-impl<M: Machine, G: Gate> Promise<Left<M, G>> for Begun<M, G> {
-    ghost kept_by = { λ begun left. Worked M.Machine G.is_open begun.bench.value left };
+impl<M: Machine, G: Gate> Promise<ThreadEnd<M, G>> for ThreadPromise<M, G> {
+    ghost kept_by = { λ promise thread_end. HasRun M.Machine G.is_open promise.initial.value thread_end };
 }
 
 /// A worker that takes items.
 #[derive(Drop)]
 pub(crate) struct Worker<M: Machine, G: Gate> {
     items: Producer<Message<M::Item>>,
-    answers: Consumer<Reply<M::Answer>, Global, Honest<G>>,
-    thread: PromisedHandle<Left<M, G>, Begun<M, G>>,
+    answers: Consumer<Reply<M::Answer>, Global, GateProtocol<G>>,
+    thread: PromisedHandle<ThreadEnd<M, G>, ThreadPromise<M, G>>,
     pub(crate) capacity: usize,
     // How many accepted items have an answer that was not taken.
     untaken: usize,
-    // Room for the answers that are not taken when the worker is closed.
+    // The buffer for the answers that are not taken when the worker is closed.
     rest: Vec<M::Answer>,
-    ghost item_ring: { IsPair items thread.promise.bench.value.items },
-    ghost answer_ring: { IsPair thread.promise.bench.value.answers answers },
+    ghost item_ring: { IsPair items thread.promise.initial.value.items },
+    ghost answer_ring: { IsPair thread.promise.initial.value.answers answers },
     ghost open: { sent items ≡ map Work (accepted items) },
     ghost counted: { length (accepted items) ≡ untaken + length (taken answers) },
-    ghost in_room: { (untaken ≤ capacity) × (capacity ≤ vec_capacity rest) },
+    ghost fits: { (untaken ≤ capacity) × (capacity ≤ vec_capacity rest) },
     ghost no_rest: { rest.items ≡ [] },
 }
 
@@ -54,7 +54,7 @@ impl<M: Machine, G: Gate> Worker<M, G> {
     ghost use Rattle.std.specs.Prelude.{◌↔◌, IsTrue, OnOk, IfOk, IfErr, OnErr, MatchOption};
     ghost use Rattle.napt_pool.specs.Faults.{is_gate_shut, item_back, is_full, is_memory};
     ghost use Rattle.napt_pool.specs.declared.message.Reply.TheVariants.{Done, Stopped};
-    ghost use Rattle.napt_pool.specs.Workers.{machine_of, bench_of, accepted_of, taken_of, heard_of, closing_machine, closing_bench, closing_accepted, closing_taken, closing_heard};
+    ghost use Rattle.napt_pool.specs.Workers.{machine_of, thread_state_of, accepted_of, taken_of, heard_of, closing_machine, closing_thread_state, closing_accepted, closing_taken, closing_heard};
 
     /// Hands an item to the worker, or hands it back.
     pub(crate) fn offer(&mut self, item: M::Item) -> Result<(), OfferRefused<M::Item>>
@@ -116,7 +116,7 @@ impl<M: Machine, G: Gate> Worker<M, G> {
         ensures accepted { closing_accepted result ≡ accepted_of self }
         ensures taken { closing_taken result ≡ taken_of self }
         ensures heard { closing_heard result ≡ heard_of self }
-        ensures bench { closing_bench result ≡ bench_of self }
+        ensures thread_state { closing_thread_state result ≡ thread_state_of self }
     {
         let Worker {
             mut items,
@@ -166,30 +166,31 @@ impl<M: Machine, G: Gate + Send + Sync + Drop + 'static> Worker<M, G> {
         let Ok((items, theirs)) = RingBuffer::new(alloc, capacity + 1) else {
             return Err(PoolFault::Memory);
         };
-        let Ok((replies, answers)) = RingBuffer::with_protocol::<Global, Honest<G>>(alloc, capacity)
-        else {
+        let Ok((replies, answers)) = RingBuffer::with_protocol::<Global, GateProtocol<G>>(
+            alloc, capacity,
+        ) else {
             return Err(PoolFault::Memory);
         };
         let Ok(rest) = Vec::with_capacity(alloc, capacity) else {
             return Err(PoolFault::Memory);
         };
-        let bench = Bench {
+        let state = ThreadState {
             machine,
             items: theirs,
             answers: replies,
         };
-        let begun = Begun {
-            bench: Snapshot::of(&bench),
+        let promise = ThreadPromise {
+            initial: Snapshot::of(&state),
             gate: PhantomData,
         };
         let rt_there = *rt;
         let spawned = thread::spawn_with(
             rt,
-            begun,
-            move || -> Left<M, G>
-                requires { (received bench.items ≡ []) × (sent bench.answers ≡ []) }
-                ensures { Worked M.Machine G.is_open bench result }
-            { bench.serve(&rt_there, alloc, &*gate, number) },
+            promise,
+            move || -> ThreadEnd<M, G>
+                requires { (received state.items ≡ []) × (sent state.answers ≡ []) }
+                ensures { HasRun M.Machine G.is_open state result }
+            { state.run(&rt_there, alloc, &*gate, number) },
         );
         match spawned {
             Ok(thread) => Ok(Worker {
