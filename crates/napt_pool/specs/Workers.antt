@@ -1,6 +1,6 @@
 -- What a worker shows: the machine that it began with, the items that were accepted for it, and the answers that were
 -- taken.
-use Rattle.std.specs.Prelude.{◌≡◌, ⊤, Bool, true, false, Result, Err, OnOk, IfOk, IfErr, List, Contains, [], ◌∷◌, ◌++◌}
+use Rattle.std.specs.Prelude.{◌≡◌, ◌<◌, ⊤, ℕ, Bool, true, false, Result, Err, OnOk, IfOk, IfErr, List, Vec, Contains, map, replicate, slice_index_or, vec_len, [], ◌∷◌, ◌++◌}
 use Rattle.napt_pool.specs.declared.fault.Stop.{Stop}
 use Rattle.napt_pool.specs.declared.thread_state.ThreadState.{ThreadState}
 use Rattle.napt_pool.specs.declared.worker.Worker.{Worker}
@@ -47,6 +47,15 @@ module _ {M G I A : Type 0} where
 
   abbrev pub closing_heard : Closing M G I A → List (Reply A)
   closing_heard w = received w.answers
+
+  -- workers that were just started, one for each machine, all of this capacity
+  pub record AreNew {Y Z : Type 0} (machines : Vec M Y) (capacity : ℕ) (workers : Vec (Worker M G I A) Z) : Type 0 where
+    pub machines_are : map machine_of workers.items ≡ machines.items
+    pub accepted_are : map accepted_of workers.items ≡ replicate (vec_len machines) []
+    pub taken_are : map taken_of workers.items ≡ replicate (vec_len machines) []
+    pub heard_are : map heard_of workers.items ≡ replicate (vec_len machines) []
+    pub capacity_is : (k : ℕ) (d : Worker M G I A) → k < vec_len workers →
+        (slice_index_or workers.items k d).capacity ≡ capacity
 
 -- How a worker ended: with the machine after what was accepted, which its thread received, and with answers that, put
 -- after those that were taken, are the replies to it; or it stopped, as its thread did, and not at a gate that promises

@@ -3,7 +3,6 @@ ghost use Rattle.std.specs.Prelude.{◌≡◌, ◌+◌, ◌≤◌, true, false, 
 ghost use Rattle.rtrb.specs.Ring.{sent, IsPair};
 ghost use Rattle.napt_pool.specs.Histories.{accepted, taken};
 ghost use Rattle.napt_pool.specs.declared.message.Message.TheVariants.{Work};
-ghost use Rattle.napt_pool.specs.ThreadStates.{HasRun};
 
 use crate::answers::{pop_answer, send_close};
 use crate::closing::Closing;
@@ -11,25 +10,13 @@ use crate::fault::{OfferRefused, PoolFault, Stop};
 use crate::gate::Gate;
 use crate::machine::Machine;
 use crate::message::{GateProtocol, Message, Reply};
-use crate::thread_state::{ThreadEnd, ThreadState};
-use rtrb::{Consumer, Producer, PushError, RingBuffer};
+use crate::parts::WorkerParts;
+use crate::promise::ThreadPromise;
+use crate::thread_state::ThreadEnd;
+use rtrb::{Consumer, Producer, PushError};
 use std::alloc::Global;
-use std::marker::PhantomData;
-use std::snapshot::Snapshot;
 use std::sync::{Arc, Wait};
-use std::thread;
-use std::thread::{Promise, PromisedHandle, Threads};
-
-/// What a worker's thread promises: its end follows from the state in which it began.
-#[derive(Drop)]
-pub(crate) struct ThreadPromise<M: Machine, G: Gate> {
-    pub(crate) initial: Snapshot<ThreadState<M, G>>,
-    gate: PhantomData<G>,
-}
-
-impl<M: Machine, G: Gate> Promise<ThreadEnd<M, G>> for ThreadPromise<M, G> {
-    ghost kept_by = { λ promise thread_end. HasRun M.Machine G.is_open promise.initial.value thread_end };
-}
+use std::thread::{PromisedHandle, Threads};
 
 /// A worker that takes items.
 #[derive(Drop)]
@@ -139,7 +126,6 @@ impl<M: Machine, G: Gate> Worker<M, G> {
 
 impl<M: Machine, G: Gate + Send + Sync + Drop + 'static> Worker<M, G> {
     ghost use Rattle.std.specs.Prelude.{IfOk, IfErr};
-    ghost use Rattle.rtrb.specs.Ring.{received};
     ghost use Rattle.napt_pool.specs.Faults.{IsStartFault};
     ghost use Rattle.napt_pool.specs.Workers.{machine_of, accepted_of, taken_of, heard_of};
 
@@ -149,7 +135,7 @@ impl<M: Machine, G: Gate + Send + Sync + Drop + 'static> Worker<M, G> {
         alloc: Global,
         machine: M,
         capacity: usize,
-        gate: Arc<G>,
+        gate: &Arc<G>,
         number: u32,
     ) -> Result<Worker<M, G>, PoolFault>
     where
@@ -163,45 +149,23 @@ impl<M: Machine, G: Gate + Send + Sync + Drop + 'static> Worker<M, G> {
             × (heard_of w ≡ [])) }
         ensures refused { IfErr result IsStartFault }
     {
-        let Ok((items, theirs)) = RingBuffer::new(alloc, capacity + 1) else {
+        let Ok(parts) = WorkerParts::new(alloc, machine, capacity) else {
             return Err(PoolFault::Memory);
         };
-        let Ok((replies, answers)) = RingBuffer::with_protocol::<Global, GateProtocol<G>>(
-            alloc, capacity,
-        ) else {
-            return Err(PoolFault::Memory);
-        };
-        let Ok(rest) = Vec::with_capacity(alloc, capacity) else {
-            return Err(PoolFault::Memory);
-        };
-        let state = ThreadState {
-            machine,
-            items: theirs,
-            answers: replies,
-        };
-        let promise = ThreadPromise {
-            initial: Snapshot::of(&state),
-            gate: PhantomData,
-        };
-        let rt_there = *rt;
-        let spawned = thread::spawn_with(
-            rt,
-            promise,
-            move || -> ThreadEnd<M, G>
-                requires { (received state.items ≡ []) × (sent state.answers ≡ []) }
-                ensures { HasRun M.Machine G.is_open state result }
-            { state.run(&rt_there, alloc, &*gate, number) },
-        );
-        match spawned {
-            Ok(thread) => Ok(Worker {
-                items,
-                answers,
-                thread,
-                capacity,
-                untaken: 0,
-                rest,
-            }),
-            Err(_) => Err(PoolFault::NoThread),
-        }
+        let WorkerParts {
+            items,
+            answers,
+            initial,
+            rest,
+        } = parts;
+        let thread = initial.spawn(rt, alloc, gate, number)?;
+        Ok(Worker {
+            items,
+            answers,
+            thread,
+            capacity,
+            untaken: 0,
+            rest,
+        })
     }
 }
