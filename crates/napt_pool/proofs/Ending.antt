@@ -9,7 +9,7 @@ use Rattle.napt_pool.specs.declared.message.Message.{Message}
 use Rattle.napt_pool.specs.declared.message.Message.TheVariants.{Work, Close}
 use Rattle.napt_pool.specs.declared.message.Reply.{Reply}
 use Rattle.napt_pool.specs.declared.message.Reply.TheVariants.{Done, Stopped}
-use Rattle.napt_pool.specs.Histories.{after, replies, Served, HasStopped, Told, answers_of}
+use Rattle.napt_pool.specs.Histories.{after, replies, HasMetClose, HasStopped, Told, answers_of}
 use Rattle.napt_pool.proofs.Grown.{answers_of-append}
 
 -- two lists of items that are followed by Close are one list
@@ -84,31 +84,31 @@ module _ {M I A : Type 0} (g : Ghosts M I A) where
 
   -- what the worker received is what was accepted
   pub seen_is : (m n : M) (h h' a known : List (Message I)) (s : List (Reply A)) (xs : List I)
-      → (w : Served g m h s n) → h' ≡ h → h' ++ known ≡ a → a ≡ map Work xs ++ Close ∷ [] → w.seen ≡ xs
+      → (w : HasMetClose g m h s n) → h' ≡ h → h' ++ known ≡ a → a ≡ map Work xs ++ Close ∷ [] → w.seen ≡ xs
   seen_is m n h h' a known s xs w eh fifo ea =
       same_items w.seen xs known (sym (append_assoc (map Work w.seen) (Close ∷ []) known)
       ∙ ap (λ r. r ++ known) (sym (eh ∙ w.received_is)) ∙ fifo ∙ ea)
 
   pub machine_is : (m n : M) (h h' a known : List (Message I)) (s : List (Reply A)) (xs : List I)
-      → Served g m h s n → h' ≡ h → h' ++ known ≡ a → a ≡ map Work xs ++ Close ∷ [] → n ≡ after g m xs
+      → HasMetClose g m h s n → h' ≡ h → h' ++ known ≡ a → a ≡ map Work xs ++ Close ∷ [] → n ≡ after g m xs
   machine_is m n h h' a known s xs w eh fifo ea = w.machine_is
       ∙ ap (after g m) (seen_is m n h h' a known s xs w eh fifo ea)
 
   -- what the worker sent is the replies to what was accepted
   pub sent_is : (m n : M) (h h' a known : List (Message I)) (s : List (Reply A)) (xs : List I)
-      → Served g m h s n → h' ≡ h → h' ++ known ≡ a → a ≡ map Work xs ++ Close ∷ [] → s ≡ map Done (replies g m xs)
+      → HasMetClose g m h s n → h' ≡ h → h' ++ known ≡ a → a ≡ map Work xs ++ Close ∷ [] → s ≡ map Done (replies g m xs)
   sent_is m n h h' a known s xs w eh fifo ea = w.sent_is ∙ ap (λ ys. map Done (replies g m ys))
       (seen_is m n h h' a known s xs w eh fifo ea)
 
   -- the answers that are still in the ring of a worker whose end is Ok
   pub known_on_ok : {U : Type 0} (m n : M) (h : List (Message I)) (s t ks : List (Reply A)) (end : Result U Stop)
-      → OnOk end (Served g m h s n) → t ++ ks ≡ s → OnOk end (ks ≡ map Done (answers_of ks))
+      → OnOk end (HasMetClose g m h s n) → t ++ ks ≡ s → OnOk end (ks ≡ map Done (answers_of ks))
   known_on_ok m n h s t ks (Ok u) w looked = last_answers t ks (replies g m w.seen) (looked ∙ w.sent_is)
   known_on_ok m n h s t ks (Err e) w looked = tt
 
   pub room_on_ok : {U : Type 0} (m n : M) (h h' a known : List (Message I)) (s t t' ks : List (Reply A)) (xs : List I)
       (room : ℕ) (end : Result U Stop)
-      → OnOk end (Served g m h s n) → h' ≡ h → h' ++ known ≡ a → a ≡ map Work xs ++ Close ∷ []
+      → OnOk end (HasMetClose g m h s n) → h' ≡ h → h' ++ known ≡ a → a ≡ map Work xs ++ Close ∷ []
       → t' ≡ t → t' ++ ks ≡ s → length xs ≤ length (answers_of t) + room → OnOk end (length ks ≤ room)
   room_on_ok m n h h' a known s t t' ks xs room (Ok u) w eh fifo ea et looked fits =
       let sent = ap length (sent_is m n h h' a known s xs w eh fifo ea) in
@@ -123,7 +123,7 @@ module _ {M I A : Type 0} (g : Ghosts M I A) where
 
   -- where the word that it stopped came out of the ring, that is its end
   pub told_end : {U : Type 0} (m n : M) (h : List (Message I)) (s t t' ks : List (Reply A)) (end : Result U Stop)
-      → OnOk end (Served g m h s n) → IfErr end (λ stop. HasStopped g m stop h s) → t' ≡ t → t' ++ ks ≡ s
+      → OnOk end (HasMetClose g m h s n) → IfErr end (λ stop. HasStopped g m stop h s) → t' ≡ t → t' ++ ks ≡ s
       → (stop : Stop) → Contains t (Stopped stop) → end ≡ Err stop
   told_end m n h s t t' ks (Ok u) w stopped et looked stop c =
       let here = heard_is_sent t t' ks s (Stopped stop) et looked c in
@@ -137,21 +137,22 @@ module _ {M I A : Type 0} (g : Ghosts M I A) where
   pub machine_if_ok : {U E : Type 0} (u : U) (m n : M) (h h' a known : List (Message I)) (s : List (Reply A))
       (xs : List I) (f : E → M) (r : Result E Stop) (end : Result U Stop)
       → MatchResult r (λ _. end ≡ Ok u) (λ stop. end ≡ Err stop)
-      → OnOk end (Served g m h s n) → h' ≡ h → h' ++ known ≡ a → a ≡ map Work xs ++ Close ∷ []
+      → OnOk end (HasMetClose g m h s n) → h' ≡ h → h' ++ known ≡ a → a ≡ map Work xs ++ Close ∷ []
       → IfOk r (λ e. f e ≡ n) → IfOk r (λ e. f e ≡ after g m xs)
   machine_if_ok u m n h h' a known s xs f (Ok e) end is w eh fifo ea here =
-      let served = rw is at w in here ∙ machine_is m n h h' a known s xs served eh fifo ea
+      let met_close = rw is at w in here ∙ machine_is m n h h' a known s xs met_close eh fifo ea
   machine_if_ok u m n h h' a known s xs f (Err e) end is w eh fifo ea here = tt
 
   pub answers_if_ok : {U E : Type 0} (u : U) (m n : M) (h h' a known : List (Message I)) (s : List (Reply A))
       (xs : List I) (f : E → List A) (t t' ks : List (Reply A)) (r : Result E Stop) (end : Result U Stop)
       → MatchResult r (λ _. end ≡ Ok u) (λ stop. end ≡ Err stop)
-      → OnOk end (Served g m h s n) → h' ≡ h → h' ++ known ≡ a → a ≡ map Work xs ++ Close ∷ [] → t' ≡ t → t' ++ ks ≡ s
+      → OnOk end (HasMetClose g m h s n) → h' ≡ h → h' ++ known ≡ a → a ≡ map Work xs ++ Close ∷ []
+      → t' ≡ t → t' ++ ks ≡ s
       → IfOk r (λ e. f e ≡ answers_of ks) → IfOk r (λ e. answers_of t ++ f e ≡ replies g m xs)
   answers_if_ok u m n h h' a known s xs f t t' ks (Ok e) end is w eh fifo ea et looked here =
-      let served = rw is at w in
+      let met_close = rw is at w in
       ap (λ rest. answers_of t ++ rest) here ∙ all_taken t t' ks s s et looked refl
-      ∙ ap answers_of (sent_is m n h h' a known s xs served eh fifo ea) ∙ answers_of-map (replies g m xs)
+      ∙ ap answers_of (sent_is m n h h' a known s xs met_close eh fifo ea) ∙ answers_of-map (replies g m xs)
   answers_if_ok u m n h h' a known s xs f t t' ks (Err e) end is w eh fifo ea et looked here = tt
 
 pub gate_if_err : {U E : Type 0} (u : U) (P : Stop → Type 0) (r : Result E Stop) (end : Result U Stop)

@@ -1,4 +1,4 @@
--- What one push or pop does to the words on histories.
+-- What one push or pop does to the items and answers of a history.
 use Rattle.std.proofs.Common.{◌≡◌, ◌+◌, refl, ap, ◌∙◌, List, map, length, [], ◌∷◌, ◌++◌, append-nil, length-append}
 use Rattle.napt_pool.specs.declared.message.Message.{Message}
 use Rattle.napt_pool.specs.declared.message.Message.TheVariants.{Work, Close}
@@ -6,7 +6,7 @@ use Rattle.napt_pool.specs.declared.fault.Stop.{Stop}
 use Rattle.napt_pool.specs.declared.message.Reply.{Reply}
 use Rattle.napt_pool.specs.declared.message.Reply.TheVariants.{Done, Stopped}
 use Rattle.napt_pool.specs.Histories.{items_of, answers_of}
-use Rattle.napt_pool.proofs.Serving.{map-snoc}
+use Rattle.napt_pool.proofs.Steps.{map-snoc}
 
 module _ {I : Type 0} where
   items_of-append : (h k : List (Message I)) → items_of (h ++ k) ≡ items_of h ++ items_of k

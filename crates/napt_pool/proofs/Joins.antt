@@ -11,13 +11,13 @@ use Rattle.napt_pool.specs.declared.closing.Closing.{Closing}
 use Rattle.napt_pool.specs.declared.closing.Ended.{Ended}
 use Rattle.napt_pool.specs.declared.message.Reply.TheVariants.{Stopped}
 use Rattle.napt_pool.specs.declared.pool.Pool.{Pool}
-use Rattle.napt_pool.specs.declared.serve.Bench.{Bench}
+use Rattle.napt_pool.specs.declared.thread_state.ThreadState.{ThreadState}
 use Rattle.napt_pool.specs.Faults.{is_shut, is_gate_shut, fault_of, IsFaultOf, IsFaultUpTo, IsLeastFault}
 use Rattle.napt_pool.specs.Histories.{after, replies}
-use Rattle.napt_pool.specs.Workers.{IsEnd, AreEnds, closing_machine, closing_bench, closing_accepted, closing_taken, closing_heard}
-use Rattle.napt_pool.specs.Pools.{starts, accepts, takes, heard, benches, zip_with, HasTold, HaveReceived, IsLeastStop}
+use Rattle.napt_pool.specs.Workers.{IsEnd, AreEnds, closing_machine, closing_thread_state, closing_accepted, closing_taken, closing_heard}
+use Rattle.napt_pool.specs.Pools.{starts, accepts, takes, heard, thread_states, zip_with, HasTold, HaveReceived, IsLeastStop}
 use Rattle.napt_pool.proofs.Ending.{length-replies}
-use Rattle.napt_pool.proofs.Serving.{map-snoc}
+use Rattle.napt_pool.proofs.Steps.{map-snoc}
 
 no_rest : {A : Type 0} (t rest : List A) → length (t ++ rest) ≡ length t → t ++ rest ≡ t
 no_rest [] [] e = refl
@@ -162,7 +162,7 @@ module _ {M G I A : Type 0} (g : Ghosts M I A) (open_gate : Bool) where
   pub least_if_err : {T : Type 0} (p : Pool M G I A) (ws : List (Closing M G I A))
       (es : List (Result (Ended M I A) Stop))
       → map closing_machine ws ≡ starts p → map closing_accepted ws ≡ accepts p → map closing_taken ws ≡ takes p
-      → map closing_heard ws ≡ heard p → map closing_bench ws ≡ benches p → AreEnds g open_gate ws es
+      → map closing_heard ws ≡ heard p → map closing_thread_state ws ≡ thread_states p → AreEnds g open_gate ws es
       → (r : Result T PoolFault) → IfErr r (λ fault. IsLeastFault es fault) →
       IfErr r (λ fault. IsLeastStop g open_gate p fault)
   least_if_err p ws es began accepted taken listened given h (Ok v) least = tt
@@ -173,7 +173,7 @@ module _ {M G I A : Type 0} (g : Ghosts M I A) (open_gate : Bool) where
     accepted_are = accepted;
     taken_are = taken;
     heard_are = listened;
-    benches_are = given;
+    thread_states_are = given;
     ends_are = h;
     least = least;
   }
@@ -220,7 +220,7 @@ module _ {M G I A : Type 0} (g : Ghosts M I A) (open_gate : Bool) where
       (least_up_to ws least.before least.stop least.rest here w told.0 c)
 
   received_are : (ws : List (Closing M G I A)) (es : List (Ended M I A)) → AreEnds g open_gate ws (map Ok es)
-      → HaveReceived g open_gate (map closing_bench ws) (map closing_accepted ws)
+      → HaveReceived g open_gate (map closing_thread_state ws) (map closing_accepted ws)
   received_are [] [] h = tt
   received_are [] (e ∷ es) h = absurd h
   received_are (w ∷ ws) [] h = absurd h
@@ -228,12 +228,12 @@ module _ {M G I A : Type 0} (g : Ghosts M I A) (open_gate : Bool) where
 
   pub received_on_ok : {T : Type 0} (items : T → List (Ended M I A)) (ws : List (Closing M G I A))
       (es : List (Result (Ended M I A) Stop))
-      (bs : List (Bench M G I A)) (xs : List (List I)) → AreEnds g open_gate ws es → map closing_bench ws ≡ bs →
-      map closing_accepted ws ≡ xs
-      → (r : Result T PoolFault) → IfOk r (λ v. map Ok (items v) ≡ es) → OnOk r (HaveReceived g open_gate bs xs)
-  received_on_ok items ws es bs xs h given accepted (Ok v) ended =
+      (states : List (ThreadState M G I A)) (xs : List (List I))
+      → AreEnds g open_gate ws es → map closing_thread_state ws ≡ states → map closing_accepted ws ≡ xs
+      → (r : Result T PoolFault) → IfOk r (λ v. map Ok (items v) ≡ es) → OnOk r (HaveReceived g open_gate states xs)
+  received_on_ok items ws es states xs h given accepted (Ok v) ended =
       let here = rw (← ended) at h in rw (← given, ← accepted) (received_are ws (items v) here)
-  received_on_ok items ws es bs xs h given accepted (Err e) ended = tt
+  received_on_ok items ws es states xs h given accepted (Err e) ended = tt
 
   pub gate_if_err : {T : Type 0} (ws : List (Closing M G I A)) (es : List (Result (Ended M I A) Stop))
       (r : Result T PoolFault)

@@ -16,8 +16,8 @@ map-grown {X} {Y} f xs i x d y h at e =
     map-set f xs i x ∙ ap (λ (v : List Y). set (map f xs) i v) (e ∙ ap (λ (v : List Y). v ++ y ∷ [])
     (ap f at ∙ sym (get_or-map f xs i d [] h)))
 
--- the same under the words of a result: r is the call's result, xs the list, x the element at i as it is now, and d as
--- it was
+-- the same under the predicates of a result: r is the call's result, xs the list, x the element at i as it is now, and
+-- d as it was
 module _ {X Y : Type 0} (f : X → List Y) (xs : List X) (i : ℕ) (x d : X) (at : d ≡ get_or xs i d) where
   pub kept_if_err : {T E : Type 0} (P : E → Type 0) (r : Result T E) → IfErr r (λ e. P e × (f x ≡ f d)) →
       IfErr r (λ e. P e × (map f (set xs i x) ≡ map f xs))

@@ -48,14 +48,14 @@ module _ {M I A : Type 0} (g : Ghosts M I A) where
 
   -- A worker began with machine m, received messages, sent replies and has come to machine n:
   -- it stepped on each item that it received, in order, and sent the answer to each
-  pub record Serving (m : M) (messages : List (Message I)) (sends : List (Reply A)) (n : M) : Type 0 where
+  pub record HasStepped (m : M) (messages : List (Message I)) (sends : List (Reply A)) (n : M) : Type 0 where
     pub seen : List I
     pub received_is : messages ≡ map Work seen
     pub sent_is : sends ≡ map Done (replies m seen)
     pub machine_is : n ≡ after m seen
 
   -- the same of a worker that met Close
-  pub record Served (m : M) (messages : List (Message I)) (sends : List (Reply A)) (n : M) : Type 0 where
+  pub record HasMetClose (m : M) (messages : List (Message I)) (sends : List (Reply A)) (n : M) : Type 0 where
     pub seen : List I
     pub received_is : messages ≡ map Work seen ++ Close ∷ []
     pub sent_is : sends ≡ map Done (replies m seen)

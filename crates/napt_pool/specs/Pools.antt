@@ -9,10 +9,10 @@ use Rattle.napt_pool.specs.declared.machine.Machine.{Ghosts}
 use Rattle.napt_pool.specs.declared.message.Reply.{Reply}
 use Rattle.napt_pool.specs.declared.message.Reply.TheVariants.{Stopped}
 use Rattle.napt_pool.specs.declared.pool.Pool.{Pool}
-use Rattle.napt_pool.specs.declared.serve.Bench.{Bench}
-use Rattle.napt_pool.specs.Benches.{HasReceived}
+use Rattle.napt_pool.specs.declared.thread_state.ThreadState.{ThreadState}
+use Rattle.napt_pool.specs.ThreadStates.{HasReceived}
 use Rattle.napt_pool.specs.Faults.{fault_of, IsLeastFault}
-use Rattle.napt_pool.specs.Workers.{machine_of, bench_of, accepted_of, taken_of, heard_of, closing_machine, closing_bench, closing_accepted, closing_taken, closing_heard, AreEnds}
+use Rattle.napt_pool.specs.Workers.{machine_of, thread_state_of, accepted_of, taken_of, heard_of, closing_machine, closing_thread_state, closing_accepted, closing_taken, closing_heard, AreEnds}
 
 -- f of the elements of two lists, place by place
 abbrev pub zip_with : {X Y Z : Type 0} → (X → Y → Z) → List X → List Y → List Z
@@ -37,9 +37,9 @@ module _ {M G I A : Type 0} where
   abbrev pub heard : Pool M G I A → List (List (Reply A))
   heard p = map heard_of p.workers.items
 
-  -- what each worker's thread was given to work with
-  abbrev pub benches : Pool M G I A → List (Bench M G I A)
-  benches p = map bench_of p.workers.items
+  -- the state in which each worker's thread began
+  abbrev pub thread_states : Pool M G I A → List (ThreadState M G I A)
+  thread_states p = map thread_state_of p.workers.items
 
   -- the word that worker w stopped came out of its answer ring: `take` told this fault
   abbrev pub HasTold : Pool M G I A → ℕ → PoolFault → Type 0
@@ -54,11 +54,11 @@ module _ {M G I A : Type 0} where
 
 module _ {M G I A : Type 0} (g : Ghosts M I A) (open_gate : Bool) where
   -- each thread received exactly its items, once and in order, and then Close
-  abbrev pub HaveReceived : List (Bench M G I A) → List (List I) → Type 0
+  abbrev pub HaveReceived : List (ThreadState M G I A) → List (List I) → Type 0
   HaveReceived [] [] = ⊤
   HaveReceived [] (xs ∷ xss) = ⊥
-  HaveReceived (b ∷ bs) [] = ⊥
-  HaveReceived (b ∷ bs) (xs ∷ xss) = HasReceived g open_gate b xs × HaveReceived bs xss
+  HaveReceived (state ∷ states) [] = ⊥
+  HaveReceived (state ∷ states) (xs ∷ xss) = HasReceived g open_gate state xs × HaveReceived states xss
 
   -- the workers were closed as they stood, each ended, and the fault is that of the least that stopped
   pub record IsLeastStop (p : Pool M G I A) (fault : PoolFault) : Type 0 where
@@ -68,6 +68,6 @@ module _ {M G I A : Type 0} (g : Ghosts M I A) (open_gate : Bool) where
     pub accepted_are : map closing_accepted closing ≡ accepts p
     pub taken_are : map closing_taken closing ≡ takes p
     pub heard_are : map closing_heard closing ≡ heard p
-    pub benches_are : map closing_bench closing ≡ benches p
+    pub thread_states_are : map closing_thread_state closing ≡ thread_states p
     pub ends_are : AreEnds g open_gate closing ends
     pub least : IsLeastFault ends fault

@@ -1,8 +1,8 @@
 -- What a worker shows: the machine that it began with, the items that were accepted for it, and the answers that were
 -- taken.
-use Rattle.std.specs.Prelude.{◌≡◌, ⊤, Bool, true, false, Result, Err, OnOk, IfOk, IfErr, List, Contains, [], ◌∷◌, ◌++◌}
+use Rattle.std.specs.Prelude.{◌≡◌, ◌<◌, ⊤, ℕ, Bool, true, false, Result, Err, OnOk, IfOk, IfErr, List, Vec, Contains, map, replicate, slice_index_or, vec_len, [], ◌∷◌, ◌++◌}
 use Rattle.napt_pool.specs.declared.fault.Stop.{Stop}
-use Rattle.napt_pool.specs.declared.serve.Bench.{Bench}
+use Rattle.napt_pool.specs.declared.thread_state.ThreadState.{ThreadState}
 use Rattle.napt_pool.specs.declared.worker.Worker.{Worker}
 use Rattle.napt_pool.specs.declared.closing.Closing.{Closing}
 use Rattle.napt_pool.specs.declared.closing.Ended.{Ended}
@@ -10,17 +10,17 @@ use Rattle.napt_pool.specs.declared.machine.Machine.{Ghosts}
 use Rattle.napt_pool.specs.declared.message.Reply.{Reply}
 use Rattle.napt_pool.specs.declared.message.Reply.TheVariants.{Stopped}
 use Rattle.rtrb.specs.Ring.{received}
-use Rattle.napt_pool.specs.Benches.{HasReceived, HasBrokenOff}
+use Rattle.napt_pool.specs.ThreadStates.{HasReceived, HasEndedEarly}
 use Rattle.napt_pool.specs.Faults.{is_gate_shut}
 use Rattle.napt_pool.specs.Histories.{after, replies, accepted, taken}
 
 module _ {M G I A : Type 0} where
   abbrev pub machine_of : Worker M G I A → M
-  machine_of w = w.thread.promise.bench.value.machine
+  machine_of w = w.thread.promise.initial.value.machine
 
-  -- what its thread was given to work with
-  abbrev pub bench_of : Worker M G I A → Bench M G I A
-  bench_of w = w.thread.promise.bench.value
+  -- the state in which its thread began
+  abbrev pub thread_state_of : Worker M G I A → ThreadState M G I A
+  thread_state_of w = w.thread.promise.initial.value
 
   abbrev pub accepted_of : Worker M G I A → List I
   accepted_of w = accepted w.items
@@ -34,10 +34,10 @@ module _ {M G I A : Type 0} where
 
   -- the same of a worker that takes no more items
   abbrev pub closing_machine : Closing M G I A → M
-  closing_machine w = w.thread.promise.bench.value.machine
+  closing_machine w = w.thread.promise.initial.value.machine
 
-  abbrev pub closing_bench : Closing M G I A → Bench M G I A
-  closing_bench w = w.thread.promise.bench.value
+  abbrev pub closing_thread_state : Closing M G I A → ThreadState M G I A
+  closing_thread_state w = w.thread.promise.initial.value
 
   abbrev pub closing_accepted : Closing M G I A → List I
   closing_accepted w = accepted w.items
@@ -47,6 +47,15 @@ module _ {M G I A : Type 0} where
 
   abbrev pub closing_heard : Closing M G I A → List (Reply A)
   closing_heard w = received w.answers
+
+  -- workers that were just started, one for each machine, all of this capacity
+  pub record AreNew {Y Z : Type 0} (machines : Vec M Y) (capacity : ℕ) (workers : Vec (Worker M G I A) Z) : Type 0 where
+    pub machines_are : map machine_of workers.items ≡ machines.items
+    pub accepted_are : map accepted_of workers.items ≡ replicate (vec_len machines) []
+    pub taken_are : map taken_of workers.items ≡ replicate (vec_len machines) []
+    pub heard_are : map heard_of workers.items ≡ replicate (vec_len machines) []
+    pub capacity_is : (k : ℕ) (d : Worker M G I A) → k < vec_len workers →
+        (slice_index_or workers.items k d).capacity ≡ capacity
 
 -- How a worker ended: with the machine after what was accepted, which its thread received, and with answers that, put
 -- after those that were taken, are the replies to it; or it stopped, as its thread did, and not at a gate that promises
@@ -58,8 +67,8 @@ module _ {M G I A : Type 0} (g : Ghosts M I A) (open_gate : Bool) where
         (closing_accepted w))
     pub gate : open_gate ≡ true → IfErr end (λ stop. is_gate_shut stop ≡ false)
     pub told : (stop : Stop) → Contains (closing_heard w) (Stopped stop) → end ≡ Err stop
-    pub has_received : OnOk end (HasReceived g open_gate (closing_bench w) (closing_accepted w))
-    pub has_broken_off : IfErr end (HasBrokenOff g open_gate (closing_bench w))
+    pub has_received : OnOk end (HasReceived g open_gate (closing_thread_state w) (closing_accepted w))
+    pub has_ended_early : IfErr end (HasEndedEarly g open_gate (closing_thread_state w))
 
   -- the same of each worker
   abbrev pub AreEnds : List (Closing M G I A) → List (Result (Ended M I A) Stop) → Type 0

@@ -8,13 +8,13 @@ ghost use Rattle.napt_pool.specs.declared.message.Reply.TheVariants.{Done, Stopp
 
 use crate::fault::Stop;
 use crate::gate::Gate;
-use crate::message::{Honest, Message, Reply};
+use crate::message::{GateProtocol, Message, Reply};
 use rtrb::{Consumer, Producer};
 use std::alloc::Global;
 
 /// Pops the next answer, where there is one, or why there is none.
 pub(crate) fn pop_answer<A: Drop, G: Gate>(
-    answers: &mut Consumer<Reply<A>, Global, Honest<G>>,
+    answers: &mut Consumer<Reply<A>, Global, GateProtocol<G>>,
 ) -> Result<Option<A>, Stop>
     ensures ring { SameConsumer answers.old answers.new }
     ensures some { IfOk result (λ got. MatchOption got (taken answers.new ≡ taken answers.old) (λ a.
@@ -36,7 +36,7 @@ pub(crate) fn pop_answer<A: Drop, G: Gate>(
 
 /// Pops all answers, which are known to be there.
 pub(crate) fn pop_all<A: Drop, G: Gate>(
-    answers: &mut Consumer<Reply<A>, Global, Honest<G>>,
+    answers: &mut Consumer<Reply<A>, Global, GateProtocol<G>>,
     into: Vec<A>,
 ) -> Vec<A>
     requires answered { known_items answers.old ≡ map Done (answers_of (known_items answers.old)) }

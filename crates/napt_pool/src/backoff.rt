@@ -14,7 +14,7 @@ const SPINS: u32 = 32;
 const LOOKS: u32 = 128;
 
 /// The shortest sleep, in ns. How long it is in truth the system says (on Linux some 50 microseconds).
-const NAP: u64 = 1;
+const SHORTEST_SLEEP: u64 = 1;
 
 /// What a thread does before it looks again.
 #[derive(Debug, Clone, Copy, PartialEq, Eq)]
@@ -71,7 +71,9 @@ impl Backoff {
         match Pause::after(self.looks) {
             Pause::Spin => hint::spin_loop(),
             Pause::Yield => thread::yield_now(),
-            Pause::Park => self.parker.park_timeout(rt, Duration::from_nanos(NAP)),
+            Pause::Park => self
+                .parker
+                .park_timeout(rt, Duration::from_nanos(SHORTEST_SLEEP)),
         }
         if self.looks < LOOKS {
             self.looks += 1;

@@ -8,14 +8,14 @@ use crate::answers::pop_all;
 use crate::fault::Stop;
 use crate::gate::Gate;
 use crate::machine::Machine;
-use crate::message::{Honest, Message, Reply};
-use crate::serve::Left;
-use crate::worker::Begun;
+use crate::message::{GateProtocol, Message, Reply};
+use crate::promise::ThreadPromise;
+use crate::thread_state::ThreadEnd;
 use rtrb::{Consumer, Producer};
 use std::alloc::Global;
 use std::thread::{PromisedHandle, Threads};
 
-/// A machine as its worker left it, and those of its answers that were not taken.
+/// A worker's machine at the end, and those of its answers that were not taken.
 #[derive(Drop)]
 pub struct Ended<M: Machine> {
     pub machine: M,
@@ -26,16 +26,16 @@ pub struct Ended<M: Machine> {
 #[derive(Drop)]
 pub(crate) struct Closing<M: Machine, G: Gate> {
     pub(crate) items: Producer<Message<M::Item>>,
-    pub(crate) answers: Consumer<Reply<M::Answer>, Global, Honest<G>>,
-    pub(crate) thread: PromisedHandle<Left<M, G>, Begun<M, G>>,
+    pub(crate) answers: Consumer<Reply<M::Answer>, Global, GateProtocol<G>>,
+    pub(crate) thread: PromisedHandle<ThreadEnd<M, G>, ThreadPromise<M, G>>,
     // Whether the item ring took Close.
     pub(crate) is_told: bool,
-    // Room for the answers that are not taken.
+    // The buffer for the answers that are not taken.
     pub(crate) rest: Vec<M::Answer>,
-    ghost item_ring: { IsPair items thread.promise.bench.value.items },
-    ghost answer_ring: { IsPair thread.promise.bench.value.answers answers },
+    ghost item_ring: { IsPair items thread.promise.initial.value.items },
+    ghost answer_ring: { IsPair thread.promise.initial.value.answers answers },
     ghost closed: { is_told ≡ true → sent items ≡ map Work (accepted items) ++ Close ∷ [] },
-    ghost in_room: { length (accepted items) ≤ length (taken answers) + vec_capacity rest },
+    ghost fits: { length (accepted items) ≤ length (taken answers) + vec_capacity rest },
     ghost no_rest: { rest.items ≡ [] },
 }
 
@@ -56,18 +56,18 @@ impl<M: Machine, G: Gate> Closing<M, G> {
         if !is_told {
             // The worker ends once its item ring has no other end.
             drop(items);
-            let mut left = thread.join(rt);
-            answers.slots_beside(&mut left.bench.answers);
-            return Err(left.stop());
+            let mut thread_end = thread.join(rt);
+            answers.slots_beside(&mut thread_end.state.answers);
+            return Err(thread_end.stop());
         }
-        let mut left = thread.join(rt);
-        answers.slots_beside(&mut left.bench.answers);
-        left.bench.items.slots_beside(&mut items);
-        left.settle(&mut answers, rest)
+        let mut thread_end = thread.join(rt);
+        answers.slots_beside(&mut thread_end.state.answers);
+        thread_end.state.items.slots_beside(&mut items);
+        thread_end.settle(&mut answers, rest)
     }
 }
 
-impl<M: Machine, G: Gate> Left<M, G> {
+impl<M: Machine, G: Gate> ThreadEnd<M, G> {
     ghost use Rattle.std.specs.Prelude.{◌≡◌, ◌≤◌, [], map, length, vec_capacity, IfOk, OnOk, MatchResult};
     ghost use Rattle.rtrb.specs.Ring.{known_items};
     ghost use Rattle.napt_pool.specs.Histories.{answers_of};
@@ -87,7 +87,7 @@ impl<M: Machine, G: Gate> Left<M, G> {
     /// The machine of a worker that met Close, and the answers that are known to be in the ring.
     fn settle(
         self,
-        answers: &mut Consumer<Reply<M::Answer>, Global, Honest<G>>,
+        answers: &mut Consumer<Reply<M::Answer>, Global, GateProtocol<G>>,
         rest: Vec<M::Answer>,
     ) -> Result<Ended<M>, Stop>
         requires answered { OnOk self.end (known_items answers.old
@@ -95,15 +95,15 @@ impl<M: Machine, G: Gate> Left<M, G> {
         requires room { OnOk self.end (length (known_items answers.old) ≤ vec_capacity rest) }
         requires empty { rest.items ≡ [] }
         ensures end { MatchResult result (λ _. self.end ≡ Ok tt) (λ stop. self.end ≡ Err stop) }
-        ensures machine { IfOk result (λ e. e.machine ≡ self.bench.machine) }
+        ensures machine { IfOk result (λ e. e.machine ≡ self.state.machine) }
         ensures answers { IfOk result (λ e. e.answers.items
             ≡ answers_of (known_items answers.old)) }
     {
-        let Left { bench, end } = self;
+        let ThreadEnd { state, end } = self;
         end?;
         let answers = pop_all(answers, rest);
         Ok(Ended {
-            machine: bench.machine,
+            machine: state.machine,
             answers,
         })
     }

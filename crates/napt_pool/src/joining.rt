@@ -1,7 +1,7 @@
 // Closing and joining a list of workers.
 ghost use Rattle.std.specs.Prelude.{◌≡◌, ◌≤◌, ◌<◌, ◌^◌, vec_len, vec_capacity, [], map, IfOk, IfErr};
 ghost use Rattle.napt_pool.specs.Faults.{IsLeastFault};
-ghost use Rattle.napt_pool.specs.Workers.{machine_of, bench_of, accepted_of, taken_of, heard_of, closing_machine, closing_bench, closing_accepted, closing_taken, closing_heard, AreEnds};
+ghost use Rattle.napt_pool.specs.Workers.{machine_of, thread_state_of, accepted_of, taken_of, heard_of, closing_machine, closing_thread_state, closing_accepted, closing_taken, closing_heard, AreEnds};
 
 use crate::closing::{Closing, Ended};
 use crate::fault::{PoolFault, Stop};
@@ -28,7 +28,8 @@ pub(crate) fn close_all<M: Machine, G: Gate>(
     ensures accepted { map closing_accepted result.items ≡ map accepted_of workers.items }
     ensures taken { map closing_taken result.items ≡ map taken_of workers.items }
     ensures heard { map closing_heard result.items ≡ map heard_of workers.items }
-    ensures benches { map closing_bench result.items ≡ map bench_of workers.items }
+    ensures thread_states { map closing_thread_state result.items
+        ≡ map thread_state_of workers.items }
     ensures len { vec_len result ≡ vec_len workers }
 {
     let mut into = into;
@@ -62,7 +63,7 @@ pub(crate) fn join_all<M: Machine, G: Gate, R: Threads>(
     into
 }
 
-/// What all workers left, or the fault of the least that stopped.
+/// The ends of all workers, or the fault of the least that stopped.
 pub(crate) fn all_ended<M: Machine>(
     ends: Vec<Result<Ended<M>, Stop>>,
     into: Vec<Ended<M>>,

@@ -9,16 +9,18 @@
 
 mod answers;
 mod backoff;
+mod close_buffers;
 mod closing;
 mod fault;
 mod gate;
 mod joining;
 mod machine;
 mod message;
+mod parts;
 mod pool;
-mod room;
-mod serve;
+mod promise;
 mod starting;
+mod thread_state;
 mod worker;
 
 pub use backoff::Backoff;

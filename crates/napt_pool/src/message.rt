@@ -24,10 +24,10 @@ pub(crate) enum Reply<A> {
 }
 
 /// The rule of an answer ring: no worker tells that a gate was shut which promises yes.
-pub(crate) struct Honest<G: Gate> {
+pub(crate) struct GateProtocol<G: Gate> {
     gate: PhantomData<G>,
 }
 
-impl<A, G: Gate> Protocol<Reply<A>> for Honest<G> {
+impl<A, G: Gate> Protocol<Reply<A>> for GateProtocol<G> {
     ghost allows = { λ _ reply. G.is_open ≡ true → tells_shut reply ≡ false };
 }

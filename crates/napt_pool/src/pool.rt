@@ -1,12 +1,12 @@
 // A list of workers.
 ghost use Rattle.std.specs.Prelude.{◌≡◌, ◌≤◌, ◌<◌, ℕ, slice_index_or, vec_len};
 
+use crate::close_buffers::CloseBuffers;
 use crate::closing::Ended;
 use crate::fault::{OfferRefused, PoolFault};
 use crate::gate::Gate;
 use crate::joining::{all_ended, close_all, join_all};
 use crate::machine::Machine;
-use crate::room::Room;
 use crate::starting::start_all;
 use crate::worker::Worker;
 use std::alloc::Global;
@@ -20,9 +20,9 @@ use std::thread::Threads;
 pub struct Pool<M: Machine, G: Gate> {
     workers: Vec<Worker<M, G>>,
     capacity: usize,
-    room: Room<M, G>,
+    buffers: CloseBuffers<M, G>,
     ghost even: { (k : ℕ) (d : _) → k < vec_len workers → (slice_index_or workers.items k d).capacity ≡ capacity },
-    ghost few: { (vec_len workers ≤ room.count) × (vec_len workers ≤ 16) },
+    ghost few: { (vec_len workers ≤ buffers.count) × (vec_len workers ≤ 16) },
 }
 
 impl<M: Machine, G: Gate> Pool<M, G> {
@@ -97,7 +97,7 @@ impl<M: Machine, G: Gate> Pool<M, G> {
     ghost use Rattle.std.specs.Prelude.{true, false, map, length, ◌++◌, IfOk, IfErr, OnOk, MatchResult};
     ghost use Rattle.napt_pool.specs.Faults.{IsFaultOf, IsFaultUpTo, is_shut};
     ghost use Rattle.napt_pool.specs.Histories.{after, replies};
-    ghost use Rattle.napt_pool.specs.Pools.{starts, accepts, takes, benches, zip_with, HasTold, HaveReceived, IsLeastStop};
+    ghost use Rattle.napt_pool.specs.Pools.{starts, accepts, takes, thread_states, zip_with, HasTold, HaveReceived, IsLeastStop};
 
     /// Sends Close to each worker, joins all, and hands back the machines in worker order, each with the answers that
     /// were not taken.
@@ -108,9 +108,9 @@ impl<M: Machine, G: Gate> Pool<M, G> {
     /// Where workers stopped early, the fault is that of the least such worker, and the machines and the answers are
     /// dropped. Where `take` told of a worker that it stopped, `close` tells the same fault, or that of a worker before
     /// it. Of a worker that stopped and of which `take` told nothing no contract says why it did: tests alone show that
-    /// its fault is its own (`least_fault_is_told`). `close` takes no memory of its own: `start` made the room.
+    /// its fault is its own (`least_fault_is_told`). `close` takes no memory of its own: `start` made its buffers.
     pub fn close<R: Threads>(self, rt: &R, _alloc: Global) -> Result<Vec<Ended<M>>, PoolFault>
-        ensures received { OnOk result (HaveReceived M.Machine G.is_open (benches self)
+        ensures received { OnOk result (HaveReceived M.Machine G.is_open (thread_states self)
             (accepts self)) }
         ensures machines { IfOk result (λ v. map (λ e. e.machine) v.items
             ≡ zip_with (after M.Machine) (starts self) (accepts self)) }
@@ -128,14 +128,14 @@ impl<M: Machine, G: Gate> Pool<M, G> {
         let Pool {
             workers,
             capacity: _,
-            room,
+            buffers,
         } = self;
-        let Room {
+        let CloseBuffers {
             count: _,
             closing,
             ends,
             ended,
-        } = room;
+        } = buffers;
         let closing = close_all(workers, closing);
         let ends = join_all(rt, closing, ends);
         all_ended(ends, ended)
@@ -171,14 +171,14 @@ impl<M: Machine, G: Gate + Send + Sync + Drop + 'static> Pool<M, G> {
         ensures heard { IfOk result (λ p. heard p ≡ replicate (vec_len machines) []) }
         ensures refused { IfErr result IsStartFault }
     {
-        let Ok(room) = Room::new(alloc, machines.len()) else {
+        let Ok(buffers) = CloseBuffers::new(alloc, machines.len()) else {
             return Err(PoolFault::Memory);
         };
         let workers = start_all(rt, alloc, machines, capacity, gate)?;
         Ok(Pool {
             workers,
             capacity,
-            room,
+            buffers,
         })
     }
 }

@@ -1,7 +1,7 @@
 // Starting a list of workers.
-ghost use Rattle.std.specs.Prelude.{◌≡◌, ◌≤◌, ◌<◌, ℕ, vec_len, [], map, replicate, slice_index_or, IfOk, IfErr};
+ghost use Rattle.std.specs.Prelude.{◌≤◌, vec_len, IfOk, IfErr};
 ghost use Rattle.napt_pool.specs.Faults.{IsStartFault};
-ghost use Rattle.napt_pool.specs.Workers.{machine_of, accepted_of, taken_of, heard_of};
+ghost use Rattle.napt_pool.specs.Workers.{AreNew};
 
 use crate::fault::PoolFault;
 use crate::gate::Gate;
@@ -30,13 +30,7 @@ where
     M::Answer: 'static,
     requires capacity { (1 ≤ capacity) × (capacity ≤ 4096) }
     requires count { vec_len machines ≤ 16 }
-    ensures machines { IfOk result (λ v. map machine_of v.items ≡ machines.items) }
-    ensures accepted { IfOk result (λ v. map accepted_of v.items
-        ≡ replicate (vec_len machines) []) }
-    ensures taken { IfOk result (λ v. map taken_of v.items ≡ replicate (vec_len machines) []) }
-    ensures heard { IfOk result (λ v. map heard_of v.items ≡ replicate (vec_len machines) []) }
-    ensures capacity { IfOk result (λ v. (k : ℕ) (d : _) → k < vec_len v →
-        (slice_index_or v.items k d).capacity ≡ capacity) }
+    ensures started { IfOk result (λ workers. AreNew machines capacity workers) }
     ensures refused { IfErr result IsStartFault }
 {
     let Ok(mut workers) = Vec::with_capacity(alloc, machines.len()) else {
@@ -44,11 +38,7 @@ where
     };
     let mut number = 0u32;
     for machine in machines {
-        let Ok(theirs) = Arc::try_clone(&gate) else {
-            give_up(rt, workers);
-            return Err(PoolFault::Memory);
-        };
-        let worker = match Worker::start(rt, alloc, machine, capacity, theirs, number) {
+        let worker = match Worker::start(rt, alloc, machine, capacity, &gate, number) {
             Ok(worker) => worker,
             Err(fault) => {
                 give_up(rt, workers);

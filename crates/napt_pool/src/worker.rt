@@ -3,50 +3,37 @@ ghost use Rattle.std.specs.Prelude.{◌≡◌, ◌+◌, ◌≤◌, true, false, 
 ghost use Rattle.rtrb.specs.Ring.{sent, IsPair};
 ghost use Rattle.napt_pool.specs.Histories.{accepted, taken};
 ghost use Rattle.napt_pool.specs.declared.message.Message.TheVariants.{Work};
-ghost use Rattle.napt_pool.specs.Benches.{Worked};
 
 use crate::answers::{pop_answer, send_close};
 use crate::closing::Closing;
 use crate::fault::{OfferRefused, PoolFault, Stop};
 use crate::gate::Gate;
 use crate::machine::Machine;
-use crate::message::{Honest, Message, Reply};
-use crate::serve::{Bench, Left};
-use rtrb::{Consumer, Producer, PushError, RingBuffer};
+use crate::message::{GateProtocol, Message, Reply};
+use crate::parts::WorkerParts;
+use crate::promise::ThreadPromise;
+use crate::thread_state::ThreadEnd;
+use rtrb::{Consumer, Producer, PushError};
 use std::alloc::Global;
-use std::marker::PhantomData;
-use std::snapshot::Snapshot;
 use std::sync::{Arc, Wait};
-use std::thread;
-use std::thread::{Promise, PromisedHandle, Threads};
-
-/// What a worker's thread was given to work with.
-#[derive(Drop)]
-pub(crate) struct Begun<M: Machine, G: Gate> {
-    pub(crate) bench: Snapshot<Bench<M, G>>,
-    gate: PhantomData<G>,
-}
-
-impl<M: Machine, G: Gate> Promise<Left<M, G>> for Begun<M, G> {
-    ghost kept_by = { λ begun left. Worked M.Machine G.is_open begun.bench.value left };
-}
+use std::thread::{PromisedHandle, Threads};
 
 /// A worker that takes items.
 #[derive(Drop)]
 pub(crate) struct Worker<M: Machine, G: Gate> {
     items: Producer<Message<M::Item>>,
-    answers: Consumer<Reply<M::Answer>, Global, Honest<G>>,
-    thread: PromisedHandle<Left<M, G>, Begun<M, G>>,
+    answers: Consumer<Reply<M::Answer>, Global, GateProtocol<G>>,
+    thread: PromisedHandle<ThreadEnd<M, G>, ThreadPromise<M, G>>,
     pub(crate) capacity: usize,
     // How many accepted items have an answer that was not taken.
     untaken: usize,
-    // Room for the answers that are not taken when the worker is closed.
+    // The buffer for the answers that are not taken when the worker is closed.
     rest: Vec<M::Answer>,
-    ghost item_ring: { IsPair items thread.promise.bench.value.items },
-    ghost answer_ring: { IsPair thread.promise.bench.value.answers answers },
+    ghost item_ring: { IsPair items thread.promise.initial.value.items },
+    ghost answer_ring: { IsPair thread.promise.initial.value.answers answers },
     ghost open: { sent items ≡ map Work (accepted items) },
     ghost counted: { length (accepted items) ≡ untaken + length (taken answers) },
-    ghost in_room: { (untaken ≤ capacity) × (capacity ≤ vec_capacity rest) },
+    ghost fits: { (untaken ≤ capacity) × (capacity ≤ vec_capacity rest) },
     ghost no_rest: { rest.items ≡ [] },
 }
 
@@ -54,7 +41,7 @@ impl<M: Machine, G: Gate> Worker<M, G> {
     ghost use Rattle.std.specs.Prelude.{◌↔◌, IsTrue, OnOk, IfOk, IfErr, OnErr, MatchOption};
     ghost use Rattle.napt_pool.specs.Faults.{is_gate_shut, item_back, is_full, is_memory};
     ghost use Rattle.napt_pool.specs.declared.message.Reply.TheVariants.{Done, Stopped};
-    ghost use Rattle.napt_pool.specs.Workers.{machine_of, bench_of, accepted_of, taken_of, heard_of, closing_machine, closing_bench, closing_accepted, closing_taken, closing_heard};
+    ghost use Rattle.napt_pool.specs.Workers.{machine_of, thread_state_of, accepted_of, taken_of, heard_of, closing_machine, closing_thread_state, closing_accepted, closing_taken, closing_heard};
 
     /// Hands an item to the worker, or hands it back.
     pub(crate) fn offer(&mut self, item: M::Item) -> Result<(), OfferRefused<M::Item>>
@@ -116,7 +103,7 @@ impl<M: Machine, G: Gate> Worker<M, G> {
         ensures accepted { closing_accepted result ≡ accepted_of self }
         ensures taken { closing_taken result ≡ taken_of self }
         ensures heard { closing_heard result ≡ heard_of self }
-        ensures bench { closing_bench result ≡ bench_of self }
+        ensures thread_state { closing_thread_state result ≡ thread_state_of self }
     {
         let Worker {
             mut items,
@@ -139,7 +126,6 @@ impl<M: Machine, G: Gate> Worker<M, G> {
 
 impl<M: Machine, G: Gate + Send + Sync + Drop + 'static> Worker<M, G> {
     ghost use Rattle.std.specs.Prelude.{IfOk, IfErr};
-    ghost use Rattle.rtrb.specs.Ring.{received};
     ghost use Rattle.napt_pool.specs.Faults.{IsStartFault};
     ghost use Rattle.napt_pool.specs.Workers.{machine_of, accepted_of, taken_of, heard_of};
 
@@ -149,7 +135,7 @@ impl<M: Machine, G: Gate + Send + Sync + Drop + 'static> Worker<M, G> {
         alloc: Global,
         machine: M,
         capacity: usize,
-        gate: Arc<G>,
+        gate: &Arc<G>,
         number: u32,
     ) -> Result<Worker<M, G>, PoolFault>
     where
@@ -163,44 +149,23 @@ impl<M: Machine, G: Gate + Send + Sync + Drop + 'static> Worker<M, G> {
             × (heard_of w ≡ [])) }
         ensures refused { IfErr result IsStartFault }
     {
-        let Ok((items, theirs)) = RingBuffer::new(alloc, capacity + 1) else {
+        let Ok(parts) = WorkerParts::new(alloc, machine, capacity) else {
             return Err(PoolFault::Memory);
         };
-        let Ok((replies, answers)) = RingBuffer::with_protocol::<Global, Honest<G>>(alloc, capacity)
-        else {
-            return Err(PoolFault::Memory);
-        };
-        let Ok(rest) = Vec::with_capacity(alloc, capacity) else {
-            return Err(PoolFault::Memory);
-        };
-        let bench = Bench {
-            machine,
-            items: theirs,
-            answers: replies,
-        };
-        let begun = Begun {
-            bench: Snapshot::of(&bench),
-            gate: PhantomData,
-        };
-        let rt_there = *rt;
-        let spawned = thread::spawn_with(
-            rt,
-            begun,
-            move || -> Left<M, G>
-                requires { (received bench.items ≡ []) × (sent bench.answers ≡ []) }
-                ensures { Worked M.Machine G.is_open bench result }
-            { bench.serve(&rt_there, alloc, &*gate, number) },
-        );
-        match spawned {
-            Ok(thread) => Ok(Worker {
-                items,
-                answers,
-                thread,
-                capacity,
-                untaken: 0,
-                rest,
-            }),
-            Err(_) => Err(PoolFault::NoThread),
-        }
+        let WorkerParts {
+            items,
+            answers,
+            initial,
+            rest,
+        } = parts;
+        let thread = initial.spawn(rt, alloc, gate, number)?;
+        Ok(Worker {
+            items,
+            answers,
+            thread,
+            capacity,
+            untaken: 0,
+            rest,
+        })
     }
 }

@@ -6,10 +6,10 @@ use napt_pool::{Gate, Machine, Pool, PoolFault};
 use std::alloc::Global;
 use std::thread;
 
+mod barrier;
 mod ends;
 mod gates;
 mod machines;
-mod meeting;
 mod messages;
 mod rounds;
 mod unasked;

@@ -9,7 +9,7 @@ abbrev pub invariant-loop : goal.invariant-loop
 invariant-loop g l = record {
   answered : known_items l.answers ≡ map Done (answers_of (known_items l.answers));
   room : vec_len l.into + length (known_items l.answers) ≤ vec_capacity l.into;
-  left : l.counter + length (known_items l.answers) ≡ length (known_items l.initial.answers);
+  remaining : l.counter + length (known_items l.answers) ≡ length (known_items l.initial.answers);
   same : vec_items l.into ++ answers_of (known_items l.answers) ≡ vec_items l.initial.into
       ++ answers_of (known_items l.initial.answers);
 }

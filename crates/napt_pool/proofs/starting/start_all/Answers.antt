@@ -7,7 +7,7 @@ use Rattle.napt_pool.proofs.starting.start_all.Goals as goal
 pub loop-machine-preserved : goal.loop-machine-preserved
 loop-machine-preserved g c =
     let was = c.loop-machine.invariant in
-    let begun = c.in-Ok-start.ensures in
+    let started = c.in-Ok-start.ensures in
     let pushed : vec_items c.push.new.self ≡ vec_items c.loop-machine.workers ++ c.in-Ok-start.worker ∷ [] =
     search rules in
     let grown : vec_len c.push.new.self ≡ vec_len c.loop-machine.workers + 1 = search rules in
@@ -15,12 +15,12 @@ loop-machine-preserved g c =
       count = search rules;
       room = search rules;
       number = search rules;
-      machines = map-split-step machine_of _ _ _ _ _ _ _ pushed begun.machine (search rules) was.machines;
-      accepted = all-push accepted_of _ _ _ _ _ _ pushed grown begun.empty.0 was.accepted;
-      taken = all-push taken_of _ _ _ _ _ _ pushed grown begun.empty.1 was.taken;
-      heard = all-push heard_of _ _ _ _ _ _ pushed grown begun.empty.2 was.heard;
+      machines = map-split-step machine_of _ _ _ _ _ _ _ pushed started.machine (search rules) was.machines;
+      accepted = all-push accepted_of _ _ _ _ _ _ pushed grown started.empty.0 was.accepted;
+      taken = all-push taken_of _ _ _ _ _ _ pushed grown started.empty.1 was.taken;
+      heard = all-push heard_of _ _ _ _ _ _ pushed grown started.empty.2 was.heard;
       capacity = λ k d low. below_more (λ i. (slice_index_or (vec_items c.push.new.self) i d).capacity
           ≡ c.args.capacity) (vec_len c.loop-machine.workers)
           (λ i less. ap (λ w. w.capacity) (c.push.ensures.by_index.0 i d less) ∙ was.capacity i d less)
-          (ap (λ w. w.capacity) (c.push.ensures.by_index.1 d (search rules)) ∙ begun.capacity) k (omega arith);
+          (ap (λ w. w.capacity) (c.push.ensures.by_index.1 d (search rules)) ∙ started.capacity) k (omega arith);
     }

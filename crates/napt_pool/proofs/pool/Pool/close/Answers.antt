@@ -23,7 +23,7 @@ pub returns-clause-least : goal.returns-clause-least
 returns-clause-least g c =
     least_if_err g.M.Machine g.G.Gate.is_open _ _ _ c.close_all-closing.ensures.machines
     c.close_all-closing.ensures.accepted c.close_all-closing.ensures.taken
-    c.close_all-closing.ensures.heard c.close_all-closing.ensures.benches c.join_all-ends.ensures.ends
+    c.close_all-closing.ensures.heard c.close_all-closing.ensures.thread_states c.join_all-ends.ensures.ends
     c.all_ended.result c.all_ended.ensures.least
 
 pub returns-clause-fault : goal.returns-clause-fault
@@ -45,5 +45,5 @@ returns-clause-told g c = λ w fault told.
 pub returns-clause-received : goal.returns-clause-received
 returns-clause-received g c =
     received_on_ok g.M.Machine g.G.Gate.is_open vec_items _ _ _ _ c.join_all-ends.ensures.ends
-    c.close_all-closing.ensures.benches c.close_all-closing.ensures.accepted c.all_ended.result
+    c.close_all-closing.ensures.thread_states c.close_all-closing.ensures.accepted c.all_ended.result
     c.all_ended.ensures.ended

@@ -6,5 +6,5 @@ pub invariant_of-result-clause-closed : goal.invariant_of-result-clause-closed
 invariant_of-result-clause-closed g c = λ told.
     closed-last _ _ c.args.self.open (c.send_close-is_told.ensures.told told)
 
-pub invariant_of-result-clause-in_room : goal.invariant_of-result-clause-in_room
-invariant_of-result-clause-in_room g c = let same = ap length c.send_close-is_told.ensures.accepted in omega arith
+pub invariant_of-result-clause-fits : goal.invariant_of-result-clause-fits
+invariant_of-result-clause-fits g c = let same = ap length c.send_close-is_told.ensures.accepted in omega arith

@@ -9,7 +9,7 @@ use Rattle.napt_pool.specs.declared.message.Message.{Message}
 use Rattle.napt_pool.specs.declared.message.Message.TheVariants.{Work, Close}
 use Rattle.napt_pool.specs.declared.message.Reply.{Reply}
 use Rattle.napt_pool.specs.declared.message.Reply.TheVariants.{Done}
-use Rattle.napt_pool.specs.Histories.{after, replies, Serving, Served, HasStopped, Told}
+use Rattle.napt_pool.specs.Histories.{after, replies, HasStepped, HasMetClose, HasStopped, Told}
 
 pub map-snoc : {A B : Type 0} (f : A → B) (xs : List A) (x : A) → map f (xs ++ x ∷ []) ≡ map f xs ++ f x ∷ []
 map-snoc f xs x = map-append f xs (x ∷ [])
@@ -25,14 +25,14 @@ module _ {M I A : Type 0} (g : Ghosts M I A) where
   replies-snoc m (y ∷ ys) x = ap (λ r. g.reply m y ∷ r) (replies-snoc (g.stepped m y) ys x)
 
   -- nothing received, nothing sent
-  pub Serving-start : (m : M) (h : List (Message I)) (s : List (Reply A)) → h ≡ [] → s ≡ [] → Serving g m h s m
-  Serving-start m h s eh es = record { seen = []; received_is = eh; sent_is = es; machine_is = refl }
+  pub HasStepped-start : (m : M) (h : List (Message I)) (s : List (Reply A)) → h ≡ [] → s ≡ [] → HasStepped g m h s m
+  HasStepped-start m h s eh es = record { seen = []; received_is = eh; sent_is = es; machine_is = refl }
 
   -- one item more
-  pub Serving-step : (m n k : M) (h h' : List (Message I)) (s s' : List (Reply A)) (x : I)
-      → Serving g m h s n → h' ≡ h ++ Work x ∷ [] → k ≡ g.stepped n x → s' ≡ s ++ Done (g.reply n x) ∷ [] →
-      Serving g m h' s' k
-  Serving-step m n k h h' s s' x was eh ek es = record {
+  pub HasStepped-next : (m n k : M) (h h' : List (Message I)) (s s' : List (Reply A)) (x : I)
+      → HasStepped g m h s n → h' ≡ h ++ Work x ∷ [] → k ≡ g.stepped n x → s' ≡ s ++ Done (g.reply n x) ∷ [] →
+      HasStepped g m h' s' k
+  HasStepped-next m n k h h' s s' x was eh ek es = record {
     seen = was.seen ++ x ∷ [];
     received_is = eh ∙ (rw (map-snoc, was.received_is) refl);
     sent_is = es ∙ (rw (replies-snoc, map-snoc, was.sent_is, was.machine_is) refl);
@@ -40,9 +40,9 @@ module _ {M I A : Type 0} (g : Ghosts M I A) where
   }
 
   -- Close at last
-  pub Served-from_Serving : (m n : M) (h h' : List (Message I)) (s : List (Reply A))
-      → Serving g m h s n → h' ≡ h ++ Close ∷ [] → Served g m h' s n
-  Served-from_Serving m n h h' s was eh = record {
+  pub HasMetClose-from_steps : (m n : M) (h h' : List (Message I)) (s : List (Reply A))
+      → HasStepped g m h s n → h' ≡ h ++ Close ∷ [] → HasMetClose g m h' s n
+  HasMetClose-from_steps m n h h' s was eh = record {
     seen = was.seen;
     received_is = eh ∙ ap (λ r. r ++ Close ∷ []) was.received_is;
     sent_is = was.sent_is;
@@ -51,7 +51,7 @@ module _ {M I A : Type 0} (g : Ghosts M I A) where
 
   -- an item at which it stopped
   pub HasStopped-at_item : (m n : M) (stop : Stop) (h h' : List (Message I)) (s s' : List (Reply A)) (x : I)
-      → Serving g m h s n → h' ≡ h ++ Work x ∷ [] → Told stop s s' → HasStopped g m stop h' s'
+      → HasStepped g m h s n → h' ≡ h ++ Work x ∷ [] → Told stop s s' → HasStopped g m stop h' s'
   HasStopped-at_item m n stop h h' s s' x was eh told = record {
     seen = was.seen;
     rest = x ∷ [];
@@ -61,14 +61,14 @@ module _ {M I A : Type 0} (g : Ghosts M I A) where
 
   pub HasStopped-if_err : {U : Type 0} (m n : M) (h h' : List (Message I)) (s s' : List (Reply A)) (x : I)
       (r : Result U Stop)
-      → Serving g m h s n → h' ≡ h ++ Work x ∷ [] → IfErr r (λ stop. Told stop s s') →
+      → HasStepped g m h s n → h' ≡ h ++ Work x ∷ [] → IfErr r (λ stop. Told stop s s') →
       IfErr r (λ stop. HasStopped g m stop h' s')
   HasStopped-if_err m n h h' s s' x (Ok u) was eh told = tt
   HasStopped-if_err m n h h' s s' x (Err stop) was eh told = HasStopped-at_item m n stop h h' s s' x was eh told
 
   -- no item, and no other end of its item ring
   pub HasStopped-alone : (m n : M) (stop : Stop) (h h' : List (Message I)) (s s' : List (Reply A))
-      → Serving g m h s n → h' ≡ h → s' ≡ s → stop ≡ Ring → HasStopped g m stop h' s'
+      → HasStepped g m h s n → h' ≡ h → s' ≡ s → stop ≡ Ring → HasStopped g m stop h' s'
   HasStopped-alone m n stop h h' s s' was eh es is_ring = record {
     seen = was.seen;
     rest = [];

@@ -1,6 +1,6 @@
 use Rattle.std.proofs.Common.{◌≡◌}
 use Rattle.rtrb.specs.Ring.{received, SameConsumer}
-use Rattle.napt_pool.proofs.serve.Bench.wait_for_message.Given as goal
+use Rattle.napt_pool.proofs.thread_state.ThreadState.wait_for_message.Given as goal
 
 abbrev pub invariant-loop : goal.invariant-loop
 invariant-loop g l = record {

@@ -12,29 +12,29 @@ use std::test::Fail;
 use std::thread;
 use std::thread::Threads;
 
-/// Words that all machines of a pool see.
+/// Counts that all machines of a pool share.
 #[derive(Drop)]
-struct Meeting {
+struct Barrier {
     /// How many steps each machine has begun.
     steps: Vec<AtomicU64>,
-    /// How many steps saw that all machines had come as far.
-    met: AtomicU64,
+    /// How many steps saw that all machines had begun as many.
+    passed: AtomicU64,
 }
 
-impl Meeting {
-    fn new(alloc: Global, count: u32) -> Result<Meeting, AllocError> {
+impl Barrier {
+    fn new(alloc: Global, count: u32) -> Result<Barrier, AllocError> {
         let mut steps = Vec::new(alloc);
         for _ in 0..count {
             steps.push(AtomicU64::new(0))?;
         }
-        Ok(Meeting {
+        Ok(Barrier {
             steps,
-            met: AtomicU64::new(0),
+            passed: AtomicU64::new(0),
         })
     }
 
     /// Whether each machine has begun this many steps.
-    fn have_come(&self, count: u64) -> bool {
+    fn have_begun(&self, count: u64) -> bool {
         for steps in &self.steps {
             if steps.load(Ordering::SeqCst) < count {
                 return false;
@@ -46,8 +46,8 @@ impl Meeting {
     /// Waits a while until each machine has begun this many steps.
     fn wait_for_all(&self, count: u64) {
         for _ in 0..MOST_LOOKS {
-            if self.have_come(count) {
-                self.met.fetch_add(1, Ordering::SeqCst);
+            if self.have_begun(count) {
+                self.passed.fetch_add(1, Ordering::SeqCst);
                 return;
             }
             thread::yield_now();
@@ -57,44 +57,53 @@ impl Meeting {
 
 /// Waits at each step for all other machines.
 #[derive(Drop)]
-struct Member {
+struct WaitingMachine {
     place: usize,
-    meeting: Arc<Meeting>,
+    barrier: Arc<Barrier>,
 }
 
-impl Machine for Member {
+impl Machine for WaitingMachine {
     type Item = ();
 
     type Answer = ();
 
-    ghost stepped = { λ member _. member };
+    ghost stepped = { λ machine _. machine };
 
     ghost reply = { λ _ item. item };
 
     fn step(&mut self, _alloc: Global, item: ()) -> Result<(), AllocError> {
-        if let Some(steps) = self.meeting.steps.get(self.place) {
+        if let Some(steps) = self.barrier.steps.get(self.place) {
             let before = steps.fetch_add(1, Ordering::SeqCst);
-            self.meeting.wait_for_all(before.saturating_add(1));
+            self.barrier.wait_for_all(before.saturating_add(1));
         }
         Ok(item)
     }
 }
 
-fn members(alloc: Global, meeting: &Arc<Meeting>, count: u32) -> Result<Vec<Member>, AllocError>
+fn waiting_machines(
+    alloc: Global,
+    barrier: &Arc<Barrier>,
+    count: u32,
+) -> Result<Vec<WaitingMachine>, AllocError>
     ensures { IfOk result (λ v. vec_len v ≡ count) }
 {
     let mut all = Vec::new(alloc);
     for place in 0..count {
-        all.push(Member {
+        all.push(WaitingMachine {
             place: place as usize,
-            meeting: Arc::try_clone(meeting)?,
+            barrier: Arc::try_clone(barrier)?,
         })?;
     }
     Ok(all)
 }
 
 /// Offers an item to each worker.
-fn offer_each<R: Abort, G: Gate>(rt: &R, alloc: Global, pool: &mut Pool<Member, G>, count: u32)
+fn offer_each<R: Abort, G: Gate>(
+    rt: &R,
+    alloc: Global,
+    pool: &mut Pool<WaitingMachine, G>,
+    count: u32,
+)
     requires { count ≤ length (starts pool.old) }
     ensures { length (starts pool.new) ≡ length (starts pool.old) }
 {
@@ -104,15 +113,15 @@ fn offer_each<R: Abort, G: Gate>(rt: &R, alloc: Global, pool: &mut Pool<Member, 
 }
 
 /// Three items for each worker: each of the steps saw all other workers in a step of the same number.
-fn meet<R: Threads + Wait + Abort + Copy + Send + 'static>(
+fn step_together<R: Threads + Wait + Abort + Copy + Send + 'static>(
     rt: &R,
     alloc: Global,
     count: u32,
 ) -> Result<(), Fail>
     requires { (1 ≤ count) × (count ≤ 16) }
 {
-    let meeting = Arc::new(alloc, Meeting::new(alloc, count)?)?;
-    let machines = members(alloc, &meeting, count)?;
+    let barrier = Arc::new(alloc, Barrier::new(alloc, count)?)?;
+    let machines = waiting_machines(alloc, &barrier, count)?;
     let gate = Arc::new(alloc, OpenGate)?;
     let mut pool = Pool::start(rt, alloc, machines, 64, gate)
         .ok()
@@ -121,13 +130,13 @@ fn meet<R: Threads + Wait + Abort + Copy + Send + 'static>(
     offer_each(rt, alloc, &mut pool, count);
     offer_each(rt, alloc, &mut pool, count);
     assert!(rt; pool.close(rt, alloc).is_ok());
-    assert_eq!(rt; meeting.met.load(Ordering::SeqCst), 3 * u64::from(count));
+    assert_eq!(rt; barrier.passed.load(Ordering::SeqCst), 3 * u64::from(count));
     Ok(())
 }
 
 #[test]
 fn steps_meet(rt: HostRuntime) -> Result<(), Fail> {
     let alloc = rt.alloc();
-    meet(&rt, alloc, 2)?;
-    meet(&rt, alloc, 16)
+    step_together(&rt, alloc, 2)?;
+    step_together(&rt, alloc, 16)
 }

@@ -8,43 +8,49 @@ use crate::backoff::Backoff;
 use crate::fault::Stop;
 use crate::gate::{Gate, is_let_in};
 use crate::machine::Machine;
-use crate::message::{Honest, Message, Reply};
+use crate::message::{GateProtocol, Message, Reply};
 use rtrb::{Consumer, Producer};
 use std::alloc::Global;
 use std::sync::Wait;
 
-/// What a worker's thread works with.
+/// The state of a worker's thread: its machine, and its ends of the two rings.
 #[derive(Drop)]
-pub(crate) struct Bench<M: Machine, G: Gate> {
+pub(crate) struct ThreadState<M: Machine, G: Gate> {
     pub(crate) machine: M,
     pub(crate) items: Consumer<Message<M::Item>>,
-    pub(crate) answers: Producer<Reply<M::Answer>, Global, Honest<G>>,
+    pub(crate) answers: Producer<Reply<M::Answer>, Global, GateProtocol<G>>,
 }
 
-/// What a worker's thread hands back. The end is `Ok` where the worker met Close.
+/// The end of a worker's thread: its last state, and `Ok` where it met Close.
 #[derive(Drop)]
-pub(crate) struct Left<M: Machine, G: Gate> {
-    pub(crate) bench: Bench<M, G>,
+pub(crate) struct ThreadEnd<M: Machine, G: Gate> {
+    pub(crate) state: ThreadState<M, G>,
     pub(crate) end: Result<(), Stop>,
 }
 
-impl<M: Machine, G: Gate> Bench<M, G> {
+impl<M: Machine, G: Gate> ThreadState<M, G> {
     ghost use Rattle.std.specs.Prelude.{◌≡◌, true, false, [], ◌∷◌, ◌++◌, OnOk, IfErr};
     ghost use Rattle.rtrb.specs.Ring.{sent, received, SameProducer, SameConsumer};
     ghost use Rattle.napt_pool.specs.Faults.{is_gate_shut};
-    ghost use Rattle.napt_pool.specs.Histories.{Served, HasStopped, Told};
-    ghost use Rattle.napt_pool.specs.Benches.{Worked};
+    ghost use Rattle.napt_pool.specs.Histories.{HasMetClose, HasStopped, Told};
+    ghost use Rattle.napt_pool.specs.ThreadStates.{HasRun};
     ghost use Rattle.napt_pool.specs.declared.message.Reply.TheVariants.{Done};
     ghost use Rattle.napt_pool.specs.declared.fault.Stop.TheVariants.{Ring};
 
-    /// Steps on each item until Close comes, and hands back what it worked with.
-    pub(crate) fn serve<R: Wait>(self, rt: &R, alloc: Global, gate: &G, worker: u32) -> Left<M, G>
+    /// Steps on each item until Close comes, and hands back its last state.
+    pub(crate) fn run<R: Wait>(
+        self,
+        rt: &R,
+        alloc: Global,
+        gate: &G,
+        worker: u32,
+    ) -> ThreadEnd<M, G>
         requires { (received self.items ≡ []) × (sent self.answers ≡ []) }
-        ensures { Worked M.Machine G.is_open self result }
+        ensures { HasRun M.Machine G.is_open self result }
     {
-        let mut bench = self;
-        let end = bench.step_until_close(rt, alloc, gate, worker);
-        Left { bench, end }
+        let mut state = self;
+        let end = state.step_until_close(rt, alloc, gate, worker);
+        ThreadEnd { state, end }
     }
 
     /// Steps on each item until Close comes. A pop looks at what the other side wrote only where nothing is left of what
@@ -59,8 +65,8 @@ impl<M: Machine, G: Gate> Bench<M, G> {
         requires { (received self.old.items ≡ []) × (sent self.old.answers ≡ []) }
         ensures items { SameConsumer self.old.items self.new.items }
         ensures answers { SameProducer self.old.answers self.new.answers }
-        ensures served { OnOk result (Served M.Machine self.old.machine (received self.new.items)
-            (sent self.new.answers) self.new.machine) }
+        ensures met_close { OnOk result (HasMetClose M.Machine self.old.machine
+            (received self.new.items) (sent self.new.answers) self.new.machine) }
         ensures stopped { IfErr result (λ stop. HasStopped M.Machine self.old.machine stop
             (received self.new.items) (sent self.new.answers)) }
         ensures gate { G.is_open ≡ true → IfErr result (λ stop. is_gate_shut stop ≡ false) }
@@ -133,7 +139,10 @@ impl<M: Machine, G: Gate> Bench<M, G> {
 }
 
 /// Pushes why the worker stops, and gives what its end is.
-fn tell<A: Drop, G: Gate>(answers: &mut Producer<Reply<A>, Global, Honest<G>>, stop: Stop) -> Stop
+fn tell<A: Drop, G: Gate>(
+    answers: &mut Producer<Reply<A>, Global, GateProtocol<G>>,
+    stop: Stop,
+) -> Stop
     requires { G.is_open ≡ true → is_gate_shut stop ≡ false }
     ensures ring { SameProducer answers.old answers.new }
     ensures told { Told result (sent answers.old) (sent answers.new) }

@@ -1,4 +1,4 @@
-// Room for the end of a pool.
+// The buffers that closing a pool fills.
 ghost use Rattle.std.specs.Prelude.{◌≡◌, ◌≤◌, [], vec_capacity, IfOk};
 
 use crate::closing::{Closing, Ended};
@@ -7,9 +7,9 @@ use crate::gate::Gate;
 use crate::machine::Machine;
 use std::alloc::{AllocError, Global};
 
-/// Room for what becomes of `count` workers when they are closed, so that closing them takes no memory.
+/// Buffers for what becomes of `count` workers when they are closed, so that closing them takes no memory.
 #[derive(Drop)]
-pub(crate) struct Room<M: Machine, G: Gate> {
+pub(crate) struct CloseBuffers<M: Machine, G: Gate> {
     pub(crate) count: usize,
     pub(crate) closing: Vec<Closing<M, G>>,
     pub(crate) ends: Vec<Result<Ended<M>, Stop>>,
@@ -18,11 +18,11 @@ pub(crate) struct Room<M: Machine, G: Gate> {
     ghost fits: { (count ≤ vec_capacity closing) × (count ≤ vec_capacity ends) × (count ≤ vec_capacity ended) },
 }
 
-impl<M: Machine, G: Gate> Room<M, G> {
-    pub(crate) fn new(alloc: Global, count: usize) -> Result<Room<M, G>, AllocError>
-        ensures { IfOk result (λ room. room.count ≡ count) }
+impl<M: Machine, G: Gate> CloseBuffers<M, G> {
+    pub(crate) fn new(alloc: Global, count: usize) -> Result<CloseBuffers<M, G>, AllocError>
+        ensures { IfOk result (λ buffers. buffers.count ≡ count) }
     {
-        Ok(Room {
+        Ok(CloseBuffers {
             count,
             closing: Vec::with_capacity(alloc, count)?,
             ends: Vec::with_capacity(alloc, count)?,
