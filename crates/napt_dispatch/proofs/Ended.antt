@@ -1,5 +1,5 @@
 -- What the end of a dispatch tells.
-use Rattle.std.proofs.Common.{◌≡◌, ◌≢◌, ℕ, zero, suc, ◌+◌, ◌<◌, List, [], ◌∷◌, ◌++◌, length, map, Option, Some, None, refl, sym, ◌∙◌, ap, arith, append-nil, length-append, replicate, inl, inr, ◌⊎◌}
+use Rattle.std.proofs.Common.{◌≡◌, ℕ, zero, suc, ◌+◌, ◌<◌, List, [], ◌∷◌, ◌++◌, length, map, Option, Some, refl, sym, ◌∙◌, ap, arith, append-nil, length-append, inl, inr, ◌⊎◌}
 use Rattle.std.specs.Prelude.{slice_index, slice_index_or, slice_get}
 use Rattle.std.proofs.Math.ListN.{get_or-append}
 use Rattle.std.proofs.Math.Seq.{get_or-append_seam}
@@ -51,12 +51,6 @@ same_known (a ∷ all) (o ∷ outs) e h =
     let same : o ≡ a = cc in
     ap (λ (x : Outcome). x ∷ all) (sym same) ∙ ap (λ (xs : List Outcome). o ∷ xs)
     (same_known all outs (omega arith) (λ i x g. h (suc i) x g))
-
-pub none_known : (n i : ℕ) (o : Outcome) → slice_get (replicate n (let x : Option Outcome = None in x)) i ≢ Some
-    (Some o)
-none_known zero i o h = cc
-none_known (suc n) zero o h = cc
-none_known (suc n) (suc i) o h = none_known n i o h
 
 less_or_same : (w n : ℕ) → w < suc n → (w < n) ⊎ (w ≡ n)
 less_or_same zero zero lt = inr refl

@@ -1,6 +1,6 @@
 pub mod Closed
 pub mod Ended
 pub mod Hairpin
-pub mod Ledgers
+pub mod Lists
 pub mod Queues
 pub mod Standing

@@ -36,8 +36,8 @@ use Rattle.napt_sequential.specs.Dispatching.{IsFront, told, IsTold, IsForetold,
 use Rattle.napt_dispatch.specs.Dispatch.{of_worker, Right, Distinct, IsDispatched}
 use Rattle.napt_sequential.specs.Places.{first_act, second_legs, second_of, IsSeconded}
 use Rattle.napt_sequential.specs.Admission.{admission}
-use Rattle.napt_dispatch.specs.Standing.{pushed, put_first, Popped, Parts, Ledger, IsSized, owed_of, IsOwed, resolved, next_leg, IsKnown, Reaches, Stands, Keeps, with_held, with_progress, with_first, ended, IsToldBy, Noted, IsSecond, Admits, IsDone, outcome_in}
-use Rattle.napt_dispatch.proofs.Ledgers.{push_own, push_other, count_push, place_within, no_lengths, of_replicate}
+use Rattle.napt_dispatch.specs.Standing.{pushed, put_first, Popped, Parts, DispatchState, IsSized, owed_of, IsOwed, resolved, next_leg, IsKnown, Reaches, Stands, Keeps, with_held, with_progress, with_first, ended, IsToldBy, Noted, IsSecond, Admits, IsDone, outcome_in}
+use Rattle.napt_dispatch.proofs.Lists.{push_own, push_other, count_push, place_within, no_lengths, of_replicate}
 use Rattle.napt_sequential.proofs.Dispatched.{right_answers, answers_tell}
 use Rattle.napt_sequential.proofs.Grown.{outcomes_long}
 use Rattle.napt_sequential.proofs.Places.{legs_append, answers_fill, cond_map, place_stands, acts_grow}
@@ -82,17 +82,21 @@ same_test pool distinct v w lv lw = elim (cases_eq v w) [
   | inr n ↦ ne_eqb (slice_index pool w) (slice_index pool v) (λ h. n (distinct v w lv lw (sym h))) ∙ sym (ne_eqb v w n)
 ]
 
-ledger_as : (offered offered' : List (List Leg)) (taken taken' : List (List Answer)) (parts parts' : Parts) →
+state_as : (offered offered' : List (List Leg)) (taken taken' : List (List Answer)) (parts parts' : Parts) →
     offered ≡ offered' → taken ≡ taken' → parts ≡ parts' →
-    (let l : Ledger = record { offered = offered; taken = taken; parts = parts } in l) ≡ record {
+    (let l : DispatchState = record { offered = offered; taken = taken; parts = parts } in l) ≡ record {
       offered = offered';
       taken = taken';
       parts = parts';
     }
-ledger_as offered offered' taken taken' parts parts' a b c =
-    ap (λ (o : List (List Leg)). let l : Ledger = record { offered = o; taken = taken; parts = parts } in l) a
-    ∙ (ap (λ (t : List (List Answer)). let l : Ledger = record { offered = offered'; taken = t; parts = parts } in l) b
-    ∙ ap (λ (p : Parts). let l : Ledger = record { offered = offered'; taken = taken'; parts = p } in l) c)
+state_as offered offered' taken taken' parts parts' a b c =
+    ap (λ (o : List (List Leg)). let l : DispatchState = record { offered = o; taken = taken; parts = parts } in l) a
+    ∙ (ap (λ (t : List (List Answer)). let l : DispatchState = record {
+      offered = offered';
+      taken = t;
+      parts = parts;
+    } in l) b
+    ∙ ap (λ (p : Parts). let l : DispatchState = record { offered = offered'; taken = taken'; parts = p } in l) c)
 
 pub parts_as : (counts counts' : List ℕ) (owed owed' : List (List Owed)) (held held' : List (List Held))
     (progress progress' : List Progress) →
@@ -145,69 +149,69 @@ answers_few offered taken owed o =
 
 -- AN OFFER
 
-module _ (w : ℕ) (leg : Leg) (ledger : Ledger) (within : w < length ledger.parts.held) where
+module _ (w : ℕ) (leg : Leg) (state : DispatchState) (within : w < length state.parts.held) where
   abbrev offered_parts : Parts
-  offered_parts = record ledger.parts {
-    counts = slice_set ledger.parts.counts w (slice_index ledger.parts.counts w
+  offered_parts = record state.parts {
+    counts = slice_set state.parts.counts w (slice_index state.parts.counts w
         + 1);
-    owed = pushed w (owed_of leg) ledger.parts.owed;
+    owed = pushed w (owed_of leg) state.parts.owed;
   }
 
-  abbrev offered_now : Ledger
-  offered_now = record { offered = pushed w leg ledger.offered; taken = ledger.taken; parts = offered_parts }
+  abbrev offered_now : DispatchState
+  offered_now = record { offered = pushed w leg state.offered; taken = state.taken; parts = offered_parts }
 
-  module _ (rules : Rules) (done all : List Arrival) (s : Stands rules done all (with_first w leg ledger)) where
-    long_held : length ledger.parts.held ≡ length rules.pool
-    long_held = sym (length-set ledger.parts.held w (Ready leg ∷ of_worker ledger.parts.held w)) ∙ s.sized.held
+  module _ (rules : Rules) (done all : List Arrival) (s : Stands rules done all (with_first w leg state)) where
+    long_held : length state.parts.held ≡ length rules.pool
+    long_held = sym (length-set state.parts.held w (Ready leg ∷ of_worker state.parts.held w)) ∙ s.sized.held
 
     inside : w < length rules.pool
     inside = subst (λ (n : ℕ). w < n) long_held within
 
-    in_offered : w < length ledger.offered
+    in_offered : w < length state.offered
     in_offered = subst (λ (n : ℕ). w < n) (sym s.offered_many) inside
 
-    in_owed : w < length ledger.parts.owed
+    in_owed : w < length state.parts.owed
     in_owed = subst (λ (n : ℕ). w < n) (sym s.sized.owed) inside
 
-    own : of_worker (pushed w leg ledger.offered) w ≡ of_worker ledger.offered w ++ leg ∷ []
-    own = push_own ledger.offered w leg in_offered
+    own : of_worker (pushed w leg state.offered) w ≡ of_worker state.offered w ++ leg ∷ []
+    own = push_own state.offered w leg in_offered
 
-    others : (v : ℕ) → v ≢ w → of_worker (pushed w leg ledger.offered) v ≡ of_worker ledger.offered v
-    others v n = push_other ledger.offered w (of_worker ledger.offered w ++ leg ∷ []) v n
+    others : (v : ℕ) → v ≢ w → of_worker (pushed w leg state.offered) v ≡ of_worker state.offered v
+    others v n = push_other state.offered w (of_worker state.offered w ++ leg ∷ []) v n
 
-    owes_here : IsOwed (of_worker (pushed w leg ledger.offered) w) (of_worker ledger.taken w)
-        (of_worker (pushed w (owed_of leg) ledger.parts.owed) w)
+    owes_here : IsOwed (of_worker (pushed w leg state.offered) w) (of_worker state.taken w)
+        (of_worker (pushed w (owed_of leg) state.parts.owed) w)
     owes_here =
-        let o : IsOwed (of_worker ledger.offered w) (of_worker ledger.taken w) (of_worker ledger.parts.owed w) =
+        let o : IsOwed (of_worker state.offered w) (of_worker state.taken w) (of_worker state.parts.owed w) =
         s.owes w inside in
         record {
           before = o.before;
           rest = o.rest ++ leg ∷ [];
           parts = own ∙ (ap (λ (ls : List Leg). ls ++ leg ∷ []) o.parts ∙ append_assoc o.before o.rest (leg ∷ []));
           long = o.long;
-          owed_is = push_own ledger.parts.owed w (owed_of leg) in_owed
+          owed_is = push_own state.parts.owed w (owed_of leg) in_owed
               ∙ (ap (λ (xs : List Owed). xs ++ owed_of leg ∷ []) o.owed_is
               ∙ sym (map-append owed_of o.rest (leg ∷ [])));
         }
 
-    offered_reached : Reaches rules done all (with_first w leg ledger) → Reaches rules done all offered_now
+    offered_reached : Reaches rules done all (with_first w leg state) → Reaches rules done all offered_now
     offered_reached r =
         let f : Held → List Leg = resolved (run rules all (opening rules)).acts in
         record {
           reached = λ v lt. elim (cases_eq v w) [
             | inl e ↦
-                subst (λ (u : ℕ). of_worker (pushed w leg ledger.offered) u
-                ++ flat_map f (of_worker ledger.parts.held u) ≡ legs_at (slice_index rules.pool u)
+                subst (λ (u : ℕ). of_worker (pushed w leg state.offered) u
+                ++ flat_map f (of_worker state.parts.held u) ≡ legs_at (slice_index rules.pool u)
                 (run rules done (opening rules)).acts) (sym e)
-                (ap (λ (ls : List Leg). ls ++ flat_map f (of_worker ledger.parts.held w)) own
-                ∙ (append_assoc (of_worker ledger.offered w) (leg ∷ []) (flat_map f (of_worker ledger.parts.held w))
-                ∙ (ap (λ (hs : List Held). of_worker ledger.offered w ++ flat_map f hs)
-                (sym (set_own ledger.parts.held w (Ready leg ∷ of_worker ledger.parts.held w) within))
+                (ap (λ (ls : List Leg). ls ++ flat_map f (of_worker state.parts.held w)) own
+                ∙ (append_assoc (of_worker state.offered w) (leg ∷ []) (flat_map f (of_worker state.parts.held w))
+                ∙ (ap (λ (hs : List Held). of_worker state.offered w ++ flat_map f hs)
+                (sym (set_own state.parts.held w (Ready leg ∷ of_worker state.parts.held w) within))
                 ∙ r.reached w inside)))
             | inr n ↦
-                ap (λ (ls : List Leg). ls ++ flat_map f (of_worker ledger.parts.held v)) (others v n)
-                ∙ (ap (λ (hs : List Held). of_worker ledger.offered v ++ flat_map f hs)
-                (sym (push_other ledger.parts.held w (Ready leg ∷ of_worker ledger.parts.held w) v n))
+                ap (λ (ls : List Leg). ls ++ flat_map f (of_worker state.parts.held v)) (others v n)
+                ∙ (ap (λ (hs : List Held). of_worker state.offered v ++ flat_map f hs)
+                (sym (push_other state.parts.held w (Ready leg ∷ of_worker state.parts.held w) v n))
                 ∙ r.reached v lt)
           ];
           known = r.known;
@@ -218,33 +222,33 @@ module _ (w : ℕ) (leg : Leg) (ledger : Ledger) (within : w < length ledger.par
       rest = s.rest;
       whole = s.whole;
       sized = record {
-        counts = length-set ledger.parts.counts w (slice_index ledger.parts.counts w + 1) ∙ s.sized.counts;
-        owed = length-set ledger.parts.owed w (of_worker ledger.parts.owed w ++ owed_of leg ∷ []) ∙ s.sized.owed;
+        counts = length-set state.parts.counts w (slice_index state.parts.counts w + 1) ∙ s.sized.counts;
+        owed = length-set state.parts.owed w (of_worker state.parts.owed w ++ owed_of leg ∷ []) ∙ s.sized.owed;
         held = long_held;
       };
-      offered_many = length-set ledger.offered w (of_worker ledger.offered w ++ leg ∷ []) ∙ s.offered_many;
+      offered_many = length-set state.offered w (of_worker state.offered w ++ leg ∷ []) ∙ s.offered_many;
       taken_many = s.taken_many;
-      counts_are = count_push ledger.offered w leg ledger.parts.counts s.counts_are;
+      counts_are = count_push state.offered w leg state.parts.counts s.counts_are;
       owes = λ v lt. elim (cases_eq v w) [
-        | inl e ↦ subst (λ (u : ℕ). IsOwed (of_worker (pushed w leg ledger.offered) u) (of_worker ledger.taken u)
-            (of_worker (pushed w (owed_of leg) ledger.parts.owed) u)) (sym e) owes_here
-        | inr n ↦ owed_as (of_worker ledger.offered v) (of_worker (pushed w leg ledger.offered) v)
-            (of_worker ledger.taken v) (of_worker ledger.parts.owed v)
-            (of_worker (pushed w (owed_of leg) ledger.parts.owed) v)
-            (others v n) (push_other ledger.parts.owed w (of_worker ledger.parts.owed w ++ owed_of leg ∷ []) v n)
+        | inl e ↦ subst (λ (u : ℕ). IsOwed (of_worker (pushed w leg state.offered) u) (of_worker state.taken u)
+            (of_worker (pushed w (owed_of leg) state.parts.owed) u)) (sym e) owes_here
+        | inr n ↦ owed_as (of_worker state.offered v) (of_worker (pushed w leg state.offered) v)
+            (of_worker state.taken v) (of_worker state.parts.owed v)
+            (of_worker (pushed w (owed_of leg) state.parts.owed) v)
+            (others v n) (push_other state.parts.owed w (of_worker state.parts.owed w ++ owed_of leg ∷ []) v n)
             (s.owes v lt)
       ];
       reaches = λ right.
-          offered_reached (s.reaches (offer_back rules ledger.offered (pushed w leg ledger.offered) ledger.taken w leg
-          (λ v lt. answers_few (of_worker ledger.offered v) (of_worker ledger.taken v) (of_worker ledger.parts.owed v)
+          offered_reached (s.reaches (offer_back rules state.offered (pushed w leg state.offered) state.taken w leg
+          (λ v lt. answers_few (of_worker state.offered v) (of_worker state.taken v) (of_worker state.parts.owed v)
           (s.owes v lt)) own others right));
     }
 
-  pub offered_keeps : (later : Ledger) → later.offered ≡ pushed w leg ledger.offered → later.taken ≡ ledger.taken →
-      later.parts ≡ offered_parts → Keeps (with_first w leg ledger) later
+  pub offered_keeps : (later : DispatchState) → later.offered ≡ pushed w leg state.offered → later.taken ≡ state.taken →
+      later.parts ≡ offered_parts → Keeps (with_first w leg state) later
   offered_keeps later a b c = λ rules done all s.
       subst (Stands rules done all)
-      (sym (ledger_as later.offered (pushed w leg ledger.offered) later.taken ledger.taken later.parts offered_parts
+      (sym (state_as later.offered (pushed w leg state.offered) later.taken state.taken later.parts offered_parts
       a b c)) (offered_stand rules done all s)
 
 pub offered_parts_are : (w : ℕ) (leg : Leg) (parts mid later : Parts) →
@@ -338,86 +342,86 @@ first_owed [] o os h = cc
 first_owed (leg ∷ legs) o os h = (leg, legs, refl, cc, cc)
 
 -- what was offered to a worker begins its legs of the whole run
-offered_front : (rules : Rules) (done all : List Arrival) (ledger : Ledger) → Stands rules done all ledger →
-    Reaches rules done all ledger → (w : ℕ) → w < length rules.pool →
-    IsFront (of_worker ledger.offered w) (legs_at (slice_index rules.pool w) (run rules all (opening rules)).acts)
-offered_front rules done all ledger s r w lt =
+offered_front : (rules : Rules) (done all : List Arrival) (state : DispatchState) → Stands rules done all state →
+    Reaches rules done all state → (w : ℕ) → w < length rules.pool →
+    IsFront (of_worker state.offered w) (legs_at (slice_index rules.pool w) (run rules all (opening rules)).acts)
+offered_front rules done all state s r w lt =
     let address : ℕ = slice_index rules.pool w in
     let more : IsFront (run rules done (opening rules)).acts (run rules all (opening rules)).acts =
     subst (λ (xs : List Arrival). IsFront (run rules done (opening rules)).acts (run rules xs (opening rules)).acts)
     s.whole (acts_begin rules 0 0 done s.rest (opening rules)) in
-    let held : List Leg = flat_map (resolved (run rules all (opening rules)).acts) (of_worker ledger.parts.held w) in (
+    let held : List Leg = flat_map (resolved (run rules all (opening rules)).acts) (of_worker state.parts.held w) in (
       held ++ legs_at address more.0,
-      sym (append_assoc (of_worker ledger.offered w) held (legs_at address more.0))
+      sym (append_assoc (of_worker state.offered w) held (legs_at address more.0))
           ∙ (ap (λ (ls : List Leg). ls ++ legs_at address more.0) (r.reached w lt)
           ∙ (sym (legs_append address (run rules done (opening rules)).acts more.0) ∙ ap (legs_at address) more.1)),
     )
 
-module _ (w : ℕ) (answer : Answer) (ledger later : Ledger) (within : w < length ledger.parts.owed) (same : later.offered
-    ≡ ledger.offered) (took : later.taken ≡ pushed w answer ledger.taken)
-    (n : Noted w answer ledger.parts later.parts) where
+module _ (w : ℕ) (answer : Answer) (state later : DispatchState) (within : w < length state.parts.owed)
+    (same : later.offered ≡ state.offered) (took : later.taken ≡ pushed w answer state.taken)
+    (n : Noted w answer state.parts later.parts) where
   abbrev answered_parts : Parts
   answered_parts = record {
-    counts = ledger.parts.counts;
-    owed = slice_set ledger.parts.owed w n.popped.rest;
+    counts = state.parts.counts;
+    owed = slice_set state.parts.owed w n.popped.rest;
     held =
-        ledger.parts.held;
-    progress = slice_set ledger.parts.progress answer.number n.progress;
+        state.parts.held;
+    progress = slice_set state.parts.progress answer.number n.progress;
   }
 
-  abbrev answered_now : Ledger
-  answered_now = record { offered = ledger.offered; taken = pushed w answer ledger.taken; parts = answered_parts }
+  abbrev answered_now : DispatchState
+  answered_now = record { offered = state.offered; taken = pushed w answer state.taken; parts = answered_parts }
 
-  module _ (rules : Rules) (done all : List Arrival) (s : Stands rules done all ledger) where
+  module _ (rules : Rules) (done all : List Arrival) (s : Stands rules done all state) where
     w_inside : w < length rules.pool
     w_inside = subst (λ (k : ℕ). w < k) s.sized.owed within
 
-    in_taken : w < length ledger.taken
+    in_taken : w < length state.taken
     in_taken = subst (λ (k : ℕ). w < k) (sym s.taken_many) w_inside
 
-    own_taken : of_worker (pushed w answer ledger.taken) w ≡ of_worker ledger.taken w ++ answer ∷ []
-    own_taken = push_own ledger.taken w answer in_taken
+    own_taken : of_worker (pushed w answer state.taken) w ≡ of_worker state.taken w ++ answer ∷ []
+    own_taken = push_own state.taken w answer in_taken
 
-    other_taken : (v : ℕ) → v ≢ w → of_worker (pushed w answer ledger.taken) v ≡ of_worker ledger.taken v
-    other_taken v d = push_other ledger.taken w (of_worker ledger.taken w ++ answer ∷ []) v d
+    other_taken : (v : ℕ) → v ≢ w → of_worker (pushed w answer state.taken) v ≡ of_worker state.taken v
+    other_taken v d = push_other state.taken w (of_worker state.taken w ++ answer ∷ []) v d
 
-    abbrev here : IsOwed (of_worker ledger.offered w) (of_worker ledger.taken w) (of_worker ledger.parts.owed w)
+    abbrev here : IsOwed (of_worker state.offered w) (of_worker state.taken w) (of_worker state.parts.owed w)
     here = s.owes w w_inside
 
     head : (leg : Leg) × (rest : List Leg) × (here.rest ≡ leg ∷ rest) × (n.owed ≡ owed_of leg)
         × (n.popped.rest ≡ map owed_of rest)
     head = first_owed here.rest n.owed n.popped.rest (sym n.popped.first ∙ here.owed_is)
 
-    offered_is : of_worker ledger.offered w ≡ here.before ++ head.0 ∷ head.1
+    offered_is : of_worker state.offered w ≡ here.before ++ head.0 ∷ head.1
     offered_is = here.parts ∙ ap (λ (ls : List Leg). here.before ++ ls) head.2
 
-    answered_owes : IsOwed (of_worker ledger.offered w) (of_worker (pushed w answer ledger.taken) w)
-        (of_worker (slice_set ledger.parts.owed w n.popped.rest) w)
+    answered_owes : IsOwed (of_worker state.offered w) (of_worker (pushed w answer state.taken) w)
+        (of_worker (slice_set state.parts.owed w n.popped.rest) w)
     answered_owes =
         let one : length (here.before ++ head.0 ∷ []) ≡ length here.before + 1 = length_push here.before head.0 in
-        let two : length (of_worker (pushed w answer ledger.taken) w) ≡ length (of_worker ledger.taken w) + 1 =
-        ap length own_taken ∙ length_push (of_worker ledger.taken w) answer in
-        let long : length here.before ≡ length (of_worker ledger.taken w) = here.long in
+        let two : length (of_worker (pushed w answer state.taken) w) ≡ length (of_worker state.taken w) + 1 =
+        ap length own_taken ∙ length_push (of_worker state.taken w) answer in
+        let long : length here.before ≡ length (of_worker state.taken w) = here.long in
         record {
           before = here.before ++ head.0 ∷ [];
           rest = head.1;
           parts = offered_is ∙ sym (append_assoc here.before (head.0 ∷ []) head.1);
           long = omega arith;
-          owed_is = set_own ledger.parts.owed w n.popped.rest within ∙ head.4;
+          owed_is = set_own state.parts.owed w n.popped.rest within ∙ head.4;
         }
 
     abbrev course : Course
     course = run rules all (opening rules)
 
-    answer_known : Right rules ledger.offered (pushed w answer ledger.taken) → Reaches rules done all ledger →
+    answer_known : Right rules state.offered (pushed w answer state.taken) → Reaches rules done all state →
         IsKnown course answer.number n.progress
     answer_known right r =
         let address : ℕ = slice_index rules.pool w in
-        let offers : IsFront (of_worker ledger.offered w) (legs_at address course.acts) =
-        offered_front rules done all ledger s r w w_inside in
-        let told_front : IsFront (of_worker (pushed w answer ledger.taken) w) (answers_at address course.acts) =
-        right_answers rules all (opening rules) address (of_worker ledger.offered w)
-        (of_worker (pushed w answer ledger.taken) w) offers (right w w_inside) in
+        let offers : IsFront (of_worker state.offered w) (legs_at address course.acts) =
+        offered_front rules done all state s r w w_inside in
+        let told_front : IsFront (of_worker (pushed w answer state.taken) w) (answers_at address course.acts) =
+        right_answers rules all (opening rules) address (of_worker state.offered w)
+        (of_worker (pushed w answer state.taken) w) offers (right w w_inside) in
         let P : Act → Type 0 = λ a. IsTold course.outcomes a × IsSeconded course.acts a in
         let each : Each P (acts_at address course.acts) =
         each_at P address course.acts (each_both (IsTold course.outcomes) (IsSeconded course.acts) course.acts
@@ -426,11 +430,11 @@ module _ (w : ℕ) (answer : Answer) (ledger later : Ledger) (within : w < lengt
         (acts_at address course.acts) =
         sym (append_assoc here.before (head.0 ∷ head.1) offers.0)
         ∙ (ap (λ (ls : List Leg). ls ++ offers.0) (sym offered_is) ∙ offers.1) in
-        let answers : (of_worker ledger.taken w ++ answer ∷ []) ++ told_front.0
+        let answers : (of_worker state.taken w ++ answer ∷ []) ++ told_front.0
         ≡ map answer_of (acts_at address course.acts) = ap (λ (xs : List Answer). xs ++ told_front.0)
         (sym own_taken) ∙ told_front.1 in
         let x : ActOf P head.0 answer = act_at P (acts_at address course.acts) here.before (head.1 ++ offers.0) head.0
-        (of_worker ledger.taken w) told_front.0 answer here.long each legs answers in
+        (of_worker state.taken w) told_front.0 answer here.long each legs answers in
         let end_is : x.a.end ≡ answer.end = ap (λ (k : Answer). k.end) x.answer_is in
         let number_is : x.a.leg.number ≡ answer.number = ap (λ (k : Answer). k.number) x.answer_is in
         let toldby : IsToldBy (owed_of x.a.leg) answer.end n.progress =
@@ -441,14 +445,14 @@ module _ (w : ℕ) (answer : Answer) (ledger later : Ledger) (within : w < lengt
         (λ way. x.holds.1 way ∙ ap (second_of x.a.leg) end_is)
         toldby)
 
-    answered_reached : Right rules ledger.offered (pushed w answer ledger.taken) → Reaches rules done all answered_now
+    answered_reached : Right rules state.offered (pushed w answer state.taken) → Reaches rules done all answered_now
     answered_reached right =
-        let r : Reaches rules done all ledger =
-        s.reaches (answer_back rules ledger.offered ledger.taken (pushed w answer ledger.taken) w answer own_taken
+        let r : Reaches rules done all state =
+        s.reaches (answer_back rules state.offered state.taken (pushed w answer state.taken) w answer own_taken
         other_taken right) in
         record {
           reached = r.reached;
-          known = known_set course ledger.parts.progress answer.number n.progress (answer_known right r) r.known;
+          known = known_set course state.parts.progress answer.number n.progress (answer_known right r) r.known;
         }
 
     answered_stand : Stands rules done all answered_now
@@ -457,55 +461,55 @@ module _ (w : ℕ) (answer : Answer) (ledger later : Ledger) (within : w < lengt
       whole = s.whole;
       sized = record {
         counts = s.sized.counts;
-        owed = length-set ledger.parts.owed w n.popped.rest ∙ s.sized.owed;
+        owed = length-set state.parts.owed w n.popped.rest ∙ s.sized.owed;
         held = s.sized.held;
       };
       offered_many = s.offered_many;
-      taken_many = length-set ledger.taken w (of_worker ledger.taken w ++ answer ∷ []) ∙ s.taken_many;
+      taken_many = length-set state.taken w (of_worker state.taken w ++ answer ∷ []) ∙ s.taken_many;
       counts_are = s.counts_are;
       owes = λ v lt. elim (cases_eq v w) [
-        | inl e ↦ subst (λ (u : ℕ). IsOwed (of_worker ledger.offered u) (of_worker (pushed w answer ledger.taken) u)
-            (of_worker (slice_set ledger.parts.owed w n.popped.rest) u)) (sym e) answered_owes
+        | inl e ↦ subst (λ (u : ℕ). IsOwed (of_worker state.offered u) (of_worker (pushed w answer state.taken) u)
+            (of_worker (slice_set state.parts.owed w n.popped.rest) u)) (sym e) answered_owes
         | inr d ↦
-            subst (λ (t : List Answer). IsOwed (of_worker ledger.offered v) t
-            (of_worker (slice_set ledger.parts.owed w n.popped.rest) v)) (sym (other_taken v d))
-            (owed_as (of_worker ledger.offered v) (of_worker ledger.offered v) (of_worker ledger.taken v)
-            (of_worker ledger.parts.owed v) (of_worker (slice_set ledger.parts.owed w n.popped.rest) v)
-            refl (push_other ledger.parts.owed w n.popped.rest v d) (s.owes v lt))
+            subst (λ (t : List Answer). IsOwed (of_worker state.offered v) t
+            (of_worker (slice_set state.parts.owed w n.popped.rest) v)) (sym (other_taken v d))
+            (owed_as (of_worker state.offered v) (of_worker state.offered v) (of_worker state.taken v)
+            (of_worker state.parts.owed v) (of_worker (slice_set state.parts.owed w n.popped.rest) v)
+            refl (push_other state.parts.owed w n.popped.rest v d) (s.owes v lt))
       ];
       reaches = answered_reached;
     }
 
-  pub answered_keeps : Keeps ledger later
+  pub answered_keeps : Keeps state later
   answered_keeps = λ rules done all s.
       subst (Stands rules done all)
-      (sym (ledger_as later.offered ledger.offered later.taken (pushed w answer ledger.taken) later.parts answered_parts
+      (sym (state_as later.offered state.offered later.taken (pushed w answer state.taken) later.parts answered_parts
       same took
-      (parts_as later.parts.counts ledger.parts.counts later.parts.owed (slice_set ledger.parts.owed w n.popped.rest)
-      later.parts.held ledger.parts.held later.parts.progress
-      (slice_set ledger.parts.progress answer.number n.progress)
+      (parts_as later.parts.counts state.parts.counts later.parts.owed (slice_set state.parts.owed w n.popped.rest)
+      later.parts.held state.parts.held later.parts.progress
+      (slice_set state.parts.progress answer.number n.progress)
       n.counts_are n.popped.later_is n.held_is n.progress_is)))
       (answered_stand rules done all s)
 
 -- WHAT IS HELD
 
 -- other things held and known, for the same legs
-abbrev StandFor : Rules → List Arrival → List Arrival → Ledger → List (List Held) → List Progress → Type 0
-StandFor rules done all ledger held progress =
-    Reaches rules done all ledger →
+abbrev StandFor : Rules → List Arrival → List Arrival → DispatchState → List (List Held) → List Progress → Type 0
+StandFor rules done all state held progress =
+    Reaches rules done all state →
     ((v : ℕ) → v < length rules.pool →
     flat_map (resolved (run rules all (opening rules)).acts) (of_worker held v)
-    ≡ flat_map (resolved (run rules all (opening rules)).acts) (of_worker ledger.parts.held v))
+    ≡ flat_map (resolved (run rules all (opening rules)).acts) (of_worker state.parts.held v))
     × ((i : ℕ) (p : Progress) → slice_get progress i ≡ Some p → IsKnown (run rules all (opening rules)) i p)
 
-abbrev pub held_as : Ledger → List (List Held) → List Progress → Ledger
-held_as ledger held progress = record ledger { parts = record ledger.parts { held = held; progress = progress } }
+abbrev pub held_as : DispatchState → List (List Held) → List Progress → DispatchState
+held_as state held progress = record state { parts = record state.parts { held = held; progress = progress } }
 
-held_stand : (rules : Rules) (done all : List Arrival) (ledger : Ledger) (held : List (List Held))
-    (progress : List Progress) → length held ≡ length ledger.parts.held →
-    StandFor rules done all ledger held progress → Stands rules done all ledger →
-    Stands rules done all (held_as ledger held progress)
-held_stand rules done all ledger held progress long for s = record {
+held_stand : (rules : Rules) (done all : List Arrival) (state : DispatchState) (held : List (List Held))
+    (progress : List Progress) → length held ≡ length state.parts.held →
+    StandFor rules done all state held progress → Stands rules done all state →
+    Stands rules done all (held_as state held progress)
+held_stand rules done all state held progress long for s = record {
   rest = s.rest;
   whole = s.whole;
   sized = record { counts = s.sized.counts; owed = s.sized.owed; held = long ∙ s.sized.held };
@@ -514,10 +518,10 @@ held_stand rules done all ledger held progress long for s = record {
   counts_are = s.counts_are;
   owes = s.owes;
   reaches = λ right.
-      let r : Reaches rules done all ledger = s.reaches right in
+      let r : Reaches rules done all state = s.reaches right in
       let f = for r in
       record {
-        reached = λ v lt. ap (λ (ls : List Leg). of_worker ledger.offered v ++ ls) (f.0 v lt) ∙ r.reached v lt;
+        reached = λ v lt. ap (λ (ls : List Leg). of_worker state.offered v ++ ls) (f.0 v lt) ∙ r.reached v lt;
         known = f.1;
       };
 }
@@ -533,52 +537,52 @@ first_reads f lists w x xs ys lt first same v = elim (cases_eq v w) [
   | inr n ↦ ap (flat_map f) (push_other lists w ys v n)
 ]
 
-module _ (w : ℕ) (number : ℕ) (ledger : Ledger) (held : List (List Held)) (within : w < length ledger.parts.held)
-    (p : Popped w (Place number) ledger.parts.held held) where
+module _ (w : ℕ) (number : ℕ) (state : DispatchState) (held : List (List Held)) (within : w < length state.parts.held)
+    (p : Popped w (Place number) state.parts.held held) where
   -- a place that stands for no leg
-  pub gone_keeps : (outcome : Outcome) → slice_get ledger.parts.progress number ≡ Some (EndedOut outcome) →
-      Keeps ledger (held_as ledger held ledger.parts.progress)
+  pub gone_keeps : (outcome : Outcome) → slice_get state.parts.progress number ≡ Some (EndedOut outcome) →
+      Keeps state (held_as state held state.parts.progress)
   gone_keeps outcome is = λ rules done all s.
       let f : Held → List Leg = resolved (run rules all (opening rules)).acts in
-      subst (λ (h : List (List Held)). Stands rules done all (held_as ledger h ledger.parts.progress)) (sym p.later_is)
-      (held_stand rules done all ledger (slice_set ledger.parts.held w p.rest) ledger.parts.progress
-      (length-set ledger.parts.held w p.rest)
+      subst (λ (h : List (List Held)). Stands rules done all (held_as state h state.parts.progress)) (sym p.later_is)
+      (held_stand rules done all state (slice_set state.parts.held w p.rest) state.parts.progress
+      (length-set state.parts.held w p.rest)
       (λ r. (
-        λ v lt. first_reads f ledger.parts.held w (Place number) p.rest p.rest within p.first
+        λ v lt. first_reads f state.parts.held w (Place number) p.rest p.rest within p.first
             (ap (λ (ls : List Leg). ls ++ flat_map f p.rest) (sym (r.known number (EndedOut outcome) is).1)) v,
         r.known,
       )) s)
 
   -- one that stands for a leg that is known
-  pub next_keeps : (leg : Leg) → slice_get ledger.parts.progress number ≡ Some (Onward leg.now leg.packet) →
+  pub next_keeps : (leg : Leg) → slice_get state.parts.progress number ≡ Some (Onward leg.now leg.packet) →
       leg ≡ next_leg number leg.now leg.packet →
-      Keeps ledger (held_as ledger (put_first w (Ready leg) held) (slice_set ledger.parts.progress number Awaited))
+      Keeps state (held_as state (put_first w (Ready leg) held) (slice_set state.parts.progress number Awaited))
   next_keeps leg is leg_is = λ rules done all s.
       let f : Held → List Leg = resolved (run rules all (opening rules)).acts in
       let own : of_worker held w ≡ p.rest = ap (λ (l : List (List Held)). of_worker l w) p.later_is
-      ∙ set_own ledger.parts.held w p.rest within in
-      let put : put_first w (Ready leg) held ≡ slice_set ledger.parts.held w (Ready leg ∷ p.rest) =
+      ∙ set_own state.parts.held w p.rest within in
+      let put : put_first w (Ready leg) held ≡ slice_set state.parts.held w (Ready leg ∷ p.rest) =
       ap (λ (xs : List Held). slice_set held w (Ready leg ∷ xs)) own
       ∙ (ap (λ (l : List (List Held)). slice_set l w (Ready leg ∷ p.rest)) p.later_is
-      ∙ set-set ledger.parts.held w p.rest (Ready leg ∷ p.rest)) in
+      ∙ set-set state.parts.held w p.rest (Ready leg ∷ p.rest)) in
       subst (λ (h : List (List Held)). Stands rules done all
-      (held_as ledger h (slice_set ledger.parts.progress number Awaited))) (sym put)
-      (held_stand rules done all ledger (slice_set ledger.parts.held w (Ready leg ∷ p.rest))
-      (slice_set ledger.parts.progress number Awaited) (length-set ledger.parts.held w (Ready leg ∷ p.rest))
+      (held_as state h (slice_set state.parts.progress number Awaited))) (sym put)
+      (held_stand rules done all state (slice_set state.parts.held w (Ready leg ∷ p.rest))
+      (slice_set state.parts.progress number Awaited) (length-set state.parts.held w (Ready leg ∷ p.rest))
       (λ r. (
-        λ v lt. first_reads f ledger.parts.held w (Place number) p.rest (Ready leg ∷ p.rest) within p.first
+        λ v lt. first_reads f state.parts.held w (Place number) p.rest (Ready leg ∷ p.rest) within p.first
             (ap (λ (l : Leg). l ∷ flat_map f p.rest) leg_is ∙ ap (λ (ls : List Leg). ls ++ flat_map f p.rest)
             (sym (r.known number (Onward leg.now leg.packet) is))) v,
-        known_set (run rules all (opening rules)) ledger.parts.progress number Awaited tt r.known,
+        known_set (run rules all (opening rules)) state.parts.progress number Awaited tt r.known,
       )) s)
 
-pub next_keeps_as : (w number : ℕ) (ledger : Ledger) (held : List (List Held)) → w < length ledger.parts.held →
-    Popped w (Place number) ledger.parts.held held → (leg : Leg) (progress : List Progress) →
-    IsSecond number ledger.parts.progress progress (seconds.Known leg) →
-    Keeps ledger (with_first w leg (held_as ledger held progress))
-next_keeps_as w number ledger held within p leg progress is = λ rules done all s.
-    subst (λ (ps : List Progress). Stands rules done all (with_first w leg (held_as ledger held ps))) (sym is.0)
-    (next_keeps w number ledger held within p leg is.1 is.2 rules done all s)
+pub next_keeps_as : (w number : ℕ) (state : DispatchState) (held : List (List Held)) → w < length state.parts.held →
+    Popped w (Place number) state.parts.held held → (leg : Leg) (progress : List Progress) →
+    IsSecond number state.parts.progress progress (seconds.Known leg) →
+    Keeps state (with_first w leg (held_as state held progress))
+next_keeps_as w number state held within p leg progress is = λ rules done all s.
+    subst (λ (ps : List Progress). Stands rules done all (with_first w leg (held_as state held ps))) (sym is.0)
+    (next_keeps w number state held within p leg is.1 is.2 rules done all s)
 
 -- ONE INPUT MORE
 
@@ -587,7 +591,7 @@ from_inside Inside h = refl
 from_inside Outside h = cc
 
 module _ (rules : Rules) (distinct : Distinct rules.pool) (done rest : List Arrival) (input : Arrival) (number now : ℕ)
-    (long : length done ≡ number) (clock : max (last_clock 0 done) input.clock ≡ now) (ledger : Ledger) where
+    (long : length done ≡ number) (clock : max (last_clock 0 done) input.clock ≡ now) (state : DispatchState) where
   abbrev all_of : List Arrival
   all_of = (done ++ input ∷ []) ++ rest
 
@@ -601,13 +605,13 @@ module _ (rules : Rules) (distinct : Distinct rules.pool) (done rest : List Arri
   at_place v = slice_index rules.pool v
 
   -- the same but for what is held, with the legs of one input more
-  grown_stands : (held : List (List Held)) → length held ≡ length ledger.parts.held →
+  grown_stands : (held : List (List Held)) → length held ≡ length state.parts.held →
       ((v : ℕ) → v < length rules.pool → (more : List Leg) ×
-      (flat_map (resolved acts_all) (of_worker held v) ≡ flat_map (resolved acts_all) (of_worker ledger.parts.held v)
+      (flat_map (resolved acts_all) (of_worker held v) ≡ flat_map (resolved acts_all) (of_worker state.parts.held v)
       ++ more)
       × (legs_at (at_place v) (run rules now_done (opening rules)).acts
       ≡ legs_at (at_place v) (run rules done (opening rules)).acts ++ more)) →
-      Stands rules done all_of ledger → Stands rules now_done all_of (held_as ledger held ledger.parts.progress)
+      Stands rules done all_of state → Stands rules now_done all_of (held_as state held state.parts.progress)
   grown_stands held many more s = record {
     rest = rest;
     whole = refl;
@@ -617,20 +621,20 @@ module _ (rules : Rules) (distinct : Distinct rules.pool) (done rest : List Arri
     counts_are = s.counts_are;
     owes = s.owes;
     reaches = λ right.
-        let r : Reaches rules done all_of ledger = s.reaches right in
+        let r : Reaches rules done all_of state = s.reaches right in
         record {
           reached = λ v lt.
               let m = more v lt in
-              ap (λ (ls : List Leg). of_worker ledger.offered v ++ ls) m.1
-              ∙ (sym (append_assoc (of_worker ledger.offered v)
-              (flat_map (resolved acts_all) (of_worker ledger.parts.held v)) m.0)
+              ap (λ (ls : List Leg). of_worker state.offered v ++ ls) m.1
+              ∙ (sym (append_assoc (of_worker state.offered v)
+              (flat_map (resolved acts_all) (of_worker state.parts.held v)) m.0)
               ∙ (ap (λ (ls : List Leg). ls ++ m.0) (r.reached v lt) ∙ sym m.2));
           known = r.known;
         };
   }
 
-  pub refused_stands : (cause : Cause) → admission rules input ≡ Err cause → Stands rules done all_of ledger →
-      Stands rules now_done all_of (held_as ledger ledger.parts.held (slice_set ledger.parts.progress number
+  pub refused_stands : (cause : Cause) → admission rules input ≡ Err cause → Stands rules done all_of state →
+      Stands rules now_done all_of (held_as state state.parts.held (slice_set state.parts.progress number
       (EndedIn (outcomes.Dropped cause))))
   refused_stands cause is s =
       let before : Course = run rules done (opening rules) in
@@ -655,10 +659,10 @@ module _ (rules : Rules) (distinct : Distinct rules.pool) (done rest : List Arri
         counts_are = s.counts_are;
         owes = s.owes;
         reaches = λ right.
-            let r : Reaches rules done all_of ledger = s.reaches right in
+            let r : Reaches rules done all_of state = s.reaches right in
             record {
               reached = λ v lt. r.reached v lt ∙ ap (legs_at (at_place v)) (sym acts);
-              known = known_set (run rules all_of (opening rules)) ledger.parts.progress number
+              known = known_set (run rules all_of (opening rules)) state.parts.progress number
                   (EndedIn (outcomes.Dropped cause)) there r.known;
             };
       }
@@ -670,15 +674,15 @@ module _ (rules : Rules) (distinct : Distinct rules.pool) (done rest : List Arri
     leg_of = record { number = number; now = now; way = way_from input.side; packet = packet }
 
     abbrev held_first : List (List Held)
-    held_first = pushed w (Ready leg_of) ledger.parts.held
+    held_first = pushed w (Ready leg_of) state.parts.held
 
-    held_within : Stands rules done all_of ledger → w < length ledger.parts.held
+    held_within : Stands rules done all_of state → w < length state.parts.held
     held_within s = subst (λ (n : ℕ). w < n) (sym s.sized.held) within
 
     -- its first leg alone
     pub alone_stands : (input.side ≡ Inside → place_of rules (destination packet).address ≡ None) →
-        Stands rules done all_of ledger → Stands rules now_done all_of (held_as ledger held_first ledger.parts.progress)
-    alone_stands none s = grown_stands held_first (length-set ledger.parts.held w (of_worker ledger.parts.held w
+        Stands rules done all_of state → Stands rules now_done all_of (held_as state held_first state.parts.progress)
+    alone_stands none s = grown_stands held_first (length-set state.parts.held w (of_worker state.parts.held w
         ++ Ready leg_of ∷ []))
         (λ v lt.
         let before : Course = run rules done (opening rules) in
@@ -694,7 +698,7 @@ module _ (rules : Rules) (distinct : Distinct rules.pool) (done rest : List Arri
         acts_grow rules done rest input number now long clock packet admitted ∙ ap (λ (xs : List Act). before.acts
         ++ xs) (single_by rules at_w leg_of first first.end never) in (
           cond (v == w) (leg_of ∷ []) [],
-          push_reads (resolved acts_all) ledger.parts.held w (Ready leg_of) (held_within s) v,
+          push_reads (resolved acts_all) state.parts.held w (Ready leg_of) (held_within s) v,
           ap (legs_at (at_place v)) acts
               ∙ (legs_append (at_place v) before.acts (first_act rules at_w leg_of before.list ∷ [])
               ∙ ap (λ (ls : List Leg). legs_at (at_place v) before.acts ++ ls)
@@ -705,11 +709,11 @@ module _ (rules : Rules) (distinct : Distinct rules.pool) (done rest : List Arri
 
     -- with a place for the second
     pub placed_stands : (to : ℕ) → to < length rules.pool → at_place to ≡ (destination packet).address →
-        input.side ≡ Inside → Stands rules done all_of ledger →
-        Stands rules now_done all_of (held_as ledger (pushed to (Place number) held_first) ledger.parts.progress)
+        input.side ≡ Inside → Stands rules done all_of state →
+        Stands rules now_done all_of (held_as state (pushed to (Place number) held_first) state.parts.progress)
     placed_stands to to_within goes side s =
-        let long_first : length held_first ≡ length ledger.parts.held =
-        length-set ledger.parts.held w (of_worker ledger.parts.held w ++ Ready leg_of ∷ []) in
+        let long_first : length held_first ≡ length state.parts.held =
+        length-set state.parts.held w (of_worker state.parts.held w ++ Ready leg_of ∷ []) in
         grown_stands (pushed to (Place number) held_first) (length-set held_first to (of_worker held_first to
         ++ Place number ∷ []) ∙ long_first)
         (λ v lt.
@@ -722,8 +726,8 @@ module _ (rules : Rules) (distinct : Distinct rules.pool) (done rest : List Arri
         subst (λ (n : ℕ). to < n) (sym (long_first ∙ s.sized.held)) to_within in (
           one ++ two,
           push_reads f held_first to (Place number) to_held v
-              ∙ (ap (λ (ls : List Leg). ls ++ two) (push_reads f ledger.parts.held w (Ready leg_of) (held_within s) v)
-              ∙ append_assoc (flat_map f (of_worker ledger.parts.held v)) one two),
+              ∙ (ap (λ (ls : List Leg). ls ++ two) (push_reads f state.parts.held w (Ready leg_of) (held_within s) v)
+              ∙ append_assoc (flat_map f (of_worker state.parts.held v)) one two),
           place_stands rules done rest input number now long clock packet admitted foretold is (ap way_from side)
               (at_place v)
               ∙ ap (λ (ls : List Leg). legs_at (at_place v) before.acts ++ ls)
@@ -798,15 +802,15 @@ awaited_known : (course : Course) (n i : ℕ) (p : Progress) → slice_get (repl
     IsKnown course i p
 awaited_known course n i p h = subst (IsKnown course i) (awaited_is n i p h) tt
 
-pub begin_stands : (rules : Rules) (inputs : List Arrival) (ledger : Ledger) (n : ℕ) →
-    IsSized (length rules.pool) ledger.parts → ledger.offered ≡ replicate (length rules.pool) [] → ledger.taken
+pub begin_stands : (rules : Rules) (inputs : List Arrival) (state : DispatchState) (n : ℕ) →
+    IsSized (length rules.pool) state.parts → state.offered ≡ replicate (length rules.pool) [] → state.taken
     ≡ replicate (length rules.pool) [] →
-    ledger.parts.counts ≡ replicate (length rules.pool) 0 → IsDone ledger.parts → ledger.parts.progress
-    ≡ replicate n Awaited → Stands rules [] inputs ledger
-begin_stands rules inputs ledger n sized offered taken counts idle progress =
-    let none : (v : ℕ) → of_worker ledger.offered v ≡ [] = λ v. ap (λ (l : List (List Leg)). of_worker l v) offered
+    state.parts.counts ≡ replicate (length rules.pool) 0 → IsDone state.parts → state.parts.progress
+    ≡ replicate n Awaited → Stands rules [] inputs state
+begin_stands rules inputs state n sized offered taken counts idle progress =
+    let none : (v : ℕ) → of_worker state.offered v ≡ [] = λ v. ap (λ (l : List (List Leg)). of_worker l v) offered
     ∙ of_replicate Leg (length rules.pool) v in
-    let no_answers : (v : ℕ) → of_worker ledger.taken v ≡ [] = λ v. ap (λ (l : List (List Answer)). of_worker l v) taken
+    let no_answers : (v : ℕ) → of_worker state.taken v ≡ [] = λ v. ap (λ (l : List (List Answer)). of_worker l v) taken
     ∙ of_replicate Answer (length rules.pool) v in
     record {
       rest = inputs;
@@ -825,7 +829,7 @@ begin_stands rules inputs ledger n sized offered taken counts idle progress =
       };
       reaches = λ right. record {
         reached = λ v lt. ap (λ (ls : List Leg). ls ++ flat_map (resolved (run rules inputs (opening rules)).acts)
-            (of_worker ledger.parts.held v)) (none v) ∙ ap (flat_map (resolved (run rules inputs (opening rules)).acts))
+            (of_worker state.parts.held v)) (none v) ∙ ap (flat_map (resolved (run rules inputs (opening rules)).acts))
             (idle.held v);
         known = λ i p h. awaited_known (run rules inputs (opening rules)) n i p
             (ap (λ (ps : List Progress). slice_get ps i) (sym progress) ∙ h);
@@ -843,11 +847,11 @@ none_owed offered taken owed o none =
     omega arith
 
 -- all answers were taken
-pub all_taken : (rules : Rules) (done all : List Arrival) (ledger : Ledger) → Stands rules done all ledger →
-    IsDone ledger.parts → (v : ℕ) → v < length rules.pool → length (of_worker ledger.taken v)
-    ≡ length (of_worker ledger.offered v)
-all_taken rules done all ledger s idle v lt = none_owed (of_worker ledger.offered v) (of_worker ledger.taken v)
-    (of_worker ledger.parts.owed v) (s.owes v lt) (idle.owed v)
+pub all_taken : (rules : Rules) (done all : List Arrival) (state : DispatchState) → Stands rules done all state →
+    IsDone state.parts → (v : ℕ) → v < length rules.pool → length (of_worker state.taken v)
+    ≡ length (of_worker state.offered v)
+all_taken rules done all state s idle v lt = none_owed (of_worker state.offered v) (of_worker state.taken v)
+    (of_worker state.parts.owed v) (s.owes v lt) (idle.owed v)
 
 get_map : (ps : List Progress) (i : ℕ) (o : Outcome) → slice_get (map outcome_in ps) i ≡ Some (Some o) → (p : Progress)
     × (slice_get ps i ≡ Some p) × (outcome_in p ≡ Some o)
@@ -862,29 +866,29 @@ known_outcome course i (Onward now packet) o is known = cc
 known_outcome course i (EndedOut outcome) o is known = known.0 ∙ is
 known_outcome course i (EndedIn outcome) o is known = known ∙ is
 
-pub dispatched : (rules : Rules) (inputs : List Arrival) (ledger : Ledger) (all : List Outcome) →
-    Stands rules inputs inputs ledger → IsDone ledger.parts → map outcome_in ledger.parts.progress ≡ map Some all →
-    length ledger.parts.progress ≡ length inputs →
-    Right rules ledger.offered ledger.taken → IsDispatched rules inputs ledger.offered all ledger.parts.counts
-dispatched rules inputs ledger all s idle found long right =
+pub dispatched : (rules : Rules) (inputs : List Arrival) (state : DispatchState) (all : List Outcome) →
+    Stands rules inputs inputs state → IsDone state.parts → map outcome_in state.parts.progress ≡ map Some all →
+    length state.parts.progress ≡ length inputs →
+    Right rules state.offered state.taken → IsDispatched rules inputs state.offered all state.parts.counts
+dispatched rules inputs state all s idle found long right =
     let course : Course = run rules inputs (opening rules) in
-    let r : Reaches rules inputs inputs ledger = s.reaches right in
-    let reached : (w : ℕ) → w < length rules.pool → of_worker ledger.offered w
+    let r : Reaches rules inputs inputs state = s.reaches right in
+    let reached : (w : ℕ) → w < length rules.pool → of_worker state.offered w
     ≡ legs_at (slice_index rules.pool w) course.acts = λ w lt.
-    sym (append-nil (of_worker ledger.offered w))
-    ∙ (ap (λ (hs : List Held). of_worker ledger.offered w ++ flat_map (resolved course.acts) hs) (sym (idle.held w))
+    sym (append-nil (of_worker state.offered w))
+    ∙ (ap (λ (hs : List Held). of_worker state.offered w ++ flat_map (resolved course.acts) hs) (sym (idle.held w))
     ∙ r.reached w lt) in
-    let legs : ledger.offered ≡ map (λ (address : ℕ). legs_at address course.acts) rules.pool =
-    map_at (λ address. legs_at address course.acts) ledger.offered rules.pool s.offered_many reached in
+    let legs : state.offered ≡ map (λ (address : ℕ). legs_at address course.acts) rules.pool =
+    map_at (λ address. legs_at address course.acts) state.offered rules.pool s.offered_many reached in
     let known : (i : ℕ) (o : Outcome) → slice_get (map (λ (x : Outcome). let s : Option Outcome = Some x in s) all) i
     ≡ Some (Some o) → slice_get course.outcomes i ≡ Some o = λ i o h.
-    let p = get_map ledger.parts.progress i o (ap (λ (os : List (Option Outcome)). slice_get os i) found ∙ h) in
+    let p = get_map state.parts.progress i o (ap (λ (os : List (Option Outcome)). slice_get os i) found ∙ h) in
     known_outcome course i p.0 o p.2 (r.known i p.0 p.1) in
-    let one : length (map outcome_in ledger.parts.progress) ≡ length ledger.parts.progress =
-    length-map ledger.parts.progress outcome_in in
+    let one : length (map outcome_in state.parts.progress) ≡ length state.parts.progress =
+    length-map state.parts.progress outcome_in in
     let two : length (map (λ (x : Outcome). let s : Option Outcome = Some x in s) all) ≡ length all =
     length-map all Some in
-    let same : length (map outcome_in ledger.parts.progress)
+    let same : length (map outcome_in state.parts.progress)
     ≡ length (map (λ (x : Outcome). let s : Option Outcome = Some x in s) all) = ap length found in
     let run_long : length course.outcomes ≡ length inputs = outcomes_long rules 0 0 inputs (opening rules) in
     record {

@@ -3,7 +3,7 @@
 -- For each worker: what it was offered, followed by what is held for it, are its legs of the run over the inputs that
 -- were read. A place among what is held stands for a second leg (RFC 4787, REQ-9) that the answer of the first will
 -- tell. That the answers are right is a premise until the workers are joined, which then tells it.
-use Rattle.std.specs.Prelude.{◌≡◌, ℕ, ◌<◌, max, List, [], ◌∷◌, ◌++◌, map, flat_map, length, slice_index, slice_set, slice_get, Option, Some, None}
+use Rattle.std.specs.Prelude.{◌≡◌, ℕ, ◌<◌, max, Bool, List, [], ◌∷◌, ◌++◌, map, flat_map, length, slice_index, slice_set, slice_get, Option, Some, None, Result, MatchResult}
 use Rattle.napt_wire.specs.declared.Way.{Way}
 use Rattle.napt_wire.specs.declared.Way.TheVariants.{Outgoing, Incoming}
 use Rattle.napt_config.specs.Rules.{Rules}
@@ -13,7 +13,8 @@ use Rattle.napt_translate.specs.declared.translator.Answer.{Answer}
 use Rattle.napt_translate.specs.declared.translator.End.{End}
 use Rattle.napt_translate.specs.declared.translator.End.TheVariants as ends
 use Rattle.napt_pool.specs.declared.pool.Pool.{Pool}
-use Rattle.napt_pool.specs.Pools.{accepts, takes}
+use Rattle.napt_pool.specs.Pools.{starts, accepts, takes}
+use Rattle.napt_sequential.specs.declared.fault.RunFault.{RunFault}
 use Rattle.napt_sequential.specs.declared.outcome.Outcome.{Outcome}
 use Rattle.napt_sequential.specs.declared.outcome.Outcome.TheVariants as outcomes
 use Rattle.napt_dispatch.specs.declared.dispatcher.Dispatcher.{Dispatcher}
@@ -28,7 +29,7 @@ use Rattle.napt_dispatch.specs.declared.dispatcher.progress.Second.{Second}
 use Rattle.napt_dispatch.specs.declared.dispatcher.progress.Second.TheVariants as seconds
 use Rattle.napt_sequential.specs.Inputs.{Arrival}
 use Rattle.napt_sequential.specs.Sequential.{Act, Course, run, last_clock, legs_at}
-use Rattle.napt_dispatch.specs.Dispatch.{of_worker, Right}
+use Rattle.napt_dispatch.specs.Dispatch.{of_worker, IsFaultUnder, Right}
 use Rattle.napt_sequential.specs.Places.{second_legs}
 
 -- LISTS OF WORKERS
@@ -66,13 +67,13 @@ parts_of d = record {
 }
 
 -- with what each worker was offered, and what was taken of each
-pub record Ledger : Type 0 where
+pub record DispatchState : Type 0 where
   pub offered : List (List Leg)
   pub taken : List (List Answer)
   pub parts : Parts
 
-abbrev pub ledger_of : {M G : Type 0} → Pool M G Leg Answer → Dispatcher → Ledger
-ledger_of pool d = record { offered = accepts pool; taken = takes pool; parts = parts_of d }
+abbrev pub state_of : {M G : Type 0} → Pool M G Leg Answer → Dispatcher → DispatchState
+state_of pool d = record { offered = accepts pool; taken = takes pool; parts = parts_of d }
 
 -- a list for each of so many workers
 pub record IsSized (count : ℕ) (parts : Parts) : Type 0 where
@@ -110,29 +111,29 @@ IsKnown course number (EndedOut outcome) = (slice_get course.outcomes number ≡
 IsKnown course number (EndedIn outcome) = slice_get course.outcomes number ≡ Some outcome
 
 -- where the answers are right
-pub record Reaches (rules : Rules) (done all : List Arrival) (ledger : Ledger) : Type 0 where
+pub record Reaches (rules : Rules) (done all : List Arrival) (state : DispatchState) : Type 0 where
   pub reached : (w : ℕ) → w < length rules.pool →
-      of_worker ledger.offered w ++ flat_map (resolved (run rules all (opening rules)).acts)
-      (of_worker ledger.parts.held w)
+      of_worker state.offered w ++ flat_map (resolved (run rules all (opening rules)).acts)
+      (of_worker state.parts.held w)
       ≡ legs_at (slice_index rules.pool w) (run rules done (opening rules)).acts
-  pub known : (i : ℕ) (p : Progress) → slice_get ledger.parts.progress i ≡ Some p →
+  pub known : (i : ℕ) (p : Progress) → slice_get state.parts.progress i ≡ Some p →
       IsKnown (run rules all (opening rules)) i p
 
 -- after the first inputs of all
-pub record Stands (rules : Rules) (done all : List Arrival) (ledger : Ledger) : Type 0 where
+pub record Stands (rules : Rules) (done all : List Arrival) (state : DispatchState) : Type 0 where
   pub rest : List Arrival
   pub whole : done ++ rest ≡ all
-  pub sized : IsSized (length rules.pool) ledger.parts
-  pub offered_many : length ledger.offered ≡ length rules.pool
-  pub taken_many : length ledger.taken ≡ length rules.pool
-  pub counts_are : ledger.parts.counts ≡ map length ledger.offered
-  pub owes : (w : ℕ) → w < length rules.pool → IsOwed (of_worker ledger.offered w) (of_worker ledger.taken w)
-      (of_worker ledger.parts.owed w)
-  pub reaches : Right rules ledger.offered ledger.taken → Reaches rules done all ledger
+  pub sized : IsSized (length rules.pool) state.parts
+  pub offered_many : length state.offered ≡ length rules.pool
+  pub taken_many : length state.taken ≡ length rules.pool
+  pub counts_are : state.parts.counts ≡ map length state.offered
+  pub owes : (w : ℕ) → w < length rules.pool → IsOwed (of_worker state.offered w) (of_worker state.taken w)
+      (of_worker state.parts.owed w)
+  pub reaches : Right rules state.offered state.taken → Reaches rules done all state
 
 -- what stood still stands, with no input more
-abbrev pub Keeps : Ledger → Ledger → Type 0
-Keeps ledger later = (rules : Rules) (done all : List Arrival) → Stands rules done all ledger →
+abbrev pub Keeps : DispatchState → DispatchState → Type 0
+Keeps state later = (rules : Rules) (done all : List Arrival) → Stands rules done all state →
     Stands rules done all later
 
 -- whatever the workers were offered and answered
@@ -145,6 +146,26 @@ KeepsParts parts later =
       parts = later;
     })
 
+-- OVER A POOL
+
+-- a dispatcher has a list for each worker of its pool
+abbrev pub IsSizedFor : {M G : Type 0} → Pool M G Leg Answer → Dispatcher → Type 0
+IsSizedFor pool d = IsSized (length (starts pool)) (parts_of d)
+
+-- the pool has the same workers, and what stood of it and of its dispatcher still stands
+pub record Continues {M G : Type 0} (pool : Pool M G Leg Answer) (d : Dispatcher) (later_pool : Pool M G Leg Answer)
+    (later : Dispatcher) : Type 0 where
+  pub starts_stay : starts later_pool ≡ starts pool
+  pub sized : IsSizedFor later_pool later
+  pub keeps : Keeps (state_of pool d) (state_of later_pool later)
+
+-- so it is after an answer; with a fault the workers are the same, and it is one of a run that has begun
+abbrev pub ContinuesUnlessFault : {M G X : Type 0} → Bool → Pool M G Leg Answer → Dispatcher → Pool M G Leg Answer →
+    Dispatcher → Result X RunFault → Type 0
+ContinuesUnlessFault open_gate pool d later_pool later result =
+    MatchResult result (λ done. Continues pool d later_pool later)
+    (λ fault. (starts later_pool ≡ starts pool) × IsFaultUnder open_gate fault)
+
 -- STEPS
 
 abbrev pub with_held : List (List Held) → Parts → Parts
@@ -154,8 +175,8 @@ abbrev pub with_progress : List Progress → Parts → Parts
 with_progress progress parts = record parts { progress = progress }
 
 -- the leg is first of what is held for the worker
-abbrev pub with_first : ℕ → Leg → Ledger → Ledger
-with_first w leg ledger = record ledger { parts = with_held (put_first w (Ready leg) ledger.parts.held) ledger.parts }
+abbrev pub with_first : ℕ → Leg → DispatchState → DispatchState
+with_first w leg state = record state { parts = with_held (put_first w (Ready leg) state.parts.held) state.parts }
 
 abbrev pub ended : Way → Outcome → Progress
 ended Outgoing outcome = EndedOut outcome
@@ -208,12 +229,6 @@ Admits rules number now input parts later =
       parts =
           later;
     })
-
-abbrev pub AdmitsIn : Rules → ℕ → ℕ → Arrival → Ledger → Ledger → Type 0
-AdmitsIn rules number now input ledger later =
-    (done rest : List Arrival) → length done ≡ number → max (last_clock 0 done) input.clock ≡ now →
-    Stands rules done ((done ++ input ∷ []) ++ rest) ledger → Stands rules (done ++ input ∷ []) ((done ++ input ∷ [])
-    ++ rest) later
 
 -- nothing is held and nothing owed
 pub record IsDone (parts : Parts) : Type 0 where

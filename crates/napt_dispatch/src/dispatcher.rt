@@ -13,12 +13,13 @@ ghost use Rattle.napt_translate.specs.Sides.{way_from, served_at};
 ghost use Rattle.napt_pool.specs.Pools.{starts, accepts, takes, zip_with};
 ghost use Rattle.napt_pool.specs.Histories.{replies};
 ghost use Rattle.napt_dispatch.specs.declared.dispatcher.held.Held.TheVariants.{Ready, Place};
-ghost use Rattle.napt_dispatch.specs.declared.dispatcher.progress.Progress.TheVariants.{Awaited as AwaitedInput};
+ghost use Rattle.napt_dispatch.specs.declared.dispatcher.progress.Progress.TheVariants.{Awaited as AwaitedInput, EndedIn};
+ghost use Rattle.napt_sequential.specs.declared.outcome.Outcome.TheVariants.{Dropped};
 ghost use Rattle.napt_sequential.specs.Inputs.{Arrival};
 ghost use Rattle.napt_sequential.specs.Sequential.{last_clock};
 ghost use Rattle.napt_dispatch.specs.Dispatch.{started, of_worker, IsFaultUnder, IsDispatched};
 ghost use Rattle.napt_sequential.specs.Admission.{admission_as};
-ghost use Rattle.napt_dispatch.specs.Standing.{pushed, parts_of, ledger_of, IsSized, Stands, Keeps, with_held, put_first, with_first, Noted, IsFirst, Admits, AdmitsIn, IsDone};
+ghost use Rattle.napt_dispatch.specs.Standing.{pushed, parts_of, state_of, IsSized, Stands, Keeps, IsSizedFor, ContinuesUnlessFault, with_held, with_progress, put_first, with_first, Noted, IsFirst, Admits, IsDone};
 
 mod held;
 mod progress;
@@ -33,8 +34,8 @@ use napt_sequential::{Input, Outcome, RunFault, places_stand_for_legs, right_ans
 use napt_translate::{Answer, Leg, onward, route};
 use napt_wire::{Cause, Packet, Side};
 use progress::{
-    Progress, STRANGER, Second, Stranger, all_awaited, all_known, is_unknown, second_leg, told_by,
-    write,
+    IMPOSSIBLE_ANSWER, ImpossibleAnswer, Progress, Second, all_awaited, all_known, is_unknown,
+    second_leg, told_by, write,
 };
 use queues::{are_empty, empty, first_of, len_at, pop_front, push_back, push_front};
 use std::alloc::{AllocError, Global};
@@ -45,7 +46,7 @@ use std::sync::Wait;
 const MOST_HELD: u64 = 65_536;
 
 /// After so many inputs the answers of one worker are looked at, of each in its turn. Each look may fetch what another
-/// processor wrote, so fewer looks cost less; a ring has room for as many legs as are served between two looks.
+/// processor wrote, so fewer looks cost less.
 const LOOK_EACH: usize = 4;
 
 /// What stands first for a worker.
@@ -165,7 +166,7 @@ impl Dispatcher {
     }
 
     /// Counts a leg that was offered to worker `w`. A count is at most `u64::MAX`.
-    fn count_offer(&mut self, w: u32) -> Result<(), Stranger>
+    fn count_offer(&mut self, w: u32) -> Result<(), ImpossibleAnswer>
         requires { w < length self.old.offered.items }
         ensures { OnOk result (parts_of self.new ≡ record (parts_of self.old) {
           counts =
@@ -173,17 +174,17 @@ impl Dispatcher {
         }) }
     {
         let count = &mut self.offered[w as usize];
-        *count = count.checked_add(1).ok_or(Stranger)?;
+        *count = count.checked_add(1).ok_or(ImpossibleAnswer)?;
         Ok(())
     }
 
     /// Notes an answer that was taken of worker `w`.
-    fn note(&mut self, w: u32, answer: Answer) -> Result<(), Stranger>
+    fn note(&mut self, w: u32, answer: Answer) -> Result<(), ImpossibleAnswer>
         requires { w < length (parts_of self.old).owed }
         ensures { OnOk result (Noted w answer (parts_of self.old) (parts_of self.new)) }
     {
         let Some(owed) = pop_front(&mut self.owed, w) else {
-            return Err(Stranger);
+            return Err(ImpossibleAnswer);
         };
         let Answer { number, end } = answer;
         let progress = told_by(owed, end)?;
@@ -210,11 +211,11 @@ impl Dispatcher {
         leg: Leg,
     ) -> Result<bool, RunFault>
         requires place { w < length (starts pool.old) }
-        requires sized { IsSized (length (starts pool.old)) (parts_of self.old) }
+        requires sized { IsSizedFor pool.old self.old }
         ensures starts { starts pool.new ≡ starts pool.old }
-        ensures sized { OnOk result (IsSized (length (starts pool.new)) (parts_of self.new)) }
-        ensures keeps { OnOk result (Keeps (with_first w leg (ledger_of pool.old self.old))
-            (ledger_of pool.new self.new)) }
+        ensures sized { OnOk result (IsSizedFor pool.new self.new) }
+        ensures keeps { OnOk result (Keeps (with_first w leg (state_of pool.old self.old))
+            (state_of pool.new self.new)) }
         ensures fault { IfErr result (IsFaultUnder G.is_open) }
     {
         let owed = Owed {
@@ -224,7 +225,7 @@ impl Dispatcher {
         match pool.offer(alloc, w, leg) {
             Ok(()) => {
                 let Ok(()) = self.count_offer(w) else {
-                    return Err(STRANGER);
+                    return Err(IMPOSSIBLE_ANSWER);
                 };
                 let Ok(()) = push_back(&mut self.owed, w, owed) else {
                     return Err(RunFault::Memory);
@@ -238,7 +239,7 @@ impl Dispatcher {
                 Ok(false)
             }
             Err(OfferRefused::Memory(_)) => Err(RunFault::Memory),
-            Err(OfferRefused::Ring(_)) => Err(STRANGER),
+            Err(OfferRefused::Ring(_)) => Err(IMPOSSIBLE_ANSWER),
         }
     }
 
@@ -250,12 +251,8 @@ impl Dispatcher {
         w: u32,
     ) -> Result<bool, RunFault>
         requires place { w < length (starts pool.old) }
-        requires sized { IsSized (length (starts pool.old)) (parts_of self.old) }
-        ensures starts { starts pool.new ≡ starts pool.old }
-        ensures sized { OnOk result (IsSized (length (starts pool.new)) (parts_of self.new)) }
-        ensures keeps { OnOk result (Keeps (ledger_of pool.old self.old)
-            (ledger_of pool.new self.new)) }
-        ensures fault { IfErr result (IsFaultUnder G.is_open) }
+        requires sized { IsSizedFor pool.old self.old }
+        ensures { ContinuesUnlessFault G.is_open pool.old self.old pool.new self.new result }
     {
         if self.waits(w) {
             return Ok(false);
@@ -281,12 +278,8 @@ impl Dispatcher {
         w: u32,
     ) -> Result<(), RunFault>
         requires place { w < length (starts pool.old) }
-        requires sized { IsSized (length (starts pool.old)) (parts_of self.old) }
-        ensures starts { starts pool.new ≡ starts pool.old }
-        ensures sized { OnOk result (IsSized (length (starts pool.new)) (parts_of self.new)) }
-        ensures keeps { OnOk result (Keeps (ledger_of pool.old self.old)
-            (ledger_of pool.new self.new)) }
-        ensures fault { IfErr result (IsFaultUnder G.is_open) }
+        requires sized { IsSizedFor pool.old self.old }
+        ensures { ContinuesUnlessFault G.is_open pool.old self.old pool.new self.new result }
     {
         let many = len_at(&self.held, w);
         for _ in 0..many {
@@ -305,12 +298,8 @@ impl Dispatcher {
         count: u32,
     ) -> Result<(), RunFault>
         requires count { count ≤ length (starts pool.old) }
-        requires sized { IsSized (length (starts pool.old)) (parts_of self.old) }
-        ensures starts { starts pool.new ≡ starts pool.old }
-        ensures sized { OnOk result (IsSized (length (starts pool.new)) (parts_of self.new)) }
-        ensures keeps { OnOk result (Keeps (ledger_of pool.old self.old)
-            (ledger_of pool.new self.new)) }
-        ensures fault { IfErr result (IsFaultUnder G.is_open) }
+        requires sized { IsSizedFor pool.old self.old }
+        ensures { ContinuesUnlessFault G.is_open pool.old self.old pool.new self.new result }
     {
         for w in 0..count {
             self.offer_held(alloc, pool, w)?;
@@ -330,17 +319,13 @@ impl Dispatcher {
         w: u32,
     ) -> Result<bool, RunFault>
         requires place { w < length (starts pool.old) }
-        requires sized { IsSized (length (starts pool.old)) (parts_of self.old) }
-        ensures starts { starts pool.new ≡ starts pool.old }
-        ensures sized { OnOk result (IsSized (length (starts pool.new)) (parts_of self.new)) }
-        ensures keeps { OnOk result (Keeps (ledger_of pool.old self.old)
-            (ledger_of pool.new self.new)) }
-        ensures fault { IfErr result (IsFaultUnder G.is_open) }
+        requires sized { IsSizedFor pool.old self.old }
+        ensures { ContinuesUnlessFault G.is_open pool.old self.old pool.new self.new result }
     {
         match pool.take(rt, alloc, w) {
             Ok(Some(answer)) => {
                 let Ok(()) = self.note(w, answer) else {
-                    return Err(STRANGER);
+                    return Err(IMPOSSIBLE_ANSWER);
                 };
                 Ok(true)
             }
@@ -358,12 +343,8 @@ impl Dispatcher {
         w: u32,
     ) -> Result<bool, RunFault>
         requires place { w < length (starts pool.old) }
-        requires sized { IsSized (length (starts pool.old)) (parts_of self.old) }
-        ensures starts { starts pool.new ≡ starts pool.old }
-        ensures sized { OnOk result (IsSized (length (starts pool.new)) (parts_of self.new)) }
-        ensures keeps { OnOk result (Keeps (ledger_of pool.old self.old)
-            (ledger_of pool.new self.new)) }
-        ensures fault { IfErr result (IsFaultUnder G.is_open) }
+        requires sized { IsSizedFor pool.old self.old }
+        ensures { ContinuesUnlessFault G.is_open pool.old self.old pool.new self.new result }
     {
         let many = len_at(&self.owed, w);
         let mut any = false;
@@ -385,12 +366,8 @@ impl Dispatcher {
         count: u32,
     ) -> Result<bool, RunFault>
         requires count { count ≤ length (starts pool.old) }
-        requires sized { IsSized (length (starts pool.old)) (parts_of self.old) }
-        ensures starts { starts pool.new ≡ starts pool.old }
-        ensures sized { OnOk result (IsSized (length (starts pool.new)) (parts_of self.new)) }
-        ensures keeps { OnOk result (Keeps (ledger_of pool.old self.old)
-            (ledger_of pool.new self.new)) }
-        ensures fault { IfErr result (IsFaultUnder G.is_open) }
+        requires sized { IsSizedFor pool.old self.old }
+        ensures { ContinuesUnlessFault G.is_open pool.old self.old pool.new self.new result }
     {
         let mut any = false;
         for w in 0..count {
@@ -400,7 +377,7 @@ impl Dispatcher {
         Ok(any)
     }
 
-    /// Takes what answers there are of all workers, once there is one. Where none owes any, the rings are not honest.
+    /// Takes what answers there are of all workers, once there is one. Where none owes any, none can come.
     fn take_some<R: Wait, G: Gate>(
         &mut self,
         rt: &R,
@@ -409,15 +386,11 @@ impl Dispatcher {
         count: u32,
     ) -> Result<(), RunFault>
         requires count { count ≤ length (starts pool.old) }
-        requires sized { IsSized (length (starts pool.old)) (parts_of self.old) }
-        ensures starts { starts pool.new ≡ starts pool.old }
-        ensures sized { OnOk result (IsSized (length (starts pool.new)) (parts_of self.new)) }
-        ensures keeps { OnOk result (Keeps (ledger_of pool.old self.old)
-            (ledger_of pool.new self.new)) }
-        ensures fault { IfErr result (IsFaultUnder G.is_open) }
+        requires sized { IsSizedFor pool.old self.old }
+        ensures { ContinuesUnlessFault G.is_open pool.old self.old pool.new self.new result }
     {
         if are_empty(&self.owed) {
-            return Err(STRANGER);
+            return Err(IMPOSSIBLE_ANSWER);
         }
         let mut backoff = Backoff::new();
         for _ in rt.forever() {
@@ -438,12 +411,8 @@ impl Dispatcher {
         count: u32,
     ) -> Result<(), RunFault>
         requires count { count ≤ length (starts pool.old) }
-        requires sized { IsSized (length (starts pool.old)) (parts_of self.old) }
-        ensures starts { starts pool.new ≡ starts pool.old }
-        ensures sized { OnOk result (IsSized (length (starts pool.new)) (parts_of self.new)) }
-        ensures keeps { OnOk result (Keeps (ledger_of pool.old self.old)
-            (ledger_of pool.new self.new)) }
-        ensures fault { IfErr result (IsFaultUnder G.is_open) }
+        requires sized { IsSizedFor pool.old self.old }
+        ensures { ContinuesUnlessFault G.is_open pool.old self.old pool.new self.new result }
     {
         self.take_some(rt, alloc, pool, count)?;
         self.offer_all(alloc, pool, count)?;
@@ -459,12 +428,8 @@ impl Dispatcher {
         count: u32,
     ) -> Result<(), RunFault>
         requires count { count ≤ length (starts pool.old) }
-        requires sized { IsSized (length (starts pool.old)) (parts_of self.old) }
-        ensures starts { starts pool.new ≡ starts pool.old }
-        ensures sized { OnOk result (IsSized (length (starts pool.new)) (parts_of self.new)) }
-        ensures keeps { OnOk result (Keeps (ledger_of pool.old self.old)
-            (ledger_of pool.new self.new)) }
-        ensures fault { IfErr result (IsFaultUnder G.is_open) }
+        requires sized { IsSizedFor pool.old self.old }
+        ensures { ContinuesUnlessFault G.is_open pool.old self.old pool.new self.new result }
     {
         for _ in rt.forever() {
             if self.many_held < MOST_HELD - 1 {
@@ -484,13 +449,9 @@ impl Dispatcher {
         count: u32,
     ) -> Result<(), RunFault>
         requires count { count ≤ length (starts pool.old) }
-        requires sized { IsSized (length (starts pool.old)) (parts_of self.old) }
-        ensures starts { starts pool.new ≡ starts pool.old }
-        ensures sized { OnOk result (IsSized (length (starts pool.new)) (parts_of self.new)) }
-        ensures keeps { OnOk result (Keeps (ledger_of pool.old self.old)
-            (ledger_of pool.new self.new)) }
+        requires sized { IsSizedFor pool.old self.old }
+        ensures state { ContinuesUnlessFault G.is_open pool.old self.old pool.new self.new result }
         ensures done { OnOk result (IsDone (parts_of self.new)) }
-        ensures fault { IfErr result (IsFaultUnder G.is_open) }
     {
         for _ in rt.forever() {
             if self.is_done() {
@@ -512,12 +473,8 @@ impl Dispatcher {
     ) -> Result<(), RunFault>
         requires place { IfSome found (λ w. w < count) }
         requires count { count ≤ length (starts pool.old) }
-        requires sized { IsSized (length (starts pool.old)) (parts_of self.old) }
-        ensures starts { starts pool.new ≡ starts pool.old }
-        ensures sized { OnOk result (IsSized (length (starts pool.new)) (parts_of self.new)) }
-        ensures keeps { OnOk result (Keeps (ledger_of pool.old self.old)
-            (ledger_of pool.new self.new)) }
-        ensures fault { IfErr result (IsFaultUnder G.is_open) }
+        requires sized { IsSizedFor pool.old self.old }
+        ensures { ContinuesUnlessFault G.is_open pool.old self.old pool.new self.new result }
     {
         match found {
             None => Ok(()),
@@ -552,6 +509,17 @@ impl Dispatcher {
         }
     }
 
+    /// Notes that the input of a number is dropped before any leg.
+    fn note_dropped(&mut self, number: u64, cause: Cause) -> Result<(), ImpossibleAnswer>
+        ensures { OnOk result (parts_of self.new ≡ with_progress
+            (slice_set (parts_of self.old).progress number (EndedIn (Dropped cause)))
+            (parts_of self.old)) }
+    {
+        let dropped = Progress::EndedIn(Outcome::Dropped(cause));
+        write(&mut self.progress, number, dropped)?;
+        Ok(())
+    }
+
     /// Reads an input of a number, at a time in ns, and tells the worker of its first leg.
     fn admit(
         &mut self,
@@ -571,7 +539,7 @@ impl Dispatcher {
         right_answers();
         places_stand_for_legs();
         let side = input.side;
-        match judge(config, side, input.bytes) {
+        match read_and_route(config, side, input.bytes) {
             Ok((place, packet)) => {
                 let to = second_place(config, side, &packet);
                 let leg = Leg {
@@ -585,13 +553,10 @@ impl Dispatcher {
                     Err(_) => Err(RunFault::Memory),
                 }
             }
-            Err(cause) => {
-                let dropped = Progress::EndedIn(Outcome::Dropped(cause));
-                match write(&mut self.progress, number, dropped) {
-                    Ok(()) => Ok(None),
-                    Err(_) => Err(STRANGER),
-                }
-            }
+            Err(cause) => match self.note_dropped(number, cause) {
+                Ok(()) => Ok(None),
+                Err(_) => Err(IMPOSSIBLE_ANSWER),
+            },
         }
     }
 
@@ -603,12 +568,8 @@ impl Dispatcher {
         found: Option<u32>,
     ) -> Result<(), RunFault>
         requires place { IfSome found (λ w. w < length (starts pool.old)) }
-        requires sized { IsSized (length (starts pool.old)) (parts_of self.old) }
-        ensures starts { starts pool.new ≡ starts pool.old }
-        ensures sized { OnOk result (IsSized (length (starts pool.new)) (parts_of self.new)) }
-        ensures keeps { OnOk result (Keeps (ledger_of pool.old self.old)
-            (ledger_of pool.new self.new)) }
-        ensures fault { IfErr result (IsFaultUnder G.is_open) }
+        requires sized { IsSizedFor pool.old self.old }
+        ensures { ContinuesUnlessFault G.is_open pool.old self.old pool.new self.new result }
     {
         match found {
             None => Ok(()),
@@ -616,8 +577,8 @@ impl Dispatcher {
         }
     }
 
-    /// Serves all inputs, in their order; their bytes move. Between them the answers of one worker after the other are taken.
-    fn serve_all<R: Wait, G: Gate>(
+    /// Dispatches all inputs, in their order; their bytes move. Between them the answers of one worker after the other are taken.
+    fn dispatch_all<R: Wait, G: Gate>(
         &mut self,
         rt: &R,
         alloc: Global,
@@ -627,12 +588,12 @@ impl Dispatcher {
     ) -> Result<(), RunFault>
         requires keeps { KeepsRules config.now }
         requires count { length (starts pool.old) ≡ length config.now.pool }
-        requires sized { IsSized (length (starts pool.old)) (parts_of self.old) }
+        requires sized { IsSizedFor pool.old self.old }
         ensures starts { starts pool.new ≡ starts pool.old }
-        ensures sized { OnOk result (IsSized (length (starts pool.new)) (parts_of self.new)) }
+        ensures sized { OnOk result (IsSizedFor pool.new self.new) }
         ensures served { OnOk result (Stands config.now [] inputs.items
-            (ledger_of pool.old self.old) →
-            Stands config.now inputs.items inputs.items (ledger_of pool.new self.new)) }
+            (state_of pool.old self.old) →
+            Stands config.now inputs.items inputs.items (state_of pool.new self.new)) }
         ensures fault { IfErr result (IsFaultUnder G.is_open) }
     {
         let count = config.pool().len();
@@ -641,7 +602,7 @@ impl Dispatcher {
         let mut inputs = VecDeque::from(inputs);
         for number in 0..many {
             let Some(input) = inputs.pop_front() else {
-                return Err(STRANGER);
+                return Err(IMPOSSIBLE_ANSWER);
             };
             clock = input.clock.max(clock);
             self.make_room(rt, alloc, pool, count as u32)?;
@@ -681,7 +642,7 @@ fn second_place(config: &Config, side: Side, packet: &Packet) -> Option<u32>
 }
 
 /// The packet that an input from a side is and the place in the pool where it is served, or why it is dropped.
-fn judge(config: &Config, side: Side, bytes: Vec<u8>) -> Result<(u32, Packet), Cause>
+fn read_and_route(config: &Config, side: Side, bytes: Vec<u8>) -> Result<(u32, Packet), Cause>
     requires keeps { KeepsRules config.now }
     ensures admitted { IfOk result (λ first.
         (admission_as config.now side (reading side bytes.items)
@@ -752,7 +713,7 @@ pub(crate) fn dispatch_owned<R: Wait, G: Gate>(
     let Ok(mut dispatcher) = Dispatcher::new(alloc, count, config.ring(), many) else {
         return Err(RunFault::Memory);
     };
-    dispatcher.serve_all(rt, alloc, pool, config, inputs)?;
+    dispatcher.dispatch_all(rt, alloc, pool, config, inputs)?;
     dispatcher.finish(rt, alloc, pool, count as u32)?;
     let Dispatcher {
         offered,
@@ -761,7 +722,7 @@ pub(crate) fn dispatch_owned<R: Wait, G: Gate>(
     } = dispatcher;
     match all_known(alloc, progress, many) {
         Ok(Some(outcomes)) => Ok((outcomes, offered)),
-        Ok(None) => Err(STRANGER),
+        Ok(None) => Err(IMPOSSIBLE_ANSWER),
         Err(_) => Err(RunFault::Memory),
     }
 }

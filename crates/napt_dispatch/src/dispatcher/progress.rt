@@ -32,12 +32,12 @@ pub(crate) enum Second {
     Known(Leg),
 }
 
-/// An answer, or a count of answers, that honest rings don't give.
+/// An answer, or a number of answers, that no worker gives.
 #[derive(Clone, Copy)]
-pub(crate) struct Stranger;
+pub(crate) struct ImpossibleAnswer;
 
-/// What a run tells of a stranger.
-pub(crate) const STRANGER: RunFault = RunFault::Pool(PoolFault::Ring);
+/// What a run tells of an impossible answer.
+pub(crate) const IMPOSSIBLE_ANSWER: RunFault = RunFault::Pool(PoolFault::Ring);
 
 fn ended(way: Way, outcome: Outcome) -> Progress
     ensures { result ≡ ended way outcome }
@@ -49,7 +49,7 @@ fn ended(way: Way, outcome: Outcome) -> Progress
 }
 
 /// What the end of a leg tells of its input. No leg on its way in goes onward.
-pub(crate) fn told_by(owed: Owed, end: End) -> Result<Progress, Stranger>
+pub(crate) fn told_by(owed: Owed, end: End) -> Result<Progress, ImpossibleAnswer>
     ensures { IfOk result (IsToldBy owed end) }
 {
     match end {
@@ -57,7 +57,7 @@ pub(crate) fn told_by(owed: Owed, end: End) -> Result<Progress, Stranger>
         End::ToInside(packet) => Ok(ended(owed.way, Outcome::ToInside(packet))),
         End::Onward(_, packet) => match owed.way {
             Way::Outgoing => Ok(Progress::Onward(owed.now, packet)),
-            Way::Incoming => Err(Stranger),
+            Way::Incoming => Err(ImpossibleAnswer),
         },
         End::Dropped(cause) => Ok(ended(owed.way, Outcome::Dropped(cause))),
     }
@@ -74,16 +74,16 @@ pub(crate) fn all_awaited(alloc: Global, inputs: usize) -> Result<Vec<Progress>,
     Ok(all)
 }
 
-/// Writes down what is known of an input. A number that no input has is a stranger's.
+/// Writes down what is known of an input. A number that no input has makes an impossible answer.
 pub(crate) fn write(
     all: &mut Vec<Progress>,
     number: u64,
     progress: Progress,
-) -> Result<(), Stranger>
+) -> Result<(), ImpossibleAnswer>
     ensures { OnOk result (all.new.items ≡ slice_set all.old.items number progress) }
 {
     if number >= all.len() as u64 {
-        return Err(Stranger);
+        return Err(ImpossibleAnswer);
     }
     all[number as usize] = progress;
     Ok(())

@@ -4,7 +4,7 @@ use Rattle.napt_pool.specs.Pools.{starts, accepts, takes}
 use Rattle.napt_sequential.specs.declared.outcome.Outcome.{Outcome}
 use Rattle.napt_sequential.specs.Inputs.{Arrival}
 use Rattle.napt_dispatch.specs.Dispatch.{started, Right}
-use Rattle.napt_dispatch.specs.Standing.{Ledger, ledger_of, parts_of, IsSized, Stands, outcome_in}
+use Rattle.napt_dispatch.specs.Standing.{DispatchState, state_of, parts_of, IsSized, Stands, outcome_in}
 use Rattle.napt_dispatch.specs.contracts.worker.WorkerMachine.TheImpl.{ghosts}
 use Rattle.napt_dispatch.proofs.Standing.{begin_stands, all_taken, dispatched}
 use Rattle.napt_dispatch.proofs.Ended.{same_lengths, right_since}
@@ -15,17 +15,17 @@ returns-in-Ok-Some-clause-settled g c =
     let config : Rules = c.args.config.now in
     let inputs : List Arrival = c.args.inputs.items in
     let pool : List ℕ = config.pool in
-    let later : Ledger = ledger_of c.finish.new.pool c.finish.new.self in
+    let later : DispatchState = state_of c.finish.new.pool c.finish.new.self in
     let sized : IsSized (length pool) (parts_of c.in-Ok.dispatcher) =
     subst (λ (n : ℕ). IsSized n (parts_of c.in-Ok.dispatcher)) (ap length c.pool-count.ensures.addresses)
     c.in-Ok.ensures.sized in
     let counts : c.in-Ok.dispatcher.offered.items ≡ replicate (length pool) 0 = c.in-Ok.ensures.counts
     ∙ ap (λ (p : List ℕ). replicate (length p) 0) c.pool-count.ensures.addresses in
-    let begun : Stands config [] inputs (ledger_of c.args.pool.now c.in-Ok.dispatcher) =
-    begin_stands config inputs (ledger_of c.args.pool.now c.in-Ok.dispatcher) c.len-many.result sized
+    let begun : Stands config [] inputs (state_of c.args.pool.now c.in-Ok.dispatcher) =
+    begin_stands config inputs (state_of c.args.pool.now c.in-Ok.dispatcher) c.len-many.result sized
     c.requires.unoffered c.requires.untaken counts c.in-Ok.ensures.idle c.in-Ok.ensures.progress in
-    let stands : Stands config inputs inputs later = c.in_ok-finish.ensures.keeps config inputs inputs
-    (c.in_ok-serve_all.ensures.served begun) in
+    let stands : Stands config inputs inputs later = c.in_ok-finish.ensures.state.keeps config inputs inputs
+    (c.in_ok-dispatch_all.ensures.served begun) in
     same_lengths (takes c.finish.new.pool) (accepts c.finish.new.pool) (stands.taken_many ∙ sym stands.offered_many)
     (λ v lt. all_taken config inputs inputs later stands c.in_ok-finish.ensures.done v
     (subst (λ (n : ℕ). v < n) stands.offered_many lt))
@@ -35,19 +35,19 @@ returns-in-Ok-Some-clause-run g c = λ right.
     let config : Rules = c.args.config.now in
     let inputs : List Arrival = c.args.inputs.items in
     let pool : List ℕ = config.pool in
-    let later : Ledger = ledger_of c.finish.new.pool c.finish.new.self in
+    let later : DispatchState = state_of c.finish.new.pool c.finish.new.self in
     let sized : IsSized (length pool) (parts_of c.in-Ok.dispatcher) =
     subst (λ (n : ℕ). IsSized n (parts_of c.in-Ok.dispatcher)) (ap length c.pool-count.ensures.addresses)
     c.in-Ok.ensures.sized in
     let counts : c.in-Ok.dispatcher.offered.items ≡ replicate (length pool) 0 = c.in-Ok.ensures.counts
     ∙ ap (λ (p : List ℕ). replicate (length p) 0) c.pool-count.ensures.addresses in
-    let begun : Stands config [] inputs (ledger_of c.args.pool.now c.in-Ok.dispatcher) =
-    begin_stands config inputs (ledger_of c.args.pool.now c.in-Ok.dispatcher) c.len-many.result sized
+    let begun : Stands config [] inputs (state_of c.args.pool.now c.in-Ok.dispatcher) =
+    begin_stands config inputs (state_of c.args.pool.now c.in-Ok.dispatcher) c.len-many.result sized
     c.requires.unoffered c.requires.untaken counts c.in-Ok.ensures.idle c.in-Ok.ensures.progress in
-    let stands : Stands config inputs inputs later = c.in_ok-finish.ensures.keeps config inputs inputs
-    (c.in_ok-serve_all.ensures.served begun) in
-    let began : starts c.finish.new.pool ≡ started config (length pool) = c.in_ok-finish.ensures.starts
-    ∙ (c.in_ok-serve_all.ensures.starts ∙ c.requires.started) in
+    let stands : Stands config inputs inputs later = c.in_ok-finish.ensures.state.keeps config inputs inputs
+    (c.in_ok-dispatch_all.ensures.served begun) in
+    let began : starts c.finish.new.pool ≡ started config (length pool) = c.in_ok-finish.ensures.state.starts_stay
+    ∙ (c.in_ok-dispatch_all.ensures.starts ∙ c.requires.started) in
     let known : map outcome_in c.finish.new.self.progress.items ≡ map (λ (o : Outcome). let x : Option Outcome =
     Some o in x) c.in-Ok-Some.outcomes.items = rw c.in-Ok-Some.field-0-is at c.in-Ok-Some.ensures.known in
     let long_as : length c.finish.new.self.progress.items ≡ c.len-many.result =

@@ -7,10 +7,9 @@ use Rattle.napt_wire.specs.Fields.{destination}
 use Rattle.napt_config.specs.Rules.{Rules, place_of}
 use Rattle.napt_translate.specs.Sides.{way_from, served_at}
 use Rattle.napt_dispatch.specs.declared.dispatcher.held.Held.TheVariants.{Ready, Place}
-use Rattle.napt_dispatch.specs.declared.dispatcher.progress.Progress.{Progress}
 use Rattle.napt_sequential.specs.Inputs.{Arrival}
 use Rattle.napt_sequential.specs.Admission.{admission}
-use Rattle.napt_dispatch.specs.Standing.{Parts, parts_of, with_held, with_progress, pushed}
+use Rattle.napt_dispatch.specs.Standing.{Parts, parts_of, with_held, pushed}
 use Rattle.napt_sequential.proofs.Steps.{side_as}
 use Rattle.napt_dispatch.proofs.Standing.{admitted_admits, refused_admits}
 use Rattle.napt_dispatch.proofs.dispatcher.Dispatcher.admit.Goals as goal
@@ -30,13 +29,13 @@ returns-in-Ok-hold_first-clause-admits c =
     let to : Option ℕ = c.second_place-to.result in
     let parts : Parts = parts_of c.args.self.now in
     let later : Parts = parts_of c.hold_first.new.self in
-    let judged : (admission config copy ≡ Ok packet)
+    let routed : (admission config copy ≡ Ok packet)
     × (slice_get config.pool place ≡ Some (served_at config (way_from copy.side) packet)) =
-    IfOk-at_ok _ c.in-Ok.is c.judge.ensures.admitted in
+    IfOk-at_ok _ c.in-Ok.is c.read_and_route.ensures.admitted in
     let first : (admission config input ≡ Ok packet)
     × (slice_get config.pool place ≡ Some (served_at config (way_from input.side) packet)) =
     subst (λ (a : Arrival). (admission config a ≡ Ok packet)
-    × (slice_get config.pool place ≡ Some (served_at config (way_from a.side) packet))) c.input.view_is judged in
+    × (slice_get config.pool place ≡ Some (served_at config (way_from a.side) packet))) c.input.view_is routed in
     let side : c.input.inside.side ≡ input.side = side_as input copy c.input.view_is in
     let way : c.way_from.result ≡ way_from input.side = c.way_from.ensures ∙ ap way_from side in
     let some : IfSome to (λ v. (input.side ≡ Inside) × (place_of config (destination packet).address ≡ Some v)) =
@@ -56,8 +55,8 @@ returns-in-Ok-hold_first-clause-admits c =
     (pushed place (Ready (record { number = c.args.number; now = c.args.now; way = t; packet = packet }))
     parts.held)) parts)) way c.in-Ok-hold_first.ensures)
 
-pub returns-in-Ok-write-clause-admits : goal.returns-in-Ok-write-clause-admits
-returns-in-Ok-write-clause-admits c =
+pub returns-in-Ok-note_dropped-clause-admits : goal.returns-in-Ok-note_dropped-clause-admits
+returns-in-Ok-note_dropped-clause-admits c =
     let parts : Parts = parts_of c.args.self.now in
     let copy : Arrival = record {
       side = c.input.inside.side;
@@ -69,5 +68,5 @@ returns-in-Ok-write-clause-admits c =
     let against : admission c.args.config.now c.args.input ≡ Err c.in-Err.cause =
     subst (λ (a : Arrival). admission c.args.config.now a ≡ Err c.in-Err.cause) c.input.view_is refused in
     refused_admits c.args.config.now c.args.number c.args.now c.args.input parts
-    (with_progress c.write.new.all.items parts) c.in-Err.cause c.requires.keeps.pool.distinct against
-    (ap (λ (ps : List Progress). with_progress ps parts) c.in-Ok-write.ensures)
+    (parts_of c.note_dropped.new.self) c.in-Err.cause c.requires.keeps.pool.distinct against
+    c.in-Ok-note_dropped.ensures

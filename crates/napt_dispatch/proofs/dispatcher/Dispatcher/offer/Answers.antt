@@ -1,6 +1,6 @@
 use Rattle.std.proofs.Common.{◌<◌, length, arith, refl}
 use Rattle.napt_dispatch.specs.declared.dispatcher.Dispatcher.{Dispatcher}
-use Rattle.napt_dispatch.specs.Standing.{parts_of, ledger_of}
+use Rattle.napt_dispatch.specs.Standing.{parts_of, state_of}
 use Rattle.napt_dispatch.proofs.Standing.{offered_keeps, offered_parts_are}
 use Rattle.napt_dispatch.proofs.dispatcher.Dispatcher.offer.Goals as goal
 
@@ -9,8 +9,8 @@ returns-in-Ok-clause-keeps g c =
     let within : c.args.w < length (parts_of c.args.self.now).held =
     omega (arith, c.requires.sized.held, c.requires.place) in
     let later : Dispatcher = record c.count_offer.new.self { owed = c.push_back.new.queues } in
-    offered_keeps c.args.w c.args.leg (ledger_of c.args.pool.now c.args.self.now) within
-    (ledger_of c.offer.new.self later)
+    offered_keeps c.args.w c.args.leg (state_of c.args.pool.now c.args.self.now) within
+    (state_of c.offer.new.self later)
     c.in-Ok.ensures.accepted c.in-Ok.ensures.takes
     (offered_parts_are c.args.w c.args.leg (parts_of c.args.self.now) (parts_of c.count_offer.new.self)
     (parts_of later) c.in-Ok-count_offer.ensures refl c.in-Ok-push_back.ensures refl refl)

@@ -1,15 +1,18 @@
-use Rattle.std.proofs.Common.{◌≡◌, ◌<◌, length, arith}
+use Rattle.std.proofs.Common.{◌≡◌, ◌<◌, length, arith, rules}
 use Rattle.napt_pool.specs.Pools.{takes}
-use Rattle.napt_dispatch.specs.Standing.{pushed, parts_of, ledger_of}
+use Rattle.napt_dispatch.specs.Standing.{pushed, parts_of, state_of}
 use Rattle.napt_dispatch.proofs.Standing.{answered_keeps}
 use Rattle.napt_dispatch.proofs.dispatcher.Dispatcher.take_one.Goals as goal
 
-pub returns-in-Ok-clause-keeps : goal.returns-in-Ok-clause-keeps
-returns-in-Ok-clause-keeps g c =
+pub returns-in-Ok : goal.returns-in-Ok
+returns-in-Ok g c =
     let within : c.args.w < length (parts_of c.args.self.now).owed =
     omega (arith, c.requires.sized.owed, c.requires.place) in
     let took : takes c.take.new.self ≡ pushed c.args.w c.in-Ok-Some.answer (takes c.args.pool.now) =
     rw c.in-Ok-Some.field-0-is at c.in-Ok-Some.ensures.some in
-    answered_keeps c.args.w c.in-Ok-Some.answer (ledger_of c.args.pool.now c.args.self.now)
-    (ledger_of c.take.new.self c.note.new.self) within
-    c.in-Ok-Some.ensures.accepts took c.in-Ok.ensures
+    record {
+      starts_stay = c.in-Ok-Some.ensures.starts;
+      sized = search rules;
+      keeps = answered_keeps c.args.w c.in-Ok-Some.answer (state_of c.args.pool.now c.args.self.now)
+          (state_of c.take.new.self c.note.new.self) within c.in-Ok-Some.ensures.accepts took c.in-Ok.ensures;
+    }

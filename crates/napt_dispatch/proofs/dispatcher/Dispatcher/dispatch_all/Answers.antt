@@ -5,9 +5,9 @@ use Rattle.napt_config.specs.Rules.{Rules}
 use Rattle.napt_pool.specs.Pools.{accepts, takes}
 use Rattle.napt_sequential.specs.Inputs.{Arrival}
 use Rattle.napt_sequential.specs.Sequential.{last_clock}
-use Rattle.napt_dispatch.specs.Standing.{Ledger, ledger_of, Stands}
+use Rattle.napt_dispatch.specs.Standing.{DispatchState, state_of, Stands}
 use Rattle.napt_sequential.proofs.OneInput.{clock_taken, long_taken}
-use Rattle.napt_dispatch.proofs.dispatcher.Dispatcher.serve_all.Goals as goal
+use Rattle.napt_dispatch.proofs.dispatcher.Dispatcher.dispatch_all.Goals as goal
 
 pub returns-in_err-found-clause-fault : goal.returns-in_err-found-clause-fault
 returns-in_err-found-clause-fault g c =
@@ -41,11 +41,12 @@ loop-number-preserved g c =
     ∙ ap (λ (x : Arrival). take n inputs ++ x ∷ []) same in
     let whole : (take n inputs ++ input ∷ []) ++ drop (n + 1) inputs ≡ inputs =
     ap (λ (l : List Arrival). l ++ drop (n + 1) inputs) (sym more) ∙ take-append-drop (n + 1) inputs in
-    let room : Ledger = ledger_of c.make_room.new.pool c.make_room.new.self in
-    let read : Ledger = ledger_of c.make_room.new.pool c.admit.new.self in
+    let room : DispatchState = state_of c.make_room.new.pool c.make_room.new.self in
+    let read : DispatchState = state_of c.make_room.new.pool c.admit.new.self in
     record {
-      same = c.in_ok-look_at.ensures.starts
-          ∙ (c.in_ok-offer_to.ensures.starts ∙ (c.in_ok-make_room.ensures.starts ∙ c.loop-number.invariant.same));
+      same = c.in_ok-look_at.ensures.starts_stay
+          ∙ (c.in_ok-offer_to.ensures.starts_stay
+          ∙ (c.in_ok-make_room.ensures.starts_stay ∙ c.loop-number.invariant.same));
       sized = c.in_ok-look_at.ensures.sized;
       left = left;
       many = many;
