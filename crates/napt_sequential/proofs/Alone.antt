@@ -10,7 +10,7 @@ use Rattle.napt_translate.specs.Legs.{Acted, act}
 use Rattle.napt_sequential.specs.Inputs.{Arrival}
 use Rattle.napt_sequential.specs.Sequential.{Act, run, last_clock, acts_at, legs_at}
 use Rattle.napt_sequential.specs.Laws.{answer_of, replies, after, LegsAnswerAlone, LegsLeaveTheirOwn}
-use Rattle.napt_sequential.specs.Seats.{Agrees}
+use Rattle.napt_sequential.specs.CountedTranslators.{Agrees}
 use Rattle.napt_sequential.proofs.LegsLocal.{ActsAlike, agrees_later, alike, kept}
 use Rattle.napt_sequential.proofs.RunsLocal.{InTurn, run_turn}
 

@@ -1,10 +1,7 @@
 -- The laws for a dispatcher.
-use Rattle.std.proofs.Common.{◌≡◌, ℕ, suc, ◌+◌, ◌-◌, ◌≤◌, max, List, [], ◌∷◌, ◌++◌, length, Option, Some, None, IfSome, Result, Ok, Err, refl, sym, ◌∙◌, ap, subst, arith, append_assoc}
+use Rattle.std.proofs.Common.{◌≡◌, ℕ, suc, ◌+◌, ◌-◌, ◌≤◌, max, List, [], ◌∷◌, ◌++◌, length, Option, Some, None, IfSome, refl, sym, ◌∙◌, ap, subst, arith, append_assoc}
 use Rattle.std.specs.List.{slice_get}
-use Rattle.napt_wire.specs.declared.Side.{Side}
-use Rattle.napt_wire.specs.declared.Way.{Way}
 use Rattle.napt_wire.specs.declared.Way.TheVariants.{Incoming}
-use Rattle.napt_wire.specs.declared.Cause.{Cause}
 use Rattle.napt_wire.specs.Fields.{destination, kind}
 use Rattle.napt_wire.specs.Reading.{reading}
 use Rattle.napt_wire.specs.Laws.{SourcesLeaveDestinations, ErrorsLeaveDestinations}
@@ -12,18 +9,20 @@ use Rattle.napt_config.specs.Rules.{Rules, place_of}
 use Rattle.napt_binding.specs.declared.Binding.{Binding}
 use Rattle.napt_binding.specs.Bindings.{of}
 use Rattle.napt_binding.specs.Lists.{Each}
+use Rattle.napt_binding.proofs.Lists.{each_weaker}
 use Rattle.napt_translate.specs.declared.translator.Leg.{Leg}
 use Rattle.napt_translate.specs.declared.translator.Answer.{Answer}
 use Rattle.napt_translate.specs.declared.translator.End.{End}
 use Rattle.napt_translate.specs.declared.translator.End.TheVariants.{ToOutside, ToInside, Onward, Dropped}
-use Rattle.napt_translate.specs.Sides.{refusal, way_from, served_at}
 use Rattle.napt_translate.specs.Legs.{Acted, act, Kept, kept_after, kept_answer, kept_replies}
 use Rattle.napt_sequential.specs.declared.outcome.Outcome.{Outcome}
 use Rattle.napt_sequential.specs.Inputs.{Arrival}
-use Rattle.napt_sequential.specs.Sequential.{Act, Stepped, outcome_of, follow_by, judged, read_as, step, Course, run_from, run}
+use Rattle.napt_sequential.specs.Sequential.{Act, Stepped, outcome_of, follow_by, step, Course, run_from, run}
 use Rattle.napt_sequential.specs.Laws.{answers_at}
 use Rattle.napt_sequential.specs.Dispatching.{IsFront, RightAnswersAreTheRuns, RunsGrow, told, IsTold, AnswersTellOutcomes, OnwardIsForetold}
+use Rattle.napt_sequential.proofs.AnyStep.{of_read}
 use Rattle.napt_sequential.proofs.Grown.{grows}
+use Rattle.napt_sequential.proofs.Lists.{each_append}
 use Rattle.napt_sequential.proofs.RunsLocal.{translators_answer_alone}
 use Rattle.napt_sequential.proofs.Steps.{OnwardBy, onward}
 
@@ -78,35 +77,10 @@ follow_tells rules address leg list (Onward place packet) =
     let next : Leg = record leg { way = Incoming; packet = packet } in
     ((refl, tt), ((refl, end_told (act rules (destination packet).address next list).end), tt))
 
-judged_tells : (rules : Rules) (number now : ℕ) (way : Way) (packet : List ℕ) (refused : Option Cause)
-    (list : List Binding) →
-    Each (TellsHere number (judged rules number now way packet refused list).outcome)
-    (judged rules number now way packet refused list).acts
-judged_tells rules number now way packet (Some cause) list = tt
-judged_tells rules number now way packet None list =
-    let leg : Leg = record { number = number; now = now; way = way; packet = packet } in
-    let first : Acted = act rules (served_at rules way packet) leg list in
-    follow_tells rules (served_at rules way packet) leg first.list first.end
-
-read_tells : (rules : Rules) (number now : ℕ) (side : Side) (read : Result (List ℕ) Cause) (list : List Binding) →
-    Each (TellsHere number (read_as rules number now side read list).outcome)
-    (read_as rules number now side read list).acts
-read_tells rules number now side (Err cause) list = tt
-read_tells rules number now side (Ok packet) list = judged_tells rules number now (way_from side) packet
-    (refusal rules side packet) list
-
 -- as IsTold, of outcomes that begin at a number
 abbrev TellsFrom : ℕ → List Outcome → Act → Type 0
 TellsFrom number all a = (number ≤ a.leg.number) × IfSome (told a.end) (λ o. slice_get all (a.leg.number - number)
     ≡ Some o)
-
-pub each_append : {X : Type 0} (P : X → Type 0) (xs ys : List X) → Each P xs → Each P ys → Each P (xs ++ ys)
-each_append P [] ys h g = g
-each_append P (x ∷ xs) ys h g = (h.0, each_append P xs ys h.1 g)
-
-pub each_map : {X : Type 0} (P Q : X → Type 0) → ((x : X) → P x → Q x) → (xs : List X) → Each P xs → Each Q xs
-each_map P Q f [] h = tt
-each_map P Q f (x ∷ xs) h = (f x h.0, each_map P Q f xs h.1)
 
 here_from : (number : ℕ) (outcome : Outcome) (all : List Outcome) (a : Act) (o : Option Outcome) → a.leg.number
     ≡ number → IfSome o (λ x. x ≡ outcome) → IfSome o (λ x. slice_get (outcome ∷ all) (a.leg.number - number) ≡ Some x)
@@ -131,12 +105,16 @@ tells_from rules number clock (input ∷ inputs) list =
     let now : ℕ = max clock input.clock in
     let first : Stepped = step rules number now input list in
     let rest : Course = run_from rules (number + 1) now inputs first.list in
+    let here : Each (TellsHere number first.outcome) first.acts =
+    of_read rules number now list (λ (s : Stepped). Each (TellsHere number s.outcome) s.acts) (λ cause. tt)
+    (λ address way packet. let leg : Leg = record { number = number; now = now; way = way; packet = packet } in
+    let acted : Acted = act rules address leg list in follow_tells rules address leg acted.list acted.end)
+    input.side (reading input.side input.bytes) in
     each_append (TellsFrom number (first.outcome ∷ rest.outcomes)) first.acts rest.acts
-    (each_map (TellsHere number first.outcome) (TellsFrom number (first.outcome ∷ rest.outcomes)) (λ a h.
+    (each_weaker (TellsHere number first.outcome) (TellsFrom number (first.outcome ∷ rest.outcomes)) (λ a h.
     let e : a.leg.number ≡ number = h.0 in
-    (omega arith, here_from number first.outcome rest.outcomes a (told a.end) h.0 h.1)) first.acts
-    (read_tells rules number now input.side (reading input.side input.bytes) list))
-    (each_map (TellsFrom (number + 1) rest.outcomes) (TellsFrom number (first.outcome ∷ rest.outcomes)) (λ a h.
+    (omega arith, here_from number first.outcome rest.outcomes a (told a.end) h.0 h.1)) first.acts here)
+    (each_weaker (TellsFrom (number + 1) rest.outcomes) (TellsFrom number (first.outcome ∷ rest.outcomes)) (λ a h.
     let e : number + 1 ≤ a.leg.number = h.0 in
     (omega arith, later_from number first.outcome rest.outcomes a (told a.end) h.0 h.1)) rest.acts
     (tells_from rules (number + 1) now inputs first.list))
@@ -149,7 +127,7 @@ told_from all a (Some x) h = let same : a.leg.number ≡ a.leg.number - 0 = omeg
 pub answers_tell : AnswersTellOutcomes
 answers_tell rules inputs list =
     let course : Course = run rules inputs list in
-    each_map (TellsFrom 0 course.outcomes) (IsTold course.outcomes) (λ a h.
+    each_weaker (TellsFrom 0 course.outcomes) (IsTold course.outcomes) (λ a h.
     told_from course.outcomes a (told a.end) h.1) course.acts (tells_from rules 0 0 inputs list)
 
 -- ONWARD

@@ -1,8 +1,7 @@
 -- A run of one input more.
-use Rattle.std.proofs.Common.{◌≡◌, ℕ, suc, ◌+◌, ◌*◌, ◌^◌, ◌<◌, ◌≤◌, max, List, [], ◌∷◌, ◌++◌, length, take, Option, Some, None, Result, Ok, Err, refl, sym, ◌∙◌, ap, subst, arith, append-nil, append_assoc, length-append, get_or}
+use Rattle.std.proofs.Common.{◌≡◌, ℕ, suc, ◌+◌, ◌*◌, ◌^◌, ◌<◌, ◌≤◌, max, List, [], ◌∷◌, ◌++◌, length, take, Result, refl, sym, ◌∙◌, ap, subst, arith, append-nil, append_assoc, length-append, get_or}
 use Rattle.std.proofs.lemmas.List.{take_more, length-take-le}
 use Rattle.napt_wire.specs.declared.Side.{Side}
-use Rattle.napt_wire.specs.declared.Way.{Way}
 use Rattle.napt_wire.specs.declared.Cause.{Cause}
 use Rattle.napt_wire.specs.Reading.{reading}
 use Rattle.napt_config.specs.Rules.{Rules}
@@ -11,14 +10,14 @@ use Rattle.napt_table.specs.Opening.{opening}
 use Rattle.napt_translate.specs.declared.translator.Leg.{Leg}
 use Rattle.napt_translate.specs.declared.translator.End.{End}
 use Rattle.napt_translate.specs.declared.translator.End.TheVariants.{ToOutside, ToInside, Onward, Dropped}
-use Rattle.napt_translate.specs.Sides.{refusal, way_from, served_at}
 use Rattle.napt_translate.specs.Legs.{Acted, act}
 use Rattle.napt_sequential.specs.Inputs.{Arrival}
 use Rattle.napt_sequential.specs.declared.outcome.Outcome.{Outcome}
-use Rattle.napt_sequential.specs.declared.seat.Seat.{Seat}
-use Rattle.napt_sequential.specs.Sequential.{Act, Stepped, follow_by, judged, read_as, step, Course, ahead, run_from, run, last_clock}
-use Rattle.napt_sequential.specs.Seats.{AreSeats, StandBy, Follows, moment_of}
+use Rattle.napt_sequential.specs.declared.counted_translator.CountedTranslator.{CountedTranslator}
+use Rattle.napt_sequential.specs.Sequential.{Act, Stepped, follow_by, read_as, step, Course, ahead, run_from, run, last_clock}
+use Rattle.napt_sequential.specs.CountedTranslators.{AreCountedTranslators, CanTake, Follows, state_of}
 use Rattle.napt_sequential.specs.Dispatching.{joined}
+use Rattle.napt_sequential.proofs.AnyStep.{of_read}
 
 ahead_joined : (first : Stepped) (course : Course) (next : Stepped) → ahead first (joined course next)
     ≡ joined (ahead first course) next
@@ -76,19 +75,12 @@ follow_few rules address leg first (ToInside packet) = omega arith
 follow_few rules address leg first (Dropped cause) = omega arith
 follow_few rules address leg first (Onward place packet) = omega arith
 
-judged_few : (rules : Rules) (number now : ℕ) (way : Way) (packet : List ℕ) (refused : Option Cause)
-    (list : List Binding) → length (judged rules number now way packet refused list).acts ≤ 2
-judged_few rules number now way packet (Some cause) list = omega arith
-judged_few rules number now way packet None list =
-    let leg : Leg = record { number = number; now = now; way = way; packet = packet } in
-    let first : Acted = act rules (served_at rules way packet) leg list in
-    follow_few rules (served_at rules way packet) leg first first.end
-
 read_few : (rules : Rules) (number now : ℕ) (side : Side) (read : Result (List ℕ) Cause) (list : List Binding) →
     length (read_as rules number now side read list).acts ≤ 2
-read_few rules number now side (Err cause) list = omega arith
-read_few rules number now side (Ok packet) list = judged_few rules number now (way_from side) packet
-    (refusal rules side packet) list
+read_few rules number now side read list =
+    of_read rules number now list (λ (s : Stepped). length s.acts ≤ 2) (λ cause. omega arith)
+    (λ address way packet. let leg : Leg = record { number = number; now = now; way = way; packet = packet } in
+    let first : Acted = act rules address leg list in follow_few rules address leg first first.end) side read
 
 pub acts_few : (rules : Rules) (number clock : ℕ) (inputs : List Arrival) (list : List Binding) →
     length (run_from rules number clock inputs list).acts ≤ 2 * length inputs
@@ -105,20 +97,20 @@ acts_few rules number clock (i ∷ inputs) list =
 
 -- ONE MORE OF A LIST OF INPUTS
 
--- what stands after a step: the clock, the outcomes, and the seats
-pub record NextStands (rules : Rules) (done : List Arrival) (now : ℕ) (told : List Outcome)
-    (standing : List Seat) : Type 0 where
+-- what a run has come to: its clock, its outcomes, and the translators of its state
+pub record RunSoFar (rules : Rules) (done : List Arrival) (now : ℕ) (told : List Outcome)
+    (left : List CountedTranslator) : Type 0 where
   pub clock : now ≡ last_clock 0 done
   pub outcomes : told ≡ (run rules done (opening rules)).outcomes
-  pub seats : AreSeats rules (moment_of rules done) standing
+  pub translators : AreCountedTranslators rules (state_of rules done) left
 
 after_one : (rules : Rules) (done : List Arrival) (input : Arrival) (number now : ℕ) → number ≡ length done →
-    now ≡ max (last_clock 0 done) input.clock → (outcomes : List Outcome) (seats : List Seat) (outcome : Outcome) →
-    outcomes ≡ (run rules done (opening rules)).outcomes →
-    Follows rules now (step rules number now input (moment_of rules done).list)
-    (moment_of rules done) seats outcome →
-    NextStands rules (done ++ input ∷ []) now (outcomes ++ outcome ∷ []) seats
-after_one rules done input number now many clock outcomes seats outcome told follows =
+    now ≡ max (last_clock 0 done) input.clock → (outcomes : List Outcome) (translators : List CountedTranslator)
+    (outcome : Outcome) → outcomes ≡ (run rules done (opening rules)).outcomes →
+    Follows rules now (step rules number now input (state_of rules done).list)
+    (state_of rules done) translators outcome →
+    RunSoFar rules (done ++ input ∷ []) now (outcomes ++ outcome ∷ []) translators
+after_one rules done input number now many clock outcomes translators outcome told follows =
     let course : Course = run rules done (opening rules) in
     let stepped : Stepped = step rules number now input course.list in
     let here : step rules (length done) (max (last_clock 0 done) input.clock) input course.list ≡ stepped =
@@ -131,45 +123,45 @@ after_one rules done input number now many clock outcomes seats outcome told fol
       clock = last;
       outcomes = ap (λ (os : List Outcome). os ++ outcome ∷ []) told
           ∙ (ap (λ (o : Outcome). course.outcomes ++ o ∷ []) follows.0 ∙ ap (λ (k : Course). k.outcomes) (sym more));
-      seats =
-          let held : AreSeats rules (record {
+      translators =
+          let held : AreCountedTranslators rules (record {
             clock = now;
             acts = (joined course stepped).acts;
             list =
                 (joined course stepped).list;
-          }) seats = follows.1 in
-          subst (λ (t : ℕ). AreSeats rules
+          }) translators = follows.1 in
+          subst (λ (t : ℕ). AreCountedTranslators rules
           (record {
             clock = t;
             acts = (run rules (done ++ input ∷ []) (opening rules)).acts;
             list =
                 (run rules (done ++ input ∷ []) (opening rules)).list;
-          }) seats) last
-          (subst (λ (k : Course). AreSeats rules (record { clock = now; acts = k.acts; list = k.list }) seats)
-          (sym more) held);
+          }) translators) last
+          (subst (λ (k : Course). AreCountedTranslators rules (record { clock = now; acts = k.acts; list = k.list })
+          translators) (sym more) held);
     }
 
 module _ (rules : Rules) (inputs : List Arrival) (n : ℕ) (input : Arrival) (lt : n < length inputs)
     (at : get_or inputs n input ≡ input) where
   pub after_next : (number now : ℕ) → number ≡ n → now ≡ max (last_clock 0 (take n inputs)) input.clock →
-      (outcomes : List Outcome) (seats : List Seat) (outcome : Outcome) →
+      (outcomes : List Outcome) (translators : List CountedTranslator) (outcome : Outcome) →
       outcomes ≡ (run rules (take n inputs) (opening rules)).outcomes →
-      Follows rules now (step rules number now input (moment_of rules (take n inputs)).list)
-      (moment_of rules (take n inputs)) seats outcome →
-      NextStands rules (take (n + 1) inputs) now (outcomes ++ outcome ∷ []) seats
-  after_next number now is clock outcomes seats outcome told follows =
+      Follows rules now (step rules number now input (state_of rules (take n inputs)).list)
+      (state_of rules (take n inputs)) translators outcome →
+      RunSoFar rules (take (n + 1) inputs) now (outcomes ++ outcome ∷ []) translators
+  after_next number now is clock outcomes translators outcome told follows =
       let long : length (take n inputs) ≡ n = length-take-le n inputs (omega arith) in
       let more : take (n + 1) inputs ≡ take n inputs ++ input ∷ [] = take_more inputs n input lt
       ∙ ap (λ (x : Arrival). take n inputs ++ x ∷ []) at in
-      subst (λ (done : List Arrival). NextStands rules done now (outcomes ++ outcome ∷ []) seats) (sym more)
-      (after_one rules (take n inputs) input number now (is ∙ sym long) clock outcomes seats outcome told follows)
+      subst (λ (done : List Arrival). RunSoFar rules done now (outcomes ++ outcome ∷ []) translators) (sym more)
+      (after_one rules (take n inputs) input number now (is ∙ sym long) clock outcomes translators outcome told follows)
 
 -- there is room to count two legs more
-pub stands_by : (rules : Rules) (inputs : List Arrival) (n now : ℕ) (seats : List Seat) → n < length inputs →
-    length inputs < 2 ^ 32 → last_clock 0 (take n inputs) ≤ now →
-    AreSeats rules (moment_of rules (take n inputs)) seats → StandBy rules now 2 seats
-stands_by rules inputs n now seats lt few later are =
+pub can_take : (rules : Rules) (inputs : List Arrival) (n now : ℕ) (translators : List CountedTranslator) →
+    n < length inputs → length inputs < 2 ^ 32 → last_clock 0 (take n inputs) ≤ now →
+    AreCountedTranslators rules (state_of rules (take n inputs)) translators → CanTake rules now 2 translators
+can_take rules inputs n now translators lt few later are =
     let long : length (take n inputs) ≡ n = length-take-le n inputs (omega arith) in
     let acts : length (run rules (take n inputs) (opening rules)).acts ≤ 2 * length (take n inputs) =
     acts_few rules 0 0 (take n inputs) (opening rules) in
-    (moment_of rules (take n inputs), are, later, omega arith)
+    (state_of rules (take n inputs), are, later, omega arith)

@@ -20,7 +20,7 @@ use Rattle.napt_binding.proofs.Lists.{find_filter}
 use Rattle.napt_binding.proofs.Purges.{of_purge, purge_purge}
 use Rattle.napt_table.proofs.StepsLocal.{out_local, out_other, in_local, in_other}
 use Rattle.napt_translate.specs.declared.translator.Leg.{Leg}
-use Rattle.napt_sequential.specs.Seats.{Agrees}
+use Rattle.napt_sequential.specs.CountedTranslators.{Agrees}
 use Rattle.napt_translate.specs.Legs.{no_flags, Acted, acted_out, acted_in, error_out, error_in, act_by, act}
 
 -- what a leg gives on the one and on the other

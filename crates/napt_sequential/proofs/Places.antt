@@ -1,30 +1,30 @@
 -- Second legs by the number of their input.
-use Rattle.std.proofs.Common.{◌≡◌, ◌≢◌, ℕ, ◌+◌, ◌≤◌, ◌==◌, max, Bool, true, false, cond, List, [], ◌∷◌, ◌++◌, length, map, Option, Some, None, Result, Ok, Err, refl, sym, ◌∙◌, ap, subst, arith, append_assoc, append-nil}
+use Rattle.std.proofs.Common.{◌≡◌, ◌≢◌, ℕ, ◌+◌, ◌≤◌, ◌==◌, max, Bool, true, false, cond, List, [], ◌∷◌, ◌++◌, length, map, Ok, refl, sym, ◌∙◌, ap, subst, arith, append_assoc, append-nil}
 use Rattle.std.proofs.lemmas.Bool.{eq-eqb, ne_eqb}
 use Rattle.std.proofs.lemmas.List.{map-append}
 use Rattle.std.proofs.lemmas.List.Elements.{filter-append}
-use Rattle.napt_wire.specs.declared.Side.{Side}
 use Rattle.napt_wire.specs.declared.Way.{Way}
 use Rattle.napt_wire.specs.declared.Way.TheVariants.{Outgoing}
-use Rattle.napt_wire.specs.declared.Cause.{Cause}
 use Rattle.napt_wire.specs.Fields.{destination}
 use Rattle.napt_wire.specs.Packet.{IsPacket}
 use Rattle.napt_wire.specs.Reading.{reading}
 use Rattle.napt_config.specs.Rules.{Rules}
 use Rattle.napt_binding.specs.declared.Binding.{Binding}
 use Rattle.napt_binding.specs.Lists.{Each}
+use Rattle.napt_binding.proofs.Lists.{each_weaker}
 use Rattle.napt_table.specs.Opening.{opening}
 use Rattle.napt_translate.specs.declared.translator.Leg.{Leg}
 use Rattle.napt_translate.specs.declared.translator.End.{End}
 use Rattle.napt_translate.specs.declared.translator.End.TheVariants.{ToOutside, ToInside, Onward, Dropped}
-use Rattle.napt_translate.specs.Sides.{refusal, way_from, served_at}
+use Rattle.napt_translate.specs.Sides.{way_from, served_at}
 use Rattle.napt_translate.specs.Legs.{Acted, act}
 use Rattle.napt_sequential.specs.Inputs.{Arrival}
-use Rattle.napt_sequential.specs.Sequential.{Act, Stepped, follow_by, judged, read_as, step, Course, run_from, run, last_clock, acts_at, legs_at}
+use Rattle.napt_sequential.specs.Sequential.{Act, Stepped, follow_by, step, Course, run_from, run, last_clock, acts_at, legs_at}
 use Rattle.napt_sequential.specs.Dispatching.{IsFront, OnwardIsForetold}
 use Rattle.napt_sequential.specs.Admission.{admission}
 use Rattle.napt_sequential.specs.Places.{first_act, acts_of, numbered, all_but_first, second_legs, second_of, IsSeconded, AnswersFillPlaces, PlacesStandForLegs}
-use Rattle.napt_sequential.proofs.Dispatched.{each_append, each_map}
+use Rattle.napt_sequential.proofs.AnyStep.{of_read}
+use Rattle.napt_sequential.proofs.Lists.{each_append}
 use Rattle.napt_sequential.proofs.OneInput.{acts_begin, grown}
 
 -- the legs of an address in acts, and in more
@@ -62,23 +62,6 @@ follow_seconds rules address leg list (ToOutside packet) = ((refl, λ way. refl)
 follow_seconds rules address leg list (ToInside packet) = ((refl, λ way. refl), tt)
 follow_seconds rules address leg list (Dropped cause) = ((refl, λ way. refl), tt)
 follow_seconds rules address leg list (Onward place packet) = ((refl, λ way. refl), ((refl, λ way. cc), tt))
-
-judged_seconds : (rules : Rules) (number now : ℕ) (way : Way) (packet : List ℕ) (refused : Option Cause)
-    (list : List Binding) →
-    Each (SecondsHere number (judged rules number now way packet refused list).acts)
-    (judged rules number now way packet refused list).acts
-judged_seconds rules number now way packet (Some cause) list = tt
-judged_seconds rules number now way packet None list =
-    let leg : Leg = record { number = number; now = now; way = way; packet = packet } in
-    let first : Acted = act rules (served_at rules way packet) leg list in
-    follow_seconds rules (served_at rules way packet) leg first.list first.end
-
-read_seconds : (rules : Rules) (number now : ℕ) (side : Side) (read : Result (List ℕ) Cause) (list : List Binding) →
-    Each (SecondsHere number (read_as rules number now side read list).acts)
-    (read_as rules number now side read list).acts
-read_seconds rules number now side (Err cause) list = tt
-read_seconds rules number now side (Ok packet) list = judged_seconds rules number now (way_from side) packet
-    (refusal rules side packet) list
 
 -- A RUN
 
@@ -120,8 +103,8 @@ module _ (number : ℕ) (firsts rests : List Act) (here : Each (SecondsHere numb
   pub seconds_more : Each (SecondsFrom number (firsts ++ rests)) (firsts ++ rests)
   seconds_more =
       each_append (SecondsFrom number (firsts ++ rests)) firsts rests
-      (each_map (SecondsHere number firsts) (SecondsFrom number (firsts ++ rests)) first_seconded firsts here)
-      (each_map (SecondsFrom (number + 1) rests) (SecondsFrom number (firsts ++ rests)) rest_seconded rests later)
+      (each_weaker (SecondsHere number firsts) (SecondsFrom number (firsts ++ rests)) first_seconded firsts here)
+      (each_weaker (SecondsFrom (number + 1) rests) (SecondsFrom number (firsts ++ rests)) rest_seconded rests later)
 
 seconds_from : (rules : Rules) (number clock : ℕ) (inputs : List Arrival) (list : List Binding) →
     Each (SecondsFrom number (run_from rules number clock inputs list).acts)
@@ -132,13 +115,16 @@ seconds_from rules number clock (input ∷ inputs) list =
     let first : Stepped = step rules number now input list in
     let rest : Course = run_from rules (number + 1) now inputs first.list in
     seconds_more number first.acts rest.acts
-    (read_seconds rules number now input.side (reading input.side input.bytes) list)
+    (of_read rules number now list (λ (s : Stepped). Each (SecondsHere number s.acts) s.acts) (λ cause. tt)
+    (λ address way packet. let leg : Leg = record { number = number; now = now; way = way; packet = packet } in
+    let acted : Acted = act rules address leg list in follow_seconds rules address leg acted.list acted.end)
+    input.side (reading input.side input.bytes))
     (seconds_from rules (number + 1) now inputs first.list)
 
 pub answers_fill : AnswersFillPlaces
 answers_fill rules inputs list =
     let course : Course = run rules inputs list in
-    each_map (SecondsFrom 0 course.acts) (IsSeconded course.acts) (λ a h. h.1) course.acts
+    each_weaker (SecondsFrom 0 course.acts) (IsSeconded course.acts) (λ a h. h.1) course.acts
     (seconds_from rules 0 0 inputs list)
 
 -- ONE INPUT MORE

@@ -1,5 +1,5 @@
 -- Every step keeps each host within the quota.
-use Rattle.std.proofs.Common.{◌≡◌, ℕ, ◌+◌, ◌≤◌, max, List, [], ◌∷◌, map, Option, Some, None, Result, Ok, Err, sym, subst, arith}
+use Rattle.std.proofs.Common.{◌≡◌, ℕ, ◌+◌, ◌≤◌, max, List, [], ◌∷◌, map, Option, Some, Result, sym, subst, arith}
 use Rattle.napt_wire.specs.declared.Side.{Side}
 use Rattle.napt_wire.specs.declared.Protocol.{Protocol}
 use Rattle.napt_wire.specs.declared.Protocol.TheVariants as protocols
@@ -22,11 +22,11 @@ use Rattle.napt_table.specs.Steps.{step_out, step_in}
 use Rattle.napt_translate.specs.declared.translator.Leg.{Leg}
 use Rattle.napt_translate.specs.declared.translator.End.{End}
 use Rattle.napt_translate.specs.declared.translator.End.TheVariants.{ToOutside, ToInside, Onward, Dropped}
-use Rattle.napt_translate.specs.Sides.{refusal, way_from, served_at}
 use Rattle.napt_translate.specs.Legs.{no_flags, Acted, act_by, act}
 use Rattle.napt_sequential.specs.Inputs.{Arrival}
-use Rattle.napt_sequential.specs.Sequential.{follow_by, judged, read_as, step, run_from}
+use Rattle.napt_sequential.specs.Sequential.{Stepped, follow_by, read_as, step, run_from}
 use Rattle.napt_sequential.specs.QuotaKept.{RunsKeepQuota}
+use Rattle.napt_sequential.proofs.AnyStep.{of_read}
 
 -- redirects do not count
 opening_within : (pair : ℕ → ℕ) (at host quota : ℕ) (redirects : List Redirect) →
@@ -79,19 +79,13 @@ module _ (out_keeps : OutKeepsQuota) (in_keeps : InKeepsQuota) (rules : Rules) (
   within_follow address leg list (Onward place packet) le =
       within_leg (destination packet).address leg.now packet list le Incoming (kind packet)
 
-  module _ (number now : ℕ) (list : List Binding) (le : IsWithin list) where
-    within_judged : (packet : List ℕ) (way : Way) (refused : Option Cause) →
-        IsWithin (judged rules number now way packet refused list).list
-    within_judged packet way (Some cause) = le
-    within_judged packet way None =
-        let leg : Leg = record { number = number; now = now; way = way; packet = packet } in
-        let address : ℕ = served_at rules way packet in
-        let first : Acted = act rules address leg list in
-        within_follow address leg first.list first.end (within_leg address now packet list le way (kind packet))
-
-    within_read : (side : Side) (read : Result (List ℕ) Cause) → IsWithin (read_as rules number now side read list).list
-    within_read side (Err cause) = le
-    within_read side (Ok packet) = within_judged packet (way_from side) (refusal rules side packet)
+  within_read : (number now : ℕ) (list : List Binding) → IsWithin list → (side : Side)
+      (read : Result (List ℕ) Cause) → IsWithin (read_as rules number now side read list).list
+  within_read number now list le =
+      of_read rules number now list (λ (s : Stepped). IsWithin s.list) (λ cause. le)
+      (λ address way packet. let leg : Leg = record { number = number; now = now; way = way; packet = packet } in
+      let first : Acted = act rules address leg list in
+      within_follow address leg first.list first.end (within_leg address now packet list le way (kind packet)))
 
   within_run : (number clock : ℕ) (inputs : List Arrival) (list : List Binding) → IsWithin list →
       IsWithin (run_from rules number clock inputs list).list

@@ -7,6 +7,7 @@ use Rattle.napt_config.specs.declared.settings.Timers.{Timers}
 use Rattle.napt_binding.specs.declared.Binding.{Binding}
 use Rattle.napt_table.specs.declared.Row.{Row}
 use Rattle.napt_binding.specs.Lists.{Each}
+use Rattle.napt_binding.proofs.Lists.{each_true, each_weaker}
 use Rattle.napt_binding.specs.Bindings.{is_at, of}
 use Rattle.napt_binding.specs.Life.{is_live, with_live_flows, purge}
 use Rattle.napt_table.specs.Endpoints.{AreApart}
@@ -15,6 +16,7 @@ use Rattle.napt_table.specs.Opening.{opening}
 use Rattle.napt_sequential.specs.Inputs.{Arrival}
 use Rattle.napt_sequential.specs.Sequential.{Course, run, last_clock, ran}
 use Rattle.napt_sequential.specs.Sound.{RunsStayApart, AreRowsApart}
+use Rattle.napt_sequential.proofs.Lists.{each_append}
 
 -- each stands in the relation to all that come after it
 abbrev AreEach : {X : Type 0} → (X → X → Type 0) → List X → Type 0
@@ -71,18 +73,10 @@ are_mapped : {X Y : Type 0} (R : Y → Y → Type 0) (f : X → Y) (xs : List X)
 are_mapped R f [] h = tt
 are_mapped R f (x ∷ xs) h = (each_mapped (R (f x)) f xs h.0, are_mapped R f xs h.1)
 
-each_weaker : {X : Type 0} (P Q : X → Type 0) → ((x : X) → P x → Q x) → (xs : List X) → Each P xs → Each Q xs
-each_weaker P Q f [] h = tt
-each_weaker P Q f (x ∷ xs) h = (f x h.0, each_weaker P Q f xs h.1)
-
-each_joined : {X : Type 0} (P : X → Type 0) (xs ys : List X) → Each P xs → Each P ys → Each P (xs ++ ys)
-each_joined P [] ys h g = g
-each_joined P (x ∷ xs) ys h g = (h.0, each_joined P xs ys h.1 g)
-
 are_joined : {X : Type 0} (R : X → X → Type 0) (xs ys : List X) → AreEach R xs → AreEach R ys →
     Each (λ x. Each (R x) ys) xs → AreEach R (xs ++ ys)
 are_joined R [] ys h g across = g
-are_joined R (x ∷ xs) ys h g across = (each_joined (R x) xs ys h.0 across.0, are_joined R xs ys h.1 g across.1)
+are_joined R (x ∷ xs) ys h g across = (each_append (R x) xs ys h.0 across.0, are_joined R xs ys h.1 g across.1)
 
 -- IN ORDER
 
@@ -169,10 +163,6 @@ each_both : {X : Type 0} (P Q S : X → Type 0) → ((x : X) → P x → Q x →
 each_both P Q S f [] p q = tt
 each_both P Q S f (x ∷ xs) p q = (f x p.0 q.0, each_both P Q S f xs p.1 q.1)
 
-each_true : {X : Type 0} (xs : List X) → Each (λ x. Unit {0}) xs
-each_true [] = tt
-each_true (x ∷ xs) = (tt, each_true xs)
-
 across_rows : (timers : Timers) (now a b : ℕ) → a ≢ b → (list : List Binding) → AreEach AreApart list →
     Each (λ x. Each (AreRowsApart (row x)) (rows timers now (of b list))) (of a list)
 across_rows timers now a b differ list h =
@@ -187,7 +177,7 @@ across_all timers now a (b ∷ pool) differ list h =
     each_both (λ x. Each (AreRowsApart (row x)) (rows timers now (of b list))) (λ x.
     Each (AreRowsApart (row x)) (flat_map (λ (c : ℕ). rows timers now (of c list)) pool))
     (λ x. Each (AreRowsApart (row x)) (flat_map (λ (c : ℕ). rows timers now (of c list)) (b ∷ pool)))
-    (λ x p q. each_joined (AreRowsApart (row x)) (rows timers now (of b list))
+    (λ x p q. each_append (AreRowsApart (row x)) (rows timers now (of b list))
     (flat_map (λ (c : ℕ). rows timers now (of c list)) pool) p q)
     (of a list) (across_rows timers now a b differ.0 list h) (across_all timers now a pool differ.1 list h)
 

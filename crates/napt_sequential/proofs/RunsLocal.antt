@@ -1,8 +1,7 @@
 -- Whole runs, leg by leg.
-use Rattle.std.proofs.Common.{◌≡◌, ◌≢◌, ℕ, ◌+◌, ◌≤◌, max, true, false, cond, List, [], ◌∷◌, ◌++◌, map, Option, Some, None, Result, Ok, Err, refl, sym, ◌∙◌, ap, subst, arith, eqb}
+use Rattle.std.proofs.Common.{◌≡◌, ◌≢◌, ℕ, ◌+◌, ◌≤◌, max, true, false, cond, List, [], ◌∷◌, ◌++◌, map, Result, refl, sym, ◌∙◌, ap, subst, arith, eqb}
 use Rattle.std.proofs.lemmas.Bool.{eqb-true, eqb-false}
 use Rattle.napt_wire.specs.declared.Side.{Side}
-use Rattle.napt_wire.specs.declared.Way.{Way}
 use Rattle.napt_wire.specs.declared.Cause.{Cause}
 use Rattle.napt_wire.specs.declared.Kind.{Kind}
 use Rattle.napt_wire.specs.declared.Kind.TheVariants.{Udp, Tcp, Echo, ErrorOf}
@@ -15,12 +14,12 @@ use Rattle.napt_translate.specs.declared.translator.Leg.{Leg}
 use Rattle.napt_translate.specs.declared.translator.Answer.{Answer}
 use Rattle.napt_translate.specs.declared.translator.End.{End}
 use Rattle.napt_translate.specs.declared.translator.End.TheVariants.{ToOutside, ToInside, Onward, Dropped}
-use Rattle.napt_translate.specs.Sides.{refusal, way_from, served_at}
 use Rattle.napt_translate.specs.Legs.{Acted, act_by, act, Kept, time_after, kept_act, kept_after, kept_replies, kept_after_all}
 use Rattle.napt_sequential.specs.Inputs.{Arrival}
-use Rattle.napt_sequential.specs.Sequential.{Act, Stepped, follow_by, judged, read_as, step, Course, run_from, run, last_clock, acts_at, legs_at}
+use Rattle.napt_sequential.specs.Sequential.{Act, Stepped, follow_by, read_as, step, Course, run_from, run, last_clock, acts_at, legs_at}
 use Rattle.napt_sequential.specs.Laws.{answer_of, TranslatorsAnswerAlone, TranslatorsKeepTheirOwn}
-use Rattle.napt_sequential.specs.Seats.{IsAtOnce, Agrees}
+use Rattle.napt_sequential.specs.CountedTranslators.{IsAtOnce, Agrees}
+use Rattle.napt_sequential.proofs.AnyStep.{of_read}
 use Rattle.napt_sequential.proofs.LegsLocal.{ActsAlike, agrees_later, alike, kept}
 
 -- A RUN'S LEGS ACT IN TURN
@@ -48,26 +47,16 @@ follow_turn rules clock address leg le list (ToInside packet) is rest last new p
 follow_turn rules clock address leg le list (Dropped cause) is rest last new p = (le, is, p)
 follow_turn rules clock address leg le list (Onward place packet) is rest last new p = (le, is, (omega arith, refl, p))
 
-judged_turn : (rules : Rules) (number clock now : ℕ) → clock ≤ now →
-    (way : Way) (packet : List ℕ) (refusal : Option Cause) (list : List Binding) (rest : List Act) (last : ℕ)
-    (new : List Binding) →
-    InTurn rules now (judged rules number now way packet refusal list).list rest last new →
-    InTurn rules clock list ((judged rules number now way packet refusal list).acts ++ rest) last new
-judged_turn rules number clock now le way packet (Some cause) list rest last new p =
-    turn_earlier rules clock now le list rest last new p
-judged_turn rules number clock now le way packet None list rest last new p =
-    let leg : Leg = record { number = number; now = now; way = way; packet = packet } in
-    let address : ℕ = served_at rules way packet in
-    follow_turn rules clock address leg le list (act rules address leg list).end refl rest last new p
-
 read_turn : (rules : Rules) (number clock now : ℕ) → clock ≤ now → (side : Side) (read : Result (List ℕ) Cause)
     (list : List Binding) (rest : List Act) (last : ℕ) (new : List Binding) →
     InTurn rules now (read_as rules number now side read list).list rest last new →
     InTurn rules clock list ((read_as rules number now side read list).acts ++ rest) last new
-read_turn rules number clock now le side (Err cause) list rest last new p =
-    turn_earlier rules clock now le list rest last new p
-read_turn rules number clock now le side (Ok packet) list rest last new p = judged_turn rules number clock now le
-    (way_from side) packet (refusal rules side packet) list rest last new p
+read_turn rules number clock now le side read list rest last new =
+    of_read rules number now list
+    (λ (s : Stepped). InTurn rules now s.list rest last new → InTurn rules clock list (s.acts ++ rest) last new)
+    (λ cause. turn_earlier rules clock now le list rest last new)
+    (λ address way packet. let leg : Leg = record { number = number; now = now; way = way; packet = packet } in
+    follow_turn rules clock address leg le list (act rules address leg list).end refl rest last new) side read
 
 pub run_turn : (rules : Rules) (number clock : ℕ) (inputs : List Arrival) (list : List Binding) →
     InTurn rules clock list (run_from rules number clock inputs list).acts (last_clock clock inputs)
@@ -88,7 +77,7 @@ time_kept (Tcp flags) at now le = omega arith
 time_kept Echo at now le = omega arith
 time_kept (ErrorOf inner) at now le = le
 
-latest : (now at : ℕ) → at ≤ now → max now at ≡ now
+pub latest : (now at : ℕ) → at ≤ now → max now at ≡ now
 latest now at le = omega arith
 
 -- a translator whose time is not past a leg's acts at the leg's time, and is not past it then

@@ -1,4 +1,4 @@
--- What the seats show is what a run gives.
+-- What the translators show is what a run gives.
 use Rattle.std.proofs.Common.{◌≡◌, ℕ, ◌≤◌, max, List, length, map, refl, sym, ◌∙◌, ap, arith}
 use Rattle.std.specs.Prelude.{flat_map}
 use Rattle.napt_config.specs.Rules.{Rules}
@@ -8,48 +8,48 @@ use Rattle.napt_table.specs.Opening.{opening}
 use Rattle.napt_table.specs.Rows.{rows, rows_of}
 use Rattle.napt_translate.specs.Translators.{TranslatorState}
 use Rattle.napt_sequential.specs.declared.outcome.Outcome.{Outcome}
-use Rattle.napt_sequential.specs.declared.seat.Seat.{Seat}
+use Rattle.napt_sequential.specs.declared.counted_translator.CountedTranslator.{CountedTranslator}
 use Rattle.napt_sequential.specs.Inputs.{Arrival}
 use Rattle.napt_sequential.specs.Sequential.{Ran, ran, run, last_clock, legs_at}
-use Rattle.napt_sequential.specs.Seats.{Moment, IsSeat, AreSeats, rows_at, moment_of}
-use Rattle.napt_sequential.proofs.Begun.{map_alike, flat_alike}
+use Rattle.napt_sequential.specs.CountedTranslators.{RunState, IsCountedTranslator, AreCountedTranslators, rows_at, state_of}
 use Rattle.napt_sequential.proofs.Grown.{outcomes_long}
+use Rattle.napt_sequential.proofs.Lists.{map_alike, flat_alike}
+use Rattle.napt_sequential.proofs.RunsLocal.{latest}
 
-latest : (now at : ℕ) → at ≤ now → max now at ≡ now
-latest now at le = omega arith
-
-seat_rows : (rules : Rules) (place address : ℕ) (moment : Moment) (seat : Seat) →
-    IsSeat rules place address moment seat → (now : ℕ) → now ≡ moment.clock → rows_at now seat
-    ≡ rows rules.timers now (of address moment.list)
-seat_rows rules place address moment seat is now e =
-    let past : is.own.at ≤ moment.clock = is.at_once.past in
+counted_rows : (rules : Rules) (place address : ℕ) (state : RunState) (counted : CountedTranslator) →
+    IsCountedTranslator rules place address state counted → (now : ℕ) → now ≡ state.clock → rows_at now counted
+    ≡ rows rules.timers now (of address state.list)
+counted_rows rules place address state counted is now e =
+    let past : is.own.at ≤ state.clock = is.at_once.past in
     ap (λ (t : TranslatorState). rows t.rules.timers (max now t.table.at) t.table.list) is.translator
     ∙ (ap (λ (t : ℕ). rows rules.timers t is.own.list) (latest now is.own.at (omega arith))
     ∙ (ap (λ (t : ℕ). rows rules.timers t is.own.list) e
     ∙ (ap rows_of is.at_once.agrees.same
-    ∙ ap (λ (t : ℕ). rows rules.timers t (of address moment.list)) (sym e))))
+    ∙ ap (λ (t : ℕ). rows rules.timers t (of address state.list)) (sym e))))
 
-pub run_shown : (rules : Rules) (inputs : List Arrival) (outcomes : List Outcome) (last : ℕ) (seats : List Seat)
-    (bindings : List Row) (legs : List ℕ) →
+pub run_shown : (rules : Rules) (inputs : List Arrival) (outcomes : List Outcome) (last : ℕ)
+    (translators : List CountedTranslator) (bindings : List Row) (legs : List ℕ) →
     outcomes ≡ (run rules inputs (opening rules)).outcomes → last ≡ last_clock 0 inputs →
-    AreSeats rules (moment_of rules inputs) seats →
-    bindings ≡ flat_map (rows_at last) seats → legs ≡ map (λ (s : Seat). s.legs) seats →
+    AreCountedTranslators rules (state_of rules inputs) translators →
+    bindings ≡ flat_map (rows_at last) translators → legs ≡ map (λ (s : CountedTranslator). s.legs) translators →
     (let r : Ran = record { outcomes = outcomes; bindings = bindings; legs = legs } in r ≡ ran rules inputs)
 unfolding ran
-run_shown rules inputs outcomes last seats bindings legs told clock are shown counted =
-    let moment : Moment = moment_of rules inputs in
-    let all : flat_map (rows_at last) seats ≡ flat_map (λ (address : ℕ). rows rules.timers (last_clock 0 inputs)
-    (of address moment.list)) rules.pool =
-    flat_alike (rows_at last) (λ (address : ℕ). rows rules.timers (last_clock 0 inputs) (of address moment.list)) seats
-    rules.pool are.many
-    (λ place seat address sits at. seat_rows rules place address moment seat (are.each place address seat at sits) last
-    clock ∙ ap (λ (t : ℕ). rows rules.timers t (of address moment.list)) clock) in
-    let counts : map (λ (s : Seat). s.legs) seats ≡ map (λ (address : ℕ). length (legs_at address moment.acts))
-    rules.pool =
-    map_alike (λ (s : Seat). s.legs) (λ (address : ℕ). length (legs_at address moment.acts)) seats rules.pool are.many
-    (λ place seat address sits at. let is : IsSeat rules place address moment seat =
-    are.each place address seat at sits in is.legs) in
-    rw (told, shown, counted, all, counts) refl
+run_shown rules inputs outcomes last translators bindings legs told clock are shown legs_are =
+    let state : RunState = state_of rules inputs in
+    let all : flat_map (rows_at last) translators ≡ flat_map (λ (address : ℕ). rows rules.timers (last_clock 0 inputs)
+    (of address state.list)) rules.pool =
+    flat_alike (rows_at last) (λ (address : ℕ). rows rules.timers (last_clock 0 inputs) (of address state.list))
+    translators rules.pool are.many
+    (λ place counted address is_there at. counted_rows rules place address state counted
+    (are.each place address counted at is_there) last clock
+    ∙ ap (λ (t : ℕ). rows rules.timers t (of address state.list)) clock) in
+    let counts : map (λ (s : CountedTranslator). s.legs) translators
+    ≡ map (λ (address : ℕ). length (legs_at address state.acts)) rules.pool =
+    map_alike (λ (s : CountedTranslator). s.legs) (λ (address : ℕ). length (legs_at address state.acts))
+    translators rules.pool are.many
+    (λ place counted address is_there at. let is : IsCountedTranslator rules place address state counted =
+    are.each place address counted at is_there in is.legs) in
+    rw (told, shown, legs_are, all, counts) refl
 
 pub ran_long : (rules : Rules) (inputs : List Arrival) → length (ran rules inputs).outcomes ≡ length inputs
 unfolding ran

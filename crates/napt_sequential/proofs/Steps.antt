@@ -1,4 +1,4 @@
--- A step at the seats: the legs of one input.
+-- A step at the translators: the legs of one input.
 use Rattle.std.proofs.Common.{◌≡◌, ℕ, ◌<◌, ◌≤◌, Bool, true, false, List, [], ◌∷◌, ◌++◌, length, cond, Option, Some, None, Result, Ok, Err, IsSome, refl, sym, ◌∙◌, ap, subst, append-nil, append_assoc, get_or, ◌==◌}
 use Rattle.std.specs.Prelude.{position, ok_or, is_some, not}
 use Rattle.std.specs.List.{slice_get}
@@ -25,11 +25,12 @@ use Rattle.napt_translate.specs.declared.translator.End.TheVariants.{Onward}
 use Rattle.napt_translate.specs.Sides.{is_spoofed, is_not_ours, is_unsupported, refusal, way_from, served_at, routed, route}
 use Rattle.napt_translate.specs.Legs.{Acted, onward_by, end_out, end_in, error_out, error_in, act_by, act}
 use Rattle.napt_sequential.specs.declared.outcome.Outcome.{Outcome}
-use Rattle.napt_sequential.specs.declared.seat.Seat.{Seat}
+use Rattle.napt_sequential.specs.declared.counted_translator.CountedTranslator.{CountedTranslator}
 use Rattle.napt_sequential.specs.Sequential.{Act, legs_at, Stepped, outcome_of, once, then_in, follow_by, refused, admitted, judged, read_as, step}
+use Rattle.napt_sequential.specs.declared.input.Input.TheInside as fields
 use Rattle.napt_sequential.specs.Inputs.{Arrival}
 use Rattle.napt_wire.specs.Reading.{reading}
-use Rattle.napt_sequential.specs.Seats.{Moment, IsSeat, AreSeats, moment_after, Follows}
+use Rattle.napt_sequential.specs.CountedTranslators.{RunState, IsCountedTranslator, AreCountedTranslators, state_after, Follows}
 use Rattle.napt_sequential.proofs.RunsLocal.{later_at_once}
 
 -- the address at its place
@@ -109,64 +110,65 @@ onward_place rules address leg list place packet h =
 
 -- A FIRST LEG ALONE, OR TWO
 
-pub follows_once : (rules : Rules) (address : ℕ) (leg : Leg) (moment : Moment) (seats : List Seat) (end : End) →
-    (act rules address leg moment.list).end ≡ end →
-    follow_by rules address leg (act rules address leg moment.list) end
-    ≡ once address leg (act rules address leg moment.list) →
-    AreSeats rules (moment_after rules address leg moment) seats → (outcome : Outcome) → outcome ≡ outcome_of end →
-    Follows rules leg.now (admitted rules address leg moment.list) moment seats outcome
-follows_once rules address leg moment seats end is alone are outcome told =
-    let first : Acted = act rules address leg moment.list in
-    let e : admitted rules address leg moment.list ≡ once address leg first = ap (follow_by rules address leg first) is
+pub follows_once : (rules : Rules) (address : ℕ) (leg : Leg) (state : RunState) (translators : List CountedTranslator)
+    (end : End) → (act rules address leg state.list).end ≡ end →
+    follow_by rules address leg (act rules address leg state.list) end
+    ≡ once address leg (act rules address leg state.list) →
+    AreCountedTranslators rules (state_after rules address leg state) translators → (outcome : Outcome) →
+    outcome ≡ outcome_of end → Follows rules leg.now (admitted rules address leg state.list) state translators outcome
+follows_once rules address leg state translators end is alone are outcome told =
+    let first : Acted = act rules address leg state.list in
+    let e : admitted rules address leg state.list ≡ once address leg first = ap (follow_by rules address leg first) is
     ∙ alone in
-    let held : Follows rules leg.now (once address leg first) moment seats outcome =
+    let held : Follows rules leg.now (once address leg first) state translators outcome =
     (told ∙ ap outcome_of (sym is), are) in
-    subst (λ (s : Stepped). Follows rules leg.now s moment seats outcome) (sym e) held
+    subst (λ (s : Stepped). Follows rules leg.now s state translators outcome) (sym e) held
 
-pub follows_twice : (rules : Rules) (address : ℕ) (leg : Leg) (moment : Moment) (seats : List Seat) (place : ℕ)
-    (packet : List ℕ) → (act rules address leg moment.list).end ≡ Onward place packet →
+pub follows_twice : (rules : Rules) (address : ℕ) (leg : Leg) (state : RunState) (translators : List CountedTranslator)
+    (place : ℕ) (packet : List ℕ) → (act rules address leg state.list).end ≡ Onward place packet →
     (let next : Leg = record leg { way = Incoming; packet = packet } in
     let to : ℕ = (destination packet).address in
-    let between : Moment = moment_after rules address leg moment in
-    AreSeats rules (moment_after rules to next between) seats → (outcome : Outcome) →
+    let between : RunState = state_after rules address leg state in
+    AreCountedTranslators rules (state_after rules to next between) translators → (outcome : Outcome) →
     outcome ≡ outcome_of (act rules to next between.list).end →
-    Follows rules leg.now (admitted rules address leg moment.list) moment seats outcome)
-follows_twice rules address leg moment seats place packet is are outcome told =
-    let first : Acted = act rules address leg moment.list in
+    Follows rules leg.now (admitted rules address leg state.list) state translators outcome)
+follows_twice rules address leg state translators place packet is are outcome told =
+    let first : Acted = act rules address leg state.list in
     let next : Leg = record leg { way = Incoming; packet = packet } in
     let to : ℕ = (destination packet).address in
     let second : Acted = act rules to next first.list in
-    let e : admitted rules address leg moment.list ≡ then_in address leg first (once to next second) =
+    let e : admitted rules address leg state.list ≡ then_in address leg first (once to next second) =
     ap (follow_by rules address leg first) is in
-    let acts : (moment.acts ++ record { address = address; leg = leg; end = first.end } ∷ []) ++ record {
+    let acts : (state.acts ++ record { address = address; leg = leg; end = first.end } ∷ []) ++ record {
       address = to;
       leg = next;
       end = second.end;
-    } ∷ [] ≡ moment.acts ++ (record { address = address; leg = leg; end = first.end }
-    ∷ record { address = to; leg = next; end = second.end } ∷ []) = append_assoc moment.acts _ _ in
-    let held : Follows rules leg.now (then_in address leg first (once to next second)) moment seats outcome = (
+    } ∷ [] ≡ state.acts ++ (record { address = address; leg = leg; end = first.end }
+    ∷ record { address = to; leg = next; end = second.end } ∷ []) = append_assoc state.acts _ _ in
+    let held : Follows rules leg.now (then_in address leg first (once to next second)) state translators outcome = (
       told,
-      subst (λ (xs : List Act). AreSeats rules (record { clock = leg.now; acts = xs; list = second.list })
-          seats) acts are,
+      subst (λ (xs : List Act). AreCountedTranslators rules (record { clock = leg.now; acts = xs; list = second.list })
+          translators) acts are,
     ) in
-    subst (λ (s : Stepped). Follows rules leg.now s moment seats outcome) (sym e) held
+    subst (λ (s : Stepped). Follows rules leg.now s state translators outcome) (sym e) held
 
 -- NO LEG
 
-pub follows_none : (rules : Rules) (now : ℕ) (moment : Moment) (seats : List Seat) → moment.clock ≤ now →
-    AreSeats rules moment seats → (cause : Cause) → Follows rules now (refused cause moment.list) moment seats
-    (let s : Stepped = refused cause moment.list in s.outcome)
-follows_none rules now moment seats later are cause = (
+pub follows_none : (rules : Rules) (now : ℕ) (state : RunState) (translators : List CountedTranslator) →
+    state.clock ≤ now → AreCountedTranslators rules state translators → (cause : Cause) →
+    Follows rules now (refused cause state.list) state translators
+    (let s : Stepped = refused cause state.list in s.outcome)
+follows_none rules now state translators later are cause = (
   refl,
   record {
     many = are.many;
-    each = λ place address seat at sits.
-        let is : IsSeat rules place address moment seat = are.each place address seat at sits in
+    each = λ place address counted at is_there.
+        let is : IsCountedTranslator rules place address state counted = are.each place address counted at is_there in
         record {
           own = is.own;
           translator = is.translator;
-          at_once = later_at_once rules address moment.clock now later is.own moment.list is.at_once;
-          legs = subst (λ (xs : List Act). seat.legs ≡ length (legs_at address xs)) (sym (append-nil moment.acts))
+          at_once = later_at_once rules address state.clock now later is.own state.list is.at_once;
+          legs = subst (λ (xs : List Act). counted.legs ≡ length (legs_at address xs)) (sym (append-nil state.acts))
               is.legs;
         };
   },
@@ -244,6 +246,11 @@ pub step_admitted : (rules : Rules) (number now : ℕ) (input : Arrival) (list :
 step_admitted rules number now input list packet reads free =
     ap (λ (r : Result (List ℕ) Cause). read_as rules number now input.side r list) reads
     ∙ ap (λ (o : Option Cause). judged rules number now (way_from input.side) packet o list) free
+
+-- what contracts see of an input, of its fields
+abbrev pub arrival_of : fields.Inside → Arrival
+arrival_of input =
+    record { side = input.side; time = input.time; clock = input.clock; bytes = input.bytes.items }
 
 -- the bytes that were copied read as the input's
 pub reads_as : (input copy : Arrival) (bytes : List ℕ) (read : Result (List ℕ) Cause) → copy ≡ input →

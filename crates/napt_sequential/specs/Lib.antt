@@ -1,7 +1,7 @@
 pub mod Inputs
 pub mod Sequential
 pub mod Faults
-pub mod Seats
+pub mod CountedTranslators
 pub mod Sound
 pub mod QuotaKept
 pub mod Laws

@@ -4,12 +4,12 @@
 //! what holds of its bindings, and what whoever runs each address apart can rely on.
 #![tactic(auto)]
 
+mod counted_translator;
 mod fault;
 mod input;
 mod laws;
 mod outcome;
 mod run;
-mod seat;
 
 pub use fault::RunFault;
 pub use input::Input;
@@ -17,5 +17,6 @@ pub use laws::{
     legs_are_local, places_stand_for_legs, right_answers, runs_are_sound, runs_keep_the_quota,
     translators_are_local,
 };
+pub use napt_translate::way_from;
 pub use outcome::{Outcome, Run};
-pub use run::{run_plain, way_from};
+pub use run::run_plain;

@@ -5,43 +5,42 @@ ghost use Rattle.std.specs.List.{slice_get};
 ghost use Rattle.napt_config.specs.Rules.{KeepsRules};
 ghost use Rattle.napt_table.specs.Opening.{opening};
 ghost use Rattle.napt_translate.specs.Legs.{act};
-ghost use Rattle.napt_translate.specs.Sides as sides;
 ghost use Rattle.napt_sequential.specs.Sequential as model;
-ghost use Rattle.napt_sequential.specs.Seats as standing;
+ghost use Rattle.napt_sequential.specs.CountedTranslators.{RunState, AreCountedTranslators, CanTake, Follows, state_after, state_of, rows_at};
 ghost use Rattle.napt_sequential.specs.Sound.{AreRowsApart};
 ghost use Rattle.napt_sequential.specs.Faults.{IsOneThreadFault};
 
+use crate::counted_translator::CountedTranslator;
 use crate::laws::runs_are_sound;
-use crate::seat::Seat;
 use crate::{Input, Outcome, Run, RunFault};
 use napt_config::Config;
 use napt_table::Row;
-use napt_translate::{End, Leg, Translator, route};
-use napt_wire::{Packet, Side, Way};
+use napt_translate::{End, Leg, Translator, route, way_from};
+use napt_wire::{Packet, Way};
 use std::alloc::{AllocError, Global};
 
 /// Takes a leg at a place of the pool, from 0, and answers how it ends.
 fn take(
     alloc: Global,
     config: &Config,
-    seats: &mut [Seat],
+    translators: &mut [CountedTranslator],
     place: u32,
     leg: Leg,
 ) -> Result<End, AllocError>
     requires keeps { KeepsRules config.now }
     requires within { place < length config.now.pool }
-    requires stand { standing.StandBy config.now leg.now 1 seats.old }
-    ensures end { (moment : standing.Moment) (address : ℕ) →
-        standing.AreSeats config.now moment seats.old → moment.clock ≤ leg.now →
+    requires can_take { CanTake config.now leg.now 1 translators.old }
+    ensures end { (state : RunState) (address : ℕ) →
+        AreCountedTranslators config.now state translators.old → state.clock ≤ leg.now →
         slice_get config.now.pool place ≡ Some address →
-        IfOk result (λ end. end ≡ (act config.now address leg moment.list).end) }
-    ensures left { (moment : standing.Moment) (address : ℕ) →
-        standing.AreSeats config.now moment seats.old → moment.clock ≤ leg.now →
+        IfOk result (λ end. end ≡ (act config.now address leg state.list).end) }
+    ensures left { (state : RunState) (address : ℕ) →
+        AreCountedTranslators config.now state translators.old → state.clock ≤ leg.now →
         slice_get config.now.pool place ≡ Some address →
-        OnOk result (standing.AreSeats config.now
-        (standing.moment_after config.now address leg moment) seats.new) }
+        OnOk result (AreCountedTranslators config.now
+        (state_after config.now address leg state) translators.new) }
 {
-    seats[place as usize].take(alloc, leg)
+    translators[place as usize].take(alloc, leg)
 }
 
 fn outcome_of(end: End) -> Outcome
@@ -58,22 +57,22 @@ fn outcome_of(end: End) -> Outcome
 fn follow(
     alloc: Global,
     config: &Config,
-    seats: &mut [Seat],
+    translators: &mut [CountedTranslator],
     place: u32,
     leg: Leg,
 ) -> Result<Outcome, AllocError>
     requires keeps { KeepsRules config.now }
     requires within { place < length config.now.pool }
-    requires stand { standing.StandBy config.now leg.now 2 seats.old }
-    ensures { (moment : standing.Moment) (address : ℕ) →
-        standing.AreSeats config.now moment seats.old → moment.clock ≤ leg.now →
+    requires can_take { CanTake config.now leg.now 2 translators.old }
+    ensures { (state : RunState) (address : ℕ) →
+        AreCountedTranslators config.now state translators.old → state.clock ≤ leg.now →
         slice_get config.now.pool place ≡ Some address →
-        IfOk result (standing.Follows config.now leg.now
-        (model.admitted config.now address leg moment.list) moment seats.new) }
+        IfOk result (Follows config.now leg.now
+        (model.admitted config.now address leg state.list) state translators.new) }
 {
     let number = leg.number;
     let now = leg.now;
-    match take(alloc, config, seats, place, leg)? {
+    match take(alloc, config, translators, place, leg)? {
         End::Onward(to, packet) => {
             let next = Leg {
                 number,
@@ -81,7 +80,7 @@ fn follow(
                 way: Way::Incoming,
                 packet,
             };
-            let end = take(alloc, config, seats, to, next)?;
+            let end = take(alloc, config, translators, to, next)?;
             Ok(outcome_of(end))
         }
         End::ToOutside(packet) => Ok(Outcome::ToOutside(packet)),
@@ -90,31 +89,21 @@ fn follow(
     }
 }
 
-/// The way of an input that came from a side: out of the inside, or in from the outside.
-pub fn way_from(side: Side) -> Way
-    ensures { result ≡ sides.way_from side }
-{
-    match side {
-        Side::Inside => Way::Outgoing,
-        Side::Outside => Way::Incoming,
-    }
-}
-
 /// Takes an input through the translators at a time, in ns, and answers what became of it.
 fn step(
     alloc: Global,
     config: &Config,
-    seats: &mut [Seat],
+    translators: &mut [CountedTranslator],
     number: u64,
     now: u64,
     input: &Input,
 ) -> Result<Outcome, AllocError>
     requires keeps { KeepsRules config.now }
-    requires stand { standing.StandBy config.now now 2 seats.old }
-    ensures { (moment : standing.Moment) → standing.AreSeats config.now moment seats.old →
-        moment.clock ≤ now →
-        IfOk result (standing.Follows config.now now
-        (model.step config.now number now input.now moment.list) moment seats.new) }
+    requires can_take { CanTake config.now now 2 translators.old }
+    ensures { (state : RunState) → AreCountedTranslators config.now state translators.old →
+        state.clock ≤ now →
+        IfOk result (Follows config.now now
+        (model.step config.now number now input.now state.list) state translators.new) }
 {
     let bytes = Vec::from_slice(alloc, &input.bytes)?;
     let packet = match Packet::read(input.side, bytes) {
@@ -131,75 +120,79 @@ fn step(
         way: way_from(input.side),
         packet,
     };
-    follow(alloc, config, seats, place, leg)
+    follow(alloc, config, translators, place, leg)
 }
 
 /// The translators of all external addresses before any leg, in the order of the pool.
-fn begin(alloc: Global, config: &Config) -> Result<Vec<Seat>, AllocError>
+fn begin(alloc: Global, config: &Config) -> Result<Vec<CountedTranslator>, AllocError>
     ensures kept { KeepsRules config.now }
-    ensures seats { IfOk result (λ seats. standing.AreSeats config.now
-        (standing.moment_of config.now [])
-        seats.items) }
+    ensures translators { IfOk result (λ translators. AreCountedTranslators config.now
+        (state_of config.now [])
+        translators.items) }
 {
     let many = config.pool().len() as u32;
-    let mut seats = Vec::new(alloc);
+    let mut translators = Vec::new(alloc);
     for index in 0..many {
         let translator = Translator::new(alloc, index, config.copy(alloc)?)?;
-        seats.push(Seat {
+        translators.push(CountedTranslator {
             translator,
             legs: 0,
         })?;
     }
-    Ok(seats)
+    Ok(translators)
 }
 
 /// Takes all inputs through the translators, and answers what became of each, with the last clock.
 fn step_all(
     alloc: Global,
     config: &Config,
-    seats: &mut [Seat],
+    translators: &mut [CountedTranslator],
     inputs: &[Input],
 ) -> Result<(Vec<Outcome>, u64), AllocError>
     requires keeps { KeepsRules config.now }
     requires few { length inputs.now < 2 ^ 32 }
-    requires fresh { standing.AreSeats config.now (standing.moment_of config.now []) seats.old }
+    requires fresh { AreCountedTranslators config.now (state_of config.now []) translators.old }
     ensures outcomes { IfOk result (λ all. all.0.items
         ≡ (model.run config.now inputs.now (opening config.now)).outcomes) }
     ensures last { IfOk result (λ all. all.1 ≡ model.last_clock 0 inputs.now) }
-    ensures seats { OnOk result (standing.AreSeats config.now
-        (standing.moment_of config.now inputs.now)
-        seats.new) }
+    ensures translators { OnOk result (AreCountedTranslators config.now
+        (state_of config.now inputs.now)
+        translators.new) }
 {
     let mut outcomes = Vec::new(alloc);
     let mut clock = 0u64;
     for input in inputs {
         clock = clock.max(input.clock);
         let number = outcomes.len() as u64;
-        let outcome = step(alloc, config, seats, number, clock, input)?;
+        let outcome = step(alloc, config, translators, number, clock, input)?;
         outcomes.push(outcome)?;
     }
     Ok((outcomes, clock))
 }
 
 /// The bindings that live at a time, in ns, address by address.
-fn bindings(alloc: Global, seats: &[Seat], now: u64) -> Result<Vec<Row>, AllocError>
-    ensures { IfOk result (λ made. made.items ≡ flat_map (standing.rows_at now) seats.now) }
+fn bindings(
+    alloc: Global,
+    translators: &[CountedTranslator],
+    now: u64,
+) -> Result<Vec<Row>, AllocError>
+    ensures { IfOk result (λ made. made.items ≡ flat_map (rows_at now) translators.now) }
 {
     let mut made = Vec::new(alloc);
-    for seat in seats {
-        let rows = seat.bindings(alloc, now)?;
+    for counted in translators {
+        let rows = counted.bindings(alloc, now)?;
         made.extend_from_slice(&rows)?;
     }
     Ok(made)
 }
 
 /// How many legs acted at each address.
-fn legs(alloc: Global, seats: &[Seat]) -> Result<Vec<u64>, AllocError>
-    ensures { IfOk result (λ made. made.items ≡ map (λ seat. seat.legs) seats.now) }
+fn legs(alloc: Global, translators: &[CountedTranslator]) -> Result<Vec<u64>, AllocError>
+    ensures { IfOk result (λ made. made.items ≡ map (λ counted. counted.legs) translators.now) }
 {
     let mut made = Vec::new(alloc);
-    for seat in seats {
-        made.push(seat.legs)?;
+    for counted in translators {
+        made.push(counted.legs)?;
     }
     Ok(made)
 }
@@ -211,10 +204,10 @@ fn run(alloc: Global, config: &Config, inputs: &[Input]) -> Result<Run, AllocErr
     ensures run { IfOk result (λ run. run ≡ model.ran config.now inputs.now) }
     ensures kept { KeepsRules config.now }
 {
-    let mut seats = begin(alloc, config)?;
-    let (outcomes, last) = step_all(alloc, config, &mut seats, inputs)?;
-    let bindings = bindings(alloc, &seats, last)?;
-    let legs = legs(alloc, &seats)?;
+    let mut translators = begin(alloc, config)?;
+    let (outcomes, last) = step_all(alloc, config, &mut translators, inputs)?;
+    let bindings = bindings(alloc, &translators, last)?;
+    let legs = legs(alloc, &translators)?;
     Ok(Run {
         outcomes,
         bindings,

@@ -10,5 +10,5 @@ mod sides;
 mod translator;
 
 pub use laws::legs_keep_to_their_way;
-pub use sides::{onward, route};
+pub use sides::{onward, route, way_from};
 pub use translator::{Answer, End, Leg, Translator};

@@ -37,6 +37,16 @@ pub fn onward(config: &Config, packet: &Packet) -> Option<u32>
     config.pool_index(packet.destination().address)
 }
 
+/// The way of a packet that arrived on a side: out of the inside, or in from the outside.
+pub fn way_from(side: Side) -> Way
+    ensures { result ≡ sides.way_from side }
+{
+    match side {
+        Side::Inside => Way::Outgoing,
+        Side::Outside => Way::Incoming,
+    }
+}
+
 /// The first cause that stands against a packet's crossing.
 fn refusal(config: &Config, side: Side, packet: &Packet) -> Option<Cause>
     ensures { result ≡ sides.refusal config.now side packet.now }
@@ -105,16 +115,6 @@ fn is_in_pool(config: &Config, address: u32) -> bool
     ensures { result ≡ sides.is_in_pool config.now address }
 {
     config.pool_index(address).is_some()
-}
-
-/// The way of a packet that arrived on a side.
-fn way_from(side: Side) -> Way
-    ensures { result ≡ sides.way_from side }
-{
-    match side {
-        Side::Inside => Way::Outgoing,
-        Side::Outside => Way::Incoming,
-    }
 }
 
 /// The external address at which a packet is served.

@@ -4,7 +4,7 @@ use Rattle.napt_sequential.proofs.run.begin.Given as goal
 
 abbrev pub invariant-loop-index : goal.invariant-loop-index
 invariant-loop-index l = record {
-  many : length l.seats.items ≡ l.index;
+  many : length l.translators.items ≡ l.index;
   within : l.index ≤ length l.config.pool;
-  fresh : AreFresh l.config l.seats.items;
+  fresh : AreFresh l.config l.translators.items;
 }

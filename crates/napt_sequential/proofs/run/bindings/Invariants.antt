@@ -1,7 +1,7 @@
 use Rattle.std.proofs.Common.{◌≡◌, take}
 use Rattle.std.specs.Prelude.{flat_map}
-use Rattle.napt_sequential.specs.Seats.{rows_at}
+use Rattle.napt_sequential.specs.CountedTranslators.{rows_at}
 use Rattle.napt_sequential.proofs.run.bindings.Given as goal
 
-abbrev pub invariant-loop-seat : goal.invariant-loop-seat
-invariant-loop-seat l = l.made.items ≡ flat_map (rows_at l.now) (take l.seat-index l.seats)
+abbrev pub invariant-loop-counted : goal.invariant-loop-counted
+invariant-loop-counted l = l.made.items ≡ flat_map (rows_at l.now) (take l.counted-index l.translators)

@@ -1,6 +1,7 @@
 use Rattle.std.proofs.Common.{◌≡◌, take, map}
-use Rattle.napt_sequential.specs.declared.seat.Seat.{Seat}
+use Rattle.napt_sequential.specs.declared.counted_translator.CountedTranslator.{CountedTranslator}
 use Rattle.napt_sequential.proofs.run.legs.Given as goal
 
-abbrev pub invariant-loop-seat : goal.invariant-loop-seat
-invariant-loop-seat l = l.made.items ≡ map (λ (seat : Seat). seat.legs) (take l.seat-index l.seats)
+abbrev pub invariant-loop-counted : goal.invariant-loop-counted
+invariant-loop-counted l = l.made.items
+    ≡ map (λ (counted : CountedTranslator). counted.legs) (take l.counted-index l.translators)

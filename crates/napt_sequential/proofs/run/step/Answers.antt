@@ -8,37 +8,28 @@ use Rattle.napt_translate.specs.Sides.{way_from, served_at, refusal, route}
 use Rattle.napt_sequential.specs.Inputs.{Arrival}
 use Rattle.napt_sequential.specs.declared.outcome.Outcome.TheVariants.{Dropped}
 use Rattle.napt_sequential.specs.Sequential.{Stepped, refused, admitted, step}
-use Rattle.napt_sequential.specs.Seats.{Follows}
-use Rattle.napt_sequential.proofs.Steps.{route_ok, route_err, follows_none, step_unread, step_refused, step_admitted, reads_as, side_as}
+use Rattle.napt_sequential.specs.CountedTranslators.{Follows}
+use Rattle.napt_sequential.proofs.Steps.{arrival_of, route_ok, route_err, follows_none, step_unread, step_refused, step_admitted, reads_as, side_as}
 use Rattle.napt_sequential.proofs.run.step.Goals as goal
 
 pub returns-in-Err : goal.returns-in-Err
-returns-in-Err c = λ moment are later.
+returns-in-Err c = λ state are later.
     let input : Arrival = c.args.input.now in
-    let copy : Arrival = record {
-      side = c.input.inside.side;
-      time = c.input.inside.time;
-      clock = c.input.inside.clock;
-      bytes = c.input.inside.bytes.items;
-    } in
+    let copy : Arrival = arrival_of c.input.inside in
     let reads : reading input.side input.bytes ≡ Err c.in-Err.cause = reads_as input copy c.in_ok-bytes.bytes.items
     (Err c.in-Err.cause) c.input.view_is (c.in_ok-bytes.ensures.items ∙ c.deref.ensures.value)
     c.in-Err.ensures.cause in
-    let is : step c.args.config.now c.args.number c.args.now input moment.list ≡ refused c.in-Err.cause moment.list =
-    step_unread c.args.config.now c.args.number c.args.now input moment.list c.in-Err.cause reads in
-    subst (λ (s : Stepped). Follows c.args.config.now c.args.now s moment c.args.seats.now (Dropped c.in-Err.cause))
+    let is : step c.args.config.now c.args.number c.args.now input state.list ≡ refused c.in-Err.cause state.list =
+    step_unread c.args.config.now c.args.number c.args.now input state.list c.in-Err.cause reads in
+    subst (λ (s : Stepped). Follows c.args.config.now c.args.now s state c.args.translators.now
+    (Dropped c.in-Err.cause))
     (sym is)
-    (follows_none c.args.config.now c.args.now moment c.args.seats.now later are c.in-Err.cause)
+    (follows_none c.args.config.now c.args.now state c.args.translators.now later are c.in-Err.cause)
 
 pub returns-in-Err-route : goal.returns-in-Err-route
-returns-in-Err-route c = λ moment are later.
+returns-in-Err-route c = λ state are later.
     let input : Arrival = c.args.input.now in
-    let copy : Arrival = record {
-      side = c.input.inside.side;
-      time = c.input.inside.time;
-      clock = c.input.inside.clock;
-      bytes = c.input.inside.bytes.items;
-    } in
+    let copy : Arrival = arrival_of c.input.inside in
     let packet : List ℕ = c.in-Ok.packet in
     let reads : reading input.side input.bytes ≡ Ok packet = reads_as input copy c.in_ok-bytes.bytes.items
     (Ok packet) c.input.view_is (c.in_ok-bytes.ensures.items ∙ c.deref.ensures.value) c.in-Ok.ensures.ok in
@@ -46,13 +37,13 @@ returns-in-Err-route c = λ moment are later.
     route_err c.args.config.now c.requires.keeps input.side packet c.in-Err-route.cause
     (ap (λ (s : Side). route c.args.config.now s packet) (sym (side_as input copy c.input.view_is))
     ∙ (sym c.route.ensures.place ∙ c.in-Err-route.is)) in
-    let is : step c.args.config.now c.args.number c.args.now input moment.list
-    ≡ refused c.in-Err-route.cause moment.list =
-    step_refused c.args.config.now c.args.number c.args.now input moment.list packet c.in-Err-route.cause reads
+    let is : step c.args.config.now c.args.number c.args.now input state.list
+    ≡ refused c.in-Err-route.cause state.list =
+    step_refused c.args.config.now c.args.number c.args.now input state.list packet c.in-Err-route.cause reads
     against in
-    subst (λ (s : Stepped). Follows c.args.config.now c.args.now s moment c.args.seats.now
+    subst (λ (s : Stepped). Follows c.args.config.now c.args.now s state c.args.translators.now
     (Dropped c.in-Err-route.cause)) (sym is)
-    (follows_none c.args.config.now c.args.now moment c.args.seats.now later are c.in-Err-route.cause)
+    (follows_none c.args.config.now c.args.now state c.args.translators.now later are c.in-Err-route.cause)
 
 pub follow-requires-clause-within : goal.follow-requires-clause-within
 follow-requires-clause-within c =
@@ -60,14 +51,9 @@ follow-requires-clause-within c =
     (served_at c.args.config.now (way_from c.input.inside.side) c.in-Ok.packet) c.in-Ok-route.ensures.in_pool
 
 pub returns : goal.returns
-returns c = λ moment are later.
+returns c = λ state are later.
     let input : Arrival = c.args.input.now in
-    let copy : Arrival = record {
-      side = c.input.inside.side;
-      time = c.input.inside.time;
-      clock = c.input.inside.clock;
-      bytes = c.input.inside.bytes.items;
-    } in
+    let copy : Arrival = arrival_of c.input.inside in
     let packet : List ℕ = c.in-Ok.packet in
     let reads : reading input.side input.bytes ≡ Ok packet = reads_as input copy c.in_ok-bytes.bytes.items
     (Ok packet) c.input.view_is (c.in_ok-bytes.ensures.items ∙ c.deref.ensures.value) c.in-Ok.ensures.ok in
@@ -75,22 +61,23 @@ returns c = λ moment are later.
     route_ok c.args.config.now input.side packet c.in-Ok-route.place
     (ap (λ (s : Side). route c.args.config.now s packet) (sym (side_as input copy c.input.view_is))
     ∙ (sym c.route.ensures.place ∙ c.in-Ok-route.is)) in
-    let is : step c.args.config.now c.args.number c.args.now input moment.list ≡ admitted c.args.config.now
+    let is : step c.args.config.now c.args.number c.args.now input state.list ≡ admitted c.args.config.now
     (served_at c.args.config.now (way_from input.side) packet) (record {
       number = c.args.number;
       now = c.args.now;
       way = way_from input.side;
       packet = packet;
-    }) moment.list
-    = step_admitted c.args.config.now c.args.number c.args.now input moment.list packet reads free in
+    }) state.list
+    = step_admitted c.args.config.now c.args.number c.args.now input state.list packet reads free in
     let admitted_at : Side → Way → Stepped = λ side way.
     admitted c.args.config.now (served_at c.args.config.now (way_from side) packet)
-    (record { number = c.args.number; now = c.args.now; way = way; packet = packet }) moment.list in
+    (record { number = c.args.number; now = c.args.now; way = way; packet = packet }) state.list in
     let same : admitted_at c.input.inside.side c.way_from.result ≡ step c.args.config.now c.args.number c.args.now input
-    moment.list =
+    state.list =
     ap (admitted_at c.input.inside.side) c.way_from.ensures
     ∙ (ap (λ (s : Side). admitted_at s (way_from s)) (side_as input copy c.input.view_is) ∙ sym is) in
-    subst (λ (s : Stepped). IfOk c.follow.result (Follows c.args.config.now c.args.now s moment c.follow.new.seats))
+    subst (λ (s : Stepped). IfOk c.follow.result
+    (Follows c.args.config.now c.args.now s state c.follow.new.translators))
     same
-    (c.follow.ensures moment (served_at c.args.config.now (way_from c.input.inside.side) packet) are later
+    (c.follow.ensures state (served_at c.args.config.now (way_from c.input.inside.side) packet) are later
     c.in-Ok-route.ensures.in_pool)

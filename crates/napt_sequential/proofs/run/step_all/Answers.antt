@@ -4,27 +4,27 @@ use Rattle.napt_table.specs.Opening.{opening}
 use Rattle.napt_sequential.specs.Inputs.{Arrival}
 use Rattle.napt_sequential.specs.declared.outcome.Outcome.{Outcome}
 use Rattle.napt_sequential.specs.Sequential.{last_clock, step}
-use Rattle.napt_sequential.specs.Seats.{Follows, moment_of}
-use Rattle.napt_sequential.proofs.Grown.{NextStands, outcomes_long, after_next, stands_by}
+use Rattle.napt_sequential.specs.CountedTranslators.{Follows, state_of}
+use Rattle.napt_sequential.proofs.Grown.{RunSoFar, outcomes_long, after_next, can_take}
 use Rattle.napt_sequential.proofs.run.step_all.Goals as goal
 
-pub step-requires-clause-stand : goal.step-requires-clause-stand
-step-requires-clause-stand c =
+pub step-requires-clause-can_take : goal.step-requires-clause-can_take
+step-requires-clause-can_take c =
     let n : ℕ = c.loop-input.input-index in
     let before = c.loop-input.invariant in
     let was : c.loop-input.clock ≡ last_clock 0 (take n c.args.inputs.now) = before.clock in
     let now : c.max-clock.result ≡ max c.loop-input.clock c.input.inside.clock = c.max-clock.ensures in
     let later : last_clock 0 (take n c.args.inputs.now) ≤ c.max-clock.result = omega arith in
-    stands_by c.args.config.now c.args.inputs.now n c.max-clock.result c.loop-input.seats c.loop-input-test.true
-    c.requires.few later before.seats
+    can_take c.args.config.now c.args.inputs.now n c.max-clock.result c.loop-input.translators c.loop-input-test.true
+    c.requires.few later before.translators
 
 pub loop-input-preserved : goal.loop-input-preserved
 loop-input-preserved c =
     let n : ℕ = c.loop-input.input-index in
     let inputs : List Arrival = c.args.inputs.now in
     let input : Arrival = c.input-item.result in
-    let before : NextStands c.args.config.now (take n inputs) c.loop-input.clock c.loop-input.outcomes.items
-    c.loop-input.seats = c.loop-input.invariant in
+    let before : RunSoFar c.args.config.now (take n inputs) c.loop-input.clock c.loop-input.outcomes.items
+    c.loop-input.translators = c.loop-input.invariant in
     let was : c.loop-input.clock ≡ last_clock 0 (take n inputs) = before.clock in
     let clock : c.input.inside.clock ≡ input.clock = ap (λ (a : Arrival). a.clock) c.input.view_is in
     let now : c.max-clock.result ≡ max (last_clock 0 (take n inputs)) input.clock = c.max-clock.ensures
@@ -37,11 +37,11 @@ loop-input-preserved c =
     omega arith) in
     let follows : Follows c.args.config.now c.max-clock.result
     (step c.args.config.now c.len-number.result c.max-clock.result input
-    (moment_of c.args.config.now (take n inputs)).list) (moment_of c.args.config.now (take n inputs))
-    c.step.new.seats c.in_ok-outcome.outcome
-    = c.in_ok-outcome.ensures (moment_of c.args.config.now (take n inputs)) before.seats later in
-    subst (λ (os : List Outcome). NextStands c.args.config.now (take (n + 1) inputs) c.max-clock.result os
-    c.step.new.seats) (sym c.in_ok-push.ensures.items)
+    (state_of c.args.config.now (take n inputs)).list) (state_of c.args.config.now (take n inputs))
+    c.step.new.translators c.in_ok-outcome.outcome
+    = c.in_ok-outcome.ensures (state_of c.args.config.now (take n inputs)) before.translators later in
+    subst (λ (os : List Outcome). RunSoFar c.args.config.now (take (n + 1) inputs) c.max-clock.result os
+    c.step.new.translators) (sym c.in_ok-push.ensures.items)
     (after_next c.args.config.now inputs n input c.loop-input-test.true (sym c.input-item.is) c.len-number.result
-    c.max-clock.result number now c.loop-input.outcomes.items c.step.new.seats c.in_ok-outcome.outcome
+    c.max-clock.result number now c.loop-input.outcomes.items c.step.new.translators c.in_ok-outcome.outcome
     before.outcomes follows)

@@ -8,19 +8,19 @@ use std::alloc::{AllocError, Global};
 
 /// A translator of one external address, and how many legs acted there.
 #[derive(Drop)]
-pub(crate) struct Seat {
+pub(crate) struct CountedTranslator {
     pub(crate) translator: Translator,
     pub(crate) legs: u64,
 }
 
-impl Seat {
-    ghost use Rattle.napt_sequential.specs.Seats.{end_at, seat_after, rows_at};
+impl CountedTranslator {
+    ghost use Rattle.napt_sequential.specs.CountedTranslators.{end_at, counted_after, rows_at};
 
     /// Takes a leg, and answers how it ends.
     pub(crate) fn take(&mut self, alloc: Global, leg: Leg) -> Result<End, AllocError>
         requires { self.old.legs < 2 ^ 64 - 1 }
         ensures end { IfOk result (λ end. end ≡ end_at leg self.old) }
-        ensures left { OnOk result (self.new ≡ seat_after leg self.old) }
+        ensures left { OnOk result (self.new ≡ counted_after leg self.old) }
     {
         let answer = self.translator.translate(alloc, leg)?;
         self.legs += 1;

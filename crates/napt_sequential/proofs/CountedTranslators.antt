@@ -1,0 +1,163 @@
+-- The translators after a leg, at its address and at the others.
+use Rattle.std.proofs.Common.{◌≡◌, ◌≢◌, ℕ, suc, ◌+◌, ◌≤◌, true, false, List, [], ◌∷◌, ◌++◌, map, length, cond, Some, refl, sym, ◌∙◌, ap, subst, arith, eqb, eq-eqb, append-nil, get_or, set}
+use Rattle.std.specs.List.{slice_get}
+use Rattle.std.proofs.lemmas.Bool.{ne_eqb, eqb-true, eqb-false}
+use Rattle.std.proofs.lemmas.List.Elements.{filter-append}
+use Rattle.std.proofs.lemmas.Option.{slice_get_within, get_or_from_slice_get}
+use Rattle.napt_config.specs.Rules.{Rules, KeepsRules}
+use Rattle.napt_translate.specs.declared.translator.Leg.{Leg}
+use Rattle.napt_translate.specs.Legs.{act, kept_act, kept_after}
+use Rattle.napt_translate.specs.Translators.{TranslatorState, begun, with_kept, left_by}
+use Rattle.napt_sequential.specs.declared.counted_translator.CountedTranslator.{CountedTranslator}
+use Rattle.napt_sequential.specs.Sequential.{Act, legs_at, acts_at}
+use Rattle.napt_sequential.specs.CountedTranslators.{RunState, IsCountedTranslator, AreCountedTranslators, state_after, end_at, counted_after}
+use Rattle.napt_sequential.proofs.Lists.{get_set, get_set_other, long_set, same_some}
+use Rattle.napt_sequential.proofs.RunsLocal.{StaysAtOnce, leg_at_once, other_at_once}
+
+-- one leg more, at its address and at another
+legs_more : (address : ℕ) (acts : List Act) (a : Act) → a.address ≡ address → length (legs_at address (acts ++ a ∷ []))
+    ≡ length (legs_at address acts) + 1
+legs_more address [] a here = ap (λ v. length (map (λ (x : Act). x.leg) (cond v (a ∷ []) [])))
+    (eq-eqb a.address address here)
+legs_more address (x ∷ acts) a here =
+    elim (eqb x.address address) as (λ v.
+    length (map (λ (y : Act). y.leg) (cond v (x ∷ acts_at address (acts ++ a ∷ []))
+    (acts_at address (acts ++ a ∷ []))))
+    ≡ length (map (λ (y : Act). y.leg) (cond v (x ∷ acts_at address acts) (acts_at address acts))) + 1) [
+      | true ↦ let more = legs_more address acts a here in omega arith
+      | false ↦ legs_more address acts a here
+    ]
+
+legs_few : (address : ℕ) (acts : List Act) → length (legs_at address acts) ≤ length acts
+legs_few address [] = omega arith
+legs_few address (x ∷ acts) =
+    let few = legs_few address acts in
+    elim (eqb x.address address) as (λ v.
+    length (map (λ (y : Act). y.leg) (cond v (x ∷ acts_at address acts) (acts_at address acts)))
+    ≤ suc (length acts)) [
+      | true ↦ omega arith
+      | false ↦ omega arith
+    ]
+
+legs_other : (address : ℕ) (acts : List Act) (a : Act) → address ≢ a.address → legs_at address (acts ++ a ∷ [])
+    ≡ legs_at address acts
+legs_other address acts a differ =
+    ap (map (λ (x : Act). x.leg))
+    (filter-append (λ (x : Act). eqb x.address address) acts (a ∷ [])
+    ∙ (ap (λ v. acts_at address acts ++ cond v (a ∷ []) []) (ne_eqb a.address address (λ e. differ (sym e)))
+    ∙ append-nil (acts_at address acts)))
+
+module _ (rules : Rules) (place address : ℕ) (at : get_or rules.pool place 0 ≡ address) (state : RunState)
+    (counted : CountedTranslator) (is : IsCountedTranslator rules place address state counted) (leg : Leg)
+    (later : state.clock ≤ leg.now) where
+  own_stays : StaysAtOnce rules address leg is.own state.list
+  own_stays = leg_at_once rules address state.clock is.own state.list is.at_once leg later
+
+  -- the translator of the address
+  pub own_end : end_at leg counted ≡ (act rules address leg state.list).end
+  own_end =
+      ap (λ (t : TranslatorState). end_at leg (record { translator = t; legs = 0 })) is.translator
+      ∙ (ap (λ (a : ℕ). (kept_act rules a leg is.own).end) at ∙ own_stays.end)
+
+  pub own_counted : IsCountedTranslator rules place address (state_after rules address leg state)
+      (counted_after leg counted)
+  own_counted = record {
+    own = kept_after rules address leg is.own;
+    translator = ap (left_by leg) is.translator
+        ∙ ap (λ (a : ℕ). with_kept (begun place rules) (kept_after rules a leg is.own)) at;
+    at_once = own_stays.left;
+    legs =
+        let one : length (legs_at address (state.acts ++ record {
+          address = address;
+          leg = leg;
+          end =
+              (act rules address leg state.list).end;
+        } ∷ [])) ≡ length (legs_at address state.acts) + 1 =
+        legs_more address state.acts (record {
+          address = address;
+          leg = leg;
+          end =
+              (act rules address leg state.list).end;
+        }) refl in
+        ap (λ n. n + 1) is.legs ∙ sym one;
+  }
+
+-- the translator of another address
+pub other_counted : (rules : Rules) (place address : ℕ) (state : RunState) (counted : CountedTranslator) →
+    IsCountedTranslator rules place address state counted → (at : ℕ) → address ≢ at → (leg : Leg) →
+    state.clock ≤ leg.now → IsCountedTranslator rules place address (state_after rules at leg state) counted
+other_counted rules place address state counted is at differ leg later = record {
+  own = is.own;
+  translator = is.translator;
+  at_once = other_at_once rules address state.clock is.own state.list is.at_once at differ leg later;
+  legs = is.legs
+      ∙ ap length (sym (legs_other address state.acts (record {
+        address = at;
+        leg = leg;
+        end =
+            (act rules at leg state.list).end;
+      }) differ));
+}
+
+-- ALL TRANSLATORS
+
+-- one address stands at one place
+apart_places : (rules : Rules) → KeepsRules rules → (i j a b : ℕ) → slice_get rules.pool i ≡ Some a →
+    slice_get rules.pool j ≡ Some b → j ≢ i → b ≢ a
+apart_places rules keeps i j a b at_i at_j ne = λ e.
+    ne (keeps.pool.distinct j i (slice_get_within rules.pool j b at_j) (slice_get_within rules.pool i a at_i)
+    (get_or_from_slice_get rules.pool j b 0 at_j ∙ (e ∙ sym (get_or_from_slice_get rules.pool i a 0 at_i))))
+
+module _ (rules : Rules) (keeps : KeepsRules rules) (state : RunState) (translators : List CountedTranslator)
+    (are : AreCountedTranslators rules state translators) (place address : ℕ)
+    (at : slice_get rules.pool place ≡ Some address) (counted : CountedTranslator)
+    (is_there : slice_get translators place ≡ Some counted) (leg : Leg) (later : state.clock ≤ leg.now) where
+  own : IsCountedTranslator rules place address state counted
+  own = are.each place address counted at is_there
+
+  pub end_same : end_at leg counted ≡ (act rules address leg state.list).end
+  end_same =
+      own_end rules place address (get_or_from_slice_get rules.pool place address 0 at) state counted own leg later
+
+  pub few_legs : counted.legs ≤ length state.acts
+  few_legs = let few = legs_few address state.acts in let is : counted.legs ≡ length (legs_at address state.acts) =
+      own.legs in omega arith
+
+  counted_later : (other there : ℕ) (s : CountedTranslator) → slice_get rules.pool other ≡ Some there →
+      slice_get (set translators place (counted_after leg counted)) other ≡ Some s →
+      IsCountedTranslator rules other there (state_after rules address leg state) s
+  counted_later other there s at_other other_is_there =
+      elim (eqb other place) as (λ v. eqb other place ≡ v →
+      IsCountedTranslator rules other there (state_after rules address leg state) s) [
+        | true ↦ λ e.
+            let here : other ≡ place = eqb-true other place e in
+            let same : there ≡ address = same_some there address (sym (ap (slice_get rules.pool) (sym here) ∙ at_other)
+            ∙ at) in
+            let new : s ≡ counted_after leg counted =
+            same_some s (counted_after leg counted)
+            (sym (ap (slice_get (set translators place (counted_after leg counted))) (sym here) ∙ other_is_there)
+            ∙ get_set translators place (counted_after leg counted)
+            (slice_get_within translators place counted is_there)) in
+            let stays : IsCountedTranslator rules place address (state_after rules address leg state)
+            (counted_after leg counted) =
+            own_counted rules place address (get_or_from_slice_get rules.pool place address 0 at) state counted own leg
+            later in
+            subst (λ (p : ℕ). IsCountedTranslator rules p there (state_after rules address leg state) s) (sym here)
+            (subst (λ (a : ℕ). IsCountedTranslator rules place a (state_after rules address leg state) s) (sym same)
+            (subst (λ (x : CountedTranslator). IsCountedTranslator rules place address
+            (state_after rules address leg state) x)
+            (sym new) stays))
+        | false ↦ λ e.
+            let ne : other ≢ place = eqb-false other place e in
+            let before : slice_get translators other ≡ Some s =
+            sym (get_set_other translators place other (counted_after leg counted) ne) ∙ other_is_there in
+            other_counted rules other there state s (are.each other there s at_other before) address
+            (apart_places rules keeps place other address there at at_other ne) leg later
+      ] refl
+
+  pub translators_after : AreCountedTranslators rules (state_after rules address leg state)
+      (set translators place (counted_after leg counted))
+  translators_after = record {
+    many = long_set translators place (counted_after leg counted) ∙ are.many;
+    each = counted_later;
+  }

@@ -1,0 +1,91 @@
+-- The translators of a sequential run, one for each external address in the order of the pool, beside the one list
+-- that they stand for.
+use Rattle.std.specs.Prelude.{◌≡◌, ℕ, ◌+◌, ◌<◌, ◌≤◌, ◌^◌, max, length, List, [], ◌∷◌, ◌++◌, Some}
+use Rattle.std.specs.List.{slice_get}
+use Rattle.napt_config.specs.Rules.{Rules}
+use Rattle.napt_binding.specs.declared.Binding.{Binding}
+use Rattle.napt_table.specs.declared.Row.{Row}
+use Rattle.napt_binding.specs.Bindings.{of}
+use Rattle.napt_binding.specs.Life.{purge}
+use Rattle.napt_table.specs.Opening.{opening}
+use Rattle.napt_table.specs.Rows.{rows}
+use Rattle.napt_translate.specs.declared.translator.Leg.{Leg}
+use Rattle.napt_translate.specs.declared.translator.End.{End}
+use Rattle.napt_translate.specs.Legs.{Acted, act, Kept, kept_answer}
+use Rattle.napt_translate.specs.Translators.{begun, kept_of, with_kept, left_by}
+use Rattle.napt_sequential.specs.declared.outcome.Outcome.{Outcome}
+use Rattle.napt_sequential.specs.declared.counted_translator.CountedTranslator.{CountedTranslator}
+use Rattle.napt_sequential.specs.Inputs.{Arrival}
+use Rattle.napt_sequential.specs.Sequential.{Act, Stepped, Course, run, last_clock, legs_at}
+
+-- a run at some time: the time of the last leg, the legs that acted, and the bindings
+pub record RunState : Type 0 where
+  pub clock : ℕ
+  pub acts : List Act
+  pub list : List Binding
+
+-- a list of one address that is, purged from a time on, the whole list's at that address
+pub record Agrees (rules : Rules) (address now : ℕ) (own list : List Binding) : Type 0 where
+  pub same : purge rules.timers now own ≡ purge rules.timers now (of address list)
+
+-- a translator of an address that agrees with the whole list from a clock on, and took no leg past it
+pub record IsAtOnce (rules : Rules) (address clock : ℕ) (own : Kept) (list : List Binding) : Type 0 where
+  pub agrees : Agrees rules address clock own.list list
+  pub past : own.at ≤ clock
+
+-- the translator at a place of the pool, whose legs are counted
+pub record IsCountedTranslator (rules : Rules) (place address : ℕ) (state : RunState)
+    (counted : CountedTranslator) : Type 0 where
+  pub own : Kept
+  pub translator : counted.translator ≡ with_kept (begun place rules) own
+  pub at_once : IsAtOnce rules address state.clock own state.list
+  pub legs : counted.legs ≡ length (legs_at address state.acts)
+
+pub record AreCountedTranslators (rules : Rules) (state : RunState)
+    (translators : List CountedTranslator) : Type 0 where
+  pub many : length translators ≡ length rules.pool
+  pub each : (place address : ℕ) (counted : CountedTranslator) → slice_get rules.pool place ≡ Some address →
+      slice_get translators place ≡ Some counted → IsCountedTranslator rules place address state counted
+
+-- after a leg at an address
+abbrev pub state_after : Rules → ℕ → Leg → RunState → RunState
+state_after rules address leg state =
+    let acted : Acted = act rules address leg state.list in
+    record {
+      clock = leg.now;
+      acts = state.acts ++ record { address = address; leg = leg; end = acted.end } ∷ [];
+      list = acted.list;
+    }
+
+-- after an input at a time
+abbrev pub state_then : ℕ → Stepped → RunState → RunState
+state_then now stepped state = record { clock = now; acts = state.acts ++ stepped.acts; list = stepped.list }
+
+-- how a leg ends at a counted translator, and the translator after it
+abbrev pub end_at : Leg → CountedTranslator → End
+end_at leg counted =
+    (kept_answer counted.translator.rules counted.translator.table.address leg (kept_of counted.translator.table)).end
+
+abbrev pub counted_after : Leg → CountedTranslator → CountedTranslator
+counted_after leg counted = record { translator = left_by leg counted.translator; legs = counted.legs + 1 }
+
+-- the rows that a counted translator tells at a time
+abbrev pub rows_at : ℕ → CountedTranslator → List Row
+rows_at now counted = rows counted.translator.rules.timers (max now counted.translator.table.at)
+    counted.translator.table.list
+
+-- the translators are those of some state up to a time, and so many more legs can be counted
+abbrev pub CanTake : Rules → ℕ → ℕ → List CountedTranslator → Type 0
+CanTake rules now more translators = (state : RunState) × AreCountedTranslators rules state translators
+    × (state.clock ≤ now) × (length state.acts + more < 2 ^ 64)
+
+-- the outcome is that of a step, and the translators are those of the state after it
+abbrev pub Follows : Rules → ℕ → Stepped → RunState → List CountedTranslator → Outcome → Type 0
+Follows rules now stepped state translators outcome = (outcome ≡ stepped.outcome)
+    × AreCountedTranslators rules (state_then now stepped state) translators
+
+-- after these inputs, and before any
+abbrev pub state_of : Rules → List Arrival → RunState
+state_of rules inputs =
+    let course : Course = run rules inputs (opening rules) in
+    record { clock = last_clock 0 inputs; acts = course.acts; list = course.list }
