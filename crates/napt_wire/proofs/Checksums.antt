@@ -50,12 +50,6 @@ canon_swap check x y z w old new =
       sum-cons z new,
     )
 
--- what one update, and then another with the words turned round, come to
-pub canon_rot : (check a b c x y z : ℕ) → canon check (c ∷ b ∷ a ∷ []) (z ∷ y ∷ x ∷ []) ≡ canon check (a ∷ b ∷ c ∷ [])
-    (x ∷ y ∷ z ∷ [])
-unfolding canon
-canon_rot check a b c x y z = omega arith
-
 pub sum-append : (xs ys : List ℕ) → sum (xs ++ ys) ≡ sum xs + sum ys
 sum-append xs ys = sum_by-append (λ (n : ℕ). n) xs ys
 

@@ -3,9 +3,9 @@ use Rattle.std.proofs.Common.{◌≡◌, ℕ, ◌+◌, ◌*◌, ◌/◌, ◌%◌
 use Rattle.std.proofs.lemmas.Bool.Decides.{nat_tests}
 use Rattle.napt_wire.proofs.Changes.{AreWithin, part, changed-append, length-changed, word_at-changed, word_at-put_word_other, word_at-put_word, length-put_word, part-changed_other, sum-part-changed}
 use Rattle.napt_wire.proofs.Checksums.{sum-append}
-use Rattle.napt_wire.proofs.Ends.{address-within, number-there, within-wider}
+use Rattle.napt_wire.proofs.Ends.{address-within, number-there}
 use Rattle.napt_wire.proofs.WithEnd.{Carries, KeepsHeader, end_keeps_header, end_keeps_body, form_kept}
-use Rattle.napt_wire.proofs.WithInner.{header_beyond, address_read, source_stays, destination_stays, long_other, first_byte, PassesError, error_kept, inner_room, inner_first}
+use Rattle.napt_wire.proofs.WithInner.{or_left, or_right, header_beyond, address_read, source_stays, destination_stays, long_other, first_byte, PassesError, error_kept, inner_room, inner_first, outer_within}
 use Rattle.napt_wire.proofs.Readings.{room_of}
 use Rattle.napt_wire.specs.declared.Side.{Side}
 use Rattle.napt_wire.specs.declared.Way.{Way}
@@ -121,14 +121,6 @@ zero_kept check false false n h e = e
 canon_udp_zero : (check : ℕ) (old new : List ℕ) → (canon_udp check old new == 0) ≡ (check == 0)
 unfolding canon_udp
 canon_udp_zero check old new = zero_kept check (check == 0) (canon check old new == 0) (canon check old new) refl refl
-
-or_left : (a b : Bool) → (a || b) ≡ false → a ≡ false
-or_left true b h = cc
-or_left false b h = refl
-
-or_right : (a b : Bool) → (a || b) ≡ false → b ≡ false
-or_right true b h = cc
-or_right false b h = h
 
 at_least : (a b : ℕ) → nat_lt a b ≡ false → b ≤ a
 at_least a b h = grind (arith, nat_tests)
@@ -259,40 +251,40 @@ is_there : (a b : ℕ) → a ≤ b → nat_le a b ≡ true
 is_there a b h = grind (arith, nat_tests)
 
 -- the pseudo-header where an address is replaced
+address_before : (at : ℕ) (end : End) (behind : List Change) (bytes : List ℕ) → HasRoom at bytes →
+    AreWithin (transport at bytes) (length bytes) behind → address at end (changed behind bytes) ≡ address at end bytes
+address_before at Source behind bytes room within =
+    long_other (transport at bytes) (length bytes) (at + 12) behind bytes within (inl (omega (arith, room.header)))
+address_before at Destination behind bytes room within =
+    long_other (transport at bytes) (length bytes) (at + 16) behind bytes within (inl (omega (arith, room.header)))
+
+pseudo_of : (at : ℕ) (end : End) (new size : ℕ) (old bytes : List ℕ) →
+    ((e : End) → address at e bytes ≡ address at e old) →
+    address at end (changed (address_changes at end new old) bytes) ≡ new →
+    protocol_number at (changed (address_changes at end new old) bytes) ≡ protocol_number at old →
+    sum (pseudo_words at size (changed (address_changes at end new old) bytes))
+    + (address at end old / 65536 + address at end old % 65536)
+    ≡ sum (pseudo_words at size old) + (new / 65536 + new % 65536)
+pseudo_of at Source new size old bytes same read protocol =
+    rw (read, destination_stays at new old bytes, same Destination, protocol) (omega arith)
+pseudo_of at Destination new size old bytes same read protocol =
+    rw (read, source_stays at new old bytes, same Source, protocol) (omega arith)
+
 pseudo_sum : (at : ℕ) (end : End) (new size : ℕ) (behind : List Change) (bytes : List ℕ) → HasRoom at bytes →
     AreWithin (transport at bytes) (length bytes) behind →
     protocol_number at (changed (address_changes at end new bytes) (changed behind bytes)) ≡ protocol_number at bytes →
     sum (pseudo_words at size (changed (address_changes at end new bytes) (changed behind bytes)))
     + (address at end bytes / 65536 + address at end bytes % 65536)
     ≡ sum (pseudo_words at size bytes) + (new / 65536 + new % 65536)
-pseudo_sum at Source new size behind bytes room within protocol =
-    let base : List ℕ = changed behind bytes in
-    let source_is : address at Source (changed (address_changes at Source new bytes) base) ≡ new =
-    address_read at Source new bytes base (omega (
+pseudo_sum at end new size behind bytes room within protocol =
+    pseudo_of at end new size bytes (changed behind bytes) (λ e. address_before at e behind bytes room within)
+    (address_read at end new bytes (changed behind bytes) (omega (
       arith,
       room.header,
       room.transport_start,
       length-changed behind bytes,
-    )) in
-    let destination_is : address at Destination (changed (address_changes at Source new bytes) base)
-    ≡ address at Destination bytes =
-    destination_stays at new bytes base ∙ long_other (transport at bytes) (length bytes) (at + 16) behind bytes within
-    (inl (omega (arith, room.header))) in
-    rw (source_is, destination_is, protocol) (omega arith)
-pseudo_sum at Destination new size behind bytes room within protocol =
-    let base : List ℕ = changed behind bytes in
-    let destination_is : address at Destination (changed (address_changes at Destination new bytes) base) ≡ new =
-    address_read at Destination new bytes base (omega (
-      arith,
-      room.header,
-      room.transport_start,
-      length-changed behind bytes,
-    )) in
-    let source_is : address at Source (changed (address_changes at Destination new bytes) base)
-    ≡ address at Source bytes =
-    source_stays at new bytes base ∙ long_other (transport at bytes) (length bytes) (at + 12) behind bytes within
-    (inl (omega (arith, room.header))) in
-    rw (source_is, destination_is, protocol) (omega arith)
+    )))
+    protocol
 
 -- the end as it was, and a packet after it was replaced, by the form of its transport header
 abbrev end_was : Form → End → ℕ → List ℕ → Endpoint
@@ -374,6 +366,30 @@ tcp_end at k end new bytes place small room keeps =
     (if_true (nat_le (begin + 18) (length bytes)) (change bytes (begin + 16) value ∷ [])
     (is_there (begin + 18) (length bytes) there))))
 
+-- an echo with another identifier, and one whose identifier stays
+echo_end : (at : ℕ) (end : End) (new : Endpoint) (bytes after : List ℕ) → HasRoom at bytes →
+    after ≡ changed (address_changes at end new.address bytes) (changed (numbers_of Request Source at new bytes) bytes) →
+    KeepsHeader at bytes after →
+    option_map is_right (covered_by Request at after) ≡ option_map is_right (covered_by Request at bytes)
+echo_end at end new bytes after room after_is keeps =
+    rw (same_start at bytes after keeps, same_length at bytes after keeps, keeps.long)
+    (echo_right (transport at bytes) (message_length at bytes) (word_at (transport at bytes + 4) bytes) new.number bytes
+    after refl
+    (ap (part (transport at bytes) (message_length at bytes)) after_is
+    ∙ part-changed_other (transport at bytes) (message_length at bytes) (at + 10) (at + 20)
+    (address_changes at end new.address bytes) _ (address-within at end new.address bytes) (inl room.header)))
+
+echo_stays : (at : ℕ) (end : End) (new : Endpoint) (bytes after : List ℕ) → HasRoom at bytes →
+    after ≡ changed (address_changes at end new.address bytes) bytes → KeepsHeader at bytes after →
+    option_map is_right (covered_by Request at after) ≡ option_map is_right (covered_by Request at bytes)
+echo_stays at end new bytes after room after_is keeps =
+    let same : part (transport at bytes) (message_length at bytes) after
+    ≡ part (transport at bytes) (message_length at bytes) bytes =
+    ap (part (transport at bytes) (message_length at bytes)) after_is
+    ∙ part-changed_other (transport at bytes) (message_length at bytes) (at + 10) (at + 20)
+    (address_changes at end new.address bytes) bytes (address-within at end new.address bytes) (inl room.header) in
+    rw (same_start at bytes after keeps, same_length at bytes after keeps, keeps.long, same) refl
+
 -- the transport checksum where an end of a datagram is replaced, by its form
 right_of_form : (form : Form) (end : End) (at : ℕ) (new : Endpoint) (bytes : List ℕ) → HasRoom at bytes →
     KeepsHeader at bytes (after_end form end at new bytes) →
@@ -384,44 +400,13 @@ right_of_form Udp Destination at new bytes room keeps = udp_end at 1 Destination
 right_of_form Tcp Source at new bytes room keeps = tcp_end at 0 Source new bytes refl (omega arith) room keeps
 right_of_form Tcp Destination at new bytes room keeps = tcp_end at 1 Destination new bytes refl (omega arith) room keeps
 right_of_form Request Source at new bytes room keeps =
-    rw (
-      same_start at bytes (after_end Request Source at new bytes) keeps,
-      same_length at bytes (after_end Request Source at new bytes) keeps,
-      keeps.long,
-    )
-    (echo_right (transport at bytes) (message_length at bytes) (word_at (transport at bytes + 4) bytes) new.number bytes
-    (after_end Request Source at new bytes) refl
-    (part-changed_other (transport at bytes) (message_length at bytes) (at + 10) (at + 20)
-    (address_changes at Source new.address bytes) _ (address-within at Source new.address bytes) (inl room.header)))
+    echo_end at Source new bytes (after_end Request Source at new bytes) room refl keeps
 right_of_form Request Destination at new bytes room keeps =
-    rw (
-      same_start at bytes (after_end Request Destination at new bytes) keeps,
-      same_length at bytes (after_end Request Destination at new bytes) keeps,
-      keeps.long,
-      part-changed_other (transport at bytes) (message_length at bytes) (at + 10) (at + 20)
-          (address_changes at Destination new.address bytes) bytes (address-within at Destination new.address bytes)
-          (inl room.header),
-    ) refl
+    echo_stays at Destination new bytes (after_end Request Destination at new bytes) room refl keeps
 right_of_form Reply Source at new bytes room keeps =
-    rw (
-      same_start at bytes (after_end Reply Source at new bytes) keeps,
-      same_length at bytes (after_end Reply Source at new bytes) keeps,
-      keeps.long,
-      part-changed_other (transport at bytes) (message_length at bytes) (at + 10) (at + 20)
-          (address_changes at Source new.address bytes) bytes (address-within at Source new.address bytes)
-          (inl room.header),
-    ) refl
+    echo_stays at Source new bytes (after_end Reply Source at new bytes) room refl keeps
 right_of_form Reply Destination at new bytes room keeps =
-    rw (
-      same_start at bytes (after_end Reply Destination at new bytes) keeps,
-      same_length at bytes (after_end Reply Destination at new bytes) keeps,
-      keeps.long,
-    )
-    (echo_right (transport at bytes) (message_length at bytes) (word_at (transport at bytes + 4) bytes) new.number bytes
-    (after_end Reply Destination at new bytes) refl
-    (part-changed_other (transport at bytes) (message_length at bytes) (at + 10) (at + 20)
-    (address_changes at Destination new.address bytes) _ (address-within at Destination new.address bytes)
-    (inl room.header)))
+    echo_end at Destination new bytes (after_end Reply Destination at new bytes) room refl keeps
 right_of_form Error end at new bytes room keeps = refl
 
 pub end_right : (at : ℕ) (end : End) (new : Endpoint) (bytes : List ℕ) → HasRoom at bytes →
@@ -452,12 +437,8 @@ error_right side way new bytes p carries =
     let c : Change = change bytes (start + 2) (canon (word_at (start + 2) bytes) (olds quoted) (news quoted)) in
     let outer : List Change = address_changes 0 (outer_end way) new.address bytes in
     let between : List ℕ = changed quoted bytes in
-    let before : AreWithin 10 (start + 4) (c ∷ outer) = (
-      omega (arith, room.header),
-      omega arith,
-      within-wider 10 20 10 (start + 4) outer (omega arith)
-          (omega (arith, room.header)) (address-within 0 (outer_end way) new.address bytes),
-    ) in
+    let before : AreWithin 10 (start + 4) (c ∷ outer) =
+    outer_within (outer_end way) new.address c bytes room (omega arith) (omega arith) in
     let first = inner_first quoted outer c bytes in
     let keeps : KeepsHeader at bytes between = end_keeps_header at (inner_end way) new bytes quoted_room in
     let body = end_keeps_body at (inner_end way) new bytes quoted_room carries p.ports in

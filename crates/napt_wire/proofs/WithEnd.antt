@@ -82,91 +82,61 @@ not_zero_first a b h = grind (arith, nat_tests)
 not_zero_second : (a b : ℕ) → (a == 0 || b == 0) ≡ false → 0 < b
 not_zero_second a b h = grind (arith, nat_tests)
 
--- a port and a checksum are written
+-- a port is written, and a checksum behind both ports: neither port is 0
+ports_keep : (start low high place number : ℕ) (checks : List Change) (bytes : List ℕ) → (place ≡ 0) ⊎ (place ≡ 2) →
+    start + 4 ≤ low → start + 4 ≤ length bytes → 0 < number → has_zero_port Udp start bytes ≡ false →
+    AreWithin low high checks → has_zero_port Udp start (changed checks (put_word (start + place) number bytes)) ≡ false
+ports_keep start low high place number checks bytes (inl first) behind there positive nonzero within =
+    no_zero (word_at start (changed checks (put_word (start + place) number bytes)))
+    (word_at (start + 2) (changed checks (put_word (start + place) number bytes)))
+    (omega (
+      arith,
+      word_read low high (start + place) number start checks bytes within (inl (omega arith)) (omega arith)
+          (omega arith),
+    ))
+    (omega (
+      arith,
+      word_other low high (start + place) number (start + 2) checks bytes within (inl (omega arith))
+          (inr (omega arith)),
+      not_zero_second (word_at start bytes) (word_at (start + 2) bytes) nonzero,
+    ))
+ports_keep start low high place number checks bytes (inr second) behind there positive nonzero within =
+    no_zero (word_at start (changed checks (put_word (start + place) number bytes)))
+    (word_at (start + 2) (changed checks (put_word (start + place) number bytes)))
+    (omega (
+      arith,
+      word_other low high (start + place) number start checks bytes within (inl (omega arith)) (inl (omega arith)),
+      not_zero_first (word_at start bytes) (word_at (start + 2) bytes) nonzero,
+    ))
+    (omega (
+      arith,
+      word_read low high (start + place) number (start + 2) checks bytes within (inl (omega arith)) (omega arith)
+          (omega arith),
+    ))
+
+-- what reading looks at is kept where a port of UDP or TCP is written, and the checksum
 udp_keeps : (start place number : ℕ) (checks : List Change) (bytes : List ℕ) → (place ≡ 0) ⊎ (place ≡ 2) →
     start + 8 ≤ length bytes → 0 < number → has_zero_port Udp start bytes ≡ false →
     AreWithin (start + 6) (start + 6 + 2) checks →
     KeepsBody Udp start bytes (changed checks (put_word (start + place) number bytes))
-udp_keeps start place number checks bytes (inl first) there positive nonzero within = (
+udp_keeps start place number checks bytes which there positive nonzero within = (
   word_other (start + 6) (start + 6 + 2) (start + place) number (start + 4) checks bytes within (inl (omega arith))
       (inr (omega arith)),
-  no_zero (word_at start (changed checks (put_word (start + place) number bytes)))
-      (word_at (start + 2) (changed checks (put_word (start + place) number bytes)))
-      (omega (
-        arith,
-        word_read (start + 6) (start + 6 + 2) (start + place) number start checks bytes within
-            (inl (omega arith)) (omega arith) (omega arith),
-      ))
-      (omega (
-        arith,
-        word_other (start + 6) (start + 6 + 2) (start + place) number (start + 2) checks bytes within
-            (inl (omega arith)) (inr (omega arith)),
-        not_zero_second (word_at start bytes)
-            (word_at (start + 2) bytes) nonzero,
-      )),
-)
-udp_keeps start place number checks bytes (inr second) there positive nonzero within = (
-  word_other (start + 6) (start + 6 + 2) (start + place) number (start + 4) checks bytes within (inl (omega arith))
-      (inr (omega arith)),
-  no_zero (word_at start (changed checks (put_word (start + place) number bytes)))
-      (word_at (start + 2) (changed checks (put_word (start + place) number bytes)))
-      (omega (
-        arith,
-        word_other (start + 6) (start + 6 + 2) (start + place) number start checks bytes within
-            (inl (omega arith)) (inl (omega arith)),
-        not_zero_first (word_at start bytes)
-            (word_at (start + 2) bytes) nonzero,
-      ))
-      (omega (
-        arith,
-        word_read (start + 6) (start + 6 + 2) (start + place) number (start + 2) checks bytes within
-            (inl (omega arith)) (omega arith) (omega arith),
-      )),
+  ports_keep start (start + 6) (start + 6 + 2) place number checks bytes which (omega arith) (omega arith) positive
+      nonzero within,
 )
 
 tcp_keeps : (start place number : ℕ) (checks : List Change) (bytes : List ℕ) → (place ≡ 0) ⊎ (place ≡ 2) →
     start + 8 ≤ length bytes → 0 < number → has_zero_port Tcp start bytes ≡ false →
     AreWithin (start + 16) (start + 16 + 2) checks →
     KeepsBody Tcp start bytes (changed checks (put_word (start + place) number bytes))
-tcp_keeps start place number checks bytes (inl first) there positive nonzero within = (
+tcp_keeps start place number checks bytes which there positive nonzero within = (
   byte_other (start + 16) (start + 16 + 2) (start + place) number (start + 12) checks bytes within (inl (omega arith))
       (inr (omega arith)),
   byte_other (start + 16) (start + 16 + 2) (start + place) number (start + 13) checks bytes within (inl (omega arith))
       (inr (omega arith)),
-  no_zero (word_at start (changed checks (put_word (start + place) number bytes)))
-      (word_at (start + 2) (changed checks (put_word (start + place) number bytes)))
-      (omega (
-        arith,
-        word_read (start + 16) (start + 16 + 2) (start + place) number start checks bytes within
-            (inl (omega arith)) (omega arith) (omega arith),
-      ))
-      (omega (
-        arith,
-        word_other (start + 16) (start + 16 + 2) (start + place) number (start + 2) checks bytes within
-            (inl (omega arith)) (inr (omega arith)),
-        not_zero_second (word_at start bytes)
-            (word_at (start + 2) bytes) nonzero,
-      )),
-)
-tcp_keeps start place number checks bytes (inr second) there positive nonzero within = (
-  byte_other (start + 16) (start + 16 + 2) (start + place) number (start + 12) checks bytes within (inl (omega arith))
-      (inr (omega arith)),
-  byte_other (start + 16) (start + 16 + 2) (start + place) number (start + 13) checks bytes within (inl (omega arith))
-      (inr (omega arith)),
-  no_zero (word_at start (changed checks (put_word (start + place) number bytes)))
-      (word_at (start + 2) (changed checks (put_word (start + place) number bytes)))
-      (omega (
-        arith,
-        word_other (start + 16) (start + 16 + 2) (start + place) number start checks bytes within
-            (inl (omega arith)) (inl (omega arith)),
-        not_zero_first (word_at start bytes)
-            (word_at (start + 2) bytes) nonzero,
-      ))
-      (omega (
-        arith,
-        word_read (start + 16) (start + 16 + 2) (start + place) number (start + 2) checks bytes within
-            (inl (omega arith)) (omega arith) (omega arith),
-      )),
+  ports_keep start (start + 16) (start + 16 + 2) place number checks bytes which (omega arith) (omega arith) positive
+      nonzero within,
 )
 
 pub number_keeps : (form : Form) (end : End) (start : ℕ) (old new : Endpoint) (bytes : List ℕ) →

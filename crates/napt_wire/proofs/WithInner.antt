@@ -29,11 +29,11 @@ use Rattle.napt_wire.specs.declared.form.Form.TheVariants.{Udp, Tcp, Request, Re
 use Rattle.napt_wire.specs.declared.form.End.{End}
 use Rattle.napt_wire.specs.declared.form.End.TheVariants.{Source, Destination}
 
-or_left : (a b : Bool) → (a || b) ≡ false → a ≡ false
+pub or_left : (a b : Bool) → (a || b) ≡ false → a ≡ false
 or_left true b h = cc
 or_left false b h = refl
 
-or_right : (a b : Bool) → (a || b) ≡ false → b ≡ false
+pub or_right : (a b : Bool) → (a || b) ≡ false → b ≡ false
 or_right true b h = cc
 or_right false b h = h
 
@@ -470,6 +470,17 @@ pub outer_last : (quoted address : List Change) (c : Change) (bytes : List ℕ) 
 outer_last quoted address c bytes = changed-append quoted (c ∷ address) bytes
     ∙ sym (ap (changed address) (changed-append quoted (c ∷ []) bytes))
 
+-- the ICMP checksum and the words of the error's own header stand before the quoted datagram
+pub outer_within : (end : End) (new : ℕ) (c : Change) (bytes : List ℕ) → HasRoom 0 bytes →
+    transport 0 bytes + 2 ≤ c.place → c.place + 2 ≤ transport 0 bytes + 4 →
+    AreWithin 10 (transport 0 bytes + 4) (c ∷ address_changes 0 end new bytes)
+outer_within end new c bytes room low high = (
+  omega (arith, low, room.header),
+  high,
+  within-wider 10 20 10 (transport 0 bytes + 4) (address_changes 0 end new bytes) (omega arith)
+      (omega (arith, room.header)) (address-within 0 end new bytes),
+)
+
 -- the quoted datagram's source stays the error's destination
 ours_kept : (side : Side) (way : Way) (new : Endpoint) (c : Change) (bytes : List ℕ) → HasRoom 0 bytes →
     HasRoom (inner_at bytes) bytes →
@@ -486,12 +497,8 @@ ours_kept side Incoming new c bytes room inner_room low high ours =
     (transport at bytes) (end_at at Source bytes) new bytes in
     let addresses : List Change = address_changes at Source new.address bytes in
     let outer : List Change = address_changes 0 Destination new.address bytes in
-    let before : AreWithin 10 (transport 0 bytes + 4) (c ∷ outer) = (
-      omega (arith, low, room.header),
-      high,
-      within-wider 10 20 10 (transport 0 bytes + 4) outer (omega arith)
-          (omega (arith, room.header)) (address-within 0 Destination new.address bytes),
-    ) in
+    let before : AreWithin 10 (transport 0 bytes + 4) (c ∷ outer) =
+    outer_within Destination new.address c bytes room low high in
     let inner_is : address at Source (changed (numbers ++ addresses ++ c ∷ outer) bytes) ≡ new.address =
     ap (address at Source) (inner_first (numbers ++ addresses) outer c bytes)
     ∙ long_other 10 (transport 0 bytes + 4) (at + 12) (c ∷ outer) (changed (numbers ++ addresses) bytes) before
@@ -510,12 +517,8 @@ ours_kept side Outgoing new c bytes room inner_room low high ours =
     (transport at bytes) (end_at at Destination bytes) new bytes in
     let addresses : List Change = address_changes at Destination new.address bytes in
     let outer : List Change = address_changes 0 Source new.address bytes in
-    let before : AreWithin 10 (transport 0 bytes + 4) (c ∷ outer) = (
-      omega (arith, low, room.header),
-      high,
-      within-wider 10 20 10 (transport 0 bytes + 4) outer (omega arith)
-          (omega (arith, room.header)) (address-within 0 Source new.address bytes),
-    ) in
+    let before : AreWithin 10 (transport 0 bytes + 4) (c ∷ outer) =
+    outer_within Source new.address c bytes room low high in
     let behind : AreWithin (transport 0 bytes) (length bytes) (numbers ++ addresses ++ c ∷ []) =
     within-append (transport 0 bytes) (length bytes) (numbers ++ addresses) (c ∷ [])
     (within-wider (at + 10) (length bytes) (transport 0 bytes) (length bytes) (numbers ++ addresses) (omega arith)
@@ -570,12 +573,8 @@ error_kept side way new bytes p carries =
     let c : Change = change bytes (start + 2) (canon (word_at (start + 2) bytes) (olds quoted) (news quoted)) in
     let outer : List Change = address_changes 0 (outer_end way) new.address bytes in
     let after : List ℕ = changed (quoted ++ c ∷ outer) bytes in
-    let before : AreWithin 10 (start + 4) (c ∷ outer) = (
-      omega (arith, room.header),
-      omega arith,
-      within-wider 10 20 10 (start + 4) outer (omega arith)
-          (omega (arith, room.header)) (address-within 0 (outer_end way) new.address bytes),
-    ) in
+    let before : AreWithin 10 (start + 4) (c ∷ outer) =
+    outer_within (outer_end way) new.address c bytes room (omega arith) (omega arith) in
     let in_message : AreWithin (start + 2) (length bytes) (quoted ++ c ∷ []) =
     within-append (start + 2) (length bytes) quoted (c ∷ [])
     (within-wider (at + 10) (length bytes) (start + 2) (length bytes) quoted (omega arith) (omega arith)
