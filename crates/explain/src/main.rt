@@ -6,7 +6,6 @@
 //! status that `napt` ends with.
 #![tactic(auto)]
 
-mod account;
 mod names;
 mod options;
 mod overwritten;
@@ -17,11 +16,11 @@ mod shown;
 mod stop;
 mod summary;
 
-use crate::account::{Account, Ends, account_of};
 use crate::options::Options;
 use crate::overwritten::refuse_overwritten;
 use crate::progress::Progress;
 use crate::stop::Stop;
+use napt_account::{Account, Ends, account_of};
 use napt_capture::{Capture, Watched, read_capture};
 use napt_config::Config;
 use napt_picture::drawing_of;

@@ -1,7 +1,6 @@
 //! Names of things in the words that users read.
 
-use napt_config::Address;
-use napt_wire::{Cause, Endpoint, Protocol, Side};
+use napt_wire::Side;
 use std::alloc::{AllocError, Global};
 use std::fmt;
 
@@ -9,26 +8,6 @@ pub fn side_name(side: Side) -> &'static str {
     match side {
         Side::Inside => "inside",
         Side::Outside => "outside",
-    }
-}
-
-pub fn protocol_name(protocol: Protocol) -> &'static str {
-    match protocol {
-        Protocol::Icmp => "icmp",
-        Protocol::Tcp => "tcp",
-        Protocol::Udp => "udp",
-    }
-}
-
-/// An endpoint, shown as `10.0.0.2:5000`.
-#[derive(Clone, Copy)]
-pub struct EndpointText(pub Endpoint);
-
-impl fmt::Display for EndpointText {
-    fn fmt<W: fmt::Write>(&self, f: &mut fmt::Formatter<W>) -> fmt::Result {
-        let address = Address(self.0.address);
-        let number = self.0.number;
-        write!(f, "{address}:{number}")
     }
 }
 
@@ -54,10 +33,4 @@ pub fn hyphened(alloc: Global, name: &str) -> Result<String, AllocError> {
         text.push(letter.to_ascii_lowercase())?;
     }
     Ok(text)
-}
-
-/// The name of a cause in the report, as `no-binding`.
-pub fn cause_name(alloc: Global, cause: Cause) -> Result<String, AllocError> {
-    let name = format!(in alloc; "{cause:?}")?;
-    hyphened(alloc, &name)
 }

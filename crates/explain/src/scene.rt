@@ -1,11 +1,11 @@
 //! What the picture of a run shows, in the words of its lines.
 
-use crate::account::{Account, Life};
-use crate::names::{EndpointText, Seconds, cause_name, protocol_name};
+use crate::names::Seconds;
 use crate::summary::count_dropped;
+use napt_account::{Account, Life};
 use napt_config::{Address, Config};
 use napt_picture::{Binding, BindingKind, Pass, Scene};
-use napt_run::{Input, Outcome};
+use napt_run::{EndpointText, Input, Outcome, cause_name, protocol_name};
 use napt_wire::{Cause, Protocol};
 use std::alloc::{AllocError, Global};
 
@@ -158,7 +158,7 @@ fn add_rows(
 }
 
 fn row_of(alloc: Global, cause: Cause, many: usize) -> Result<String, AllocError> {
-    let name = cause_name(alloc, cause)?;
+    let name = cause_name(cause);
     format!(in alloc; "{name} ({many})")
 }
 

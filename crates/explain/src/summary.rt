@@ -1,12 +1,12 @@
 //! The lines of an account.
 
-use crate::account::{Account, Note};
-use crate::names::{EndpointText, Seconds, cause_name, protocol_name, side_name};
+use crate::names::{Seconds, side_name};
 use crate::options::Choice;
 use crate::shown::{arrival_text, has_address, packet_text};
 use crate::stop::Stop;
+use napt_account::{Account, Note};
 use napt_reasons::{advice, meaning};
-use napt_run::{Input, Outcome};
+use napt_run::{EndpointText, Input, Outcome, cause_name, protocol_name};
 use napt_table::Row;
 use napt_wire::{Cause, Kind, Packet, Side};
 use std::alloc::{AllocError, Global};
@@ -80,7 +80,7 @@ fn rest_text(
 }
 
 fn dropped_text(alloc: Global, cause: Cause) -> Result<String, AllocError> {
-    let name = cause_name(alloc, cause)?;
+    let name = cause_name(cause);
     format!(in alloc; "dropped, {name}: {}", meaning(cause))
 }
 
@@ -153,7 +153,7 @@ fn tell_cause<R: Print + AllocGlobal>(
     if many == 0 {
         return Ok(());
     }
-    let name = cause_name(rt.alloc(), cause)?;
+    let name = cause_name(cause);
     println!(rt; "  {many} dropped, {name}: {}", meaning(cause))?;
     match advice(cause) {
         Some(text) if many > outcomes.len() / 5 => {

@@ -1,4 +1,1 @@
 pub mod ConfigLemmas
-pub mod LineLemmas
-pub mod OneKind
-pub mod OptionLemmas

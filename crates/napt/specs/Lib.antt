@@ -1,5 +1,3 @@
-pub mod CommandLine
 pub mod Files
-pub mod Places
 pub mod Program
 pub mod Stop

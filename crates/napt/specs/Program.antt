@@ -3,23 +3,14 @@ use Rattle.std.specs.Prelude.{◌≡◌, ◌≢◌, ◌&&◌, ◌||◌, ℕ, Lis
 use Rattle.napt_config.specs.Configured.{configuration_of}
 use Rattle.napt_config.specs.Rules.{Rules}
 use Rattle.napt_config.specs.declared.fault.ConfigFault.TheVariants.{Memory}
-use Rattle.napt.specs.CommandLine.{Files, Line, files, help, mistake}
+use Rattle.napt_options.specs.CommandLine.{Files, Line, files, help, is_named, mistake}
+use Rattle.napt_options.specs.declared.Options.{Options}
+use Rattle.napt_options.specs.declared.Role.{Role}
+use Rattle.napt_options.specs.declared.Role.TheVariants as role
 use Rattle.napt_run.specs.Captures.{tells_shut_gate}
-use Rattle.napt.specs.declared.options.Options.{Options}
-use Rattle.napt.specs.declared.stop.Role.{Role}
-use Rattle.napt.specs.declared.stop.Role.TheVariants as role
 use Rattle.napt.specs.declared.stop.Stop.{Stop}
 use Rattle.napt.specs.declared.stop.Stop.TheVariants as stop
 use Rattle.napt.specs.declared.streams.Streams.{Streams}
-
--- the words name a file for this role
-abbrev pub is_named : Options → Role → Bool
-is_named options role.Config = is_some options.config
-is_named options role.Inside = is_some options.inside
-is_named options role.Outside = is_some options.outside
-is_named options role.ToOutside = is_some options.to_outside
-is_named options role.ToInside = is_some options.to_inside
-is_named options role.Report = is_some options.report
 
 -- a fault of the configuration, or of its file where one is named
 abbrev pub IsConfigStop : Bool → Stop → Type 0

@@ -1,7 +1,8 @@
 -- The fault line and the exit status of a program that stops early.
 use Rattle.std.specs.Prelude.{ℕ, List, ◌++◌, Bool, true, false, Option, Some, None, Result, Ok, Err, codes, decimal}
-use Rattle.napt.specs.declared.stop.Role.{Role}
-use Rattle.napt.specs.declared.stop.Role.TheVariants as role
+use Rattle.napt_options.specs.CommandLine.{role_name}
+use Rattle.napt_options.specs.declared.Role.{Role}
+use Rattle.napt_options.specs.declared.Role.TheVariants as role
 use Rattle.napt.specs.declared.stop.Stop.{Stop}
 use Rattle.napt.specs.declared.stop.Stop.TheVariants as stop
 use Rattle.napt_wire.specs.declared.Side.{Side}
@@ -34,15 +35,6 @@ status_of stop.Help = 6
 status_of (stop.Config fault) = 3
 status_of (stop.File role) = 6
 status_of (stop.Run fault) = status_of_fault fault
-
--- the name of the file's option
-abbrev pub role_name : Role → Text
-role_name role.Config = codes "config"
-role_name role.Inside = codes "inside"
-role_name role.Outside = codes "outside"
-role_name role.ToOutside = codes "to-outside"
-role_name role.ToInside = codes "to-inside"
-role_name role.Report = codes "report"
 
 -- a fault's name, in lower case with hyphens between its words
 abbrev pub config_name : ConfigFault → Text

@@ -4,8 +4,9 @@ ghost use Rattle.std.specs.Prelude.{◌≡◌, ◌≢◌, ◌≤◌, IfErr, IfOk
 ghost use Rattle.std.specs.IoError.{error_kind};
 ghost use Rattle.napt.specs.Program.{IsConfigStop, IsReadingOf, IsUnread};
 
-use crate::stop::{Role, Stop};
+use crate::stop::Stop;
 use napt_config::{Config, ConfigFault};
+use napt_options::Role;
 use std::alloc::Global;
 use std::io;
 use std::io::{ErrorKind, Read};

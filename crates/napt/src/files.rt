@@ -3,9 +3,11 @@
 ghost use Rattle.std.specs.Prelude.{◌≡◌, IfErr, IfOk, IfSome, IsSome, is_some, option_map};
 ghost use Rattle.napt_capture.specs.Watched.{failed_of};
 ghost use Rattle.napt.specs.Files.{bytes_left, bytes_written};
+ghost use Rattle.napt.specs.Program.{IsStopOf};
 
-use crate::stop::{Role, Stop};
+use crate::stop::Stop;
 use napt_capture::Watched;
+use napt_options::{Options, Role, lost_file};
 use napt_run::{Fault, RunFault};
 use std::alloc::Global;
 use std::fs::File;
@@ -17,6 +19,16 @@ const BUFFERED: usize = 65_536;
 
 /// Memory ran out before the run.
 pub const MEMORY: Stop = Stop::Run(Fault::Run(RunFault::Memory));
+
+/// Refuses, by its role, the first output in the order of the options that is a file which an earlier one names.
+pub fn refuse_lost_file<R: Files>(rt: &R, options: &Options) -> Result<(), Stop>
+    ensures { IfErr result (IsStopOf options.now) }
+{
+    match lost_file(rt, options) {
+        Some(role) => Err(Stop::File(role)),
+        None => Ok(()),
+    }
+}
 
 /// The file, to be read. Fails, by its role, where it cannot be opened.
 pub fn opened<R: Files>(rt: &R, path: &str, role: Role) -> Result<R::File, Stop>

@@ -3,8 +3,6 @@
 
 mod config_file;
 mod files;
-mod options;
-mod places;
 mod program;
 mod stop;
 mod streams;

@@ -2,16 +2,17 @@
 
 ghost use Rattle.std.specs.Prelude.{◌≡◌, ◌⊎◌, None, IfErr, IfOk, OnOk, is_some, map, string_bytes};
 ghost use Rattle.napt_config.specs.Configured.{built_in};
-ghost use Rattle.napt.specs.CommandLine.{files_of, line_of_words};
+ghost use Rattle.napt_options.specs.CommandLine.{files_of, line_of_words};
 ghost use Rattle.napt.specs.Program.{IsConfigStop, IsLineStop, IsRunStop, IsStopOf, IsTaken, IsUnderOpenGate};
 
 use crate::config_file::{config_from, unread_config};
-use crate::files::{MEMORY, created, created_at, opened, sink, sink_over, source, source_over};
-use crate::options::{LineFault, Options, parse_words};
-use crate::places::refuse_lost_file;
-use crate::stop::{Role, Stop};
+use crate::files::{
+    MEMORY, created, created_at, opened, refuse_lost_file, sink, sink_over, source, source_over,
+};
+use crate::stop::Stop;
 use crate::streams::{Streams, closed_stream};
 use napt_config::{Config, ConfigFault};
+use napt_options::{LineFault, Options, Role, parse_words};
 use napt_pool::OpenGate;
 use napt_run::run_captures;
 use std::env::Env;

@@ -1,47 +1,15 @@
 //! Why the program stops before it is done: the fault line for standard error and the exit status.
 ghost use Rattle.std.specs.Prelude.{◌≡◌, IfOk, Some, option_map, string_bytes};
-ghost use Rattle.napt.specs.Stop.{capture_name, config_name, fault_text, line_at_end, line_of, output_role, role_name, run_name, side_name, status_at_end, status_of, status_of_fault, stop_text};
+ghost use Rattle.napt.specs.Stop.{capture_name, config_name, fault_text, line_at_end, line_of, output_role, run_name, side_name, status_at_end, status_of, status_of_fault, stop_text};
 
 use napt_capture::CaptureFault;
 use napt_config::ConfigFault;
+use napt_options::Role;
 use napt_pool::PoolFault;
 use napt_run::{Fault, RunFault, Which};
 use napt_wire::Side;
 use std::alloc::{AllocError, Global};
 use std::fmt;
-
-/// A file of the command line, by its option.
-#[derive(Clone, Copy, Debug, PartialEq, Eq)]
-pub enum Role {
-    /// The configuration.
-    Config,
-    /// The capture of what inside hosts send.
-    Inside,
-    /// The capture of what comes from the outside.
-    Outside,
-    /// The capture that goes to the outside.
-    ToOutside,
-    /// The capture that goes to inside hosts.
-    ToInside,
-    /// The text that counts what became of the packets.
-    Report,
-}
-
-impl Role {
-    // The name of the file's option, without its dashes.
-    fn name(self) -> &'static str
-        ensures { result.now ≡ role_name self }
-    {
-        match self {
-            Role::Config => "config",
-            Role::Inside => "inside",
-            Role::Outside => "outside",
-            Role::ToOutside => "to-outside",
-            Role::ToInside => "to-inside",
-            Role::Report => "report",
-        }
-    }
-}
 
 /// Why the program stops with a status other than 0.
 #[derive(Clone, Copy, Debug, PartialEq, Eq)]

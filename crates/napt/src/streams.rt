@@ -3,8 +3,7 @@
 ghost use Rattle.std.specs.Prelude.{◌≡◌};
 ghost use Rattle.napt.specs.Program.{closed_stream};
 
-use crate::options::Options;
-use crate::stop::Role;
+use napt_options::{Options, Role};
 use std::os::fd::AsFd;
 
 /// The error of the system for a number that is no open file, EBADF of errno(3).

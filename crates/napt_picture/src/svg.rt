@@ -36,7 +36,7 @@ markerUnits=\"userSpaceOnUse\"><path class=\"tip\" d=\"M0 0L8 4L0 8z\"/></marker
 const LEGEND: [&str; 3] = [
     "A bar is a binding, from its making to its last packet; a thin bar goes on to where it expires, or to the picture's right end.",
     "Blue is udp, green tcp, orange icmp, violet a redirect. A stroke at a bar's upper edge is a packet that goes out, at its lower",
-    "edge one that comes in. An arrow is a hairpin, from where it goes out to where it comes in. A cross is a dropped packet.",
+    "edge one that comes in; an ICMP error has none. An arrow is a hairpin, from where it goes out to where it comes in. A cross is a dropped packet.",
 ];
 
 /// The whole width of a drawing.

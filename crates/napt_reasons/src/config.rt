@@ -3,14 +3,15 @@
 ghost use Rattle.std.specs.Prelude.{◌≤◌, ◌+◌, IfOk, OnOk, vec_len};
 
 use crate::expected::{expected_at, shape_of};
-use crate::part::{Place, Refused};
+use crate::part::{Entry, Place, Refused};
 use crate::reason::{Reason, add};
 use napt_config::ConfigFault;
 use std::alloc::{AllocError, Global};
 use toml::Value;
 
-/// Why `Config::read` refuses a text by this fault: the place, the value there and what was expected; or the line that is no TOML;
-/// or the fault in words where it has no place. There is a reason at least. Fails only where memory runs out.
+/// Why `Config::read` refuses a text by this fault: the place, the value there, the other entry where the fault is about two, and
+/// what was expected; or the line that is no TOML; or the fault in words where it has no place. There is a reason at least. Fails
+/// only where memory runs out.
 pub fn config_reasons(
     alloc: Global,
     text: &[u8],
@@ -77,7 +78,7 @@ fn line_of(text: &str, place: usize) -> usize {
     ends.saturating_add(1)
 }
 
-/// Adds why a table is refused: the place, the value there and what was expected, or the fault in words where it has no place.
+/// Adds why a table is refused: the place with what is said of it, or the fault in words where it has no place.
 fn add_for_table(reasons: &mut Vec<Reason>, refused: Refused<'_>) -> Result<(), AllocError>
     ensures { OnOk result (vec_len reasons.old + 1 ≤ vec_len reasons.new) }
 {
@@ -105,9 +106,33 @@ fn add_for_place<'t>(
     add(reasons, "at", place_text(refused.alloc, place))?;
     let value = value_text(refused.alloc, refused.value(place));
     add(reasons, "value", value)?;
+    add_other(reasons, refused, place)?;
     match expected(refused.fault, place) {
         Some(text) => add(reasons, "expected", String::from_str(refused.alloc, text)),
         None => add_why(reasons, refused),
+    }
+}
+
+/// Adds the other entry that a fault is about, where there is one.
+fn add_other<'t>(
+    reasons: &mut Vec<Reason>,
+    refused: Refused<'t>,
+    place: Place<'t>,
+) -> Result<(), AllocError>
+    ensures { OnOk result (vec_len reasons.old ≤ vec_len reasons.new) }
+{
+    match place.other {
+        Some(other) => add(reasons, "with", other_text(refused, other)),
+        None => Ok(()),
+    }
+}
+
+/// Another entry as `redirect[0]`, with its value where that is a text.
+fn other_text<'t>(refused: Refused<'t>, other: Entry<'t>) -> Result<String, AllocError> {
+    let Entry { key, at } = other;
+    match refused.other_value(other) {
+        Some(Value::String(text)) => format!(in refused.alloc; "{key}[{at}], {text:?}"),
+        _ => format!(in refused.alloc; "{key}[{at}]"),
     }
 }
 

@@ -62,6 +62,15 @@ struct Part<'t> {
     entry: Option<usize>,
     /// The fields of that entry, or of the table at the key; absent, all.
     fields: Option<Kept<'t>>,
+    /// The last of the first entries of a list that are left out; absent, none is.
+    left_out: Option<Entry<'t>>,
+}
+
+/// An entry of a key's list, from 0.
+#[derive(Clone, Copy)]
+pub struct Entry<'t> {
+    pub key: &'t str,
+    pub at: usize,
 }
 
 /// A place in a configuration.
@@ -72,6 +81,8 @@ pub struct Place<'t> {
     pub entry: Option<usize>,
     /// The field of that entry, or of the table at the key.
     pub field: Option<&'t str>,
+    /// The entry that the fault is about too, where it is about two.
+    pub other: Option<Entry<'t>>,
 }
 
 /// A text that is refused, the table that it is, and its fault.
@@ -107,22 +118,25 @@ impl<'t> Refused<'t> {
                 key: part.key,
                 entry: None,
                 field: None,
+                other: None,
             });
         }
         let entry = self.entry(part)?;
-        let field = self.field(Part { entry, ..part })?;
+        let part = Part { entry, ..part };
         Ok(Place {
             key: part.key,
             entry,
-            field,
+            field: self.field(part)?,
+            other: self.other(part)?,
         })
     }
 
-    /// The field that has the fault of a part.
+    /// The field that has the fault of a part. A fault of two entries is in no field.
     fn field(self, part: Part<'_>) -> Result<Option<&'t str>, AllocError> {
         match self.fault {
             ConfigFault::UnknownKey => self.unknown_field(part),
             ConfigFault::Missing => Ok(self.missing_field(part)),
+            ConfigFault::DoublePair | ConfigFault::DoubleRedirect => Ok(None),
             _ => self.known_field(part),
         }
     }
@@ -160,6 +174,7 @@ impl<'t> Refused<'t> {
                 key: *key,
                 entry: None,
                 fields: None,
+                left_out: None,
             };
             let is_meant = at > 0 || self.fault != ConfigFault::PoolInside;
             if is_meant && self.is_in(part)? {
@@ -177,6 +192,7 @@ impl<'t> Refused<'t> {
                 key: key.as_str(),
                 entry: None,
                 fields: None,
+                left_out: None,
             };
             if self.is_in(part)? {
                 return Ok(Some(part));
@@ -198,6 +214,30 @@ impl<'t> Refused<'t> {
             }
         }
         Ok(None)
+    }
+
+    /// The other entry that the fault of a part is about: without it, and those before it, the fault goes.
+    fn other(self, part: Part<'t>) -> Result<Option<Entry<'t>>, AllocError> {
+        let Some(key) = self.other_key(part.key) else {
+            return Ok(None);
+        };
+        for at in 0..entry_count(self.table, key) {
+            let left_out = Some(Entry { key, at });
+            if !self.is_in(Part { left_out, ..part })? {
+                return Ok(left_out);
+            }
+        }
+        Ok(None)
+    }
+
+    /// The key of the list that has the other entry of a fault at a key.
+    fn other_key(self, key: &'t str) -> Option<&'t str> {
+        match self.fault {
+            ConfigFault::DoubleAddress | ConfigFault::DoublePair | ConfigFault::DoubleRedirect =>
+                Some(key),
+            ConfigFault::PoolInside => Some("pool"),
+            _ => None,
+        }
     }
 
     /// The first field that has the fault with those that are judged before it.
@@ -241,13 +281,26 @@ impl<'t> Refused<'t> {
             None => Some(value),
         }
     }
+
+    /// The value at another entry.
+    pub fn other_value(self, other: Entry<'t>) -> Option<&'t Value> {
+        value_at(self.table, other.key, Some(other.at))
+    }
 }
 
 /// Leaves out the entries and the fields that are not in a part; answers nothing where the place of these is not there.
 fn narrow(table: &mut Table, part: Part<'_>) -> Option<()> {
-    if part.entry.is_none() && part.fields.is_none() {
-        return Some(());
+    if part.entry.is_some() || part.fields.is_some() {
+        narrow_key(table, part)?;
     }
+    match part.left_out {
+        Some(last) => leave_out(table, last),
+        None => Some(()),
+    }
+}
+
+/// The same for those of the last key, but for the first entries.
+fn narrow_key(table: &mut Table, part: Part<'_>) -> Option<()> {
     let value = table.get_mut(part.key)?;
     let value = match part.entry {
         Some(at) => last_entry(value, at)?,
@@ -264,6 +317,16 @@ fn last_entry(value: &mut Value, last: usize) -> Option<&mut Value> {
     let entries = value.as_array_mut()?;
     entries.truncate(last.saturating_add(1));
     entries.get_mut(last)
+}
+
+/// Leaves out the entries of a list up to one; answers nothing where that is not there.
+fn leave_out(table: &mut Table, last: Entry<'_>) -> Option<()> {
+    let entries = table.get_mut(last.key)?.as_array_mut()?;
+    if last.at >= entries.len() {
+        return None;
+    }
+    entries.drain(..last.at + 1);
+    Some(())
 }
 
 /// How many entries a key's list has.

@@ -10,6 +10,7 @@ mod captures;
 mod fault;
 mod merge_laws;
 mod merging;
+mod names;
 mod output;
 mod report;
 
@@ -17,6 +18,7 @@ pub use captures::run_captures;
 pub use fault::{Fault, Which};
 pub use merge_laws::{merge_is_one, outputs_are_one};
 pub use merging::merge;
+pub use names::{EndpointText, cause_name, protocol_name};
 pub use napt_dispatch::{Worker, dispatch, run_workers};
 pub use napt_sequential::{
     Input, Outcome, Run, RunFault, legs_are_local, places_stand_for_legs, right_answers, run_plain,

@@ -1,14 +1,13 @@
 //! The report: how many packets came and what became of them, which captures were cut, and the bindings.
-ghost use Rattle.std.specs.Prelude.{◌≡◌, ◌+◌, ◌-◌, ◌^◌, ◌<◌, ◌++◌, ◌∷◌, [], IfOk, OnOk, Some, codes, count_by, decimal, flat_map, slice_index, string_bytes};
+ghost use Rattle.std.specs.Prelude.{◌≡◌, ◌+◌, ◌-◌, ◌^◌, ◌<◌, ◌++◌, ◌∷◌, [], IfOk, OnOk, codes, count_by, decimal, flat_map, slice_index, string_bytes};
 ghost use Rattle.napt_wire.specs.declared.Cause.{Cause};
 ghost use Rattle.napt_run.specs.Report as model;
 
-use napt_config::Address;
+use crate::names::{EndpointText, cause_name, protocol_name};
 use napt_sequential::{Outcome, Run};
 use napt_table::Row;
-use napt_wire::{Cause, Endpoint, Protocol};
+use napt_wire::Cause;
 use std::alloc::{AllocError, Global};
-use std::fmt;
 
 /// The place of a cause's line among those of the drops, from 0: that of the cause in `Cause::ALL`.
 fn place_of(cause: Cause) -> usize
@@ -30,37 +29,6 @@ fn place_of(cause: Cause) -> usize
         Cause::Filtered => 11,
         Cause::OverQuota => 12,
         Cause::NoPort => 13,
-    }
-}
-
-fn cause_name(cause: Cause) -> &'static str
-    ensures { result.now ≡ model.cause_name cause }
-{
-    match cause {
-        Cause::Truncated => "truncated",
-        Cause::NotIpv4 => "not-ipv4",
-        Cause::BadHeader => "bad-header",
-        Cause::BadChecksum => "bad-checksum",
-        Cause::Fragment => "fragment",
-        Cause::Unsupported => "unsupported",
-        Cause::BadInner => "bad-inner",
-        Cause::BadPort => "bad-port",
-        Cause::Spoofed => "spoofed",
-        Cause::NotOurs => "not-ours",
-        Cause::NoBinding => "no-binding",
-        Cause::Filtered => "filtered",
-        Cause::OverQuota => "over-quota",
-        Cause::NoPort => "no-port",
-    }
-}
-
-fn protocol_name(protocol: Protocol) -> &'static str
-    ensures { result.now ≡ model.protocol_name protocol }
-{
-    match protocol {
-        Protocol::Icmp => "icmp",
-        Protocol::Tcp => "tcp",
-        Protocol::Udp => "udp",
     }
 }
 
@@ -111,20 +79,6 @@ fn counts_of(outcomes: &[Outcome]) -> Counts
         counts.add(outcome);
     }
     counts
-}
-
-/// An endpoint as `10.0.0.2:5000`.
-#[derive(Clone, Copy)]
-struct EndpointText(Endpoint);
-
-impl fmt::Display for EndpointText {
-    ghost output = { λ text. Some (model.endpoint_text text.0) };
-
-    fn fmt<W: fmt::Write>(&self, f: &mut fmt::Formatter<W>) -> fmt::Result {
-        let address = Address(self.0.address);
-        let number = self.0.number;
-        write!(f, "{address}:{number}")
-    }
 }
 
 /// Adds a line with a name and a count.

@@ -1,6 +1,7 @@
 use super::config_from;
-use crate::stop::{Role, Stop};
+use crate::stop::Stop;
 use napt_config::ConfigFault;
+use napt_options::Role;
 use std::alloc::Global;
 use std::io::{Read, repeat};
 use std::test::Fail;

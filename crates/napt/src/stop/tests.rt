@@ -1,6 +1,7 @@
-use super::{Role, Stop, StopLine, line_at_end, status_at_end, stop_line, stop_status};
+use super::{Stop, StopLine, line_at_end, status_at_end, stop_line, stop_status};
 use napt_capture::{CaptureFault, WriteFault};
 use napt_config::ConfigFault;
+use napt_options::Role;
 use napt_pool::PoolFault;
 use napt_run::{Fault, RunFault, Which};
 use napt_wire::Side;

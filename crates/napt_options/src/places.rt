@@ -1,35 +1,31 @@
 //! The places of all files of a run, and the output that would destroy one of them.
-ghost use Rattle.std.specs.Prelude.{◌≡◌, IfErr, IfSome, is_some, true};
-ghost use Rattle.napt.specs.Places.{ArePlacesOf, is_again, is_input, is_placed, is_there, output_named_again};
-ghost use Rattle.napt.specs.Program.{IsStopOf};
+ghost use Rattle.std.specs.Prelude.{◌≡◌, IfSome, is_some, true};
+ghost use Rattle.napt_options.specs.CommandLine.{is_named};
+ghost use Rattle.napt_options.specs.Places.{ArePlacesOf, is_again, is_input, is_placed, is_there, output_named_again};
 
 use crate::options::Options;
-use crate::stop::{Role, Stop};
+use crate::role::Role;
 use napt_files::{Place, is_same, place_of};
 use std::rt::Files;
 
 /// The place of the file that each option names, and of the standard streams that stand for absent ones.
 #[derive(Clone, Copy, Debug)]
-pub struct Places<'a> {
-    pub config: Option<Place<'a>>,
-    pub standard_input: Option<Place<'a>>,
-    pub inside: Option<Place<'a>>,
-    pub outside: Option<Place<'a>>,
-    pub standard_output: Option<Place<'a>>,
-    pub to_outside: Option<Place<'a>>,
-    pub to_inside: Option<Place<'a>>,
-    pub report: Option<Place<'a>>,
+struct Places<'a> {
+    config: Option<Place<'a>>,
+    standard_input: Option<Place<'a>>,
+    inside: Option<Place<'a>>,
+    outside: Option<Place<'a>>,
+    standard_output: Option<Place<'a>>,
+    to_outside: Option<Place<'a>>,
+    to_inside: Option<Place<'a>>,
+    report: Option<Place<'a>>,
 }
 
-/// Refuses, by its role, the first output in the order of the options that is a file which an earlier one names.
-pub fn refuse_lost_file<R: Files>(rt: &R, options: &Options) -> Result<(), Stop>
-    ensures { IfErr result (IsStopOf options.now) }
+/// The first output in the order of the options that is a file which an earlier one names, by its role.
+pub fn lost_file<R: Files>(rt: &R, options: &Options) -> Option<Role>
+    ensures { IfSome result (λ role. is_named options.now role ≡ true) }
 {
-    let places = places_of(rt, options);
-    match output_named_again(&places) {
-        Some(role) => Err(Stop::File(role)),
-        None => Ok(()),
-    }
+    output_named_again(&places_of(rt, options))
 }
 
 fn places_of<'a, R: Files>(rt: &R, options: &'a Options) -> Places<'a>
@@ -69,7 +65,7 @@ fn place_of_stream<'a, R: Files>(
 }
 
 /// The first output that is a file which stands before it in the order of the options.
-pub fn output_named_again(places: &Places<'_>) -> Option<Role>
+fn output_named_again(places: &Places<'_>) -> Option<Role>
     ensures first { result ≡ output_named_again places.now }
     ensures named { IfSome result (λ role. is_placed places.now role ≡ true) }
 {

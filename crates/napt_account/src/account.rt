@@ -4,7 +4,7 @@ ghost use Rattle.std.specs.Prelude.{◌≡◌, IfOk, length, option_map, slice_g
 ghost use Rattle.napt_sequential.specs.Sequential as model;
 
 use napt_config::Config;
-use napt_run::{Input, Outcome, Run, RunFault, run_plain};
+use napt_sequential::{Input, Outcome, Run, RunFault, run_plain};
 use napt_table::Table;
 use napt_translate::route;
 use napt_wire::{Endpoint, Flags, Kind, Packet, Protocol, Side};
@@ -27,6 +27,7 @@ pub enum Note {
 /// What a packet did to the bindings, and the places of those that it went through among the lives.
 #[derive(Clone, Copy)]
 pub struct Use {
+    /// What it did to the binding that it used first.
     pub note: Note,
     /// The binding that it went out through.
     pub out: Option<usize>,
@@ -59,6 +60,7 @@ pub struct Ends(pub usize);
 /// A run, and beside each outcome what the packet did to the bindings.
 #[derive(Drop)]
 pub struct Account {
+    /// The sequential run over the inputs.
     pub run: Run,
     /// One for each input, in their order.
     pub uses: Vec<Use>,

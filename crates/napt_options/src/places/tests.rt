@@ -1,5 +1,5 @@
 use super::{Places, output_named_again};
-use crate::stop::Role;
+use crate::role::Role;
 use napt_files::{Node, Place};
 
 const NOTHING: Places<'static> = Places {

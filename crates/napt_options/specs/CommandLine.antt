@@ -1,11 +1,13 @@
 -- What a command line means, by what clap makes of its words.
-use Rattle.std.specs.Prelude.{List, [], ◌∷◌, Option, Some, codes, option_map, string_bytes}
+use Rattle.std.specs.Prelude.{List, [], ◌∷◌, Bool, Option, Some, codes, is_some, option_map, string_bytes}
 use Rattle.clap.specs.Words.{App, Kinds, Row, Rule, Text, fault_of, first_of, matches_of, new_app, new_rule, with_rule}
 use Rattle.clap.specs.declared.builder.action.ArgAction.TheVariants.{Set}
 use Rattle.clap.specs.declared.error.kind.ErrorKind.TheVariants.{DisplayHelp}
-use Rattle.napt.specs.declared.options.Options.{Options}
-use Rattle.napt.specs.declared.options.LineFault.{LineFault}
-use Rattle.napt.specs.declared.options.LineFault.TheVariants.{Help}
+use Rattle.napt_options.specs.declared.options.Options.{Options}
+use Rattle.napt_options.specs.declared.options.LineFault.{LineFault}
+use Rattle.napt_options.specs.declared.options.LineFault.TheVariants.{Help}
+use Rattle.napt_options.specs.declared.role.Role.{Role}
+use Rattle.napt_options.specs.declared.role.Role.TheVariants as role
 
 -- `--name FILE`: a plain option that takes one value
 abbrev pub file_option : Text → Rule
@@ -70,6 +72,24 @@ line_by (other ∷ more) rows = mistake
 -- the words begin with the program's name
 unfoldable pub line_of_words : List Text → Line
 line_of_words words = line_by (fault_of napt_app words) (matches_of napt_app words)
+
+-- the name of the file's option
+abbrev pub role_name : Role → Text
+role_name role.Config = codes "config"
+role_name role.Inside = codes "inside"
+role_name role.Outside = codes "outside"
+role_name role.ToOutside = codes "to-outside"
+role_name role.ToInside = codes "to-inside"
+role_name role.Report = codes "report"
+
+-- the words name a file for this role
+abbrev pub is_named : Options → Role → Bool
+is_named options role.Config = is_some options.config
+is_named options role.Inside = is_some options.inside
+is_named options role.Outside = is_some options.outside
+is_named options role.ToOutside = is_some options.to_outside
+is_named options role.ToInside = is_some options.to_inside
+is_named options role.Report = is_some options.report
 
 abbrev pub IsHelp : LineFault → Type 0
 IsHelp (Help text) = Unit {0}

@@ -1,0 +1,1 @@
+pub use Rattle.napt_sequential.specs.Sequential

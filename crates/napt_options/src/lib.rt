@@ -1,0 +1,10 @@
+//! The command line of the program: which files it reads and writes, and which output would destroy one of the others.
+#![tactic(auto)]
+
+mod options;
+mod places;
+mod role;
+
+pub use crate::options::{LineFault, Options, parse_words};
+pub use crate::places::lost_file;
+pub use crate::role::Role;
