@@ -18,7 +18,7 @@ use Rattle.napt_sequential.specs.declared.outcome.Outcome.{Outcome}
 use Rattle.napt_sequential.specs.declared.fault.RunFault.{RunFault}
 use Rattle.napt_sequential.specs.declared.fault.RunFault.TheVariants as faults
 use Rattle.napt_sequential.specs.Inputs.{Arrival}
-use Rattle.napt_sequential.specs.Seats.{IsAtOnce}
+use Rattle.napt_sequential.specs.CountedTranslators.{IsAtOnce}
 use Rattle.napt_sequential.specs.Sequential.{Course, run, last_clock, legs_at, Ran, ran}
 use Rattle.napt_dispatch.specs.Dispatch.{started, of_worker, fresh, rows_after, IsFaultUnder, is_gate_fault, IsDispatched, first_fault}
 use Rattle.napt_pool.specs.declared.fault.PoolFault.{PoolFault}

@@ -368,7 +368,8 @@ tcp_end at k end new bytes place small room keeps =
 
 -- an echo with another identifier, and one whose identifier stays
 echo_end : (at : ℕ) (end : End) (new : Endpoint) (bytes after : List ℕ) → HasRoom at bytes →
-    after ≡ changed (address_changes at end new.address bytes) (changed (numbers_of Request Source at new bytes) bytes) →
+    after ≡ changed (address_changes at end new.address bytes)
+    (changed (numbers_of Request Source at new bytes) bytes) →
     KeepsHeader at bytes after →
     option_map is_right (covered_by Request at after) ≡ option_map is_right (covered_by Request at bytes)
 echo_end at end new bytes after room after_is keeps =
