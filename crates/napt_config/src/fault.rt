@@ -47,55 +47,46 @@ pub enum ConfigFault {
     Memory,
 }
 
+/// What a fault says.
+fn message(fault: ConfigFault) -> &'static str
+    ensures { result.now ≡ fault_message fault }
+{
+    match fault {
+        ConfigFault::NotToml => "expected TOML in UTF-8",
+        ConfigFault::UnknownKey =>
+            "unknown key: expected `pool`, `inside`, `filter`, `refresh`, `timers`, `ring`, `quota`, `pair` or `redirect`; in `timers` `udp`, `tcp-established`, `tcp-transitory` or `icmp`; in a `pair` `host` or `external`; in a `redirect` `protocol`, `inside` or `external`",
+        ConfigFault::Missing =>
+            "expected `pool` and `inside` with at least one entry each, `host` and `external` in each `pair`, and `protocol`, `inside` and `external` in each `redirect`",
+        ConfigFault::BadShape =>
+            "expected a value of another kind: a text, a whole number, a list or a table, as its key asks for",
+        ConfigFault::TooMany =>
+            "expected at most 16 entries in `pool` and in `inside`, and at most 256 of `pair` and of `redirect`",
+        ConfigFault::BadAddress =>
+            "expected an IPv4 address, as `203.0.113.1`, or in a `redirect` an endpoint, as `10.0.0.3:7000`, without leading zeros",
+        ConfigFault::BadPrefix =>
+            "expected an IPv4 prefix, as `10.0.0.0/8`, whose bits past its length are 0",
+        ConfigFault::BadNumber =>
+            "expected a timer of 0 to 1000000000 seconds, a `ring` of 1 to 4096, a `quota` of 1 to 65535, or an `external` port of 1 to 65535",
+        ConfigFault::BadWord =>
+            "expected `independent`, `address` or `address-port` as `filter`, `outbound` or `both` as `refresh`, or `udp` or `tcp` as `protocol`",
+        ConfigFault::DoubleAddress => "expected each address of `pool` once",
+        ConfigFault::PoolInside => "expected no address of `pool` in a prefix of `inside`",
+        ConfigFault::DoublePair => "expected at most one `pair` for each host",
+        ConfigFault::NotInPool => "expected an `external` address that is in `pool`",
+        ConfigFault::NotInside => "expected a host that is in a prefix of `inside`",
+        ConfigFault::DoubleRedirect =>
+            "expected at most one `redirect` of a protocol for each inside endpoint and for each external endpoint",
+        ConfigFault::TimerTooShort =>
+            "expected at least 120 seconds for `udp`, 7440 for `tcp-established`, 240 for `tcp-transitory` and 60 for `icmp`",
+        ConfigFault::Memory => "out of memory",
+    }
+}
+
 impl fmt::Display for ConfigFault {
     ghost output = { λ fault. Some (fault_message fault) };
 
     fn fmt<W: fmt::Write>(&self, f: &mut fmt::Formatter<W>) -> fmt::Result {
-        match self {
-            ConfigFault::NotToml => f.write_str("expected TOML in UTF-8"),
-            ConfigFault::UnknownKey => f.write_str(
-                "unknown key: expected `pool`, `inside`, `filter`, `refresh`, `timers`, `ring`, `quota`, `pair` or `redirect`; in `timers` `udp`, `tcp-established`, `tcp-transitory` or `icmp`; in a `pair` `host` or `external`; in a `redirect` `protocol`, `inside` or `external`",
-            ),
-            ConfigFault::Missing => f.write_str(
-                "expected `pool` and `inside` with at least one entry each, `host` and `external` in each `pair`, and `protocol`, `inside` and `external` in each `redirect`",
-            ),
-            ConfigFault::BadShape => f.write_str(
-                "expected a value of another kind: a text, a whole number, a list or a table, as its key asks for",
-            ),
-            ConfigFault::TooMany => f.write_str(
-                "expected at most 16 entries in `pool` and in `inside`, and at most 256 of `pair` and of `redirect`",
-            ),
-            ConfigFault::BadAddress => f.write_str(
-                "expected an IPv4 address, as `203.0.113.1`, or in a `redirect` an endpoint, as `10.0.0.3:7000`, without leading zeros",
-            ),
-            ConfigFault::BadPrefix => f.write_str(
-                "expected an IPv4 prefix, as `10.0.0.0/8`, whose bits past its length are 0",
-            ),
-            ConfigFault::BadNumber => f.write_str(
-                "expected a timer of 0 to 1000000000 seconds, a `ring` of 1 to 4096, a `quota` of 1 to 65535, or an `external` port of 1 to 65535",
-            ),
-            ConfigFault::BadWord => f.write_str(
-                "expected `independent`, `address` or `address-port` as `filter`, `outbound` or `both` as `refresh`, or `udp` or `tcp` as `protocol`",
-            ),
-            ConfigFault::DoubleAddress => f.write_str("expected each address of `pool` once"),
-            ConfigFault::PoolInside => f.write_str(
-                "expected no address of `pool` in a prefix of `inside`",
-            ),
-            ConfigFault::DoublePair => f.write_str("expected at most one `pair` for each host"),
-            ConfigFault::NotInPool => f.write_str(
-                "expected an `external` address that is in `pool`",
-            ),
-            ConfigFault::NotInside => f.write_str(
-                "expected a host that is in a prefix of `inside`",
-            ),
-            ConfigFault::DoubleRedirect => f.write_str(
-                "expected at most one `redirect` of a protocol for each inside endpoint and for each external endpoint",
-            ),
-            ConfigFault::TimerTooShort => f.write_str(
-                "expected at least 120 seconds for `udp`, 7440 for `tcp-established`, 240 for `tcp-transitory` and 60 for `icmp`",
-            ),
-            ConfigFault::Memory => f.write_str("out of memory"),
-        }
+        f.write_str(message(*self))
     }
 }
 
