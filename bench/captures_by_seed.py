@@ -2,8 +2,8 @@
 """Writes inside.pcap, outside.pcap and napt.toml into a folder, by a seed: the same words give the same bytes.
 
 Hosts of 10.0.0.0/8 send UDP packets of some flows to a remote; a part of the packets are replies from outside, and a part are
-sent by one host to another host's external endpoint (hairpins). Each flow has a port of its own, so its external number is that
-port, and its binding lives, since the packets are a microsecond apart.
+sent by one host to another host's external endpoint (hairpins). At its external address each flow has a port of its own, so its
+external number is that port, and its binding lives, since the packets are a microsecond apart.
 """
 import argparse
 import random
@@ -44,14 +44,19 @@ def parsed():
     words.add_argument("folder")
     words.add_argument("--seed", type=int, default=1)
     words.add_argument("--packets", type=int, default=1_000_000)
-    words.add_argument("--hosts", type=int, default=50)
-    words.add_argument("--flows", type=int, default=100, help="at most 60,000")
+    words.add_argument("--hosts", type=int, default=48, help="a multiple of the addresses")
+    words.add_argument("--flows", type=int, default=100, help="at most 60,000 for each address")
     words.add_argument("--replies", type=float, default=0.4, help="part of the packets that are replies")
     words.add_argument("--hairpins", type=float, default=0.05, help="part of the packets that are hairpins")
     words.add_argument("--addresses", type=int, default=4, help="external addresses, 1 to 16")
     words.add_argument("--ring", type=int, default=64, help="slots of a ring")
     words.add_argument("--bytes", type=int, default=100, help="length of a packet")
-    return words.parse_args()
+    given = words.parse_args()
+    if given.hosts % given.addresses:
+        words.error("--hosts must be a multiple of --addresses")
+    if given.flows > 60_000 * given.addresses:
+        words.error("at most 60,000 --flows for each address")
+    return given
 
 
 def main():
@@ -63,7 +68,7 @@ def main():
     flows = []
     for flow in range(words.flows):
         host = HOSTS + flow % words.hosts
-        flows.append((host, FIRST_PORT + flow, POOL[host % words.addresses]))
+        flows.append((host, FIRST_PORT + flow // words.addresses, POOL[host % words.addresses]))
     records = {"inside": [HEADER], "outside": [HEADER]}
     for k in range(words.packets):
         host, port, external = flows[k] if k < len(flows) else draw.choice(flows)

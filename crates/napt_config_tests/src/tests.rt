@@ -161,22 +161,11 @@ Missing
 pool = []
 inside = ["10.0.0.0/8"]
 ---
-Missing
-pool = ["1.0.0.1"]
----
-Missing
-pool = ["1.0.0.1"]
-inside = []
----
 BadShape
 pool = "1.0.0.1"
 ---
 BadShape
 pool = [1]
----
-BadShape
-pool = ["1.0.0.1"]
-inside = { }
 ---
 BadAddress
 pool = ["01.0.0.1"]
@@ -198,32 +187,35 @@ pool = ["1.0.0.\u0661"]
 ---
 DoubleAddress
 pool = ["1.0.0.1", "1.0.0.2", "1.0.0.1"]
+"#;
+    assert_faults(&rt, alloc, "", cases)?;
+    let behind_pool = r#"Missing
+---
+Missing
+inside = []
+---
+BadShape
+inside = { }
 ---
 BadPrefix
-pool = ["1.0.0.1"]
 inside = ["10.0.0.0"]
 ---
 BadPrefix
-pool = ["1.0.0.1"]
 inside = ["10.0.0.0/08"]
 ---
 BadPrefix
-pool = ["1.0.0.1"]
 inside = ["10.0.0.0/+8"]
 ---
 BadPrefix
-pool = ["1.0.0.1"]
 inside = ["10.0.0.0/33"]
 ---
 BadPrefix
-pool = ["1.0.0.1"]
 inside = ["10.0.0.1/31"]
 ---
 PoolInside
-pool = ["1.0.0.1"]
 inside = ["0.0.0.0/0"]
 "#;
-    assert_faults(&rt, alloc, "", cases)
+    assert_faults(&rt, alloc, "pool = [\"1.0.0.1\"]\n", behind_pool)
 }
 
 #[test]
@@ -509,12 +501,7 @@ fn most_pairs(rt: HostRuntime) -> Result<(), Fail> {
         assert_eq!(rt; config.pair(0x0A00_0100 + host), 0xCB00_7101);
     }
     assert_eq!(rt; config.pair(0x0A00_0201), 0xCB00_7102);
-    text.push_str("[[pair]]\n")?;
-    assert_eq!(rt;
-        Config::read(alloc, text.as_bytes()).err(),
-        Some(ConfigFault::TooMany)
-    );
-    Ok(())
+    assert_faults(&rt, alloc, text.as_str(), "TooMany\n[[pair]]\n")
 }
 
 #[test]
@@ -562,14 +549,8 @@ external = 1
 
 #[test]
 fn faults_of_a_redirect(rt: HostRuntime) -> Result<(), Fail> {
-    let cases = r#"UnknownKey
-[[redirect]]
-protocol = "udp"
-inside = "10.0.0.3:7000"
-external = 7000
-host = "10.0.0.3"
----
-BadShape
+    let alloc = rt.alloc();
+    let cases = r#"BadShape
 redirect = 1
 ---
 BadShape
@@ -597,72 +578,58 @@ BadWord
 protocol = "UDP"
 inside = "10.0.0.3:7000"
 external = 7000
----
-Missing
-[[redirect]]
-protocol = "udp"
+"#;
+    assert_faults(&rt, alloc, HEAD, cases)?;
+    let behind_protocol = r#"Missing
 external = 7000
 ---
 BadShape
-[[redirect]]
-protocol = "udp"
 inside = 7000
 external = 7000
 ---
 BadAddress
-[[redirect]]
-protocol = "udp"
 inside = "10.0.0.3"
 external = 7000
 ---
 BadAddress
-[[redirect]]
-protocol = "udp"
 inside = "10.0.0.3:0"
 external = 7000
 ---
 BadAddress
-[[redirect]]
-protocol = "udp"
 inside = "10.0.0.3:65536"
 external = 7000
 ---
 NotInside
-[[redirect]]
-protocol = "udp"
 inside = "11.0.0.3:7000"
 external = 7000
+"#;
+    let protocol = format!(in alloc; "{HEAD}[[redirect]]\nprotocol = \"udp\"\n")?;
+    assert_faults(&rt, alloc, protocol.as_str(), behind_protocol)?;
+    let behind_inside = r#"UnknownKey
+external = 7000
+host = "10.0.0.3"
 ---
 Missing
-[[redirect]]
-protocol = "udp"
-inside = "10.0.0.3:7000"
 ---
 BadShape
-[[redirect]]
-protocol = "udp"
-inside = "10.0.0.3:7000"
 external = "7000"
 ---
 BadNumber
-[[redirect]]
-protocol = "udp"
-inside = "10.0.0.3:7000"
 external = 0
 ---
 BadNumber
-[[redirect]]
-protocol = "udp"
-inside = "10.0.0.3:7000"
 external = 65536
 ---
 BadNumber
-[[redirect]]
-protocol = "udp"
-inside = "10.0.0.3:7000"
 external = -1
----
-DoubleRedirect
+"#;
+    let inside = format!(in alloc; "{protocol}inside = \"10.0.0.3:7000\"\n")?;
+    assert_faults(&rt, alloc, inside.as_str(), behind_inside)
+}
+
+#[test]
+fn double_redirects(rt: HostRuntime) -> Result<(), Fail> {
+    let cases = r#"DoubleRedirect
 [[redirect]]
 protocol = "udp"
 inside = "10.0.0.3:7000"
@@ -787,12 +754,7 @@ fn most_redirects(rt: HostRuntime) -> Result<(), Fail> {
     }
     let config = Config::read(alloc, text.as_bytes())?;
     assert_eq!(rt; config.redirects().len(), 256);
-    text.push_str("[[redirect]]\n")?;
-    assert_eq!(rt;
-        Config::read(alloc, text.as_bytes()).err(),
-        Some(ConfigFault::TooMany)
-    );
-    Ok(())
+    assert_faults(&rt, alloc, text.as_str(), "TooMany\n[[redirect]]\n")
 }
 
 #[test]

@@ -6,7 +6,7 @@ use napt_capture::{
     CaptureFault, Faulty, Plan, Trouble, Watched, WriteFault, read_capture, write_text,
 };
 use napt_config::Config;
-use napt_pool::OpenGate;
+use napt_pool::{Gate, OpenGate};
 use napt_run::{Fault, Which, run_captures};
 use napt_samples::captures::{ONE_PACKET, WRITTEN};
 use napt_samples::packets::UDP_QUERY;
@@ -37,24 +37,27 @@ fn slow(call: u64, trouble: Trouble) -> Plan
 
 /// How the devices of a run go wrong.
 #[derive(Clone, Copy)]
-struct Plans {
+pub(crate) struct Plans {
     inside: Plan,
     to_outside: Plan,
+    to_inside: Plan,
     report: Plan,
 }
 
-const ALL_GOOD: Plans = Plans {
+pub(crate) const ALL_GOOD: Plans = Plans {
     inside: GOOD,
     to_outside: GOOD,
+    to_inside: GOOD,
     report: GOOD,
 };
 
 /// What a run answers and writes.
 #[derive(Drop)]
-struct Written {
-    answer: Result<(), Fault>,
-    to_outside: Vec<u8>,
-    report: Vec<u8>,
+pub(crate) struct Written {
+    pub(crate) answer: Result<(), Fault>,
+    pub(crate) to_outside: Vec<u8>,
+    pub(crate) to_inside: Vec<u8>,
+    pub(crate) report: Vec<u8>,
 }
 
 /// A run over the capture of one packet in the built-in configuration.
@@ -65,14 +68,27 @@ fn run_one<T: Threads + Wait + Copy + Send + 'static>(
 ) -> Result<Written, AllocError>
     requires inside { 0 < plans.inside.most }
     requires to_outside { 0 < plans.to_outside.most }
+    requires to_inside { 0 < plans.to_inside.most }
+    requires report { 0 < plans.report.most }
+{
+    run_under(rt, alloc, plans, Arc::new(alloc, OpenGate)?)
+}
+
+/// The same under a gate.
+pub(crate) fn run_under<
+    T: Threads + Wait + Copy + Send + 'static,
+    G: Gate + Send + Sync + Drop + 'static,
+>(rt: &T, alloc: Global, plans: Plans, gate: Arc<G>) -> Result<Written, AllocError>
+    requires inside { 0 < plans.inside.most }
+    requires to_outside { 0 < plans.to_outside.most }
+    requires to_inside { 0 < plans.to_inside.most }
     requires report { 0 < plans.report.most }
 {
     let config = Config::built_in(alloc)?;
-    let gate = Arc::new(alloc, OpenGate)?;
     let mut to_outside = Faulty::new(Watched::new(Vec::new(alloc)), plans.to_outside);
+    let mut to_inside = Faulty::new(Watched::new(Vec::new(alloc)), plans.to_inside);
     let mut report = Faulty::new(Watched::new(Vec::new(alloc)), plans.report);
     let from_outside: Option<&mut Watched<&[u8]>> = None;
-    let to_inside: Option<&mut Watched<Vec<u8>>> = None;
     let answer = run_captures(
         rt,
         alloc,
@@ -80,15 +96,22 @@ fn run_one<T: Threads + Wait + Copy + Send + 'static>(
         &mut Faulty::new(Watched::new(ONE_PACKET.as_slice()), plans.inside),
         from_outside,
         &mut to_outside,
-        to_inside,
+        Some(&mut to_inside),
         Some(&mut report),
         gate,
     );
     Ok(Written {
         answer,
         to_outside: to_outside.into_inner().into_inner(),
+        to_inside: to_inside.into_inner().into_inner(),
         report: report.into_inner().into_inner(),
     })
+}
+
+pub(crate) fn assert_nothing_written(rt: &impl Abort, written: &Written) {
+    assert!(rt; written.to_outside.is_empty());
+    assert!(rt; written.to_inside.is_empty());
+    assert!(rt; written.report.is_empty());
 }
 
 /// How many records a capture of one packet has through a device, and whether it is cut.
@@ -107,8 +130,7 @@ fn each_read_of_a_run_fails(rt: HostRuntime) -> Result<(), Fail> {
         let written = run_one(&rt, rt.alloc(), Plans { inside, ..ALL_GOOD })?;
         let wanted = Fault::Capture(Side::Inside, CaptureFault::Read);
         assert_eq!(rt; written.answer, Err(wanted), "read {call}");
-        assert!(rt; written.to_outside.is_empty());
-        assert!(rt; written.report.is_empty());
+        assert_nothing_written(&rt, &written);
     }
     let inside = Plan { call: 5, ..GOOD };
     let written = run_one(&rt, rt.alloc(), Plans { inside, ..ALL_GOOD })?;
@@ -146,13 +168,21 @@ fn each_slow_read_goes_wrong(rt: HostRuntime) -> Result<(), Fail> {
     Ok(())
 }
 
-/// A run whose writer to the outside goes wrong leaves that many bytes there, and nothing of the report.
+/// The fault of an output that has so many bytes of its text.
+fn cut_short(which: Which, length: usize) -> Fault {
+    Fault::Write(
+        which,
+        WriteFault {
+            written: length as u64,
+        },
+    )
+}
+
+/// A run whose writer to the outside goes wrong leaves that many bytes there, and nothing in the other outputs.
 fn assert_cut_short(rt: &impl Abort, written: &Written, length: usize) {
-    let wanted = WriteFault {
-        written: length as u64,
-    };
-    assert_eq!(rt; written.answer, Err(Fault::Write(Which::Outside, wanted)));
+    assert_eq!(rt; written.answer, Err(cut_short(Which::Outside, length)));
     assert_eq!(rt; Some(written.to_outside.as_slice()), WRITTEN.get(..length));
+    assert!(rt; written.to_inside.is_empty());
     assert!(rt; written.report.is_empty());
 }
 
@@ -195,15 +225,37 @@ fn flush_of_a_run_fails(rt: HostRuntime) -> Result<(), Fail> {
     Ok(())
 }
 
+/// What goes to the inside is a header alone: the 24 bytes with which what goes to the outside begins.
+#[test]
+fn each_write_to_the_inside_goes_wrong(rt: HostRuntime) -> Result<(), Fail> {
+    for trouble in [Trouble::Fails, Trouble::TakesNone] {
+        for taken in 0..24 {
+            let to_inside = slow(taken as u64 + 1, trouble);
+            let plans = Plans {
+                to_inside,
+                ..ALL_GOOD
+            };
+            let written = run_one(&rt, rt.alloc(), plans)?;
+            assert_eq!(rt; written.answer, Err(cut_short(Which::Inside, taken)));
+            assert_eq!(rt; written.to_outside.as_slice(), WRITTEN.as_slice());
+            assert_eq!(rt; Some(written.to_inside.as_slice()), WRITTEN.get(..taken));
+            assert!(rt; written.report.is_empty());
+        }
+    }
+    Ok(())
+}
+
 #[test]
 fn report_of_a_run_fails(rt: HostRuntime) -> Result<(), Fail> {
     for trouble in [Trouble::Fails, Trouble::TakesNone] {
-        let report = slow(1, trouble);
-        let written = run_one(&rt, rt.alloc(), Plans { report, ..ALL_GOOD })?;
-        let wanted = Fault::Write(Which::Report, WriteFault { written: 0 });
-        assert_eq!(rt; written.answer, Err(wanted));
-        assert_eq!(rt; written.to_outside.as_slice(), WRITTEN.as_slice());
-        assert!(rt; written.report.is_empty());
+        for taken in [0, 9] {
+            let report = slow(taken as u64 + 1, trouble);
+            let written = run_one(&rt, rt.alloc(), Plans { report, ..ALL_GOOD })?;
+            assert_eq!(rt; written.answer, Err(cut_short(Which::Report, taken)));
+            assert_eq!(rt; written.to_outside.as_slice(), WRITTEN.as_slice());
+            assert_eq!(rt; written.to_inside.as_slice(), &WRITTEN[..24]);
+            assert_eq!(rt; Some(written.report.as_slice()), b"packets 1".get(..taken));
+        }
     }
     Ok(())
 }

@@ -1,26 +1,29 @@
 //! Gates that stay shut.
 
+use crate::devices::{ALL_GOOD, assert_nothing_written, run_under};
 use crate::runs::{MILLISECOND, input};
 use napt_config::Config;
 use napt_pool::{Gate, PoolFault};
-use napt_run::{RunFault, run_workers};
-use napt_samples::hosts::{RESOLVER, host};
+use napt_run::{Fault, RunFault, run_workers};
+use napt_samples::hosts::{CLIENT, RESOLVER, external, host};
 use napt_samples::settings::TWO_ADDRESSES;
-use napt_wire::Side;
-use std::sync::Arc;
+use napt_wire::{Endpoint, Side};
+use std::alloc::{AllocError, Global};
+use std::process::Abort;
 use std::sync::atomic::{AtomicU64, Ordering};
+use std::sync::{Arc, Wait};
 use std::test::Fail;
 use std::thread;
+use std::thread::Threads;
 
 /// The most often that a gate may be asked for one leg.
 const MOST_ASKS: u64 = 1_000_000;
 
-/// The turn of worker 1 to which the gate says no.
-const SHUT_TURN: u64 = 3;
-
-/// Never lets worker 1 take that turn, and counts how often it asks for it.
+/// Never lets a worker take a turn, and counts how often it asks for it.
 #[derive(Drop)]
 struct Shut {
+    worker: u32,
+    turn: u64,
     asks: AtomicU64,
 }
 
@@ -30,7 +33,7 @@ impl Gate for Shut {
     ghost is_open = { false };
 
     fn enter(&self, worker: u32, turn: u64) -> bool {
-        if worker != 1 || turn != SHUT_TURN {
+        if worker != self.worker || turn != self.turn {
             return true;
         }
         self.asks.fetch_add(1, Ordering::SeqCst);
@@ -38,22 +41,51 @@ impl Gate for Shut {
     }
 }
 
+/// Never lets that worker take that turn.
+fn gate_shut_to(alloc: Global, worker: u32, turn: u64) -> Result<Arc<Shut>, AllocError> {
+    let asks = AtomicU64::new(0);
+    Ok(Arc::new(alloc, Shut { worker, turn, asks })?)
+}
+
+/// In a run over packets that are sent to two workers, the second asks a million times for a turn that it does not get.
+fn assert_shut<R: Threads + Wait + Abort + AllocGlobal + Copy + Send + 'static>(
+    rt: &R,
+    turn: u64,
+    packets: &[(Endpoint, Endpoint)],
+) -> Result<(), Fail> {
+    let alloc = rt.alloc();
+    let config = Config::read(alloc, TWO_ADDRESSES.as_bytes())?;
+    let mut inputs = Vec::new(alloc);
+    for (from, to) in packets {
+        inputs.push(input(alloc, Side::Inside, MILLISECOND, *from, *to)?)?;
+    }
+    let gate = gate_shut_to(alloc, 1, turn)?;
+    let fault = run_workers(rt, alloc, &config, &inputs, Arc::try_clone(&gate)?).err();
+    assert_eq!(rt; fault, Some(RunFault::Pool(PoolFault::GateShut(1))));
+    assert_eq!(rt; gate.asks.load(Ordering::SeqCst), MOST_ASKS);
+    Ok(())
+}
+
 /// Five packets of 10.0.0.3, whose worker is the second: the fourth is asked for a million times.
 #[test]
 fn gate_stays_shut_to_one_turn(rt: HostRuntime) -> Result<(), Fail> {
+    assert_shut(&rt, 3, &[(host(3, 5000), RESOLVER); 5])
+}
+
+/// A hairpin that finds no binding, and then a packet of the host to which it went: its second leg is asked for a million times.
+#[test]
+fn gate_stays_shut_to_a_hairpin(rt: HostRuntime) -> Result<(), Fail> {
+    let packets = [(CLIENT, external(2, 7000)), (host(3, 7000), RESOLVER)];
+    assert_shut(&rt, 0, &packets)
+}
+
+#[test]
+fn shut_gate_lets_nothing_out(rt: HostRuntime) -> Result<(), Fail> {
     let alloc = rt.alloc();
-    let asks = AtomicU64::new(0);
-    let gate = Arc::new(alloc, Shut { asks })?;
-    let watched = Arc::try_clone(&gate)?;
-    let config = Config::read(alloc, TWO_ADDRESSES.as_bytes())?;
-    let mut inputs = Vec::new(alloc);
-    for k in 0..5u64 {
-        let time = k * MILLISECOND;
-        inputs.push(input(alloc, Side::Inside, time, host(3, 5000), RESOLVER)?)?;
-    }
-    let fault = run_workers(&rt, alloc, &config, &inputs, gate).err();
-    assert_eq!(rt; fault, Some(RunFault::Pool(PoolFault::GateShut(1))));
-    assert_eq!(rt; watched.asks.load(Ordering::SeqCst), MOST_ASKS);
+    let written = run_under(&rt, alloc, ALL_GOOD, gate_shut_to(alloc, 0, 0)?)?;
+    let wanted = Fault::Run(RunFault::Pool(PoolFault::GateShut(0)));
+    assert_eq!(rt; written.answer, Err(wanted));
+    assert_nothing_written(&rt, &written);
     Ok(())
 }
 

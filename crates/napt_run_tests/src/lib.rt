@@ -5,6 +5,8 @@
 #[cfg(test)]
 mod captures;
 #[cfg(test)]
+mod gates;
+#[cfg(test)]
 mod merging;
 #[cfg(test)]
 mod packets;
@@ -14,5 +16,7 @@ mod report;
 mod run;
 #[cfg(test)]
 mod sample_inputs;
+#[cfg(test)]
+mod steps;
 #[cfg(test)]
 mod workers;

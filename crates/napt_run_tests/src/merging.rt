@@ -1,36 +1,10 @@
 use napt_capture::Record;
-use napt_run::{Input, merge};
+use napt_run::merge;
 use napt_wire::Side;
+use napt_wire::Side::{Inside, Outside};
 use std::alloc::{AllocError, Global};
 use std::process::Abort;
 use std::test::Fail;
-
-/// An input: its side, its time, its clock and its one byte.
-#[derive(Clone, Copy, Debug, PartialEq)]
-struct Seen {
-    side: Side,
-    time: u64,
-    clock: u64,
-    byte: u8,
-}
-
-fn inside(time: u64, clock: u64, byte: u8) -> Seen {
-    Seen {
-        side: Side::Inside,
-        time,
-        clock,
-        byte,
-    }
-}
-
-fn outside(time: u64, clock: u64, byte: u8) -> Seen {
-    Seen {
-        side: Side::Outside,
-        time,
-        clock,
-        byte,
-    }
-}
 
 /// Records of one byte each, at these times.
 fn records(alloc: Global, rows: &[(u64, u8)]) -> Result<Vec<Record>, AllocError> {
@@ -45,28 +19,23 @@ fn records(alloc: Global, rows: &[(u64, u8)]) -> Result<Vec<Record>, AllocError>
     Ok(records)
 }
 
-fn as_seen(alloc: Global, inputs: &[Input]) -> Result<Vec<Seen>, AllocError> {
-    let mut seen = Vec::new(alloc);
-    for input in inputs {
-        seen.push(Seen {
-            side: input.side,
-            time: input.time,
-            clock: input.clock,
-            byte: input.bytes.first().copied().unwrap_or(0),
-        })?;
-    }
-    Ok(seen)
-}
-
+/// The inputs that come of both lists, each with its side, its time, its clock and its byte.
 fn check(
     rt: &(impl Abort + AllocGlobal),
     insides: &[(u64, u8)],
     outsides: &[(u64, u8)],
-    want: &[Seen],
+    wanted: &[(Side, u64, u64, u8)],
 ) -> Result<(), Fail> {
     let alloc = rt.alloc();
     let inputs = merge(alloc, records(alloc, insides)?, records(alloc, outsides)?)?;
-    assert_eq!(rt; as_seen(alloc, &inputs)?.as_slice(), want);
+    assert!(rt; inputs.len() == wanted.len());
+    for (i, (input, (side, time, clock, byte))) in inputs.iter().zip(wanted).enumerate() {
+        let stands = input.side == *side && input.time == *time && input.clock == *clock;
+        assert!(rt;
+            stands && input.bytes.as_slice() == [*byte].as_slice(),
+            "input {i}"
+        );
+    }
     Ok(())
 }
 
@@ -77,11 +46,11 @@ fn earlier_first(rt: HostRuntime) -> Result<(), Fail> {
         &[(1, 10), (4, 11)],
         &[(2, 20), (3, 21), (5, 22)],
         &[
-            inside(1, 1, 10),
-            outside(2, 2, 20),
-            outside(3, 3, 21),
-            inside(4, 4, 11),
-            outside(5, 5, 22),
+            (Inside, 1, 1, 10),
+            (Outside, 2, 2, 20),
+            (Outside, 3, 3, 21),
+            (Inside, 4, 4, 11),
+            (Outside, 5, 5, 22),
         ],
     )
 }
@@ -93,10 +62,10 @@ fn inside_first_on_a_tie(rt: HostRuntime) -> Result<(), Fail> {
         &[(1, 10), (2, 11)],
         &[(1, 20), (2, 21)],
         &[
-            inside(1, 1, 10),
-            outside(1, 1, 20),
-            inside(2, 2, 11),
-            outside(2, 2, 21),
+            (Inside, 1, 1, 10),
+            (Outside, 1, 1, 20),
+            (Inside, 2, 2, 11),
+            (Outside, 2, 2, 21),
         ],
     )
 }
@@ -109,11 +78,11 @@ fn lists_stay_unsorted(rt: HostRuntime) -> Result<(), Fail> {
         &[(100, 10), (40, 11)],
         &[(50, 20), (30, 21), (120, 22)],
         &[
-            outside(50, 50, 20),
-            outside(30, 50, 21),
-            inside(100, 100, 10),
-            inside(40, 100, 11),
-            outside(120, 120, 22),
+            (Outside, 50, 50, 20),
+            (Outside, 30, 50, 21),
+            (Inside, 100, 100, 10),
+            (Inside, 40, 100, 11),
+            (Outside, 120, 120, 22),
         ],
     )
 }
@@ -121,11 +90,11 @@ fn lists_stay_unsorted(rt: HostRuntime) -> Result<(), Fail> {
 #[test]
 fn empty_lists(rt: HostRuntime) -> Result<(), Fail> {
     check(&rt, &[], &[], &[])?;
-    check(&rt, &[(7, 10)], &[], &[inside(7, 7, 10)])?;
+    check(&rt, &[(7, 10)], &[], &[(Inside, 7, 7, 10)])?;
     check(
         &rt,
         &[],
         &[(7, 20), (6, 21)],
-        &[outside(7, 7, 20), outside(6, 7, 21)],
+        &[(Outside, 7, 7, 20), (Outside, 6, 7, 21)],
     )
 }

@@ -1,6 +1,6 @@
 //! Which numbers are given, and what the table tells of them.
 
-use crate::bench::Bench;
+use crate::checked::CheckedTable;
 use napt_config::Config;
 use napt_samples::flags::NO_FLAGS;
 use napt_samples::hosts::{
@@ -14,20 +14,20 @@ use std::test::Fail;
 
 #[test]
 fn one_binding_for_all_remotes(rt: HostRuntime) -> Result<(), Fail> {
-    let mut bench = Bench::with(rt.alloc(), "")?;
-    assert_eq!(rt; bench.udp_out(SECOND, CLIENT, RESOLVER)?, Ok(5000));
+    let mut table = CheckedTable::with(rt.alloc(), "")?;
+    assert_eq!(rt; table.udp_out(SECOND, CLIENT, RESOLVER)?, Ok(5000));
     assert_eq!(rt;
-        bench.udp_out(2 * SECOND, CLIENT, SECOND_RESOLVER)?,
+        table.udp_out(2 * SECOND, CLIENT, SECOND_RESOLVER)?,
         Ok(5000)
     );
-    assert_eq!(rt; bench.rows(2 * SECOND)?.len(), 1);
-    assert_eq!(rt; bench.table.at(), 2 * SECOND);
+    assert_eq!(rt; table.rows(2 * SECOND)?.len(), 1);
+    assert_eq!(rt; table.at(), 2 * SECOND);
     Ok(())
 }
 
 #[test]
 fn next_number_of_its_class(rt: HostRuntime) -> Result<(), Fail> {
-    let mut bench = Bench::with(rt.alloc(), "")?;
+    let mut table = CheckedTable::with(rt.alloc(), "")?;
     let sent = [
         (2, 5000, 5000),
         (3, 5000, 5002),
@@ -38,12 +38,12 @@ fn next_number_of_its_class(rt: HostRuntime) -> Result<(), Fail> {
         (3, 1022, 2),
     ];
     for (many, port, number) in sent {
-        let answer = bench.udp_out(SECOND, host(many, port), RESOLVER)?;
+        let answer = table.udp_out(SECOND, host(many, port), RESOLVER)?;
         assert_eq!(rt; answer, Ok(number));
     }
     for (many, number) in [(2, 65_535), (3, 0)] {
         let inside = host(many, 65_535);
-        let answer = bench.send(SECOND, Protocol::Icmp, inside, remote(0), NO_FLAGS)?;
+        let answer = table.send(SECOND, Protocol::Icmp, inside, remote(0), NO_FLAGS)?;
         assert_eq!(rt; answer, Ok(number));
     }
     Ok(())
@@ -63,10 +63,10 @@ fn borders_of_the_classes(rt: HostRuntime) -> Result<(), Fail> {
         (65_534, 65_534),
         (65_534, 1028),
     ];
-    let mut bench = Bench::with(rt.alloc(), "")?;
+    let mut table = CheckedTable::with(rt.alloc(), "")?;
     let mut many = 2u16;
     for (port, number) in sent {
-        let answer = bench.udp_out(SECOND, host(many, port), RESOLVER)?;
+        let answer = table.udp_out(SECOND, host(many, port), RESOLVER)?;
         assert_eq!(rt; answer, Ok(number), "from {port}");
         many = many.saturating_add(1);
     }
@@ -75,17 +75,17 @@ fn borders_of_the_classes(rt: HostRuntime) -> Result<(), Fail> {
 
 #[test]
 fn full_class(rt: HostRuntime) -> Result<(), Fail> {
-    let mut bench = Bench::with(rt.alloc(), "")?;
+    let mut table = CheckedTable::with(rt.alloc(), "")?;
     for k in 0..511 {
-        let answer = bench.udp_out(SECOND, host(256 + k, 2), RESOLVER)?;
+        let answer = table.udp_out(SECOND, host(256 + k, 2), RESOLVER)?;
         assert_eq!(rt; answer, Ok(2 + 2 * k));
     }
-    let refused = bench.udp_out(SECOND, host(256 + 511, 2), RESOLVER)?;
+    let refused = table.udp_out(SECOND, host(256 + 511, 2), RESOLVER)?;
     assert_eq!(rt; refused, Err(Cause::NoPort));
-    assert_eq!(rt; bench.rows(SECOND)?.len(), 511);
+    assert_eq!(rt; table.rows(SECOND)?.len(), 511);
     let odd = host(256 + 511, 1);
-    assert_eq!(rt; bench.udp_out(SECOND, odd, RESOLVER)?, Ok(1));
-    assert_eq!(rt; bench.rows(SECOND)?.len(), 512);
+    assert_eq!(rt; table.udp_out(SECOND, odd, RESOLVER)?, Ok(1));
+    assert_eq!(rt; table.rows(SECOND)?.len(), 512);
     Ok(())
 }
 
@@ -134,9 +134,9 @@ fn names() -> Row {
 #[test]
 fn redirects_at_their_addresses(rt: HostRuntime) -> Result<(), Fail> {
     let config = of_redirects(rt.alloc())?;
-    let first = Bench::of(rt.alloc(), EXTERNAL, &config)?;
-    let second = Bench::of(rt.alloc(), EXTERNAL + 1, &config)?;
-    assert_eq!(rt; first.table.at(), 0);
+    let first = CheckedTable::of(rt.alloc(), EXTERNAL, &config)?;
+    let second = CheckedTable::of(rt.alloc(), EXTERNAL + 1, &config)?;
+    assert_eq!(rt; first.at(), 0);
     assert_eq!(rt;
         first.rows(u64::MAX)?.as_slice(),
         [shell(), names()].as_slice()
@@ -148,17 +148,17 @@ fn redirects_at_their_addresses(rt: HostRuntime) -> Result<(), Fail> {
 #[test]
 fn redirects_are_found(rt: HostRuntime) -> Result<(), Fail> {
     let config = of_redirects(rt.alloc())?;
-    let bench = Bench::of(rt.alloc(), EXTERNAL, &config)?;
+    let table = CheckedTable::of(rt.alloc(), EXTERNAL, &config)?;
     assert_eq!(rt;
-        bench.inside_of(SECOND, Protocol::Tcp, 2222)?,
+        table.inside_of(SECOND, Protocol::Tcp, 2222)?,
         Some(host(5, 22))
     );
-    assert_eq!(rt; bench.inside_of(SECOND, Protocol::Udp, 2222)?, None);
+    assert_eq!(rt; table.inside_of(SECOND, Protocol::Udp, 2222)?, None);
     assert_eq!(rt;
-        bench.number_of(SECOND, Protocol::Udp, host(2, 53))?,
+        table.number_of(SECOND, Protocol::Udp, host(2, 53))?,
         Some(53)
     );
-    assert_eq!(rt; bench.number_of(SECOND, Protocol::Tcp, host(3, 80))?, None);
+    assert_eq!(rt; table.number_of(SECOND, Protocol::Tcp, host(3, 80))?, None);
     Ok(())
 }
 
@@ -174,7 +174,7 @@ fn passing(protocol: Protocol, inside: Endpoint, number: u16) -> Row {
 
 #[test]
 fn rows_in_order(rt: HostRuntime) -> Result<(), Fail> {
-    let mut bench = Bench::with(rt.alloc(), WEB_REDIRECT)?;
+    let mut table = CheckedTable::with(rt.alloc(), WEB_REDIRECT)?;
     let sent = [
         (Protocol::Udp, host(3, 5001), 5001),
         (Protocol::Udp, host(2, 5001), 5003),
@@ -183,7 +183,7 @@ fn rows_in_order(rt: HostRuntime) -> Result<(), Fail> {
         (Protocol::Icmp, host(9, 60_000), 60_000),
     ];
     for (protocol, inside, number) in sent {
-        let answer = bench.send(SECOND, protocol, inside, RESOLVER, NO_FLAGS)?;
+        let answer = table.send(SECOND, protocol, inside, RESOLVER, NO_FLAGS)?;
         assert_eq!(rt; answer, Ok(number));
     }
     let web = redirected(Protocol::Tcp, host(3, 80), external(1, 8080));
@@ -195,9 +195,9 @@ fn rows_in_order(rt: HostRuntime) -> Result<(), Fail> {
         passing(Protocol::Udp, host(2, 5001), 5003),
     ];
     let all = [echo, client, web, udp[0], udp[1], udp[2]];
-    assert_eq!(rt; bench.rows(61 * SECOND - 1)?.as_slice(), all.as_slice());
-    assert_eq!(rt; bench.rows(61 * SECOND)?.as_slice(), &all[1..]);
-    assert_eq!(rt; bench.rows(241 * SECOND)?.as_slice(), &all[2..]);
-    assert_eq!(rt; bench.rows(301 * SECOND)?.as_slice(), [web].as_slice());
+    assert_eq!(rt; table.rows(61 * SECOND - 1)?.as_slice(), all.as_slice());
+    assert_eq!(rt; table.rows(61 * SECOND)?.as_slice(), &all[1..]);
+    assert_eq!(rt; table.rows(241 * SECOND)?.as_slice(), &all[2..]);
+    assert_eq!(rt; table.rows(301 * SECOND)?.as_slice(), [web].as_slice());
     Ok(())
 }

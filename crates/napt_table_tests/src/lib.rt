@@ -3,9 +3,9 @@
 #![tactic(auto)]
 
 #[cfg(test)]
-mod bench;
-#[cfg(test)]
 mod bindings;
+#[cfg(test)]
+mod checked;
 #[cfg(test)]
 mod numbers;
 #[cfg(test)]

@@ -1,6 +1,6 @@
 //! How many bindings a host may have: of the table, and of the plain list.
 
-use crate::bench::{Bench, settings_of};
+use crate::checked::{CheckedTable, settings_of};
 use crate::plain::PlainTable;
 use crate::twins::Sent;
 use napt_samples::flags::{NO_FLAGS, SYN};
@@ -73,7 +73,7 @@ fn plain_differs(alloc: Global, settings: &str, cases: &[Case]) -> Result<Option
 
 /// The first case of which the table gives another answer.
 fn table_differs(alloc: Global, settings: &str, cases: &[Case]) -> Result<Option<usize>, Fail> {
-    let mut bench = Bench::with(alloc, settings)?;
+    let mut table = CheckedTable::with(alloc, settings)?;
     for (k, case) in cases.iter().enumerate() {
         let Sent {
             protocol,
@@ -81,7 +81,7 @@ fn table_differs(alloc: Global, settings: &str, cases: &[Case]) -> Result<Option
             remote,
             flags,
         } = case.sent;
-        if bench.send(case.now, protocol, inside, remote, flags)? != case.answer {
+        if table.send(case.now, protocol, inside, remote, flags)? != case.answer {
             return Ok(Some(k));
         }
     }
@@ -110,12 +110,12 @@ fn host_at_its_quota(rt: HostRuntime) -> Result<(), Fail> {
 
 #[test]
 fn refused_packet_makes_no_binding(rt: HostRuntime) -> Result<(), Fail> {
-    let mut bench = Bench::with(rt.alloc(), "quota = 1\n")?;
-    assert_eq!(rt; bench.udp_out(SECOND, CLIENT, RESOLVER)?, Ok(5000));
-    let refused = bench.send(2 * SECOND, Protocol::Icmp, host(2, 7), RESOLVER, NO_FLAGS)?;
+    let mut table = CheckedTable::with(rt.alloc(), "quota = 1\n")?;
+    assert_eq!(rt; table.udp_out(SECOND, CLIENT, RESOLVER)?, Ok(5000));
+    let refused = table.send(2 * SECOND, Protocol::Icmp, host(2, 7), RESOLVER, NO_FLAGS)?;
     assert_eq!(rt; refused, Err(Cause::OverQuota));
-    assert_eq!(rt; bench.rows(2 * SECOND)?.len(), 1);
-    assert_eq!(rt; bench.table.at(), 2 * SECOND);
+    assert_eq!(rt; table.rows(2 * SECOND)?.len(), 1);
+    assert_eq!(rt; table.at(), 2 * SECOND);
     Ok(())
 }
 

@@ -2,7 +2,7 @@
 
 ghost use Rattle.std.specs.Prelude.{ℕ, ◌<◌};
 
-use crate::bench::{Bench, settings_of};
+use crate::checked::{CheckedTable, settings_of};
 use crate::plain::PlainTable;
 use napt_samples::flags::NO_FLAGS;
 use napt_samples::hosts::{EXTERNAL, RESOLVER, SECOND, host};
@@ -190,7 +190,7 @@ const NONE: Counts = Counts {
 #[derive(Drop)]
 pub(crate) struct Twins {
     alloc: Global,
-    bench: Bench,
+    table: CheckedTable,
     plain: PlainTable,
     pub(crate) counts: Counts,
 }
@@ -201,7 +201,7 @@ impl Twins {
         let config = settings_of(alloc, settings)?;
         Ok(Twins {
             alloc,
-            bench: Bench::of(alloc, EXTERNAL, &config)?,
+            table: CheckedTable::of(alloc, EXTERNAL, &config)?,
             plain: PlainTable::new(alloc, EXTERNAL, &config)?,
             counts: NONE,
         })
@@ -214,7 +214,7 @@ impl Twins {
             remote,
             flags,
         } = sent;
-        let answer = self.bench.send(now, protocol, inside, remote, flags)?;
+        let answer = self.table.send(now, protocol, inside, remote, flags)?;
         let plain = self
             .plain
             .outbound(self.alloc, now, protocol, inside, remote, flags)?;
@@ -236,7 +236,7 @@ impl Twins {
         remote: Endpoint,
         flags: Flags,
     ) -> Result<bool, Fail> {
-        let answer = self.bench.receive(now, protocol, number, remote, flags)?;
+        let answer = self.table.receive(now, protocol, number, remote, flags)?;
         let plain = self.plain.inbound(now, protocol, number, remote, flags);
         self.counts.count(answer.err());
         Ok(answer == plain)
@@ -260,8 +260,8 @@ impl Twins {
         number: u16,
         inside: Endpoint,
     ) -> Result<bool, Fail> {
-        let found = self.bench.inside_of(now, protocol, number)?;
-        let given = self.bench.number_of(now, protocol, inside)?;
+        let found = self.table.inside_of(now, protocol, number)?;
+        let given = self.table.number_of(now, protocol, inside)?;
         Ok(
             found == self.plain.by_external(now, protocol, number)
                 && given == self.plain.by_inside(now, protocol, inside),
@@ -269,7 +269,7 @@ impl Twins {
     }
 
     fn list(&self, now: u64) -> Result<bool, Fail> {
-        let rows = self.bench.rows(now)?;
+        let rows = self.table.rows(now)?;
         let plain = self.plain.bindings(self.alloc, now)?;
         Ok(rows.as_slice() == plain.as_slice())
     }

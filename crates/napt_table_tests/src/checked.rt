@@ -1,4 +1,4 @@
-//! A table whose caller keeps what it owes.
+//! A table for tests, whose calls check what their caller owes.
 
 use napt_config::Config;
 use napt_samples::flags::NO_FLAGS;
@@ -15,25 +15,30 @@ pub(crate) fn settings_of(alloc: Global, settings: &str) -> Result<Config, Fail>
     Ok(Config::read(alloc, text.as_bytes())?)
 }
 
-/// A table whose caller keeps what it owes: no time is before an earlier one, no port is 0. It is behind a box: a function that
+/// A table that refuses what a caller may not ask: a time before an earlier one, a port 0. It is behind a box: a function that
 /// owns a table as it stands takes minutes to prove.
 #[derive(Drop)]
-pub(crate) struct Bench {
+pub(crate) struct CheckedTable {
     alloc: Global,
-    pub(crate) table: Box<Table>,
+    table: Box<Table>,
 }
 
-impl Bench {
+impl CheckedTable {
     /// The table of the address under the configuration.
-    pub(crate) fn of(alloc: Global, address: u32, config: &Config) -> Result<Bench, Fail> {
+    pub(crate) fn of(alloc: Global, address: u32, config: &Config) -> Result<CheckedTable, Fail> {
         let table = Box::new(alloc, Table::new(alloc, address, config)?)?;
-        Ok(Bench { alloc, table })
+        Ok(CheckedTable { alloc, table })
     }
 
     /// The table of 203.0.113.1, which is the pool, with these settings.
-    pub(crate) fn with(alloc: Global, settings: &str) -> Result<Bench, Fail> {
+    pub(crate) fn with(alloc: Global, settings: &str) -> Result<CheckedTable, Fail> {
         let config = settings_of(alloc, settings)?;
-        Bench::of(alloc, EXTERNAL, &config)
+        CheckedTable::of(alloc, EXTERNAL, &config)
+    }
+
+    /// The time of the last call that moved it, in ns.
+    pub(crate) fn at(&self) -> u64 {
+        self.table.at()
     }
 
     pub(crate) fn send(
