@@ -25,7 +25,7 @@ abbrev pub reaches : Option ℕ → ℕ → Bool
 reaches None count = false
 reaches (Some quota) count = nat_le quota count
 
--- the number of a new binding, or why there is none: the quota is judged before the choice
+-- the number of a new binding, or why there is none: the quota comes before the choice
 abbrev pub granted : Option ℕ → List Binding → ℕ → Protocol → Endpoint → Result ℕ Cause
 granted quota list address protocol inside =
     cond (reaches quota (count_for address inside.address list)) (Err OverQuota)

@@ -188,7 +188,7 @@ impl Part {
     }
 
     /// The binding with the number has no entry in the queue: a dead one goes, a live one is entered.
-    fn judge(&mut self, number: u16)
+    fn requeue_or_remove(&mut self, number: u16)
         requires part { IsPart self.old }
         requires due { AreDueBut number self.old }
         requires room { 0 < self.old.due.room }
@@ -219,7 +219,7 @@ impl Part {
         }
     }
 
-    /// Judges the binding of an entry that came up; whether there was one.
+    /// Puts an entry that came up back with its later end, or removes its binding; whether there was one.
     fn purge_first(&mut self) -> bool
         requires part { IsPart self.old }
         requires due { AreDue self.old }
@@ -240,7 +240,7 @@ impl Part {
         let Some((_, number)) = due.take_first() else {
             return false;
         };
-        self.judge(number);
+        self.requeue_or_remove(number);
         true
     }
 
