@@ -12,7 +12,7 @@ use Rattle.napt_translate.specs.declared.translator.Leg.{Leg}
 use Rattle.napt_translate.specs.declared.translator.Answer.{Answer}
 use Rattle.napt_translate.specs.Legs.{Kept, kept_replies}
 use Rattle.napt_translate.specs.Translators.{TranslatorState, begun}
-use Rattle.napt_pool.specs.Faults.{is_shut}
+use Rattle.napt_pool.specs.Faults.{IsFaultOf, is_shut}
 use Rattle.napt_pool.specs.declared.fault.PoolFault.{PoolFault}
 use Rattle.napt_sequential.specs.declared.outcome.Outcome.{Outcome}
 use Rattle.napt_sequential.specs.declared.fault.RunFault.{RunFault}
@@ -37,6 +37,12 @@ abbrev pub IsFaultUnder : Bool → RunFault → Type 0
 IsFaultUnder open_gate faults.Memory = ⊤
 IsFaultUnder open_gate faults.TooMany = ⊥
 IsFaultUnder open_gate (faults.Pool fault) = open_gate ≡ true → is_shut fault ≡ false
+
+-- a fault of dispatching, which starts no thread
+abbrev pub IsDispatchFault : Bool → RunFault → Type 0
+IsDispatchFault open_gate faults.Memory = ⊤
+IsDispatchFault open_gate faults.TooMany = ⊥
+IsDispatchFault open_gate (faults.Pool fault) = IsFaultOf (λ w. ⊤) fault × (open_gate ≡ true → is_shut fault ≡ false)
 
 -- whether a fault says that the gate was shut
 abbrev pub is_gate_fault : RunFault → Bool

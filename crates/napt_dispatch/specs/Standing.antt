@@ -29,7 +29,7 @@ use Rattle.napt_dispatch.specs.declared.dispatcher.progress.Second.{Second}
 use Rattle.napt_dispatch.specs.declared.dispatcher.progress.Second.TheVariants as seconds
 use Rattle.napt_sequential.specs.Inputs.{Arrival}
 use Rattle.napt_sequential.specs.Sequential.{Act, Course, run, last_clock, legs_at}
-use Rattle.napt_dispatch.specs.Dispatch.{of_worker, IsFaultUnder, Right}
+use Rattle.napt_dispatch.specs.Dispatch.{of_worker, IsDispatchFault, Right}
 use Rattle.napt_sequential.specs.Places.{second_legs}
 
 -- LISTS OF WORKERS
@@ -159,12 +159,12 @@ pub record Continues {M G : Type 0} (pool : Pool M G Leg Answer) (d : Dispatcher
   pub sized : IsSizedFor later_pool later
   pub keeps : Keeps (state_of pool d) (state_of later_pool later)
 
--- so it is after an answer; with a fault the workers are the same, and it is one of a run that has begun
+-- so it is after an answer; with a fault the workers are the same, and it is one of dispatching
 abbrev pub ContinuesUnlessFault : {M G X : Type 0} → Bool → Pool M G Leg Answer → Dispatcher → Pool M G Leg Answer →
     Dispatcher → Result X RunFault → Type 0
 ContinuesUnlessFault open_gate pool d later_pool later result =
     MatchResult result (λ done. Continues pool d later_pool later)
-    (λ fault. (starts later_pool ≡ starts pool) × IsFaultUnder open_gate fault)
+    (λ fault. (starts later_pool ≡ starts pool) × IsDispatchFault open_gate fault)
 
 -- STEPS
 

@@ -17,7 +17,7 @@ ghost use Rattle.napt_dispatch.specs.declared.dispatcher.progress.Progress.TheVa
 ghost use Rattle.napt_sequential.specs.declared.outcome.Outcome.TheVariants.{Dropped};
 ghost use Rattle.napt_sequential.specs.Inputs.{Arrival};
 ghost use Rattle.napt_sequential.specs.Sequential.{last_clock};
-ghost use Rattle.napt_dispatch.specs.Dispatch.{started, of_worker, IsFaultUnder, IsDispatched};
+ghost use Rattle.napt_dispatch.specs.Dispatch.{started, of_worker, IsDispatchFault, IsDispatched};
 ghost use Rattle.napt_sequential.specs.Admission.{admission_as};
 ghost use Rattle.napt_dispatch.specs.Standing.{pushed, parts_of, state_of, IsSized, Stands, Keeps, IsSizedFor, ContinuesUnlessFault, with_held, with_progress, put_first, with_first, Noted, IsFirst, Admits, IsDone};
 
@@ -216,7 +216,7 @@ impl Dispatcher {
         ensures sized { OnOk result (IsSizedFor pool.new self.new) }
         ensures keeps { OnOk result (Keeps (with_first w leg (state_of pool.old self.old))
             (state_of pool.new self.new)) }
-        ensures fault { IfErr result (IsFaultUnder G.is_open) }
+        ensures fault { IfErr result (IsDispatchFault G.is_open) }
     {
         let owed = Owed {
             way: leg.way,
@@ -534,7 +534,7 @@ impl Dispatcher {
         ensures place { IfOk result (λ found. IfSome found (λ w. w < length config.now.pool)) }
         ensures admits { OnOk result (Admits config.now number now input (parts_of self.old)
             (parts_of self.new)) }
-        ensures fault { (open_gate : Bool) → IfErr result (IsFaultUnder open_gate) }
+        ensures fault { (open_gate : Bool) → IfErr result (IsDispatchFault open_gate) }
     {
         right_answers();
         places_stand_for_legs();
@@ -594,7 +594,7 @@ impl Dispatcher {
         ensures served { OnOk result (Stands config.now [] inputs.items
             (state_of pool.old self.old) →
             Stands config.now inputs.items inputs.items (state_of pool.new self.new)) }
-        ensures fault { IfErr result (IsFaultUnder G.is_open) }
+        ensures fault { IfErr result (IsDispatchFault G.is_open) }
     {
         let count = config.pool().len();
         let mut clock = 0;
@@ -681,7 +681,7 @@ pub fn dispatch<R: Wait, G: Gate>(
     ensures run { IfOk result (λ done. takes pool.new ≡ zip_with (replies ⟦<Worker as Machine>⟧)
         (starts pool.new) (accepts pool.new) → IsDispatched config.now inputs.now
         (accepts pool.new) done.0.items done.1.items) }
-    ensures fault { IfErr result (IsFaultUnder G.is_open) }
+    ensures fault { IfErr result (IsDispatchFault G.is_open) }
 {
     let Ok(inputs) = copies(alloc, inputs) else {
         return Err(RunFault::Memory);
@@ -706,7 +706,7 @@ pub(crate) fn dispatch_owned<R: Wait, G: Gate>(
     ensures run { IfOk result (λ done. takes pool.new ≡ zip_with (replies ⟦<Worker as Machine>⟧)
         (starts pool.new) (accepts pool.new) → IsDispatched config.now inputs.items
         (accepts pool.new) done.0.items done.1.items) }
-    ensures fault { IfErr result (IsFaultUnder G.is_open) }
+    ensures fault { IfErr result (IsDispatchFault G.is_open) }
 {
     let count = config.pool().len();
     let many = inputs.len();
