@@ -10,8 +10,8 @@ use std::{hint, thread};
 /// How often a thread looks again at once.
 const SPINS: u32 = 32;
 
-/// How many looks come before the first at which the thread sleeps: 96 follow a yield.
-const LOOKS: u32 = 128;
+/// How many looks come before the first at which the thread sleeps: 480 follow a yield.
+const LOOKS: u32 = 512;
 
 /// The shortest sleep, in ns. How long it is in truth the system says (on Linux some 50 microseconds).
 const SHORTEST_SLEEP: u64 = 1;
@@ -28,8 +28,8 @@ impl Pause {
     /// The pause after so many looks.
     const fn after(looks: u32) -> Pause
         ensures spin { looks < 32 → result ≡ Spin }
-        ensures yields { 32 ≤ looks → looks < 128 → result ≡ Yield }
-        ensures park { 128 ≤ looks → result ≡ Park }
+        ensures yields { 32 ≤ looks → looks < 512 → result ≡ Yield }
+        ensures park { 512 ≤ looks → result ≡ Park }
     {
         if looks < SPINS {
             Pause::Spin
@@ -62,11 +62,11 @@ impl Backoff {
         }
     }
 
-    /// Pauses before the next look: 32 times for an instant, 96 times until other threads had their turn, and then each
+    /// Pauses before the next look: 32 times for an instant, 480 times until other threads had their turn, and then each
     /// time for the shortest time that the system sleeps.
     pub fn pause<R: Wait>(&mut self, rt: &R)
-        ensures counted { self.old.looks < 128 → self.new.looks ≡ self.old.looks + 1 }
-        ensures asleep { 128 ≤ self.old.looks → self.new.looks ≡ self.old.looks }
+        ensures counted { self.old.looks < 512 → self.new.looks ≡ self.old.looks + 1 }
+        ensures asleep { 512 ≤ self.old.looks → self.new.looks ≡ self.old.looks }
     {
         match Pause::after(self.looks) {
             Pause::Spin => hint::spin_loop(),
