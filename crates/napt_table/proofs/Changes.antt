@@ -18,7 +18,7 @@ use Rattle.napt_table.specs.Counts.{are_counted, count_in}
 use Rattle.napt_table.specs.Endpoints.{Key, key}
 use Rattle.napt_table.specs.Hosts.{held_for}
 use Rattle.napt_table.specs.Part.{held, number_at, IsDue, IsPart, AreDue, IsSamePlace}
-use Rattle.napt_table.specs.Places.{is_used}
+use Rattle.napt_numbers.specs.Places.{is_used}
 use Rattle.napt_table.proofs.Hosts.{count_same}
 
 -- bindings of one host count alike

@@ -7,10 +7,7 @@ pub mod Named
 pub mod Tables
 pub mod Opened
 pub mod Orders
-pub mod Ports
-pub mod Classes
 pub mod Seen
-pub mod Choices
 pub mod Queues
 pub mod Changes
 pub mod Sends

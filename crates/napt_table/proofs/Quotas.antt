@@ -8,7 +8,8 @@ use Rattle.napt_wire.specs.declared.Cause.{Cause}
 use Rattle.napt_wire.specs.declared.Cause.TheVariants.{OverQuota, NoPort}
 use Rattle.napt_binding.specs.declared.Binding.{Binding}
 use Rattle.napt_binding.specs.Bindings.{same_protocol, of, is_at}
-use Rattle.napt_table.specs.Choice.{is_free, choice, candidates}
+use Rattle.napt_numbers.specs.Candidates.{candidates}
+use Rattle.napt_table.specs.Choice.{is_free, choice}
 use Rattle.napt_table.specs.Quota.{counts_for, count_for, reaches, granted}
 use Rattle.napt_binding.proofs.Lists.{find_agree, any_filter, filter_narrow}
 

@@ -1,5 +1,4 @@
 pub mod Choice
-pub mod Classes
 pub mod Quota
 pub mod Steps
 pub mod Endpoints
@@ -8,7 +7,6 @@ pub mod Local
 pub mod Opening
 pub mod Tables
 pub mod Rows
-pub mod Places
 pub mod Held
 pub mod Hosts
 pub mod Part

@@ -8,22 +8,20 @@ ghost use Rattle.napt_table.specs.Local.{PurgeIsLocal, LaterPurgeCounts, OutIsLo
 ghost use Rattle.napt_table.specs.Endpoints.{PurgeStaysSound, OutStaysSound, InStaysSound, SoundIsApart};
 ghost use Rattle.napt_table.specs.Live.{OutLeavesLive, InLeavesLive};
 ghost use Rattle.napt_table.specs.QuotaKept.{PurgeKeepsQuota, OutKeepsQuota, InKeepsQuota, PlayedKeepsQuota};
-ghost use Rattle.napt_table.specs.Classes.{CandidatesBegin, CandidatesAreThose, CandidatesDiffer};
 ghost use Rattle.napt_table.specs.Opening.{OpeningIsSound};
 ghost use Rattle.napt_table.specs.Rows.{RowsAreInOrder};
 ghost use Rattle.napt_table.specs.Tables.{TablesShareNothing, TablesAreNumbered};
 
 mod event;
 mod host_counts;
-mod numbers;
 mod part;
 mod parts;
 mod rows;
 mod table;
 
 pub use napt_binding::{Binding, Flow, Flows, Inbound, Marks};
+pub use napt_numbers::{Class, Numbers, candidates_are_the_class};
 use napt_wire::{Endpoint, Protocol};
-pub use numbers::Numbers;
 pub use table::Table;
 
 /// What a table tells of one binding.
@@ -34,14 +32,6 @@ pub struct Row {
     pub external: Endpoint,
     /// A static redirect.
     pub fixed: bool,
-}
-
-/// A class of external numbers: the least one, how many, and how far apart.
-#[derive(Clone, Copy)]
-pub struct Class {
-    pub least: u32,
-    pub many: u32,
-    pub apart: u32,
 }
 
 /// A step at one address is a step on that address's bindings alone, and a purge changes no later one.
@@ -74,14 +64,6 @@ pub fn no_host_exceeds_its_quota()
     ensures outbound { OutKeepsQuota }
     ensures inbound { InKeepsQuota }
     ensures played { PlayedKeepsQuota }
-{}
-
-/// The candidates of a number are the numbers that may stand for it, each once, beginning with itself: a port is mapped on its
-/// side of 1024 and keeps its parity (RFC 4787, REQ-3 (a) and REQ-4), an identifier is mapped to any (RFC 5508, section 3.1).
-pub fn candidates_are_the_class()
-    ensures begin { CandidatesBegin }
-    ensures those { CandidatesAreThose }
-    ensures differ { CandidatesDiffer }
 {}
 
 /// No two redirects of a configuration share an endpoint.

@@ -14,10 +14,10 @@ ghost use Rattle.napt_table.specs.Counts.{are_counted, count_in, HasPlace};
 
 use crate::Row;
 use crate::host_counts::HostCounts;
-use crate::numbers::Numbers;
 use napt_binding::{Binding, Flows, Inbound, Sent};
 use napt_config::Timers;
 use napt_due::Due;
+use napt_numbers::Numbers;
 use napt_wire::{Cause, Endpoint, Flags, Protocol};
 use std::alloc::{AllocError, Global};
 use std::collections::HashMap;
@@ -46,7 +46,7 @@ impl Part {
     ghost use Rattle.std.specs.HashMap.{spare};
     ghost use Rattle.napt_config.specs.Rules.{AreTimers};
     ghost use Rattle.napt_binding.specs.Life.{is_live};
-    ghost use Rattle.napt_table.specs.Places.{is_used};
+    ghost use Rattle.napt_numbers.specs.Places.{is_used};
     ghost use Rattle.napt_table.specs.Hosts.{held_for};
     ghost use Rattle.napt_table.specs.Part.{held, number_at, pair_eq, IsPart, AreDue, AreDueBut, IsSamePlace, IsPurged, HasRoom, come_up};
     ghost use Rattle.napt_binding.specs.declared.Binding.{Binding};

@@ -2,8 +2,8 @@ use Rattle.std.proofs.Common.{◌≡◌, ◌∙◌, ◌^◌, ◌<◌, sym, ap, n
 use Rattle.std.specs.Prelude.{ok_or}
 use Rattle.std.proofs.lemmas.Bool.{not-true}
 use Rattle.napt_wire.specs.declared.Cause.TheVariants.{NoPort}
-use Rattle.napt_table.specs.Choice.{candidates}
-use Rattle.napt_table.specs.Places.{is_used}
+use Rattle.napt_numbers.specs.Candidates.{candidates}
+use Rattle.napt_numbers.specs.Places.{is_used}
 use Rattle.napt_table.specs.Part.{held}
 use Rattle.napt_binding.proofs.Finds.{passes}
 use Rattle.napt_table.proofs.Sends.{none_from, choice_is, made_shows, made_live, made_seen}

@@ -2,10 +2,10 @@
 //! section 3.1).
 
 ghost use Rattle.std.specs.Prelude.{◌≡◌, ℕ, ◌+◌, ◌-◌, ◌*◌, ◌^◌, ◌<◌, ◌≤◌, ◌==◌, false, not, ◌&&◌, ◌||◌, find, IfOk, Bool};
-ghost use Rattle.napt_table.specs.Choice as choice;
-ghost use Rattle.napt_table.specs.Places.{place_of, is_used};
+ghost use Rattle.napt_numbers.specs.Candidates.{candidates};
+ghost use Rattle.napt_numbers.specs.Places.{place_of, is_used};
 
-use crate::Class;
+use crate::class::Class;
 use napt_bits::Bits;
 use napt_wire::Protocol;
 use std::alloc::{AllocError, Global};
@@ -22,7 +22,7 @@ pub struct Numbers {
 }
 
 impl Model for Numbers {
-    ghost use Rattle.napt_table.specs.Places.{Used};
+    ghost use Rattle.napt_numbers.specs.Places.{Used};
 
     ghost Value = { Used };
 
@@ -36,27 +36,6 @@ fn place_of(protocol: Protocol, number: u16) -> u16
     match protocol {
         Protocol::Icmp => number,
         Protocol::Tcp | Protocol::Udp => (number % 2) * 32_768 + number / 2,
-    }
-}
-
-impl Class {
-    /// The class in which the number of an inside endpoint is mapped: a port keeps its parity and its side of 1024.
-    fn of(protocol: Protocol, number: u16) -> Class
-        ensures value { result ≡ choice.class_of protocol number }
-        ensures some { (0 < result.many) × (0 < result.apart) }
-        ensures fits { result.least + result.apart * (result.many - 1) < 2 ^ 16 }
-        ensures places { place_of protocol result.least + result.many ≤ 2 ^ 16 }
-    {
-        let (least, many, apart) = match protocol {
-            Protocol::Icmp => (0, 65_536, 1),
-            Protocol::Tcp | Protocol::Udp => match (number < 1024, number % 2 == 1) {
-                (true, true) => (1, 512, 2),
-                (true, false) => (2, 511, 2),
-                (false, true) => (1025, 32_256, 2),
-                (false, false) => (1024, 32_256, 2),
-            },
-        };
-        Class { least, many, apart }
     }
 }
 
@@ -84,7 +63,7 @@ impl Numbers {
     /// that is not, which goes on at the beginning of the class (RFC 4787, REQ-3 and REQ-4); `None` where the class is full.
     pub fn choose(&self, number: u16) -> Option<u16>
         ensures { result ≡ find (λ n. not (is_used self.now n))
-            (choice.candidates self.now.protocol number) }
+            (candidates self.now.protocol number) }
     {
         let class = Class::of(self.protocol, number);
         let start = u32::from(place_of(self.protocol, class.least as u16));

@@ -6,11 +6,10 @@ use Rattle.std.proofs.Math.Nat.{mod-eq_of_lt, add-mod_left}
 use Rattle.napt_bits.specs.Sets.{IsFirstAbsent}
 use Rattle.napt_wire.specs.declared.Protocol.{Protocol}
 use Rattle.napt_wire.specs.declared.Protocol.TheVariants.{Icmp, Tcp, Udp}
-use Rattle.napt_table.specs.declared.Class.{Class}
-use Rattle.napt_binding.specs.Lists.{counted}
-use Rattle.napt_table.specs.Choice.{port_class, class_of, candidate, candidates}
-use Rattle.napt_table.specs.Places.{port_place, place_of}
-use Rattle.napt_table.proofs.Ports.{by_class}
+use Rattle.napt_numbers.specs.declared.class.Class.{Class}
+use Rattle.napt_numbers.specs.Candidates.{port_class, class_of, candidate, counted, candidates}
+use Rattle.napt_numbers.specs.Places.{port_place, place_of}
+use Rattle.napt_numbers.proofs.Ports.{by_class}
 
 -- FIND AMONG THE NUMBERS FROM ONE ON
 

@@ -1,8 +1,8 @@
 use Rattle.std.proofs.Common.{◌∙◌, ap, ℕ}
 use Rattle.std.specs.Prelude.{◌-◌}
 use Rattle.napt_bits.specs.Sets.{has}
-use Rattle.napt_table.proofs.Choices.{near_choice, far_choice, no_choice}
-use Rattle.napt_table.proofs.numbers.Numbers.choose.Goals as goal
+use Rattle.napt_numbers.proofs.Choices.{near_choice, far_choice, no_choice}
+use Rattle.napt_numbers.proofs.numbers.Numbers.choose.Goals as goal
 
 pub returns-in-Some : goal.returns-in-Some
 returns-in-Some c =

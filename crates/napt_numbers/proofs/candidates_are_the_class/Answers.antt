@@ -1,5 +1,5 @@
-use Rattle.napt_table.proofs.Classes.{candidates_begin, candidates_are_those, candidates_differ}
-use Rattle.napt_table.proofs.candidates_are_the_class.Goals as goal
+use Rattle.napt_numbers.proofs.Classes.{candidates_begin, candidates_are_those, candidates_differ}
+use Rattle.napt_numbers.proofs.candidates_are_the_class.Goals as goal
 
 pub returns-clause-begin : goal.returns-clause-begin
 returns-clause-begin c = candidates_begin

@@ -1,0 +1,3 @@
+pub mod Candidates
+pub mod Classes
+pub mod Places
