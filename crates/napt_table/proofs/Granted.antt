@@ -76,10 +76,12 @@ module _ (protocol : Protocol) (old new : AllParts) (others : (q : Protocol) →
       ((host : ℕ) → count_in (part_of new protocol).hosts host ≡ count_in (part_of old protocol).hosts host) →
       (address : ℕ) (timers : Timers) (at : ℕ) → AreOf address timers at old → AreOf address timers at new
   mid_of ends entries numbers counts address timers at all =
-      all_of protocol old new others place address timers at all
-      (same_part (part_of old protocol) (part_of new protocol) (all protocol).is place.timers_is place.address_is
-      numbers place.counting_is counts holds ends)
-      (same_due (part_of old protocol) (part_of new protocol) (all protocol).due place entries holds)
+      all_of protocol old new others (record {
+        part = same_part (part_of old protocol) (part_of new protocol) (all protocol).is place.timers_is
+            place.address_is numbers place.counting_is counts holds ends;
+        due = same_due (part_of old protocol) (part_of new protocol) (all protocol).due place entries holds;
+        place = place;
+      }) address timers at all
 
 -- a packet that was refused memory for its flow leaves the parts as they are
 pub refused_of : (protocol : Protocol) (old new : AllParts) → ((q : Protocol) → q ≢ protocol → part_of new q
@@ -103,24 +105,24 @@ module _ (address : ℕ) (timers : Timers) (now : ℕ) (old gone : AllParts) (al
     (purged : (q : Protocol) → IsPurged now (part_of old q) (part_of gone q)) where
   pub gone_of : AreOf address timers now gone
   gone_of q =
-      let p = purged q in
+      let p = (purged q).keeps.stays in
       let of = all q in
       record {
         is = p.part;
         due = p.due;
-        before = omega (arith, p.at_is);
-        address_is = p.address_is ∙ of.address_is;
-        timers_is = p.timers_is ∙ of.timers_is;
-        protocol_is = p.protocol_same ∙ of.protocol_is;
+        before = omega (arith, p.place.at_is);
+        address_is = p.place.address_is ∙ of.address_is;
+        timers_is = p.place.timers_is ∙ of.timers_is;
+        protocol_is = p.place.protocol_same ∙ of.protocol_is;
       }
 
   pub gone_counted : (counted : Bool) → AreCounted counted old → AreCounted counted gone
-  gone_counted counted are q = (purged q).counting_is ∙ are q
+  gone_counted counted are q = (purged q).keeps.stays.place.counting_is ∙ are q
 
   pub gone_seen : (q : Protocol) (n : ℕ) → seen timers now (held (part_of gone q) n)
       ≡ seen timers now (held (part_of old q) n)
   gone_seen q n = subst (λ (t : Timers). seen t now (held (part_of gone q) n) ≡ seen t now (held (part_of old q) n))
-      (all q).timers_is ((purged q).seen_same n)
+      (all q).timers_is ((purged q).keeps.seen_same n)
 
   pub gone_live : (q : Protocol) (n : ℕ) (b : Binding) → held (part_of gone q) n ≡ Some b → is_live timers now b ≡ true
   gone_live q n b h = subst (λ (t : Timers). is_live t now b ≡ true) (all q).timers_is ((purged q).live n b h)
@@ -136,7 +138,7 @@ module _ (address : ℕ) (timers : Timers) (now : ℕ) (old gone : AllParts) (al
       number_at (part_of gone protocol) inside ≡ o → o ≡ None) [
         | None ↦ λ e. refl
         | Some n ↦ λ e.
-            let h = (purged protocol).part.number_is inside n e in
+            let h = (purged protocol).keeps.stays.part.number_is inside n e in
             let live : seen timers now (held (part_of gone protocol) n) ≡ Some (with_live_flows timers now h.0) =
             ap (seen timers now) h.1 ∙ ap (λ v. cond v (Some (with_live_flows timers now h.0)) None)
             (gone_live protocol n h.0 h.1) in
@@ -159,10 +161,10 @@ module _ (address : ℕ) (timers : Timers) (now : ℕ) (old gone : AllParts) (al
   gone_reaches None host list apart shows counted = refl
   gone_reaches (Some quota) host list apart shows counted =
       let c : (q : Protocol) → count_in (part_of gone q).hosts host ≡ count_held (held (part_of gone q)) host = λ q.
-      (purged q).part.counted (counted q) host in
+      (purged q).keeps.stays.part.counted (counted q) host in
       ap (reaches (Some quota))
       (count_is_held timers now address host (λ q. held (part_of gone q)) list apart shows (λ q.
-      (purged q).part.small) gone_live
+      (purged q).keeps.stays.part.small) gone_live
       ∙ sym (ap (λ (n : ℕ). (n + count_in gone.tcp.hosts host) + count_in gone.udp.hosts host) (c Icmp)
       ∙ (ap (λ (n : ℕ). (count_held (held gone.icmp) host + n) + count_in gone.udp.hosts host) (c Tcp)
       ∙ ap (λ (n : ℕ). (count_held (held gone.icmp) host + count_held (held gone.tcp) host) + n) (c Udp))))

@@ -22,7 +22,7 @@ use Rattle.napt_table.specs.declared.parts.Parts.{Parts as AllParts}
 use Rattle.napt_table.specs.Endpoints.{Key}
 use Rattle.napt_binding.proofs.Finds.{find_other, find_passed_over}
 use Rattle.napt_table.proofs.Sound.{sent_key, received_key}
-use Rattle.napt_table.specs.Part.{held, IsPart, AreDue, IsSamePlace}
+use Rattle.napt_table.specs.Part.{held, IsSamePlace, StaysPart}
 use Rattle.napt_table.specs.Parts.{part_of, IsOf, AreOf, AreCounted}
 use Rattle.napt_table.specs.Events.{played, played_all}
 use Rattle.napt_table.proofs.Seen.{protocol_is, same_itself, changed_other, inside_protocol, not_has}
@@ -30,14 +30,14 @@ use Rattle.std.proofs.lemmas.Bool.{true≢false}
 
 -- a part after a step
 pub kept_of : (address : ℕ) (timers : Timers) (at : ℕ) (q : Protocol) (old new : Part) → IsOf address timers at q old →
-    IsPart new → AreDue new → IsSamePlace old new → IsOf address timers at q new
-kept_of address timers at q old new of is due same = record {
-  is = is;
-  due = due;
-  before = subst (λ (t : ℕ). t ≤ at) (sym same.at_is) of.before;
-  address_is = same.address_is ∙ of.address_is;
-  timers_is = same.timers_is ∙ of.timers_is;
-  protocol_is = same.protocol_same ∙ of.protocol_is;
+    StaysPart old new → IsOf address timers at q new
+kept_of address timers at q old new of stays = record {
+  is = stays.part;
+  due = stays.due;
+  before = subst (λ (t : ℕ). t ≤ at) (sym stays.place.at_is) of.before;
+  address_is = stays.place.address_is ∙ of.address_is;
+  timers_is = stays.place.timers_is ∙ of.timers_is;
+  protocol_is = stays.place.protocol_same ∙ of.protocol_is;
 }
 
 -- what a part of the protocol holds is of it, and at the address
@@ -70,11 +70,11 @@ with_part P parts Udp new here all Icmp = all Icmp
 with_part P parts Udp new here all Tcp = all Tcp
 with_part P parts Udp new here all Udp = here
 
-pub set_of : (protocol : Protocol) (parts : AllParts) (new : Part) → IsPart new → AreDue new →
-    IsSamePlace (part_of parts protocol) new → (address : ℕ) (timers : Timers) (at : ℕ) →
-    AreOf address timers at parts → AreOf address timers at (set_part parts protocol new)
-set_of protocol parts new is due same address timers at all = with_part (IsOf address timers at) parts protocol new
-    (kept_of address timers at protocol (part_of parts protocol) new (all protocol) is due same) all
+pub set_of : (protocol : Protocol) (parts : AllParts) (new : Part) → StaysPart (part_of parts protocol) new →
+    (address : ℕ) (timers : Timers) (at : ℕ) → AreOf address timers at parts →
+    AreOf address timers at (set_part parts protocol new)
+set_of protocol parts new stays address timers at all = with_part (IsOf address timers at) parts protocol new
+    (kept_of address timers at protocol (part_of parts protocol) new (all protocol) stays) all
 
 pub set_counted : (protocol : Protocol) (parts : AllParts) (new : Part) → IsSamePlace (part_of parts protocol) new →
     (counted : Bool) → AreCounted counted parts → AreCounted counted (set_part parts protocol new)
@@ -135,15 +135,16 @@ by_protocol protocol q P here rest = elim (same_protocol q protocol) as (λ v. s
 
 -- the parts after a step of one of them
 module _ (protocol : Protocol) (old new : AllParts) (others : (q : Protocol) → q ≢ protocol → part_of new q
-    ≡ part_of old q) (same : IsSamePlace (part_of old protocol) (part_of new protocol)) where
-  pub all_of : (address : ℕ) (timers : Timers) (at : ℕ) → AreOf address timers at old → IsPart (part_of new protocol) →
-      AreDue (part_of new protocol) → AreOf address timers at new
-  all_of address timers at all is due q = by_protocol protocol q (λ r. IsOf address timers at r (part_of new r))
-      (kept_of address timers at protocol (part_of old protocol) (part_of new protocol) (all protocol) is due same)
+    ≡ part_of old q) where
+  pub all_of : StaysPart (part_of old protocol) (part_of new protocol) → (address : ℕ) (timers : Timers) (at : ℕ) →
+      AreOf address timers at old → AreOf address timers at new
+  all_of stays address timers at all q = by_protocol protocol q (λ r. IsOf address timers at r (part_of new r))
+      (kept_of address timers at protocol (part_of old protocol) (part_of new protocol) (all protocol) stays)
       (λ d. subst (λ (p : Part). IsOf address timers at q p) (sym (others q d)) (all q))
 
-  pub all_counted : (counted : Bool) → AreCounted counted old → AreCounted counted new
-  all_counted counted are q = by_protocol protocol q (λ r. are_counted (part_of new r).hosts ≡ counted)
+  pub all_counted : IsSamePlace (part_of old protocol) (part_of new protocol) → (counted : Bool) →
+      AreCounted counted old → AreCounted counted new
+  all_counted same counted are q = by_protocol protocol q (λ r. are_counted (part_of new r).hosts ≡ counted)
       (same.counting_is ∙ are protocol)
       (λ d. ap (λ (p : Part). are_counted p.hosts) (others q d) ∙ are q)
 

@@ -48,7 +48,7 @@ impl Part {
     ghost use Rattle.napt_binding.specs.Life.{is_live};
     ghost use Rattle.napt_numbers.specs.Places.{is_used};
     ghost use Rattle.napt_table.specs.Hosts.{held_for};
-    ghost use Rattle.napt_table.specs.Part.{held, number_at, pair_eq, IsPart, AreDue, AreDueBut, IsSamePlace, IsPurged, HasRoom, come_up};
+    ghost use Rattle.napt_table.specs.Part.{held, number_at, pair_eq, IsPart, AreDue, AreDueBut, IsSamePlace, StaysPart, KeepsSeen, IsPurged, IsNew, HasRoom, come_up};
     ghost use Rattle.napt_binding.specs.declared.Binding.{Binding};
 
     /// Nothing is held; whether bindings are counted by host is said.
@@ -192,11 +192,7 @@ impl Part {
         requires part { IsPart self.old }
         requires due { AreDueBut number self.old }
         requires room { 0 < self.old.due.room }
-        ensures part { IsPart self.new }
-        ensures due { AreDue self.new }
-        ensures place { IsSamePlace self.old self.new }
-        ensures seen { (n : ℕ) → seen self.old.timers self.old.at (held self.new n)
-            ≡ seen self.old.timers self.old.at (held self.old n) }
+        ensures keeps { KeepsSeen self.old self.new }
         ensures come_up { come_up self.new ≤ come_up self.old }
         ensures numbers { spare self.old.by_number ≤ spare self.new.by_number }
         ensures insides { spare self.old.by_inside ≤ spare self.new.by_inside }
@@ -223,11 +219,7 @@ impl Part {
     fn purge_first(&mut self) -> bool
         requires part { IsPart self.old }
         requires due { AreDue self.old }
-        ensures part { IsPart self.new }
-        ensures due { AreDue self.new }
-        ensures place { IsSamePlace self.old self.new }
-        ensures seen { (n : ℕ) → seen self.old.timers self.old.at (held self.new n)
-            ≡ seen self.old.timers self.old.at (held self.old n) }
+        ensures keeps { KeepsSeen self.old self.new }
         ensures room { HasRoom self.old → HasRoom self.new }
         ensures fewer { result ≡ true → come_up self.new < come_up self.old }
         ensures none { result ≡ false → All (λ e. self.old.at ≤ e.0) self.new.due.entries }
@@ -248,11 +240,7 @@ impl Part {
     fn purge(&mut self)
         requires part { IsPart self.old }
         requires due { AreDue self.old }
-        ensures part { IsPart self.new }
-        ensures due { AreDue self.new }
-        ensures place { IsSamePlace self.old self.new }
-        ensures seen { (n : ℕ) → seen self.old.timers self.old.at (held self.new n)
-            ≡ seen self.old.timers self.old.at (held self.old n) }
+        ensures keeps { KeepsSeen self.old self.new }
         ensures room { HasRoom self.old → HasRoom self.new }
         ensures live { (n : ℕ) (b : Binding) → held self.new n ≡ Some b →
             is_live self.old.timers self.old.at b ≡ true }
@@ -286,17 +274,8 @@ impl Part {
         requires part { IsPart self.old }
         requires due { AreDue self.old }
         requires live { is_live self.old.timers self.old.at binding ≡ true }
-        requires protocol { binding.protocol ≡ self.old.numbers.protocol }
-        requires external { binding.external ≡ record {
-          address = self.old.address;
-          number =
-              number;
-        } }
-        requires free { held self.old number ≡ None }
-        requires absent { number_at self.old binding.inside ≡ None }
-        ensures part { IsPart self.new }
-        ensures due { AreDue self.new }
-        ensures place { IsSamePlace self.old self.new }
+        requires new { IsNew self.old number binding }
+        ensures stays { StaysPart self.old self.new }
         ensures held { (n : ℕ) → held self.new n ≡ cond (number == n) (Some binding)
             (held self.old n) }
     {
@@ -310,14 +289,7 @@ impl Part {
     fn hold(&mut self, number: u16, binding: Binding)
         requires room { HasRoom self.old }
         requires part { IsPart self.old }
-        requires protocol { binding.protocol ≡ self.old.numbers.protocol }
-        requires external { binding.external ≡ record {
-          address = self.old.address;
-          number =
-              number;
-        } }
-        requires free { held self.old number ≡ None }
-        requires absent { number_at self.old binding.inside ≡ None }
+        requires new { IsNew self.old number binding }
         ensures part { IsPart self.new }
         ensures place { IsSamePlace self.old self.new }
         ensures due { self.new.due ≡ self.old.due }
@@ -355,7 +327,7 @@ impl Part {
     ghost use Rattle.napt_binding.specs.Lists.{change_first};
     ghost use Rattle.napt_binding.specs.Traffic.{is_flow_of, used, with_flow, sent};
     ghost use Rattle.napt_table.specs.Steps.{out_made};
-    ghost use Rattle.napt_table.specs.Part.{held, number_at, IsPart, AreDue, IsSamePlace, HasRoom};
+    ghost use Rattle.napt_table.specs.Part.{held, number_at, IsPart, AreDue, IsSamePlace, StaysPart, HasRoom};
 
     /// A redirect, neither of whose ends is taken. It never expires, so it has no entry in the queue. Where memory is
     /// refused nothing that is held is changed.
@@ -369,9 +341,7 @@ impl Part {
         requires due { AreDue self.old }
         requires free { held self.old number ≡ None }
         requires absent { number_at self.old inside ≡ None }
-        ensures part { IsPart self.new }
-        ensures due { AreDue self.new }
-        ensures place { IsSamePlace self.old self.new }
+        ensures stays { StaysPart self.old self.new }
         ensures held { OnOk result ((n : ℕ) → held self.new n ≡ cond (number == n)
             (Some (redirect_of self.old.numbers.protocol self.old.address inside number))
             (held self.old n)) }
@@ -450,9 +420,7 @@ impl Part {
         requires absent { number_at self.old packet.inside ≡ None }
         requires flows { live_flows self.old.timers packet.now self.old.numbers.protocol flows ≡
             change_first (is_flow_of packet.remote) (used self.old.numbers.protocol WayOut packet.flags packet.now) (with_flow packet.remote packet.now []) }
-        ensures part { IsPart self.new }
-        ensures due { AreDue self.new }
-        ensures place { IsSamePlace self.old self.new }
+        ensures stays { StaysPart self.old self.new }
         ensures answer { (list : List Binding) →
             Shows self.old.timers packet.now self.old.address self.old.numbers.protocol
             (held self.old) list →
@@ -488,7 +456,7 @@ impl Part {
     ghost use Rattle.napt_table.specs.Endpoints.{key, Apart};
     ghost use Rattle.napt_table.specs.Held.{Shows};
     ghost use Rattle.napt_table.specs.Steps.{in_purged};
-    ghost use Rattle.napt_table.specs.Part.{held, number_at, IsPart, AreDue, IsSamePlace};
+    ghost use Rattle.napt_table.specs.Part.{held, number_at, IsPart, AreDue, StaysPart};
 
     /// A packet comes in to the number: answers the inside endpoint, `NoBinding` or `Filtered`. It takes no memory.
     pub(crate) fn enter(
@@ -502,9 +470,7 @@ impl Part {
         requires part { IsPart self.old }
         requires due { AreDue self.old }
         requires later { self.old.at ≤ now }
-        ensures part { IsPart self.new }
-        ensures due { AreDue self.new }
-        ensures place { IsSamePlace self.old self.new }
+        ensures stays { StaysPart self.old self.new }
         ensures answer { (list : List Binding) → Apart (map key list) →
             Shows self.old.timers now self.old.address self.old.numbers.protocol
             (held self.old) list →

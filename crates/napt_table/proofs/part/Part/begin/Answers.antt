@@ -1,4 +1,4 @@
-use Rattle.std.proofs.Common.{◌≡◌, ◌∙◌, ◌^◌, ◌<◌, sym, ap, not, arith, true}
+use Rattle.std.proofs.Common.{◌≡◌, ◌∙◌, ◌^◌, ◌<◌, refl, sym, ap, not, arith, true}
 use Rattle.std.specs.Prelude.{ok_or}
 use Rattle.std.proofs.lemmas.Bool.{not-true}
 use Rattle.napt_wire.specs.declared.Cause.TheVariants.{NoPort}
@@ -24,15 +24,20 @@ insert-requires-clause-live c =
     (made_live self.timers c.requires.part.timers_are packet.now self.address c.in-Some.number self.numbers.protocol
     packet.inside packet.remote packet.flags c.args.flows c.requires.flows)
 
-pub insert-requires-clause-free : goal.insert-requires-clause-free
-insert-requires-clause-free c =
+pub insert-requires-clause-new : goal.insert-requires-clause-new
+insert-requires-clause-new c =
     let self = c.args.self.now in
     let number = c.in-Some.number in
     let not_used : not (is_used self.numbers number) ≡ true = passes (λ n. not (is_used self.numbers n))
     (candidates self.numbers.protocol c.args.packet.inside.number) number (sym c.in-Some.ensures) in
     let small : number < 2 ^ 16 = omega arith in
-    none_from (held self number) (sym (c.requires.part.used_is number small)
-    ∙ not-true (is_used self.numbers number) not_used)
+    record {
+      protocol_is = c.protocol.ensures;
+      external_is = refl;
+      free = none_from (held self number) (sym (c.requires.part.used_is number small)
+          ∙ not-true (is_used self.numbers number) not_used);
+      absent = c.requires.absent;
+    }
 
 pub returns-clause-answer : goal.returns-clause-answer
 returns-clause-answer c list shows =

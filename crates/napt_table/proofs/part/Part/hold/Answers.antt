@@ -12,7 +12,7 @@ returns-clause-part c =
       protocol_same = c.put-2.ensures.protocol;
       counting_is = c.put.ensures.counted;
     })
-    c.requires.free c.requires.absent c.requires.protocol c.requires.external (λ n. c.in-Ok-insert.ensures.updates.0 n)
+    c.requires.new (λ n. c.in-Ok-insert.ensures.updates.0 n)
     (λ e. c.in-Ok.ensures.updates.0 (e.address, e.number)) c.put-2.ensures.used (omega arith) c.put.ensures.counts
 
 pub put-requires-clause-fits : goal.put-requires-clause-fits

@@ -4,8 +4,8 @@ use Rattle.napt_binding.specs.declared.Binding.{Binding}
 use Rattle.napt_table.proofs.Opening.{fixed_due, place_then}
 use Rattle.napt_table.proofs.part.Part.open.Goals as goal
 
-pub returns-clause-due : goal.returns-clause-due
-returns-clause-due c =
+pub returns-clause-stays : goal.returns-clause-stays
+returns-clause-stays c =
     let made = c.make_room.new.self in
     let binding : Binding = record {
       protocol = c.protocol.result;
@@ -16,8 +16,12 @@ returns-clause-due c =
       last = 0;
       flows = c.new.result;
     } in
-    fixed_due c.args.self.now c.hold.new.self c.args.number binding c.requires.due refl
-    (place_then c.args.self.now made c.hold.new.self c.make_room.ensures.place c.hold.ensures.place)
-    (ap (λ (q : Queue). q.entries) c.hold.ensures.due ∙ c.make_room.ensures.due)
-    (λ n. c.hold.ensures.held n ∙ ap (λ (o : Option Binding). cond (eqb c.args.number n) (Some binding) o)
-    (c.make_room.ensures.held n))
+    let place = place_then c.args.self.now made c.hold.new.self c.make_room.ensures.place c.hold.ensures.place in
+    record {
+      part = c.hold.ensures.part;
+      due = fixed_due c.args.self.now c.hold.new.self c.args.number binding c.requires.due refl place
+          (ap (λ (q : Queue). q.entries) c.hold.ensures.due ∙ c.make_room.ensures.due)
+          (λ n. c.hold.ensures.held n ∙ ap (λ (o : Option Binding). cond (eqb c.args.number n) (Some binding) o)
+          (c.make_room.ensures.held n));
+      place = place;
+    }

@@ -3,22 +3,19 @@ use Rattle.napt_table.proofs.PartSteps.{set_of, set_counted}
 use Rattle.napt_table.proofs.parts.Parts.open.Goals as goal
 
 pub returns-in-Icmp-clause-of : goal.returns-in-Icmp-clause-of
-returns-in-Icmp-clause-of c =
-    let k = c.open.ensures in set_of Icmp c.args.self.now c.open.new.self k.part k.due k.place
+returns-in-Icmp-clause-of c = set_of Icmp c.args.self.now c.open.new.self c.open.ensures.stays
 
 pub returns-in-Tcp-clause-of : goal.returns-in-Tcp-clause-of
-returns-in-Tcp-clause-of c =
-    let k = c.open-in-Tcp.ensures in set_of Tcp c.args.self.now c.open-in-Tcp.new.self k.part k.due k.place
+returns-in-Tcp-clause-of c = set_of Tcp c.args.self.now c.open-in-Tcp.new.self c.open-in-Tcp.ensures.stays
 
 pub returns-in-Udp-clause-of : goal.returns-in-Udp-clause-of
-returns-in-Udp-clause-of c =
-    let k = c.open-in-Udp.ensures in set_of Udp c.args.self.now c.open-in-Udp.new.self k.part k.due k.place
+returns-in-Udp-clause-of c = set_of Udp c.args.self.now c.open-in-Udp.new.self c.open-in-Udp.ensures.stays
 
 pub returns-in-Icmp-clause-counted : goal.returns-in-Icmp-clause-counted
-returns-in-Icmp-clause-counted c = set_counted Icmp c.args.self.now c.open.new.self c.open.ensures.place
+returns-in-Icmp-clause-counted c = set_counted Icmp c.args.self.now c.open.new.self c.open.ensures.stays.place
 
 pub returns-in-Tcp-clause-counted : goal.returns-in-Tcp-clause-counted
-returns-in-Tcp-clause-counted c = set_counted Tcp c.args.self.now c.open-in-Tcp.new.self c.open-in-Tcp.ensures.place
+returns-in-Tcp-clause-counted c = set_counted Tcp c.args.self.now c.open-in-Tcp.new.self c.open-in-Tcp.ensures.stays.place
 
 pub returns-in-Udp-clause-counted : goal.returns-in-Udp-clause-counted
-returns-in-Udp-clause-counted c = set_counted Udp c.args.self.now c.open-in-Udp.new.self c.open-in-Udp.ensures.place
+returns-in-Udp-clause-counted c = set_counted Udp c.args.self.now c.open-in-Udp.new.self c.open-in-Udp.ensures.stays.place
