@@ -17,7 +17,7 @@ use Rattle.napt_table.specs.declared.host_counts.HostCounts.{HostCounts}
 use Rattle.napt_table.specs.Counts.{are_counted, count_in}
 use Rattle.napt_table.specs.Endpoints.{Key, key}
 use Rattle.napt_table.specs.Hosts.{held_for}
-use Rattle.napt_table.specs.Part.{held, number_at, IsDue, IsPart, AreDue, IsSamePlace}
+use Rattle.napt_table.specs.Part.{held, number_at, IsDue, IsPart, AreDue, ChangesOne, StaysPart}
 use Rattle.napt_numbers.specs.Places.{is_used}
 use Rattle.napt_table.proofs.Hosts.{count_same}
 
@@ -30,10 +30,9 @@ for_alike host x y keys fixed =
 pub inside_same : (old new : Part) → new.by_inside ≡ old.by_inside → (e : Endpoint) → number_at new e ≡ number_at old e
 inside_same old new insides e = ap (λ (m : _). Rattle.std.specs.HashMap.get pair_eq m (e.address, e.number)) insides
 
-module _ (old new : Part) (number : ℕ) (is : IsPart old) (same : IsSamePlace old new)
-    (insides : new.by_inside ≡ old.by_inside) (numbers : new.numbers ≡ old.numbers) (hosts : new.hosts ≡ old.hosts)
-    (others : (n : ℕ) → n ≢ number → held new n ≡ held old n) (b c : Binding) (here : held old number ≡ Some b)
-    (there : held new number ≡ Some c) (keys : key c ≡ key b) (fixed : c.fixed ≡ b.fixed) where
+module _ (old new : Part) (number : ℕ) (is : IsPart old) (one : ChangesOne number old new) (b c : Binding)
+    (here : held old number ≡ Some b) (there : held new number ≡ Some c) (keys : key c ≡ key b)
+    (fixed : c.fixed ≡ b.fixed) where
   cases : (n : ℕ) (x : Binding) → held new n ≡ Some x →
       ((n ≡ number) × (c ≡ x)) ⊎ ((n ≢ number) × (held old n ≡ Some x))
   cases n x h = elim (eqb n number) as (λ v. eqb n number ≡ v →
@@ -41,58 +40,60 @@ module _ (old new : Part) (number : ℕ) (is : IsPart old) (same : IsSamePlace o
         | true ↦ λ t. let e : n ≡ number = eqb-true n number t in
             inl (e, same_Some c x (sym there ∙ (ap (held new) (sym e) ∙ h)))
         | false ↦ λ t. let d : n ≢ number = λ e. true≢false (sym (eq-eqb n number e) ∙ t) in
-            inr (d, sym (others n d) ∙ h)
+            inr (d, sym (one.others n d) ∙ h)
       ] refl
 
-  pub changed_part : IsPart new
+  changed_part : IsPart new
   changed_part = record {
-    timers_are = subst AreTimers (sym same.timers_is) is.timers_are;
+    timers_are = subst AreTimers (sym one.place.timers_is) is.timers_are;
     protocol_is = λ n x h. elim (cases n x h) [
       | inl p ↦ sym (ap (λ (y : Binding). y.protocol) p.1) ∙ (ap (λ (k : Key). k.protocol) keys
-          ∙ (is.protocol_is number b here ∙ sym same.protocol_same))
-      | inr o ↦ is.protocol_is n x o.1 ∙ sym same.protocol_same
+          ∙ (is.protocol_is number b here ∙ sym one.place.protocol_same))
+      | inr o ↦ is.protocol_is n x o.1 ∙ sym one.place.protocol_same
     ];
     external_is = λ n x h. elim (cases n x h) [
       | inl p ↦ sym (ap (λ (y : Binding). y.external) p.1) ∙ (ap (λ (k : Key). k.external) keys
           ∙ (is.external_is number b here
           ∙ (ap (λ (m : ℕ). let y : Endpoint = record { address = old.address; number = m } in y) (sym p.0)
-          ∙ ap (λ (a : ℕ). let y : Endpoint = record { address = a; number = n } in y) (sym same.address_is))))
+          ∙ ap (λ (a : ℕ). let y : Endpoint = record { address = a; number = n } in y) (sym one.place.address_is))))
       | inr o ↦ is.external_is n x o.1 ∙ ap (λ (a : ℕ). let y : Endpoint = record { address = a; number = n } in y)
-          (sym same.address_is)
+          (sym one.place.address_is)
     ];
     inside_is = λ n x h. elim (cases n x h) [
-      | inl p ↦ inside_same old new insides x.inside
+      | inl p ↦ inside_same old new one.insides_same x.inside
           ∙ (ap (number_at old) (sym (ap (λ (y : Binding). y.inside) p.1) ∙ ap (λ (k : Key). k.inside) keys)
           ∙ (is.inside_is number b here ∙ ap (λ (m : ℕ). Some m) (sym p.0)))
-      | inr o ↦ inside_same old new insides x.inside ∙ is.inside_is n x o.1
+      | inr o ↦ inside_same old new one.insides_same x.inside ∙ is.inside_is n x o.1
     ];
     number_is = λ e n h.
-        let o = is.number_is e n (sym (inside_same old new insides e) ∙ h) in
+        let o = is.number_is e n (sym (inside_same old new one.insides_same e) ∙ h) in
         elim (eqb n number) as (λ v. eqb n number ≡ v → (x : Binding) × (held new n ≡ Some x) × (x.inside ≡ e)) [
           | true ↦ λ t.
               let q : n ≡ number = eqb-true n number t in
               let s : b ≡ o.0 = same_Some b o.0 (sym here ∙ (ap (held old) (sym q) ∙ o.1)) in
               (c, ap (held new) q ∙ there, ap (λ (k : Key). k.inside) keys ∙ (ap (λ (y : Binding). y.inside) s ∙ o.2))
-          | false ↦ λ t. (o.0, others n (λ q. true≢false (sym (eq-eqb n number q) ∙ t)) ∙ o.1, o.2)
+          | false ↦ λ t. (o.0, one.others n (λ q. true≢false (sym (eq-eqb n number q) ∙ t)) ∙ o.1, o.2)
         ] refl;
     used_is = λ n lt.
-        ap (λ (u : _). is_used u n) numbers ∙ (is.used_is n lt ∙ elim (eqb n number) as (λ v. eqb n number ≡ v →
+        ap (λ (u : _). is_used u n) one.numbers_same
+        ∙ (is.used_is n lt ∙ elim (eqb n number) as (λ v. eqb n number ≡ v →
         is_some (held old n) ≡ is_some (held new n)) [
           | true ↦ λ t. let q : n ≡ number = eqb-true n number t in ap is_some (ap (held old) q ∙ here)
               ∙ sym (ap is_some (ap (held new) q ∙ there))
-          | false ↦ λ t. ap is_some (sym (others n (λ q. true≢false (sym (eq-eqb n number q) ∙ t))))
+          | false ↦ λ t. ap is_some (sym (one.others n (λ q. true≢false (sym (eq-eqb n number q) ∙ t))))
         ] refl);
     small = λ n x h. elim (cases n x h) [
       | inl p ↦ subst (λ (m : ℕ). m < 2 ^ 16) (sym p.0) (is.small number b here)
       | inr o ↦ is.small n x o.1
     ];
     counted = λ on host.
-        ap (λ (h : HostCounts). count_in h host) hosts ∙ (is.counted (ap are_counted (sym hosts) ∙ on) host
+        ap (λ (h : HostCounts). count_in h host) one.hosts_same
+        ∙ (is.counted (ap are_counted (sym one.hosts_same) ∙ on) host
         ∙ sym (count_same (held old) (held new) host (λ n lt. elim (eqb n number) as (λ v. eqb n number ≡ v →
         held_for host (held new n) ≡ held_for host (held old n)) [
           | true ↦ λ t. let q : n ≡ number = eqb-true n number t in ap (held_for host) (ap (held new) q ∙ there)
               ∙ (for_alike host c b keys fixed ∙ sym (ap (held_for host) (ap (held old) q ∙ here)))
-          | false ↦ λ t. ap (held_for host) (others n (λ q. true≢false (sym (eq-eqb n number q) ∙ t)))
+          | false ↦ λ t. ap (held_for host) (one.others n (λ q. true≢false (sym (eq-eqb n number q) ∙ t)))
         ] refl)));
   }
 
@@ -117,8 +118,7 @@ module _ (old new : Part) (number : ℕ) (is : IsPart old) (same : IsSamePlace o
           ] refl;
         }
 
-    -- what is due stays so, where the binding lives on for as long as a packet keeps it
-    pub changed_due : AreDue old → (n : ℕ) (x : Binding) → held new n ≡ Some x → x.fixed ≡ false →
+    changed_due : AreDue old → (n : ℕ) (x : Binding) → held new n ≡ Some x → x.fixed ≡ false →
         IsDue old.timers old.at old.numbers.protocol old.due.entries x n
     changed_due due n x h not_fixed = elim (cases n x h) [
       | inl p ↦
@@ -128,3 +128,12 @@ module _ (old new : Part) (number : ℕ) (is : IsPart old) (same : IsSamePlace o
           (subst (λ (m : ℕ). IsDue old.timers old.at old.numbers.protocol old.due.entries c m) (sym p.0) d)
       | inr o ↦ due n x o.1 not_fixed
     ]
+
+    -- where the binding lives on for as long as a packet keeps it
+    pub changed_stays : AreDue old → StaysPart old new
+    changed_stays due = record {
+      part = changed_part;
+      due = λ n x h not_fixed. rw (one.place.timers_is, one.place.at_is, one.place.protocol_same, one.due_same)
+          (changed_due due n x h not_fixed);
+      place = one.place;
+    }

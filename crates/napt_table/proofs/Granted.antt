@@ -10,8 +10,6 @@ use Rattle.napt_wire.specs.declared.Endpoint.{Endpoint}
 use Rattle.napt_wire.specs.declared.Flags.{Flags}
 use Rattle.napt_config.specs.declared.settings.Timers.{Timers}
 use Rattle.napt_binding.specs.declared.Binding.{Binding}
-use Rattle.napt_due.specs.Queue.{Queue}
-use Rattle.napt_table.specs.declared.host_counts.HostCounts.{HostCounts}
 use Rattle.napt_table.specs.declared.part.Part.{Part}
 use Rattle.napt_table.specs.declared.parts.Parts.{Parts as AllParts}
 use Rattle.napt_binding.specs.Bindings.{is_of_inside}
@@ -21,15 +19,14 @@ use Rattle.napt_table.specs.Endpoints.{key, Apart}
 use Rattle.napt_table.specs.Held.{seen, Shows}
 use Rattle.napt_table.specs.Hosts.{count_held}
 use Rattle.napt_binding.specs.Life.{is_live, with_live_flows}
-use Rattle.napt_table.specs.Part.{held, number_at, IsSamePlace, IsPurged}
+use Rattle.napt_table.specs.Part.{held, number_at, HoldsSame, ChangesOne, IsPurged}
 use Rattle.napt_table.specs.Parts.{part_of, IsOf, AreOf, AreCounted, AllShow}
 use Rattle.napt_table.specs.Quota.{count_for, reaches}
 use Rattle.napt_binding.specs.Traffic.{sent}
 use Rattle.napt_table.specs.Steps.{Out, out_made, out_found, out_purged}
 use Rattle.napt_table.proofs.Hosts.{count_is_held}
 use Rattle.napt_table.proofs.PartSteps.{by_protocol, out_others, all_of, all_counted, protocols_of, externals_of}
-use Rattle.napt_table.proofs.Changes.{inside_same}
-use Rattle.napt_table.proofs.Sends.{seen_is, same_everywhere, known, unknown, same_part, same_due, known_answer, known_shows, not_found}
+use Rattle.napt_table.proofs.Sends.{seen_is, known, unknown, same_stays, same_of, known_answer, known_shows, not_found}
 
 -- where what is held under the protocol shows the list of a step, and nothing else is seen to have changed, all show it
 pub all_sent : (quota : Option ℕ) (timers : Timers) (address now : ℕ) (protocol : Protocol) (inside remote : Endpoint)
@@ -60,44 +57,27 @@ said_of part address timers protocol a t p P h =
 -- NOTHING THAT IS HELD HAS CHANGED
 
 module _ (protocol : Protocol) (old new : AllParts) (others : (q : Protocol) → q ≢ protocol → part_of new q
-    ≡ part_of old q) (place : IsSamePlace (part_of old protocol) (part_of new protocol))
-    (holds : (n : ℕ) → held (part_of new protocol) n ≡ held (part_of old protocol) n) where
+    ≡ part_of old q) (same : HoldsSame (part_of old protocol) (part_of new protocol)) where
   pub mid_held : (q : Protocol) (n : ℕ) → held (part_of new q) n ≡ held (part_of old q) n
-  mid_held q n = by_protocol protocol q (λ r. held (part_of new r) n ≡ held (part_of old r) n) (holds n) (λ d.
+  mid_held q n = by_protocol protocol q (λ r. held (part_of new r) n ≡ held (part_of old r) n) (same.held_same n) (λ d.
       ap (λ (p : Part). held p n) (others q d))
 
   pub mid_show : (address : ℕ) (timers : Timers) (now : ℕ) (list : List Binding) → AllShow address timers now old list →
       AllShow address timers now new list
   mid_show address timers now list shows q n = shows q n ∙ ap (seen timers now) (sym (mid_held q n))
 
-  pub mid_of : (ends : (e : Endpoint) → number_at (part_of new protocol) e ≡ number_at (part_of old protocol) e) →
-      (part_of new protocol).due.entries ≡ (part_of old protocol).due.entries →
-      (part_of new protocol).numbers ≡ (part_of old protocol).numbers →
-      ((host : ℕ) → count_in (part_of new protocol).hosts host ≡ count_in (part_of old protocol).hosts host) →
-      (address : ℕ) (timers : Timers) (at : ℕ) → AreOf address timers at old → AreOf address timers at new
-  mid_of ends entries numbers counts address timers at all =
-      all_of protocol old new others (record {
-        part = same_part (part_of old protocol) (part_of new protocol) (all protocol).is place.timers_is
-            place.address_is numbers place.counting_is counts holds ends;
-        due = same_due (part_of old protocol) (part_of new protocol) (all protocol).due place entries holds;
-        place = place;
-      }) address timers at all
+  pub mid_of : (address : ℕ) (timers : Timers) (at : ℕ) → AreOf address timers at old → AreOf address timers at new
+  mid_of address timers at all = all_of protocol old new others
+      (same_stays (part_of old protocol) (part_of new protocol) (all protocol).is (all protocol).due same) address
+      timers at all
 
 -- a packet that was refused memory for its flow leaves the parts as they are
 pub refused_of : (protocol : Protocol) (old new : AllParts) → ((q : Protocol) → q ≢ protocol → part_of new q
-    ≡ part_of old q) → IsSamePlace (part_of old protocol) (part_of new protocol) →
-    (part_of new protocol).by_inside ≡ (part_of old protocol).by_inside →
-    (part_of new protocol).due ≡ (part_of old protocol).due →
-    (part_of new protocol).numbers ≡ (part_of old protocol).numbers →
-    (part_of new protocol).hosts ≡ (part_of old protocol).hosts → (number : ℕ) →
-    ((n : ℕ) → n ≢ number → held (part_of new protocol) n ≡ held (part_of old protocol) n) →
+    ≡ part_of old q) → (number : ℕ) → ChangesOne number (part_of old protocol) (part_of new protocol) →
     held (part_of new protocol) number ≡ held (part_of old protocol) number →
     (address : ℕ) (timers : Timers) (at : ℕ) → AreOf address timers at old → AreOf address timers at new
-refused_of protocol old new others place insides dues numbers hosts number elsewhere here =
-    mid_of protocol old new others place
-    (same_everywhere (held (part_of old protocol)) (held (part_of new protocol)) number elsewhere here)
-    (inside_same (part_of old protocol) (part_of new protocol) insides) (ap (λ (q : Queue). q.entries) dues) numbers
-    (λ host. ap (λ (h : HostCounts). count_in h host) hosts)
+refused_of protocol old new others number one here =
+    mid_of protocol old new others (same_of number (part_of old protocol) (part_of new protocol) one here)
 
 -- THE PURGE
 
@@ -257,12 +237,7 @@ pub record IsReady (quota : Option ℕ) (timers : Timers) (address now : ℕ) (p
 
 module _ (quota : Option ℕ) (timers : Timers) (address now : ℕ) (protocol : Protocol) (inside remote : Endpoint)
     (flags : Flags) (old mid gone : AllParts) (others : (q : Protocol) → q ≢ protocol → part_of mid q ≡ part_of old q)
-    (place : IsSamePlace (part_of old protocol) (part_of mid protocol))
-    (holds : (n : ℕ) → held (part_of mid protocol) n ≡ held (part_of old protocol) n)
-    (ends : (e : Endpoint) → number_at (part_of mid protocol) e ≡ number_at (part_of old protocol) e)
-    (entries : (part_of mid protocol).due.entries ≡ (part_of old protocol).due.entries)
-    (numbers : (part_of mid protocol).numbers ≡ (part_of old protocol).numbers)
-    (counts : (host : ℕ) → count_in (part_of mid protocol).hosts host ≡ count_in (part_of old protocol).hosts host)
+    (same : HoldsSame (part_of old protocol) (part_of mid protocol))
     (purged : (q : Protocol) → IsPurged now (part_of mid q) (part_of gone q)) where
   pub ready : AreOf address timers now old → AreCounted (is_some quota) old →
       ((n : ℕ) → number_at (part_of old protocol) inside ≡ Some n →
@@ -272,14 +247,14 @@ module _ (quota : Option ℕ) (timers : Timers) (address now : ℕ) (protocol : 
   ready all counted absent list apart shows =
       let part = part_of old protocol in
       let of = all protocol in
-      let all_mid = mid_of protocol old mid others place holds ends entries numbers counts address timers now all in
+      let all_mid = mid_of protocol old mid others same address timers now all in
       let show = gone_show address timers now mid gone all_mid purged list
-      (mid_show protocol old mid others place holds address timers now list shows) in
+      (mid_show protocol old mid others same address timers now list shows) in
       record {
         of = gone_of address timers now mid gone all_mid purged;
         shows = show;
         same = λ q n. gone_seen address timers now mid gone all_mid purged q n
-            ∙ ap (seen timers now) (mid_held protocol old mid others place holds q n);
+            ∙ ap (seen timers now) (mid_held protocol old mid others same q n);
         none = not_found timers quota now address protocol inside remote flags (held part) (number_at part) list apart
             (shows protocol) (protocols_of address timers now protocol part of)
             (externals_of address timers now protocol part of) of.is.inside_is of.is.number_is
@@ -287,7 +262,7 @@ module _ (quota : Option ℕ) (timers : Timers) (address now : ℕ) (protocol : 
             (unknown part.timers now (held part) (number_at part inside) None refl absent n h));
         reached = gone_reaches address timers now mid gone all_mid purged quota inside.address list apart show
             (gone_counted address timers now mid gone all_mid purged (is_some quota)
-            (all_counted protocol old mid others place (is_some quota) counted));
+            (all_counted protocol old mid others same.place (is_some quota) counted));
       }
 
 -- the choice among what the part shows is that of the list

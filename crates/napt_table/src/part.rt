@@ -48,7 +48,7 @@ impl Part {
     ghost use Rattle.napt_binding.specs.Life.{is_live};
     ghost use Rattle.napt_numbers.specs.Places.{is_used};
     ghost use Rattle.napt_table.specs.Hosts.{held_for};
-    ghost use Rattle.napt_table.specs.Part.{held, number_at, pair_eq, IsPart, AreDue, AreDueBut, IsSamePlace, StaysPart, KeepsSeen, IsPurged, IsNew, HasRoom, come_up};
+    ghost use Rattle.napt_table.specs.Part.{held, number_at, pair_eq, IsPart, AreDue, AreDueBut, IsSamePlace, HoldsSame, ChangesOne, StaysPart, KeepsSeen, IsPurged, IsNew, HasRoom, come_up};
     ghost use Rattle.napt_binding.specs.declared.Binding.{Binding};
 
     /// Nothing is held; whether bindings are counted by host is said.
@@ -117,12 +117,7 @@ impl Part {
         flags: Flags,
     ) -> Result<Endpoint, Cause>
         requires { AreTimers self.old.timers }
-        ensures place { IsSamePlace self.old self.new }
-        ensures inside { self.new.by_inside ≡ self.old.by_inside }
-        ensures due { self.new.due ≡ self.old.due }
-        ensures numbers { self.new.numbers ≡ self.old.numbers }
-        ensures hosts { self.new.hosts ≡ self.old.hosts }
-        ensures others { (n : ℕ) → n ≢ number → held self.new n ≡ held self.old n }
+        ensures one { ChangesOne number self.old self.new }
         ensures absent { seen self.old.timers now (held self.old number) ≡ None →
             (result ≡ Err NoBinding) × (held self.new number ≡ held self.old number) }
         ensures found { (b : Binding) → seen self.old.timers now (held self.old number) ≡ Some b →
@@ -141,12 +136,7 @@ impl Part {
 
     /// Makes room for one more binding.
     fn make_room(&mut self) -> Result<(), AllocError>
-        ensures place { IsSamePlace self.old self.new }
-        ensures held { (n : ℕ) → held self.new n ≡ held self.old n }
-        ensures inside { (e : Endpoint) → number_at self.new e ≡ number_at self.old e }
-        ensures due { self.new.due.entries ≡ self.old.due.entries }
-        ensures numbers { self.new.numbers ≡ self.old.numbers }
-        ensures hosts { (host : ℕ) → count_in self.new.hosts host ≡ count_in self.old.hosts host }
+        ensures same { HoldsSame self.old self.new }
         ensures room { OnOk result (HasRoom self.new) }
     {
         self.by_number.reserve(1)?;
@@ -327,7 +317,7 @@ impl Part {
     ghost use Rattle.napt_binding.specs.Lists.{change_first};
     ghost use Rattle.napt_binding.specs.Traffic.{is_flow_of, used, with_flow, sent};
     ghost use Rattle.napt_table.specs.Steps.{out_made};
-    ghost use Rattle.napt_table.specs.Part.{held, number_at, IsPart, AreDue, IsSamePlace, StaysPart, HasRoom};
+    ghost use Rattle.napt_table.specs.Part.{held, number_at, IsPart, AreDue, HoldsSame, ChangesOne, StaysPart, HasRoom};
 
     /// A redirect, neither of whose ends is taken. It never expires, so it has no entry in the queue. Where memory is
     /// refused nothing that is held is changed.
@@ -371,12 +361,7 @@ impl Part {
         packet: Sent,
     ) -> Result<(), AllocError>
         requires { AreTimers self.old.timers }
-        ensures place { IsSamePlace self.old self.new }
-        ensures inside { self.new.by_inside ≡ self.old.by_inside }
-        ensures due { self.new.due ≡ self.old.due }
-        ensures numbers { self.new.numbers ≡ self.old.numbers }
-        ensures hosts { self.new.hosts ≡ self.old.hosts }
-        ensures others { (n : ℕ) → n ≢ number → held self.new n ≡ held self.old n }
+        ensures one { ChangesOne number self.old self.new }
         ensures refused { OnErr result (held self.new number ≡ held self.old number) }
         ensures ok { (b : Binding) → held self.old number ≡ Some b →
             OnOk result (seen self.old.timers packet.now (held self.new number) ≡
@@ -392,12 +377,7 @@ impl Part {
     /// Takes the memory for a new binding through which the packet goes out, and begins its flows. What is held stays as it is.
     pub(crate) fn prepare(&mut self, alloc: Global, packet: Sent) -> Result<Flows, AllocError>
         requires { AreTimers self.old.timers }
-        ensures place { IsSamePlace self.old self.new }
-        ensures held { (n : ℕ) → held self.new n ≡ held self.old n }
-        ensures inside { (e : Endpoint) → number_at self.new e ≡ number_at self.old e }
-        ensures due { self.new.due.entries ≡ self.old.due.entries }
-        ensures numbers { self.new.numbers ≡ self.old.numbers }
-        ensures hosts { (host : ℕ) → count_in self.new.hosts host ≡ count_in self.old.hosts host }
+        ensures same { HoldsSame self.old self.new }
         ensures room { OnOk result (HasRoom self.new) }
         ensures flows { IfOk result (λ flows.
             live_flows self.old.timers packet.now self.old.numbers.protocol

@@ -15,7 +15,9 @@ pub returns-in-Icmp-clause-counted : goal.returns-in-Icmp-clause-counted
 returns-in-Icmp-clause-counted c = set_counted Icmp c.args.self.now c.open.new.self c.open.ensures.stays.place
 
 pub returns-in-Tcp-clause-counted : goal.returns-in-Tcp-clause-counted
-returns-in-Tcp-clause-counted c = set_counted Tcp c.args.self.now c.open-in-Tcp.new.self c.open-in-Tcp.ensures.stays.place
+returns-in-Tcp-clause-counted c =
+    set_counted Tcp c.args.self.now c.open-in-Tcp.new.self c.open-in-Tcp.ensures.stays.place
 
 pub returns-in-Udp-clause-counted : goal.returns-in-Udp-clause-counted
-returns-in-Udp-clause-counted c = set_counted Udp c.args.self.now c.open-in-Udp.new.self c.open-in-Udp.ensures.stays.place
+returns-in-Udp-clause-counted c =
+    set_counted Udp c.args.self.now c.open-in-Udp.new.self c.open-in-Udp.ensures.stays.place
