@@ -1,67 +1,51 @@
-//! Files by their roles, and the buffered devices over them.
+//! The devices of a run: its files behind buffers, with their failed calls counted.
 
-ghost use Rattle.std.specs.Prelude.{◌≡◌, IfErr, IfOk, IfSome, IsSome, is_some, option_map};
+ghost use Rattle.std.specs.Prelude.{◌≡◌, IfErr, IfOk, IfSome, is_some, option_map};
 ghost use Rattle.napt_capture.specs.Watched.{failed_of};
-ghost use Rattle.napt.specs.Files.{bytes_left, bytes_written};
-ghost use Rattle.napt.specs.Program.{IsStopOf};
+ghost use Rattle.napt_program.specs.Devices.{AreFresh, AreOver, bytes_left, bytes_written};
 
-use crate::stop::Stop;
+use crate::files::RunFiles;
+use crate::stop::{MEMORY, Stop};
+use either::Either;
 use napt_capture::Watched;
-use napt_options::{Options, Role, lost_file};
-use napt_run::{Fault, RunFault};
 use std::alloc::Global;
-use std::fs::File;
 use std::io::{BufReader, BufWriter, Read, Write};
-use std::rt::Files;
 
 /// How many bytes are read or written at once.
 const BUFFERED: usize = 65_536;
 
-/// Memory ran out before the run.
-pub const MEMORY: Stop = Stop::Run(Fault::Run(RunFault::Memory));
-
-/// Refuses, by its role, the first output in the order of the options that is a file which an earlier one names.
-pub fn refuse_lost_file<R: Files>(rt: &R, options: &Options) -> Result<(), Stop>
-    ensures { IfErr result (IsStopOf options.now) }
-{
-    match lost_file(rt, options) {
-        Some(role) => Err(Stop::File(role)),
-        None => Ok(()),
-    }
+/// A device for each file of a run, as `RunFiles` names them.
+#[derive(Drop)]
+pub struct Devices<S, T: Write + Drop, F: Write + Drop> {
+    pub inside: Watched<BufReader<Either<S, F>>>,
+    pub outside: Option<Watched<BufReader<F>>>,
+    pub to_outside: Watched<BufWriter<Either<T, F>>>,
+    pub to_inside: Option<Watched<BufWriter<F>>>,
+    pub report: Option<Watched<BufWriter<F>>>,
 }
 
-/// The file, to be read. Fails, by its role, where it cannot be opened.
-pub fn opened<R: Files>(rt: &R, path: &str, role: Role) -> Result<R::File, Stop>
-    ensures { IfErr result (λ stop. stop ≡ Stop.File role) }
+/// The devices over the files: each tells what its reader tells, or shows what its writer shows. Fails, by a run's fault,
+/// where memory runs out.
+pub fn buffered<S: Read + Drop, T: Write + Drop, F: Read + Write + Drop>(
+    alloc: Global,
+    files: RunFiles<S, T, F>,
+) -> Result<Devices<S, T, F>, Stop>
+    ensures fresh { IfOk result AreFresh }
+    ensures over { IfOk result
+        (AreOver S.remaining T.contents F.remaining F.contents files) }
+    ensures refused { IfErr result (λ stop. stop ≡ MEMORY) }
 {
-    File::open(rt, path).map_err(|_| Stop::File(role))
-}
-
-/// The file, made or emptied, to be written. Fails, by its role, where it cannot be created.
-pub fn created<R: Files>(rt: &R, path: &str, role: Role) -> Result<R::File, Stop>
-    ensures { IfErr result (λ stop. stop ≡ Stop.File role) }
-{
-    File::create(rt, path).map_err(|_| Stop::File(role))
-}
-
-/// The same, where there is a path.
-pub fn created_at<R: Files>(
-    rt: &R,
-    path: Option<&String>,
-    role: Role,
-) -> Result<Option<R::File>, Stop>
-    ensures given { IfOk result (λ made. is_some made ≡ is_some path.entry) }
-    ensures refused { IfErr result (λ stop. stop ≡ Stop.File role) }
-    ensures path { IfErr result (λ stop. IsSome path.entry) }
-{
-    match path {
-        None => Ok(None),
-        Some(path) => Ok(Some(created(rt, path, role)?)),
-    }
+    Ok(Devices {
+        inside: source(alloc, files.inside)?,
+        outside: source_over(alloc, files.outside)?,
+        to_outside: sink(alloc, files.to_outside)?,
+        to_inside: sink_over(alloc, files.to_inside)?,
+        report: sink_over(alloc, files.report)?,
+    })
 }
 
 /// The device over a reader, which tells what the reader tells. Fails, by a run's fault, where memory runs out.
-pub fn source<D: Read + Drop>(alloc: Global, device: D) -> Result<Watched<BufReader<D>>, Stop>
+fn source<D: Read + Drop>(alloc: Global, device: D) -> Result<Watched<BufReader<D>>, Stop>
     ensures fresh { IfOk result (λ made. failed_of made ≡ 0) }
     ensures tells { IfOk result (λ made. bytes_left D.remaining made ≡ D.remaining device) }
     ensures refused { IfErr result (λ stop. stop ≡ MEMORY) }
@@ -73,7 +57,7 @@ pub fn source<D: Read + Drop>(alloc: Global, device: D) -> Result<Watched<BufRea
 }
 
 /// The same, where there is a reader.
-pub fn source_over<D: Read + Drop>(
+fn source_over<D: Read + Drop>(
     alloc: Global,
     device: Option<D>,
 ) -> Result<Option<Watched<BufReader<D>>>, Stop>
@@ -90,7 +74,7 @@ pub fn source_over<D: Read + Drop>(
 }
 
 /// The device over a writer, which shows what the writer shows. Fails, by a run's fault, where memory runs out.
-pub fn sink<D: Write + Drop>(alloc: Global, device: D) -> Result<Watched<BufWriter<D>>, Stop>
+fn sink<D: Write + Drop>(alloc: Global, device: D) -> Result<Watched<BufWriter<D>>, Stop>
     ensures fresh { IfOk result (λ made. failed_of made ≡ 0) }
     ensures shows { IfOk result (λ made. bytes_written D.contents made ≡ D.contents device) }
     ensures refused { IfErr result (λ stop. stop ≡ MEMORY) }
@@ -102,7 +86,7 @@ pub fn sink<D: Write + Drop>(alloc: Global, device: D) -> Result<Watched<BufWrit
 }
 
 /// The same, where there is a writer.
-pub fn sink_over<D: Write + Drop>(
+fn sink_over<D: Write + Drop>(
     alloc: Global,
     device: Option<D>,
 ) -> Result<Option<Watched<BufWriter<D>>>, Stop>

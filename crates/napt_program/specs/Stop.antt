@@ -3,8 +3,8 @@ use Rattle.std.specs.Prelude.{ℕ, List, ◌++◌, Bool, true, false, Option, So
 use Rattle.napt_options.specs.CommandLine.{role_name}
 use Rattle.napt_options.specs.declared.Role.{Role}
 use Rattle.napt_options.specs.declared.Role.TheVariants as role
-use Rattle.napt.specs.declared.stop.Stop.{Stop}
-use Rattle.napt.specs.declared.stop.Stop.TheVariants as stop
+use Rattle.napt_program.specs.declared.stop.Stop.{Stop}
+use Rattle.napt_program.specs.declared.stop.Stop.TheVariants as stop
 use Rattle.napt_wire.specs.declared.Side.{Side}
 use Rattle.napt_wire.specs.declared.Side.TheVariants as side
 use Rattle.napt_run.specs.declared.Fault.{Fault}

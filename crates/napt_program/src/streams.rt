@@ -1,7 +1,7 @@
 //! The standard streams that the program was started with.
 
 ghost use Rattle.std.specs.Prelude.{◌≡◌};
-ghost use Rattle.napt.specs.Program.{closed_stream};
+ghost use Rattle.napt_program.specs.Streams.{closed_stream};
 
 use napt_options::{Options, Role};
 use std::os::fd::AsFd;

@@ -1,18 +1,36 @@
 //! The configuration that a file holds.
 
-ghost use Rattle.std.specs.Prelude.{◌≡◌, ◌≢◌, ◌≤◌, IfErr, IfOk, IfSome, OnOk, length, true, vec_len};
+ghost use Rattle.std.specs.Prelude.{◌≡◌, ◌≢◌, ◌≤◌, IfErr, IfOk, IfSome, None, OnOk, is_some, length, true, vec_len};
 ghost use Rattle.std.specs.IoError.{error_kind};
-ghost use Rattle.napt.specs.Program.{IsConfigStop, IsReadingOf, IsUnread};
+ghost use Rattle.napt_config.specs.Configured.{built_in};
+ghost use Rattle.napt_program.specs.Config.{IsConfigStop, IsReadingOf, IsUnread};
 
 use crate::stop::Stop;
 use napt_config::{Config, ConfigFault};
 use napt_options::Role;
 use std::alloc::Global;
+use std::fs::File;
 use std::io;
 use std::io::{ErrorKind, Read};
+use std::rt::Files;
 
 /// The most bytes that a configuration has, 64 MiB: a file that never ends is not read further.
 pub const MOST_BYTES: u64 = 67_108_864;
+
+/// The configuration that the file holds; the built-in one where there is none. Fails as `config_from` does, and by the
+/// file's role where it cannot be opened.
+pub fn configuration<R: Files + AllocGlobal>(rt: &R, path: Option<&String>) -> Result<Config, Stop>
+    ensures built_in { path.entry ≡ None → IfOk result (λ config. config ≡ built_in) }
+    ensures stop { IfErr result (IsConfigStop (is_some path.entry)) }
+{
+    let Some(path) = path else {
+        return Config::built_in(rt.alloc()).map_err(|_| Stop::Config(ConfigFault::Memory));
+    };
+    match File::open(rt, path.as_str()) {
+        Ok(file) => config_from(rt.alloc(), file),
+        Err(error) => Err(unread_config(&error)),
+    }
+}
 
 /// The configuration that the reader tells to its end.
 ///

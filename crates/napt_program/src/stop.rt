@@ -1,6 +1,6 @@
 //! Why the program stops before it is done: the fault line for standard error and the exit status.
 ghost use Rattle.std.specs.Prelude.{◌≡◌, IfOk, Some, option_map, string_bytes};
-ghost use Rattle.napt.specs.Stop.{capture_name, config_name, fault_text, line_at_end, line_of, output_role, run_name, side_name, status_at_end, status_of, status_of_fault, stop_text};
+ghost use Rattle.napt_program.specs.Stop.{capture_name, config_name, fault_text, line_at_end, line_of, output_role, run_name, side_name, status_at_end, status_of, status_of_fault, stop_text};
 
 use napt_capture::CaptureFault;
 use napt_config::ConfigFault;
@@ -28,8 +28,11 @@ pub enum Stop {
     Run(Fault),
 }
 
+/// Memory ran out before the run.
+pub const MEMORY: Stop = Stop::Run(Fault::Run(RunFault::Memory));
+
 impl From<ConfigFault> for Stop {
-    ghost use Rattle.napt.specs.declared.stop.Stop.TheVariants.{Config};
+    ghost use Rattle.napt_program.specs.declared.stop.Stop.TheVariants.{Config};
 
     ghost from_gives = { λ fault stop. stop ≡ Config fault };
 
@@ -129,7 +132,7 @@ impl fmt::Display for Stop {
 }
 
 /// The fault of a run, shown as its line after the program's name, as `capture inside bad-fraction 3`.
-#[derive(Clone, Copy, Debug)]
+#[derive(Clone, Copy)]
 struct FaultText(Fault);
 
 impl fmt::Display for FaultText {
@@ -164,7 +167,7 @@ fn name_of_side(side: Side) -> &'static str
 }
 
 /// A run's fault, shown by its name, and by the worker's number where a gate was shut.
-#[derive(Clone, Copy, Debug)]
+#[derive(Clone, Copy)]
 struct RunFaultName(RunFault);
 
 impl fmt::Display for RunFaultName {
@@ -193,7 +196,7 @@ fn role_of(which: Which) -> Role
 }
 
 /// A capture's fault, shown by its name, and by its record's number where it has one.
-#[derive(Clone, Copy, Debug)]
+#[derive(Clone, Copy)]
 struct CaptureFaultName(CaptureFault);
 
 impl fmt::Display for CaptureFaultName {
