@@ -7,13 +7,13 @@ use Rattle.napt_program.specs.declared.stop.Stop.{Stop}
 use Rattle.napt_program.specs.declared.stop.Stop.TheVariants as stop
 use Rattle.napt_wire.specs.declared.Side.{Side}
 use Rattle.napt_wire.specs.declared.Side.TheVariants as side
-use Rattle.napt_run.specs.declared.Fault.{Fault}
-use Rattle.napt_run.specs.declared.Fault.TheVariants as run
-use Rattle.napt_run.specs.declared.RunFault.{RunFault}
-use Rattle.napt_run.specs.declared.RunFault.TheVariants as refused
+use Rattle.napt_records.specs.declared.Fault.{Fault}
+use Rattle.napt_records.specs.declared.Fault.TheVariants as run
+use Rattle.napt_sequential.specs.declared.RunFault.{RunFault}
+use Rattle.napt_sequential.specs.declared.RunFault.TheVariants as refused
 use Rattle.napt_pool.specs.declared.PoolFault.TheVariants as pool
-use Rattle.napt_run.specs.declared.Which.{Which}
-use Rattle.napt_run.specs.declared.Which.TheVariants as output
+use Rattle.napt_records.specs.declared.Which.{Which}
+use Rattle.napt_records.specs.declared.Which.TheVariants as output
 use Rattle.napt_capture.specs.declared.CaptureFault.{CaptureFault}
 use Rattle.napt_capture.specs.declared.CaptureFault.TheVariants as capture
 use Rattle.napt_config.specs.declared.ConfigFault.{ConfigFault}

@@ -3,7 +3,8 @@ use napt_capture::{CaptureFault, WriteFault};
 use napt_config::ConfigFault;
 use napt_options::Role;
 use napt_pool::PoolFault;
-use napt_run::{Fault, RunFault, Which};
+use napt_records::{Fault, Which};
+use napt_sequential::RunFault;
 use napt_wire::Side;
 use std::test::Fail;
 
