@@ -24,7 +24,7 @@ use napt_account::{Account, Ends, account_of};
 use napt_capture::{Capture, Watched, read_capture};
 use napt_config::Config;
 use napt_picture::drawing_of;
-use napt_run::merge;
+use napt_records::merge;
 use std::alloc::{AllocError, Global};
 use std::env::Env;
 use std::io::Read;
@@ -71,7 +71,7 @@ fn explained_under<R: Files + Input + Print + Eprint + AllocGlobal>(
 fn inputs_of<R: Files + Input + Print + Eprint + AllocGlobal>(
     rt: &R,
     options: Options<'_>,
-) -> Result<Vec<napt_run::Input>, Stop> {
+) -> Result<Vec<napt_sequential::Input>, Stop> {
     let inside = inside(rt, options)?;
     let outside = outside(rt, options)?;
     Ok(merge(rt.alloc(), inside.records, outside.records)?)
@@ -107,7 +107,7 @@ fn run_told<R: Files + Print + Eprint + AllocGlobal>(
     rt: &R,
     options: Options<'_>,
     config: &Config,
-    inputs: &[napt_run::Input],
+    inputs: &[napt_sequential::Input],
 ) -> Result<(), Stop> {
     let ends = match options.svg {
         Some(_) => Ends(scene::MOST),
@@ -129,7 +129,7 @@ fn draw<R: Files + Eprint + AllocGlobal>(
     rt: &R,
     path: &str,
     config: &Config,
-    inputs: &[napt_run::Input],
+    inputs: &[napt_sequential::Input],
     account: &Account,
 ) -> Result<(), Stop> {
     let text = drawing(rt.alloc(), config, inputs, account)?;
@@ -145,7 +145,7 @@ fn draw<R: Files + Eprint + AllocGlobal>(
 fn drawing(
     alloc: Global,
     config: &Config,
-    inputs: &[napt_run::Input],
+    inputs: &[napt_sequential::Input],
     account: &Account,
 ) -> Result<String, AllocError> {
     let scene = scene::scene_of(alloc, config, inputs, account)?;
@@ -166,7 +166,7 @@ fn tell_left_out<R: Eprint>(rt: &R, path: &str, bindings: usize) {
 fn told<R: Print + Eprint + AllocGlobal>(
     rt: &R,
     options: Options<'_>,
-    inputs: &[napt_run::Input],
+    inputs: &[napt_sequential::Input],
     account: &Account,
     progress: Progress,
 ) -> Result<(), Stop> {

@@ -5,7 +5,8 @@ use crate::summary::count_dropped;
 use napt_account::{Account, Life};
 use napt_config::{Address, Config};
 use napt_picture::{Binding, BindingKind, Pass, Scene};
-use napt_run::{EndpointText, Input, Outcome, cause_name, protocol_name};
+use napt_records::{EndpointText, cause_name, protocol_name};
+use napt_sequential::{Input, Outcome};
 use napt_wire::{Cause, Protocol};
 use std::alloc::{AllocError, Global};
 

@@ -1,7 +1,7 @@
 //! Packets in the words of tcpdump's users.
 
 use napt_config::Address;
-use napt_run::{EndpointText, protocol_name};
+use napt_records::{EndpointText, protocol_name};
 use napt_wire::{Flags, Kind, Packet, Side};
 use std::alloc::{AllocError, Global};
 use std::fmt;

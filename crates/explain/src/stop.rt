@@ -3,7 +3,7 @@
 ghost use Rattle.std.specs.Prelude.{◌≡◌};
 ghost use Rattle.explain.specs.declared.stop.Stop.TheVariants.{File, Run};
 
-use napt_run::RunFault;
+use napt_sequential::RunFault;
 use std::alloc::{AllocError, AllocFailed};
 use std::io;
 

@@ -1,48 +1,12 @@
 -- What stops the program once its words are read.
-use Rattle.std.specs.Prelude.{◌≡◌, ◌≢◌, ◌&&◌, ◌||◌, ℕ, List, Bool, true, false, not, Option, Some, None, is_some, Result, Ok, Err, if◌then◌else◌}
-use Rattle.napt_config.specs.Configured.{configuration_of}
-use Rattle.napt_config.specs.Rules.{Rules}
-use Rattle.napt_config.specs.declared.fault.ConfigFault.TheVariants.{Memory}
-use Rattle.napt_options.specs.CommandLine.{Files, Line, files, help, is_named, mistake}
-use Rattle.napt_options.specs.declared.Options.{Options}
+use Rattle.std.specs.Prelude.{◌≡◌, ◌||◌, Bool, true, false, not, is_some}
+use Rattle.napt_options.specs.CommandLine.{Files, Line, files, help, mistake}
 use Rattle.napt_options.specs.declared.Role.{Role}
 use Rattle.napt_options.specs.declared.Role.TheVariants as role
+use Rattle.napt_program.specs.declared.Stop.{Stop}
+use Rattle.napt_program.specs.declared.Stop.TheVariants as stop
+use Rattle.napt_program.specs.declared.Streams.{Streams}
 use Rattle.napt_run.specs.Captures.{tells_shut_gate}
-use Rattle.napt.specs.declared.stop.Stop.{Stop}
-use Rattle.napt.specs.declared.stop.Stop.TheVariants as stop
-use Rattle.napt.specs.declared.streams.Streams.{Streams}
-
--- a fault of the configuration, or of its file where one is named
-abbrev pub IsConfigStop : Bool → Stop → Type 0
-IsConfigStop named (stop.Config fault) = Unit {0}
-IsConfigStop named (stop.File role.Config) = named ≡ true
-IsConfigStop named other = ⊥
-
--- the file of the configuration was not read: memory ran out, or the file failed
-abbrev pub IsUnread : Stop → Type 0
-IsUnread (stop.Config Memory) = Unit {0}
-IsUnread (stop.File role.Config) = Unit {0}
-IsUnread other = ⊥
-
--- what a configuration's text comes to: its configuration or its own fault, unless it was not read or memory ran out
-abbrev pub IsReadingOf : List ℕ → Result Rules Stop → Type 0
-IsReadingOf text (Ok config) = configuration_of text ≡ Ok config
-IsReadingOf text (Err (stop.Config fault)) = fault ≢ Memory → configuration_of text ≡ Err fault
-IsReadingOf text (Err other) = Unit {0}
-
--- a fault of the configuration, of a file that the words name, or of the run, whose gate is open
-abbrev pub IsStopOf : Options → Stop → Type 0
-IsStopOf options (stop.Config fault) = Unit {0}
-IsStopOf options (stop.File role) = is_named options role ≡ true
-IsStopOf options (stop.Run fault) = tells_shut_gate fault ≡ false
-IsStopOf options other = ⊥
-
--- the first standard stream that is wanted, since no file is named for it, and is closed
-abbrev pub closed_stream : Streams → Options → Option Role
-closed_stream streams options =
-    if not (is_some options.inside) && not streams.input then Some role.Inside
-    else (if not (is_some options.to_outside) && not streams.output then Some role.ToOutside
-    else None)
 
 -- what may fail as a file: one that is named, and a standard stream that is closed
 abbrev pub can_fail : Streams → Files → Role → Bool

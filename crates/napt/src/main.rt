@@ -1,18 +1,13 @@
 //! The program `napt`.
 #![tactic(auto)]
 
-mod config_file;
-mod files;
 mod program;
-mod stop;
-mod streams;
 
 ghost use Rattle.std.specs.Prelude.{◌≡◌};
 ghost use Rattle.std.specs.Process.{exit_status};
-ghost use Rattle.napt.specs.Stop.{status_at_end};
+ghost use Rattle.napt_program.specs.Stop.{status_at_end};
 
-use crate::stop::{Stop, line_at_end, status_at_end};
-use crate::streams::Streams;
+use napt_program::{Stop, Streams, line_at_end, status_at_end};
 use std::process::ExitCode;
 
 fn main(rt: HostRuntime) -> ExitCode {

@@ -10,12 +10,12 @@ use Rattle.napt_capture.specs.Text.{text}
 use Rattle.napt_capture.specs.declared.fault.CaptureFault.{CaptureFault}
 use Rattle.napt_capture.specs.declared.fault.WriteFault.{WriteFault}
 use Rattle.napt_config.specs.Rules.{Rules}
-use Rattle.napt_run.specs.declared.fault.Fault.{Fault}
-use Rattle.napt_run.specs.declared.fault.Fault.TheVariants.{Capture, Run, Write}
+use Rattle.napt_records.specs.declared.Fault.{Fault}
+use Rattle.napt_records.specs.declared.Fault.TheVariants.{Capture, Run, Write}
 use Rattle.napt_sequential.specs.declared.fault.RunFault.{RunFault}
 use Rattle.napt_sequential.specs.declared.fault.RunFault.TheVariants.{Memory, TooMany, Pool}
-use Rattle.napt_run.specs.declared.fault.Which.{Which}
-use Rattle.napt_run.specs.declared.fault.Which.TheVariants.{Outside, Inside, Report}
+use Rattle.napt_records.specs.declared.Which.{Which}
+use Rattle.napt_records.specs.declared.Which.TheVariants.{Outside, Inside, Report}
 use Rattle.napt_run.specs.declared.captures.Captures.{Captures}
 use Rattle.napt_run.specs.declared.captures.Outputs.{Outputs}
 use Rattle.napt_run.specs.Devices.{some_bytes}

@@ -6,12 +6,12 @@ use Rattle.napt_capture.specs.Contents.{Contents}
 use Rattle.napt_capture.specs.declared.fault.CaptureFault.{CaptureFault}
 use Rattle.napt_config.specs.Rules.{Rules}
 use Rattle.napt_run.specs.declared.captures.Captures.{Captures}
-use Rattle.napt_run.specs.declared.fault.Which.{Which}
+use Rattle.napt_records.specs.declared.Which.{Which}
 use Rattle.napt_run.specs.Captures.{IsOutsideCapture, AreRead, Share, whole, front, nothing, Receives, GetsOf, text_of}
 use Rattle.napt_sequential.specs.Inputs.{Arrival}
-use Rattle.napt_run.specs.Merge.{IsMerged}
-use Rattle.napt_run.specs.MergeLaws.{OutputsAreOne}
-use Rattle.napt_run.proofs.MergesAreOne.{merge_one}
+use Rattle.napt_records.specs.Merge.{IsMerged}
+use Rattle.napt_run.specs.Replay.{OutputsAreOne}
+use Rattle.napt_records.proofs.MergesAreOne.{merge_one}
 
 -- a text has one answer
 abbrev pub HaveOneAnswer : Type 0

@@ -5,13 +5,13 @@ use Rattle.std.proofs.lemmas.List.{length-map}
 use Rattle.napt_wire.specs.declared.Side.TheVariants.{Inside, Outside}
 use Rattle.napt_capture.specs.Contents.{Entry}
 use Rattle.napt_run.specs.declared.captures.Captures.{Captures}
-use Rattle.napt_run.specs.declared.fault.Fault.{Fault}
-use Rattle.napt_run.specs.declared.fault.Fault.TheVariants.{Run}
+use Rattle.napt_records.specs.declared.Fault.{Fault}
+use Rattle.napt_records.specs.declared.Fault.TheVariants.{Run}
 use Rattle.napt_sequential.specs.declared.fault.RunFault.{RunFault}
 use Rattle.napt_sequential.specs.declared.fault.RunFault.TheVariants.{TooMany}
 use Rattle.napt_run.specs.Captures.{AreTooMany, IsReadAsOutside, IsReadFrom, TellsTooMany, TooManyAreTold}
 use Rattle.napt_sequential.specs.Inputs.{Arrival}
-use Rattle.napt_run.specs.Merge.{IsMerged, is_from, of_input, of_record}
+use Rattle.napt_records.specs.Merge.{IsMerged, is_from, of_input, of_record}
 use Rattle.napt_run.proofs.OutputsAreOne.{HaveOneAnswer, captures-one}
 
 -- each input is of one side

@@ -9,18 +9,18 @@ use Rattle.napt_capture.specs.Capture.{IsCapture, Answers, failed_reads}
 use Rattle.napt_capture.specs.Text.{text}
 use Rattle.napt_capture.specs.declared.fault.CaptureFault.{CaptureFault}
 use Rattle.napt_config.specs.Rules.{Rules}
-use Rattle.napt_run.specs.declared.fault.Fault.{Fault}
-use Rattle.napt_run.specs.declared.fault.Fault.TheVariants.{Capture, Run, Write}
+use Rattle.napt_records.specs.declared.Fault.{Fault}
+use Rattle.napt_records.specs.declared.Fault.TheVariants.{Capture, Run, Write}
 use Rattle.napt_sequential.specs.declared.fault.RunFault.TheVariants.{Memory, TooMany, Pool}
-use Rattle.napt_run.specs.declared.fault.Which.{Which}
-use Rattle.napt_run.specs.declared.fault.Which.TheVariants.{Outside, Inside, Report}
+use Rattle.napt_records.specs.declared.Which.{Which}
+use Rattle.napt_records.specs.declared.Which.TheVariants.{Outside, Inside, Report}
 use Rattle.napt_run.specs.declared.captures.Captures.{Captures}
 use Rattle.napt_run.specs.declared.captures.Outputs.{Outputs}
 use Rattle.napt_sequential.specs.Inputs.{Arrival}
 use Rattle.napt_sequential.specs.Sequential.{ran}
-use Rattle.napt_run.specs.Merge.{IsMerged}
-use Rattle.napt_run.specs.Output.{records_to}
-use Rattle.napt_run.specs.Report.{report_text}
+use Rattle.napt_records.specs.Merge.{IsMerged}
+use Rattle.napt_records.specs.Output.{records_to}
+use Rattle.napt_records.specs.Report.{report_text}
 use Rattle.napt_dispatch.specs.Dispatch.{is_gate_fault}
 
 -- WHAT IS READ

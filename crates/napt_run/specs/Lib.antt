@@ -7,10 +7,10 @@ pub use Rattle.napt_sequential.specs.Laws
 pub use Rattle.napt_sequential.specs.Dispatching
 pub use Rattle.napt_sequential.specs.Places
 pub use Rattle.napt_dispatch.specs.Dispatch
-pub mod Merge
-pub mod Taking
-pub mod Output
-pub mod Report
+pub use Rattle.napt_records.specs.Merge
+pub use Rattle.napt_records.specs.MergeLaws
+pub use Rattle.napt_records.specs.Output
+pub use Rattle.napt_records.specs.Report
 pub mod Devices
 pub mod Captures
-pub mod MergeLaws
+pub mod Replay

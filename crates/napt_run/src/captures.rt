@@ -5,16 +5,13 @@ ghost use Rattle.napt_run.specs.Devices.{IfGiven, GrowsBy, bytes_in};
 ghost use Rattle.napt_run.specs.Captures.{AreOutputs, AreTooMany, Explains, Gets, IsReadFrom, IsUnread, IsWriteFaultOf, Receives, TooManyAreTold, failed_readings, failed_writings, no_contents, share_of, tells_shut_gate};
 ghost use Rattle.napt_dispatch.specs.Dispatch.{is_gate_fault};
 
-use crate::fault::{Fault, Which};
-use crate::merging::merge;
-use crate::output::{records_sent, times_of};
-use crate::report::report_text;
 use napt_capture::{
     Capture, Record, Sink, Source, one_answer, read_capture, write_capture, write_text,
 };
 use napt_config::Config;
 use napt_dispatch::run_on_pool;
 use napt_pool::Gate;
+use napt_records::{Fault, Which, merge, records_sent, report_text, times_of};
 use napt_sequential::RunFault;
 use napt_wire::Side;
 use std::alloc::Global;

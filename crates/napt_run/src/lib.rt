@@ -7,21 +7,15 @@
 #![tactic(auto)]
 
 mod captures;
-mod fault;
-mod merge_laws;
-mod merging;
-mod names;
-mod output;
-mod report;
+mod replay;
 
 pub use captures::run_captures;
-pub use fault::{Fault, Which};
-pub use merge_laws::{merge_is_one, outputs_are_one};
-pub use merging::merge;
-pub use names::{EndpointText, cause_name, protocol_name};
 pub use napt_dispatch::{Worker, dispatch, run_workers};
+pub use napt_records::{
+    EndpointText, Fault, Which, cause_name, merge, merge_is_one, protocol_name, report_text,
+};
 pub use napt_sequential::{
     Input, Outcome, Run, RunFault, legs_are_local, places_stand_for_legs, right_answers, run_plain,
     runs_are_sound, runs_keep_the_quota, translators_are_local,
 };
-pub use report::report_text;
+pub use replay::outputs_are_one;

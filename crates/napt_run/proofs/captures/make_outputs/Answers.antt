@@ -8,10 +8,10 @@ use Rattle.napt_capture.specs.Text.{IsWritable}
 use Rattle.napt_capture.specs.Contents.{Contents}
 use Rattle.napt_sequential.specs.Inputs.{Arrival}
 use Rattle.napt_sequential.specs.Sequential.{Ran, ran}
-use Rattle.napt_run.specs.Merge.{IsMerged}
-use Rattle.napt_run.specs.Output.{IsTime, IsTimely, records_at, records_to}
-use Rattle.napt_run.specs.Report.{report_text}
-use Rattle.napt_run.proofs.Sends.{records_by_time, times_timely}
+use Rattle.napt_records.specs.Merge.{IsMerged}
+use Rattle.napt_records.specs.Output.{IsTime, IsTimely, records_at, records_to}
+use Rattle.napt_records.specs.Report.{report_text}
+use Rattle.napt_records.proofs.Sends.{records_by_time, times_timely}
 use Rattle.napt_run.proofs.TooMany.{merged_few}
 use Rattle.napt_run.proofs.captures.make_outputs.Goals as goal
 

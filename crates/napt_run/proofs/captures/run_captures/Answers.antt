@@ -3,8 +3,8 @@ use Rattle.std.proofs.lemmas.Result.{err_from_is_err_and}
 use Rattle.napt_capture.specs.Text.{text}
 use Rattle.napt_run.specs.Devices.{bytes_in}
 use Rattle.napt_run.specs.declared.captures.Captures.{Captures}
-use Rattle.napt_run.specs.declared.fault.Fault.TheVariants.{Run}
-use Rattle.napt_run.specs.declared.fault.Which.TheVariants.{Outside, Inside, Report}
+use Rattle.napt_records.specs.declared.Fault.TheVariants.{Run}
+use Rattle.napt_records.specs.declared.Which.TheVariants.{Outside, Inside, Report}
 use Rattle.napt_run.specs.Captures.{IsReadAsOutside, share_of, whole}
 use Rattle.napt_run.proofs.Devices.{before_inside, before_report, none_or_some, outside_read, received, refused}
 use Rattle.napt_run.proofs.TooMany.{err_is, fault_told, not_too_many, too_many_told}

@@ -1,0 +1,41 @@
+-- What contracts see of the devices that are made over files.
+use Rattle.std.specs.Prelude.{◌≡◌, ℕ, List, Option, IfSome, option_map}
+use Rattle.std.specs.Io.Buffered.{reader_remaining, writer_contents}
+use Rattle.std.specs.declared.io.buffered.BufReader.{BufReader}
+use Rattle.std.specs.declared.io.buffered.BufWriter.{BufWriter}
+use Rattle.either.specs.Either.{either}
+use Rattle.napt_capture.specs.Watched.{device_of, failed_of}
+use Rattle.napt_capture.specs.declared.watched.Watched.{Watched}
+use Rattle.napt_program.specs.declared.devices.Devices.{Devices}
+use Rattle.napt_program.specs.declared.files.RunFiles.{RunFiles}
+
+-- the bytes that a device has to tell, or shows
+abbrev pub Bytes : Type 0
+Bytes = Option (List ℕ)
+
+-- the bytes that reads of the device will give, by those of the reader under it
+abbrev pub bytes_left : {D A : Type 0} → (D → Bytes) → Watched (BufReader D A) → Bytes
+bytes_left remaining made = reader_remaining remaining (device_of made)
+
+-- the bytes that were written to the device, by those of the writer under it
+abbrev pub bytes_written : {D A : Type 0} → (D → Bytes) → Watched (BufWriter D A) → Bytes
+bytes_written contents made = writer_contents contents (device_of made)
+
+-- no call of a device failed yet
+abbrev pub AreFresh : {S T F : Type 0} → Devices S T F → Type 0
+AreFresh devices = (failed_of devices.inside ≡ 0)
+    × IfSome devices.outside (λ source. failed_of source ≡ 0)
+    × (failed_of devices.to_outside ≡ 0)
+    × IfSome devices.to_inside (λ sink. failed_of sink ≡ 0)
+    × IfSome devices.report (λ sink. failed_of sink ≡ 0)
+
+-- each device tells or shows what its file does: by what standard input tells, standard output shows, and a file tells
+-- and shows
+abbrev pub AreOver : {S T F : Type 0} → (S → Bytes) → (T → Bytes) → (F → Bytes) → (F → Bytes)
+    → RunFiles S T F → Devices S T F → Type 0
+AreOver input output remaining contents files devices =
+    (bytes_left (either input remaining) devices.inside ≡ either input remaining files.inside)
+    × (option_map (bytes_left remaining) devices.outside ≡ option_map remaining files.outside)
+    × (bytes_written (either output contents) devices.to_outside ≡ either output contents files.to_outside)
+    × (option_map (bytes_written contents) devices.to_inside ≡ option_map contents files.to_inside)
+    × (option_map (bytes_written contents) devices.report ≡ option_map contents files.report)

@@ -1,0 +1,21 @@
+-- What opening the files of a run gives.
+use Rattle.std.specs.Prelude.{◌≡◌, true, not, is_some}
+use Rattle.either.specs.Either.{is_left}
+use Rattle.napt_options.specs.CommandLine.{is_named}
+use Rattle.napt_options.specs.declared.Options.{Options}
+use Rattle.napt_program.specs.declared.files.RunFiles.{RunFiles}
+use Rattle.napt_program.specs.declared.stop.Stop.{Stop}
+use Rattle.napt_program.specs.declared.stop.Stop.TheVariants as stop
+
+-- each file that the words name is there and no other, and a standard stream stands for a capture that is not named
+abbrev pub AreOpen : {S T F : Type 0} → Options → RunFiles S T F → Type 0
+AreOpen options files = (is_left files.inside ≡ not (is_some options.inside))
+    × (is_some files.outside ≡ is_some options.outside)
+    × (is_left files.to_outside ≡ not (is_some options.to_outside))
+    × (is_some files.to_inside ≡ is_some options.to_inside)
+    × (is_some files.report ≡ is_some options.report)
+
+-- a fault of a file that the words name
+abbrev pub IsFileStop : Options → Stop → Type 0
+IsFileStop options (stop.File role) = is_named options role ≡ true
+IsFileStop options other = ⊥

@@ -1,0 +1,5 @@
+pub mod Config
+pub mod Devices
+pub mod Files
+pub mod Stop
+pub mod Streams

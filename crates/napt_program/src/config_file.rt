@@ -1,0 +1,76 @@
+//! The configuration that a file holds.
+
+ghost use Rattle.std.specs.Prelude.{◌≡◌, ◌≢◌, ◌≤◌, IfErr, IfOk, IfSome, None, OnOk, is_some, length, true, vec_len};
+ghost use Rattle.std.specs.IoError.{error_kind};
+ghost use Rattle.napt_config.specs.Configured.{built_in};
+ghost use Rattle.napt_program.specs.Config.{IsConfigStop, IsReadingOf, IsUnread};
+
+use crate::stop::Stop;
+use napt_config::{Config, ConfigFault};
+use napt_options::Role;
+use std::alloc::Global;
+use std::fs::File;
+use std::io;
+use std::io::{ErrorKind, Read};
+use std::rt::Files;
+
+/// The most bytes that a configuration has, 64 MiB: a file that never ends is not read further.
+pub const MOST_BYTES: u64 = 67_108_864;
+
+/// The configuration that the file holds; the built-in one where there is none. Fails as `config_from` does, and by the
+/// file's role where it cannot be opened.
+pub fn configuration<R: Files + AllocGlobal>(rt: &R, path: Option<&String>) -> Result<Config, Stop>
+    ensures built_in { path.entry ≡ None → IfOk result (λ config. config ≡ built_in) }
+    ensures stop { IfErr result (IsConfigStop (is_some path.entry)) }
+{
+    let Some(path) = path else {
+        return Config::built_in(rt.alloc()).map_err(|_| Stop::Config(ConfigFault::Memory));
+    };
+    match File::open(rt, path.as_str()) {
+        Ok(file) => config_from(rt.alloc(), file),
+        Err(error) => Err(unread_config(&error)),
+    }
+}
+
+/// The configuration that the reader tells to its end.
+///
+/// Fails as the text does, by `Stop::Config`; where memory runs out, by `ConfigFault::Memory`; and where the reader
+/// fails or tells more than `MOST_BYTES`, by the file's role.
+pub fn config_from<D: Read + Drop>(alloc: Global, device: D) -> Result<Config, Stop>
+    ensures read { IfSome (D.remaining device) (λ text. IsReadingOf text result) }
+    ensures bounded { OnOk result (IfSome (D.remaining device) (λ text. length text ≤ MOST_BYTES)) }
+    ensures refused { IfErr result (IsConfigStop true) }
+{
+    let text = text_of(alloc, device)?;
+    Ok(Config::read(alloc, &text)?)
+}
+
+/// All that the reader tells, where that is at most `MOST_BYTES`.
+fn text_of<D: Read + Drop>(alloc: Global, device: D) -> Result<Vec<u8>, Stop>
+    ensures told { IfOk result (λ text. IfSome (D.remaining device) (λ bytes. text.items ≡ bytes)) }
+    ensures bounded { IfOk result (λ text. vec_len text ≤ MOST_BYTES) }
+    ensures refused { IfErr result IsUnread }
+{
+    let mut text = Vec::new(alloc);
+    match device.take(MOST_BYTES + 1).read_to_end(&mut text) {
+        Ok(_) if text.len() as u64 <= MOST_BYTES => Ok(text),
+        Ok(_) => Err(Stop::File(Role::Config)),
+        Err(error) => Err(unread_config(&error)),
+    }
+}
+
+/// Why a configuration was not read: memory ran out, or its file failed.
+pub fn unread_config(error: &io::Error) -> Stop
+    ensures memory { error_kind error.now ≡ ErrorKind.OutOfMemory
+        → result ≡ Stop.Config ConfigFault.Memory }
+    ensures file { error_kind error.now ≢ ErrorKind.OutOfMemory → result ≡ Stop.File Role.Config }
+    ensures unread { IsUnread result }
+{
+    match error.kind() {
+        ErrorKind::OutOfMemory => Stop::Config(ConfigFault::Memory),
+        _ => Stop::File(Role::Config),
+    }
+}
+
+#[cfg(test)]
+mod tests;

@@ -1,0 +1,103 @@
+//! The devices of a run: its files behind buffers, with their failed calls counted.
+
+ghost use Rattle.std.specs.Prelude.{◌≡◌, IfErr, IfOk, IfSome, is_some, option_map};
+ghost use Rattle.napt_capture.specs.Watched.{failed_of};
+ghost use Rattle.napt_program.specs.Devices.{AreFresh, AreOver, bytes_left, bytes_written};
+
+use crate::files::RunFiles;
+use crate::stop::{MEMORY, Stop};
+use either::Either;
+use napt_capture::Watched;
+use std::alloc::Global;
+use std::io::{BufReader, BufWriter, Read, Write};
+
+/// How many bytes are read or written at once.
+const BUFFERED: usize = 65_536;
+
+/// A device for each file of a run, as `RunFiles` names them.
+#[derive(Drop)]
+pub struct Devices<S, T: Write + Drop, F: Write + Drop> {
+    pub inside: Watched<BufReader<Either<S, F>>>,
+    pub outside: Option<Watched<BufReader<F>>>,
+    pub to_outside: Watched<BufWriter<Either<T, F>>>,
+    pub to_inside: Option<Watched<BufWriter<F>>>,
+    pub report: Option<Watched<BufWriter<F>>>,
+}
+
+/// The devices over the files: each tells what its reader tells, or shows what its writer shows. Fails, by a run's fault,
+/// where memory runs out.
+pub fn buffered<S: Read + Drop, T: Write + Drop, F: Read + Write + Drop>(
+    alloc: Global,
+    files: RunFiles<S, T, F>,
+) -> Result<Devices<S, T, F>, Stop>
+    ensures fresh { IfOk result AreFresh }
+    ensures over { IfOk result
+        (AreOver S.remaining T.contents F.remaining F.contents files) }
+    ensures refused { IfErr result (λ stop. stop ≡ MEMORY) }
+{
+    Ok(Devices {
+        inside: source(alloc, files.inside)?,
+        outside: source_over(alloc, files.outside)?,
+        to_outside: sink(alloc, files.to_outside)?,
+        to_inside: sink_over(alloc, files.to_inside)?,
+        report: sink_over(alloc, files.report)?,
+    })
+}
+
+/// The device over a reader, which tells what the reader tells. Fails, by a run's fault, where memory runs out.
+fn source<D: Read + Drop>(alloc: Global, device: D) -> Result<Watched<BufReader<D>>, Stop>
+    ensures fresh { IfOk result (λ made. failed_of made ≡ 0) }
+    ensures tells { IfOk result (λ made. bytes_left D.remaining made ≡ D.remaining device) }
+    ensures refused { IfErr result (λ stop. stop ≡ MEMORY) }
+{
+    match BufReader::with_capacity(alloc, BUFFERED, device) {
+        Ok(reader) => Ok(Watched::new(reader)),
+        Err(_) => Err(MEMORY),
+    }
+}
+
+/// The same, where there is a reader.
+fn source_over<D: Read + Drop>(
+    alloc: Global,
+    device: Option<D>,
+) -> Result<Option<Watched<BufReader<D>>>, Stop>
+    ensures fresh { IfOk result (λ made. IfSome made (λ source. failed_of source ≡ 0)) }
+    ensures given { IfOk result (λ made. is_some made ≡ is_some device) }
+    ensures tells { IfOk result (λ made. option_map (bytes_left D.remaining) made
+        ≡ option_map D.remaining device) }
+    ensures refused { IfErr result (λ stop. stop ≡ MEMORY) }
+{
+    match device {
+        None => Ok(None),
+        Some(device) => Ok(Some(source(alloc, device)?)),
+    }
+}
+
+/// The device over a writer, which shows what the writer shows. Fails, by a run's fault, where memory runs out.
+fn sink<D: Write + Drop>(alloc: Global, device: D) -> Result<Watched<BufWriter<D>>, Stop>
+    ensures fresh { IfOk result (λ made. failed_of made ≡ 0) }
+    ensures shows { IfOk result (λ made. bytes_written D.contents made ≡ D.contents device) }
+    ensures refused { IfErr result (λ stop. stop ≡ MEMORY) }
+{
+    match BufWriter::with_capacity(alloc, BUFFERED, device) {
+        Ok(writer) => Ok(Watched::new(writer)),
+        Err(_) => Err(MEMORY),
+    }
+}
+
+/// The same, where there is a writer.
+fn sink_over<D: Write + Drop>(
+    alloc: Global,
+    device: Option<D>,
+) -> Result<Option<Watched<BufWriter<D>>>, Stop>
+    ensures fresh { IfOk result (λ made. IfSome made (λ sink. failed_of sink ≡ 0)) }
+    ensures given { IfOk result (λ made. is_some made ≡ is_some device) }
+    ensures shows { IfOk result (λ made. option_map (bytes_written D.contents) made
+        ≡ option_map D.contents device) }
+    ensures refused { IfErr result (λ stop. stop ≡ MEMORY) }
+{
+    match device {
+        None => Ok(None),
+        Some(device) => Ok(Some(sink(alloc, device)?)),
+    }
+}

@@ -1,0 +1,97 @@
+//! The files of a run, opened in a fixed order.
+
+ghost use Rattle.std.specs.Prelude.{◌≡◌, IfErr, IfOk, IsSome, is_some};
+ghost use Rattle.napt_program.specs.Files.{AreOpen, IsFileStop};
+
+use crate::stop::Stop;
+use either::{Either, Left, Right};
+use napt_options::{Options, Role, lost_file};
+use std::fs::File;
+use std::io;
+use std::io::Printer;
+use std::rt::Files;
+
+/// The files of a run, open: those that are named, and the standard streams for captures that are not. `S` reads
+/// standard input, `T` writes standard output, and `F` is a file.
+#[derive(Drop)]
+pub struct RunFiles<S, T, F> {
+    /// The capture of what inside hosts send.
+    pub inside: Either<S, F>,
+    /// The capture of what comes from the outside.
+    pub outside: Option<F>,
+    /// The capture that goes to the outside.
+    pub to_outside: Either<T, F>,
+    /// The capture that goes to inside hosts.
+    pub to_inside: Option<F>,
+    /// The report.
+    pub report: Option<F>,
+}
+
+/// Opens the captures, the inside first; then makes or empties the outputs, to the outside, to the inside, the report.
+///
+/// Fails, by its role, where a file cannot be opened or created, and before any output is touched where one is a file
+/// that an earlier option names.
+pub fn open_files<'r, R: Files + Input + Print>(
+    rt: &'r R,
+    options: &Options,
+) -> Result<RunFiles<R::Reader, Printer<'r, R>, R::File>, Stop>
+    ensures open { IfOk result (AreOpen options.now) }
+    ensures refused { IfErr result (IsFileStop options.now) }
+{
+    let inside = match &options.inside {
+        None => Left(rt.reader()),
+        Some(path) => Right(opened(rt, path, Role::Inside)?),
+    };
+    let outside = match &options.outside {
+        None => None,
+        Some(path) => Some(opened(rt, path, Role::Outside)?),
+    };
+    refuse_lost_file(rt, options)?;
+    let to_outside = match &options.to_outside {
+        None => Left(io::writer(rt)),
+        Some(path) => Right(created(rt, path, Role::ToOutside)?),
+    };
+    Ok(RunFiles {
+        inside,
+        outside,
+        to_outside,
+        to_inside: created_at(rt, options.to_inside.as_ref(), Role::ToInside)?,
+        report: created_at(rt, options.report.as_ref(), Role::Report)?,
+    })
+}
+
+/// Refuses, by its role, the first output in the order of the options that is a file which an earlier one names.
+fn refuse_lost_file<R: Files>(rt: &R, options: &Options) -> Result<(), Stop>
+    ensures { IfErr result (IsFileStop options.now) }
+{
+    match lost_file(rt, options) {
+        Some(role) => Err(Stop::File(role)),
+        None => Ok(()),
+    }
+}
+
+/// The file, to be read. Fails, by its role, where it cannot be opened.
+fn opened<R: Files>(rt: &R, path: &str, role: Role) -> Result<R::File, Stop>
+    ensures { IfErr result (λ stop. stop ≡ Stop.File role) }
+{
+    File::open(rt, path).map_err(|_| Stop::File(role))
+}
+
+/// The file, made or emptied, to be written. Fails, by its role, where it cannot be created.
+fn created<R: Files>(rt: &R, path: &str, role: Role) -> Result<R::File, Stop>
+    ensures { IfErr result (λ stop. stop ≡ Stop.File role) }
+{
+    File::create(rt, path).map_err(|_| Stop::File(role))
+}
+
+/// The same, where there is a path.
+fn created_at<R: Files>(rt: &R, path: Option<&String>, role: Role) -> Result<Option<R::File>, Stop>
+    ensures given { IfOk result (λ made. is_some made ≡ is_some path.entry) }
+    ensures refused { IfErr result (λ stop. stop ≡ Stop.File role) }
+    ensures path { IfErr result (λ stop. IsSome path.entry) }
+{
+    match path {
+        None => Ok(None),
+        Some(path) => Ok(Some(created(rt, path, role)?)),
+    }
+}

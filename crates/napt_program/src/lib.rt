@@ -1,0 +1,14 @@
+//! What the program is made of beside its run: why it stops, its configuration, its standard streams and its files.
+#![tactic(auto)]
+
+mod config_file;
+mod devices;
+mod files;
+mod stop;
+mod streams;
+
+pub use crate::config_file::{MOST_BYTES, config_from, configuration, unread_config};
+pub use crate::devices::{Devices, buffered};
+pub use crate::files::{RunFiles, open_files};
+pub use crate::stop::{MEMORY, Stop, StopLine, line_at_end, status_at_end, stop_line, stop_status};
+pub use crate::streams::{Streams, closed_stream};

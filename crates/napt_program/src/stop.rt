@@ -1,0 +1,246 @@
+//! Why the program stops before it is done: the fault line for standard error and the exit status.
+ghost use Rattle.std.specs.Prelude.{◌≡◌, IfOk, Some, option_map, string_bytes};
+ghost use Rattle.napt_program.specs.Stop.{capture_name, config_name, fault_text, line_at_end, line_of, output_role, run_name, side_name, status_at_end, status_of, status_of_fault, stop_text};
+
+use napt_capture::CaptureFault;
+use napt_config::ConfigFault;
+use napt_options::Role;
+use napt_pool::PoolFault;
+use napt_records::{Fault, Which};
+use napt_sequential::RunFault;
+use napt_wire::Side;
+use std::alloc::{AllocError, Global};
+use std::fmt;
+
+/// Why the program stops with a status other than 0.
+#[derive(Clone, Copy, Debug, PartialEq, Eq)]
+pub enum Stop {
+    /// The command line is not understood.
+    Usage,
+    /// Memory ran out while the command line was read.
+    LineMemory,
+    /// The help text could not be written to standard output.
+    Help,
+    /// The configuration is refused.
+    Config(ConfigFault),
+    /// The file cannot be opened or created, or the configuration cannot be read.
+    File(Role),
+    /// The run failed.
+    Run(Fault),
+}
+
+/// Memory ran out before the run.
+pub const MEMORY: Stop = Stop::Run(Fault::Run(RunFault::Memory));
+
+impl From<ConfigFault> for Stop {
+    ghost use Rattle.napt_program.specs.declared.stop.Stop.TheVariants.{Config};
+
+    ghost from_gives = { λ fault stop. stop ≡ Config fault };
+
+    fn from(fault: ConfigFault) -> Stop {
+        Stop::Config(fault)
+    }
+}
+
+/// The exit status: 2 for the command line, 3 for the configuration, 4 for a capture, 5 for a run
+/// that fails, and 6 for a file.
+pub fn stop_status(stop: &Stop) -> u8
+    ensures { result ≡ status_of stop.now }
+{
+    match stop {
+        Stop::Usage => 2,
+        Stop::LineMemory => 5,
+        Stop::Help => 6,
+        Stop::Config(_) => 3,
+        Stop::File(_) => 6,
+        Stop::Run(fault) => status_of_run(*fault),
+    }
+}
+
+/// The exit status of a run that was done or stopped: 0, or the stop's.
+pub fn status_at_end(answer: &Result<(), Stop>) -> u8
+    ensures { result ≡ status_at_end answer.now }
+{
+    match answer {
+        Ok(()) => 0,
+        Err(stop) => stop_status(stop),
+    }
+}
+
+/// The line that a run leaves on standard error, if that is open: none where it was done, else the stop's.
+pub fn line_at_end(is_open: bool, answer: &Result<(), Stop>) -> Option<StopLine>
+    ensures { option_map (λ line. line_of line.0) result ≡ line_at_end is_open answer.now }
+{
+    match answer {
+        Err(stop) if is_open => Some(StopLine(*stop)),
+        _ => None,
+    }
+}
+
+fn status_of_run(fault: Fault) -> u8
+    ensures { result ≡ status_of_fault fault }
+{
+    match fault {
+        Fault::Capture(..) => 4,
+        Fault::Run(_) => 5,
+        Fault::Write(..) => 6,
+    }
+}
+
+/// The fault line of a stop, without its line feed. Showing it takes no memory, so that a want of memory can be told.
+#[derive(Clone, Copy, Debug)]
+pub struct StopLine(pub Stop);
+
+impl fmt::Display for StopLine {
+    ghost output = { λ line. Some (line_of line.0) };
+
+    fn fmt<W: fmt::Write>(&self, f: &mut fmt::Formatter<W>) -> fmt::Result {
+        let stop = self.0;
+        write!(f, "napt: {stop}")
+    }
+}
+
+/// The fault line as a text. Fails only where memory runs out.
+pub fn stop_line(alloc: Global, stop: &Stop) -> Result<String, AllocError>
+    ensures { IfOk result (λ line. string_bytes line ≡ line_of stop.now) }
+{
+    StopLine(*stop).to_string(alloc)
+}
+
+/// The fault line after the program's name, as `config timer-too-short`.
+impl fmt::Display for Stop {
+    ghost output = { λ stop. Some (stop_text stop) };
+
+    fn fmt<W: fmt::Write>(&self, f: &mut fmt::Formatter<W>) -> fmt::Result {
+        match self {
+            Stop::Usage => f.write_str("usage"),
+            Stop::LineMemory => f.write_str("run memory"),
+            Stop::Help => f.write_str("write to-outside"),
+            Stop::Config(fault) => {
+                f.write_str("config ")?;
+                f.write_str(name_of_config_fault(*fault))
+            }
+            Stop::File(role) => {
+                f.write_str("file ")?;
+                f.write_str(role.name())
+            }
+            Stop::Run(fault) => {
+                let fault = FaultText(*fault);
+                write!(f, "{fault}")
+            }
+        }
+    }
+}
+
+/// The fault of a run, shown as its line after the program's name, as `capture inside bad-fraction 3`.
+#[derive(Clone, Copy)]
+struct FaultText(Fault);
+
+impl fmt::Display for FaultText {
+    ghost output = { λ text. Some (fault_text text.0) };
+
+    fn fmt<W: fmt::Write>(&self, f: &mut fmt::Formatter<W>) -> fmt::Result {
+        match self.0 {
+            Fault::Capture(side, fault) => {
+                let side = name_of_side(side);
+                let name = CaptureFaultName(fault);
+                write!(f, "capture {side} {name}")
+            }
+            Fault::Run(fault) => {
+                let name = RunFaultName(fault);
+                write!(f, "run {name}")
+            }
+            Fault::Write(which, _) => {
+                f.write_str("write ")?;
+                f.write_str(role_of(which).name())
+            }
+        }
+    }
+}
+
+fn name_of_side(side: Side) -> &'static str
+    ensures { result.now ≡ side_name side }
+{
+    match side {
+        Side::Inside => "inside",
+        Side::Outside => "outside",
+    }
+}
+
+/// A run's fault, shown by its name, and by the worker's number where a gate was shut.
+#[derive(Clone, Copy)]
+struct RunFaultName(RunFault);
+
+impl fmt::Display for RunFaultName {
+    ghost output = { λ name. Some (run_name name.0) };
+
+    fn fmt<W: fmt::Write>(&self, f: &mut fmt::Formatter<W>) -> fmt::Result {
+        match self.0 {
+            RunFault::Memory | RunFault::Pool(PoolFault::Memory) => f.write_str("memory"),
+            RunFault::TooMany => f.write_str("too-many"),
+            RunFault::Pool(PoolFault::NoThread) => f.write_str("no-thread"),
+            RunFault::Pool(PoolFault::GateShut(worker)) => write!(f, "gate-shut {worker}"),
+            RunFault::Pool(PoolFault::Ring) => f.write_str("ring"),
+        }
+    }
+}
+
+/// The file that an output is written to.
+fn role_of(which: Which) -> Role
+    ensures { result ≡ output_role which }
+{
+    match which {
+        Which::Outside => Role::ToOutside,
+        Which::Inside => Role::ToInside,
+        Which::Report => Role::Report,
+    }
+}
+
+/// A capture's fault, shown by its name, and by its record's number where it has one.
+#[derive(Clone, Copy)]
+struct CaptureFaultName(CaptureFault);
+
+impl fmt::Display for CaptureFaultName {
+    ghost output = { λ name. Some (capture_name name.0) };
+
+    fn fmt<W: fmt::Write>(&self, f: &mut fmt::Formatter<W>) -> fmt::Result {
+        match self.0 {
+            CaptureFault::NoHeader => f.write_str("no-header"),
+            CaptureFault::BadMagic => f.write_str("bad-magic"),
+            CaptureFault::BadVersion => f.write_str("bad-version"),
+            CaptureFault::BadLink => f.write_str("bad-link"),
+            CaptureFault::BadFraction(record) => write!(f, "bad-fraction {record}"),
+            CaptureFault::TooLong(record) => write!(f, "too-long {record}"),
+            CaptureFault::TooLarge => f.write_str("too-large"),
+            CaptureFault::Read => f.write_str("read"),
+            CaptureFault::Memory => f.write_str("memory"),
+        }
+    }
+}
+
+fn name_of_config_fault(fault: ConfigFault) -> &'static str
+    ensures { result.now ≡ config_name fault }
+{
+    match fault {
+        ConfigFault::NotToml => "not-toml",
+        ConfigFault::UnknownKey => "unknown-key",
+        ConfigFault::Missing => "missing",
+        ConfigFault::BadShape => "bad-shape",
+        ConfigFault::TooMany => "too-many",
+        ConfigFault::BadAddress => "bad-address",
+        ConfigFault::BadPrefix => "bad-prefix",
+        ConfigFault::BadNumber => "bad-number",
+        ConfigFault::BadWord => "bad-word",
+        ConfigFault::DoubleAddress => "double-address",
+        ConfigFault::PoolInside => "pool-inside",
+        ConfigFault::DoublePair => "double-pair",
+        ConfigFault::NotInPool => "not-in-pool",
+        ConfigFault::NotInside => "not-inside",
+        ConfigFault::DoubleRedirect => "double-redirect",
+        ConfigFault::TimerTooShort => "timer-too-short",
+        ConfigFault::Memory => "memory",
+    }
+}
+
+#[cfg(test)]
+mod tests;

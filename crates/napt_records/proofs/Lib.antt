@@ -1,0 +1,5 @@
+pub mod Merges
+pub mod MergesAreOne
+pub mod MergesExist
+pub mod Sends
+pub mod Texts

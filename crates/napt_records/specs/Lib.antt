@@ -1,0 +1,5 @@
+pub mod Merge
+pub mod Taking
+pub mod MergeLaws
+pub mod Output
+pub mod Report

@@ -1,0 +1,186 @@
+//! The report: how many packets came and what became of them, which captures were cut, and the bindings.
+ghost use Rattle.std.specs.Prelude.{◌≡◌, ◌+◌, ◌-◌, ◌^◌, ◌<◌, ◌++◌, ◌∷◌, [], IfOk, OnOk, codes, count_by, decimal, flat_map, slice_index, string_bytes};
+ghost use Rattle.napt_wire.specs.declared.Cause.{Cause};
+ghost use Rattle.napt_records.specs.Report as model;
+
+use crate::names::{EndpointText, cause_name, protocol_name};
+use napt_sequential::{Outcome, Run};
+use napt_table::Row;
+use napt_wire::Cause;
+use std::alloc::{AllocError, Global};
+
+/// The place of a cause's line among those of the drops, from 0: that of the cause in `Cause::ALL`.
+fn place_of(cause: Cause) -> usize
+    ensures place { result ≡ model.place_of cause }
+    ensures below { result < 14 }
+{
+    match cause {
+        Cause::Truncated => 0,
+        Cause::NotIpv4 => 1,
+        Cause::BadHeader => 2,
+        Cause::BadChecksum => 3,
+        Cause::Fragment => 4,
+        Cause::Unsupported => 5,
+        Cause::BadInner => 6,
+        Cause::BadPort => 7,
+        Cause::Spoofed => 8,
+        Cause::NotOurs => 9,
+        Cause::NoBinding => 10,
+        Cause::Filtered => 11,
+        Cause::OverQuota => 12,
+        Cause::NoPort => 13,
+    }
+}
+
+/// How many outcomes are of each kind.
+#[derive(Clone, Copy)]
+struct Counts {
+    to_outside: usize,
+    to_inside: usize,
+    /// Those that were dropped for each cause, at its place.
+    dropped: [usize; 14],
+}
+
+impl Counts {
+    /// Counts one outcome more.
+    fn add(&mut self, outcome: &Outcome)
+        requires outside_fits { self.old.to_outside < 2 ^ 64 - 1 }
+        requires inside_fits { self.old.to_inside < 2 ^ 64 - 1 }
+        requires dropped_fit { (cause : Cause) → slice_index self.old.dropped (model.place_of cause)
+            < 2 ^ 64 - 1 }
+        ensures to_outside { self.new.to_outside ≡ self.old.to_outside
+            + count_by model.is_to_outside (outcome.now ∷ []) }
+        ensures to_inside { self.new.to_inside ≡ self.old.to_inside + count_by model.is_to_inside
+            (outcome.now ∷ []) }
+        ensures dropped { (cause : Cause) → slice_index self.new.dropped (model.place_of cause)
+            ≡ slice_index self.old.dropped (model.place_of cause)
+            + count_by (model.is_dropped cause) (outcome.now ∷ []) }
+    {
+        match outcome {
+            Outcome::ToOutside(_) => self.to_outside += 1,
+            Outcome::ToInside(_) => self.to_inside += 1,
+            Outcome::Dropped(cause) => self.dropped[place_of(*cause)] += 1,
+        }
+    }
+}
+
+fn counts_of(outcomes: &[Outcome]) -> Counts
+    ensures to_outside { result.to_outside ≡ count_by model.is_to_outside outcomes.now }
+    ensures to_inside { result.to_inside ≡ count_by model.is_to_inside outcomes.now }
+    ensures dropped { (cause : Cause) → slice_index result.dropped (model.place_of cause)
+        ≡ count_by (model.is_dropped cause) outcomes.now }
+{
+    let mut counts = Counts {
+        to_outside: 0,
+        to_inside: 0,
+        dropped: [0; 14],
+    };
+    for outcome in outcomes {
+        counts.add(outcome);
+    }
+    counts
+}
+
+/// Adds a line with a name and a count.
+fn push_count(
+    alloc: Global,
+    report: &mut String,
+    name: &str,
+    count: usize,
+) -> Result<(), AllocError>
+    ensures { OnOk result (string_bytes report.new ≡ string_bytes report.old
+        ++ model.count_line name.now count) }
+{
+    let line = format!(in alloc; "{name} {count}\n")?;
+    report.push_str(&line)
+}
+
+/// Adds the lines of the packets that were dropped, a cause each.
+fn push_drops(
+    alloc: Global,
+    report: &mut String,
+    causes: &[Cause],
+    dropped: &[usize; 14],
+) -> Result<(), AllocError>
+    ensures { OnOk result (string_bytes report.new ≡ string_bytes report.old ++ flat_map (λ cause.
+        codes "drop " ++ model.count_line (model.cause_name cause)
+        (slice_index dropped.now (model.place_of cause))) causes.now) }
+{
+    for cause in causes {
+        report.push_str("drop ")?;
+        push_count(alloc, report, cause_name(*cause), dropped[place_of(*cause)])?;
+    }
+    Ok(())
+}
+
+/// Adds the line of a binding.
+fn push_row(alloc: Global, report: &mut String, row: Row) -> Result<(), AllocError>
+    ensures { OnOk result (string_bytes report.new ≡ string_bytes report.old
+        ++ model.row_line row) }
+{
+    let protocol = protocol_name(row.protocol);
+    let inside = EndpointText(row.inside);
+    let external = EndpointText(row.external);
+    let fixed = if row.fixed { " fixed" } else { "" };
+    let line = format!(in alloc; "{protocol} {inside} {external}{fixed}\n")?;
+    report.push_str(&line)
+}
+
+/// Adds the lines of the bindings.
+fn push_rows(alloc: Global, report: &mut String, rows: &[Row]) -> Result<(), AllocError>
+    ensures { OnOk result (string_bytes report.new ≡ string_bytes report.old
+        ++ flat_map model.row_line rows.now) }
+{
+    for row in rows {
+        push_row(alloc, report, *row)?;
+    }
+    Ok(())
+}
+
+/// Adds the lines that count the packets.
+fn push_counts(alloc: Global, report: &mut String, outcomes: &[Outcome]) -> Result<(), AllocError>
+    ensures { OnOk result (string_bytes report.new ≡ string_bytes report.old
+        ++ model.counts_text outcomes.now) }
+{
+    let counts = counts_of(outcomes);
+    push_count(alloc, report, "packets", outcomes.len())?;
+    push_count(alloc, report, "to outside", counts.to_outside)?;
+    push_count(alloc, report, "to inside", counts.to_inside)?;
+    push_drops(alloc, report, &Cause::ALL, &counts.dropped)?;
+    Ok(())
+}
+
+/// Adds the lines of the captures that were cut.
+fn push_cuts(report: &mut String, cut_inside: bool, cut_outside: bool) -> Result<(), AllocError>
+    ensures { OnOk result (string_bytes report.new ≡ string_bytes report.old
+        ++ model.cuts_text cut_inside cut_outside) }
+{
+    if cut_inside {
+        report.push_str("cut inside\n")?;
+    }
+    if cut_outside {
+        report.push_str("cut outside\n")?;
+    }
+    Ok(())
+}
+
+/// The report of a run: how many packets came and what became of them, which captures end inside a record, and the bindings.
+///
+/// Each line ends with a line feed. The lines of the bindings stand in the order of `Run::bindings`, as
+/// `udp 10.0.0.2:5000 203.0.113.1:5000`, with ` fixed` behind a redirect. Fails only where memory runs out.
+#[tactic(auto, unfolding(crate::specs::Report::report_text))]
+pub fn report_text(
+    alloc: Global,
+    run: &Run,
+    cut_inside: bool,
+    cut_outside: bool,
+) -> Result<String, AllocError>
+    ensures { IfOk result (λ report. string_bytes report
+        ≡ model.report_text cut_inside cut_outside run.now) }
+{
+    let mut report = String::new(alloc);
+    push_counts(alloc, &mut report, &run.outcomes)?;
+    push_cuts(&mut report, cut_inside, cut_outside)?;
+    push_rows(alloc, &mut report, &run.bindings)?;
+    Ok(report)
+}
