@@ -181,7 +181,7 @@ separated p least most n text read =
           cc
     ]
 
--- ---- prefixes and endpoints
+-- ---- prefixes and transport addresses
 
 same_join : (front back a d : List ℕ) (mark at : ℕ) → front ≡ a → back ≡ d → mark ≡ at → front ++ mark ∷ back ≡ a ++ at
     ∷ d
