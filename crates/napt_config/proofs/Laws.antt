@@ -55,7 +55,7 @@ short_list-counts key table entries is =
 
 -- ---- pool
 
-pub record PoolStep (pool next : List ℕ) : Type 0 where
+record PoolStep (pool next : List ℕ) : Type 0 where
   pub address : ℕ
   pub small : address < 2 ^ 32
   pub new : has pool address ≡ false
@@ -247,7 +247,7 @@ quota_in-keeps quota table is =
 
 -- ---- pairs
 
-pub record PairStep (pool : List ℕ) (inside : List Network) (now next : Pairs) : Type 0 where
+record PairStep (pool : List ℕ) (inside : List Network) (now next : Pairs) : Type 0 where
   pub host : ℕ
   pub external : ℕ
   pub host_inside : have_address inside host ≡ true

@@ -12,7 +12,7 @@ use Rattle.napt_config.specs.declared.settings.Redirect.{Redirect}
 use Rattle.napt_config.specs.Network.{Network, Socket, have_address}
 use Rattle.napt_config.specs.Text.{address_of, number_of, socket_of, socket_at, is_colon}
 use Rattle.napt_config.specs.Rules.{IsRedirect, is_double, AreSingle}
-use Rattle.napt_config.specs.Configured.{item_count, text_in, number_in, table_in, list_in, required, is_tcp_in, endpoint_in, port_in, redirect_in, have_double, with_redirect, redirects_at, redirects_in}
+use Rattle.napt_config.specs.Configured.{item_count, text_in, number_in, table_in, list_in, required, is_tcp_in, transport_address_in, port_in, redirect_in, have_double, with_redirect, redirects_at, redirects_in}
 use Rattle.napt_config.proofs.Chains.{reads, holds, ok_or_ok, optional_reads, each_keeps, each_adds}
 use Rattle.napt_config.proofs.Numbers.{number_of-range, between-range}
 
@@ -29,10 +29,10 @@ socket_of-port text socket is =
     let is : record { address = address; port = port } ≡ socket = cc in
     subst P is low
 
-endpoint_in-port : (key : List ℕ) (keys : Members) (socket : Socket) → endpoint_in key keys ≡ Ok socket →
-    0 < socket.port
-unfolding endpoint_in
-endpoint_in-port key keys socket is =
+transport_address_in-port : (key : List ℕ) (keys : Members) (socket : Socket) →
+    transport_address_in key keys ≡ Ok socket → 0 < socket.port
+unfolding transport_address_in
+transport_address_in-port key keys socket is =
     reads (required key keys) _ socket is λ value _ read.
     reads (text_in value) _ socket read λ text _ found.
     socket_of-port text socket (ok_or_ok _ _ _ found)
@@ -50,14 +50,14 @@ unfolding redirect_in
 redirect_in-is inside entry redirect is =
     reads (table_in entry) _ redirect is λ keys _ rest.
     reads (is_tcp_in keys) _ redirect rest λ tcp _ rest₁.
-    reads (endpoint_in (codes "inside") keys) _ redirect rest₁ λ host host_is ruled.
+    reads (transport_address_in (codes "inside") keys) _ redirect rest₁ λ host host_is ruled.
     holds (have_address inside host.address) NotInside _ redirect ruled λ host_inside rest₂.
     reads (port_in (codes "external") keys) _ redirect rest₂ λ external external_is last.
     let made : Redirect = record { tcp = tcp; address = host.address; port = host.port; external = external } in
     let same : made ≡ redirect = cc in
     subst (IsRedirect inside) same (record {
       host = host_inside;
-      port = endpoint_in-port (codes "inside") keys host host_is;
+      port = transport_address_in-port (codes "inside") keys host host_is;
       external = port_in-some (codes "external") keys external external_is;
     })
 

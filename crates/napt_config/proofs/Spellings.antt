@@ -181,7 +181,7 @@ separated p least most n text read =
           cc
     ]
 
--- ---- prefixes and endpoints
+-- ---- prefixes and transport addresses
 
 same_join : (front back a d : List ℕ) (mark at : ℕ) → front ≡ a → back ≡ d → mark ≡ at → front ++ mark ∷ back ≡ a ++ at
     ∷ d
@@ -191,63 +191,63 @@ both_read : {A : Type 0} (f : ℕ → ℕ → Option A) (first second : Option �
     second ≡ Some y → f x y ≡ r → option_and_then (λ x. option_and_then (f x) second) first ≡ r
 both_read f first second x y r first_is second_is made = rw (first_is, second_is) made
 
-pub network_text-of : (text : List ℕ) (network : Network) → network_of text ≡ Some network → text ≡ network_text network
+-- an address, a mark that stands in none, and a number
+module _ (at least most : ℕ) (bound : most < 2 ^ 64) (no_digit : (c : ℕ) → is_ascii_digit c ≡ true → (c == at) ≡ false)
+    (no_dot : (46 == at) ≡ false) where
+  marked_text-of : (text : List ℕ) (address n : ℕ) → address_of (before_first (λ c. c == at) text) ≡ Some address →
+      number_of least most (after_first (λ c. c == at) text) ≡ Some n →
+      text ≡ address_text address ++ (at ∷ []) ++ decimal n
+  marked_text-of text address n found counted =
+      let (mark, is_mark, joined) = rejoined (λ c. c == at) text (separated (λ c. c == at) least most n text counted) in
+      joined ∙ same_join _ _ _ _ mark at (address_text-of _ address found)
+      (decimal-number_of least most n _ bound counted) (eqb-true mark at is_mark)
+      ∙ sym (append_assoc (address_text address) (at ∷ []) (decimal n))
+
+  marked_of-text : {A : Type 0} (f : ℕ → ℕ → Option A) (address n : ℕ) (r : Option A) → address < 2 ^ 32 → least ≤ n →
+      n ≤ most → f address n ≡ r →
+      (let text = address_text address ++ (at ∷ []) ++ decimal n in
+      option_and_then (λ a. option_and_then (f a) (number_of least most (after_first (λ c. c == at) text)))
+      (address_of (before_first (λ c. c == at) text)) ≡ r)
+  marked_of-text f address n r small low high made =
+      let A = address_text address in
+      let D = decimal n in
+      let none = none_in_address (λ c. c == at) address no_digit no_dot in
+      let here = eq-eqb at at refl in
+      let regrouped : A ++ (at ∷ []) ++ D ≡ A ++ at ∷ D = append_assoc A (at ∷ []) D in
+      let front : before_first (λ c. c == at) (A ++ (at ∷ []) ++ D) ≡ A = ap (before_first (λ c. c == at)) regrouped
+      ∙ before_mark (λ c. c == at) A at D none here in
+      let back : after_first (λ c. c == at) (A ++ (at ∷ []) ++ D) ≡ D = ap (after_first (λ c. c == at)) regrouped
+      ∙ after_mark (λ c. c == at) A at D none here in
+      both_read f _ _ address n r (ap address_of front ∙ address_of-text address small)
+      (ap (number_of least most) back ∙ number_of-decimal least most n low high bound) made
+
+network_text-of : (text : List ℕ) (network : Network) → network_of text ≡ Some network → text ≡ network_text network
 unfolding network_of network_text
 network_text-of text network is =
     option_and_then_some _ (address_of (before_first is_slash text)) network is λ address found more.
     option_and_then_some _ (number_of 0 32 (after_first is_slash text)) network more λ bits counted made.
     let (_, same) = cond_some (address % 2 ^ (32 - bits) == 0) (record { address = address; bits = bits }) network
     made in
-    let (mark, is_mark, joined) = rejoined is_slash text (separated is_slash 0 32 bits text counted) in
-    let front = address_text-of _ address found in
-    let back = decimal-number_of 0 32 bits _ (omega arith) counted in
-    joined ∙ same_join _ _ _ _ mark 47 front back (eqb-true mark 47 is_mark)
-    ∙ sym (append_assoc (address_text address) (47 ∷ []) (decimal bits)) ∙ ap network_text same
+    marked_text-of 47 0 32 (omega arith) no_digit_is_slash refl text address bits found counted ∙ ap network_text same
 
-pub network_of-text : (network : Network) → IsNetwork network → network_of (network_text network) ≡ Some network
+network_of-text : (network : Network) → IsNetwork network → network_of (network_text network) ≡ Some network
 unfolding network_of network_text
-network_of-text network fine =
-    let A = address_text network.address in
-    let D = decimal network.bits in
-    let none = none_in_address is_slash network.address no_digit_is_slash refl in
-    let regrouped : network_text network ≡ A ++ 47 ∷ D = append_assoc A (47 ∷ []) D in
-    let front : before_first is_slash (network_text network) ≡ A = ap (before_first is_slash) regrouped
-    ∙ before_mark is_slash A 47 D none refl in
-    let back : after_first is_slash (network_text network) ≡ D = ap (after_first is_slash) regrouped
-    ∙ after_mark is_slash A 47 D none refl in
-    let made : network_at network.address network.bits ≡ Some network = rw (eq-eqb _ _ fine.no_host_bits) refl in
-    both_read network_at _ _ network.address network.bits _ (ap address_of front
-    ∙ address_of-text network.address fine.address)
-    (ap (number_of 0 32) back ∙ number_of-decimal 0 32 network.bits (omega arith) fine.bits (omega arith)) made
+network_of-text network fine = marked_of-text 47 0 32 (omega arith) no_digit_is_slash refl network_at network.address
+    network.bits (Some network) fine.address (omega arith) fine.bits (rw (eq-eqb _ _ fine.no_host_bits) refl)
 
-pub socket_text-of : (text : List ℕ) (socket : Socket) → socket_of text ≡ Some socket → text ≡ socket_text socket
+socket_text-of : (text : List ℕ) (socket : Socket) → socket_of text ≡ Some socket → text ≡ socket_text socket
 unfolding socket_of socket_text
 socket_text-of text socket is =
     option_and_then_some _ (address_of (before_first is_colon text)) socket is λ address found more.
     option_and_then_some _ (number_of 1 65535 (after_first is_colon text)) socket more λ port counted made.
     let at : Socket = record { address = address; port = port } in
     let same : at ≡ socket = cc in
-    let (mark, is_mark, joined) = rejoined is_colon text (separated is_colon 1 65535 port text counted) in
-    let front = address_text-of _ address found in
-    let back = decimal-number_of 1 65535 port _ (omega arith) counted in
-    joined ∙ same_join _ _ _ _ mark 58 front back (eqb-true mark 58 is_mark)
-    ∙ sym (append_assoc (address_text address) (58 ∷ []) (decimal port)) ∙ ap socket_text same
+    marked_text-of 58 1 65535 (omega arith) no_digit_is_colon refl text address port found counted ∙ ap socket_text same
 
-pub socket_of-text : (socket : Socket) → IsSocket socket → socket_of (socket_text socket) ≡ Some socket
+socket_of-text : (socket : Socket) → IsSocket socket → socket_of (socket_text socket) ≡ Some socket
 unfolding socket_of socket_text
-socket_of-text socket fine =
-    let A = address_text socket.address in
-    let D = decimal socket.port in
-    let none = none_in_address is_colon socket.address no_digit_is_colon refl in
-    let regrouped : socket_text socket ≡ A ++ 58 ∷ D = append_assoc A (58 ∷ []) D in
-    let front : before_first is_colon (socket_text socket) ≡ A = ap (before_first is_colon) regrouped
-    ∙ before_mark is_colon A 58 D none refl in
-    let back : after_first is_colon (socket_text socket) ≡ D = ap (after_first is_colon) regrouped
-    ∙ after_mark is_colon A 58 D none refl in
-    both_read socket_at _ _ socket.address socket.port _ (ap address_of front
-    ∙ address_of-text socket.address fine.address)
-    (ap (number_of 1 65535) back ∙ number_of-decimal 1 65535 socket.port fine.low (omega (arith, fine.high))
-    (omega arith)) refl
+socket_of-text socket fine = marked_of-text 58 1 65535 (omega arith) no_digit_is_colon refl socket_at socket.address
+    socket.port (Some socket) fine.address fine.low (omega (arith, fine.high)) refl
 
 -- ---- whole results
 

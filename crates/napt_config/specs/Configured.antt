@@ -266,9 +266,9 @@ is_tcp_in keys = do
   word ← text_in value
   ok_or (is_tcp_of word) BadWord
 
--- the endpoint at a required key
-unfoldable pub endpoint_in : List ℕ → Members → Result Socket ConfigFault
-endpoint_in key keys = do
+-- the transport address at a required key
+unfoldable pub transport_address_in : List ℕ → Members → Result Socket ConfigFault
+transport_address_in key keys = do
   value ← required key keys
   text ← text_in value
   ok_or (socket_of text) BadAddress
@@ -284,7 +284,7 @@ unfoldable pub redirect_in : List Network → Data → Result Redirect ConfigFau
 redirect_in inside entry = do
   keys ← table_in entry
   tcp ← is_tcp_in keys
-  host ← endpoint_in (codes "inside") keys
+  host ← transport_address_in (codes "inside") keys
   must (have_address inside host.address) NotInside
   external ← port_in (codes "external") keys
   Ok (record { tcp = tcp; address = host.address; port = host.port; external = external })

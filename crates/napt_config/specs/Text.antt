@@ -1,4 +1,4 @@
--- How addresses, prefixes and endpoints are written, and what a text reads as.
+-- How addresses, prefixes and transport addresses are written, and what a text reads as.
 use Rattle.std.specs.Prelude.{◌≡◌, ℕ, ◌-◌, ◌%◌, ◌^◌, ◌==◌, Bool, ◌&&◌, not, if◌then◌else◌, List, [], ◌∷◌, ◌++◌, length, slice_index, codes, decimal, nat_lt, nat_le, Option, Some, None, option_and_then, Result, Ok, IfOk, IfErr}
 use Rattle.std.specs.Int.{w32, to_be_bytes, from_be_bytes}
 use Rattle.std.specs.Char.{is_ascii_digit}
@@ -63,7 +63,7 @@ network_of text =
 abbrev pub socket_at : ℕ → ℕ → Option Socket
 socket_at address port = Some (record { address = address; port = port })
 
--- the endpoint that the text is: the one whose `socket_text` it is, where there is one
+-- the transport address that the text is: the one whose `socket_text` it is, where there is one
 unfoldable pub socket_of : List ℕ → Option Socket
 socket_of text =
     option_and_then

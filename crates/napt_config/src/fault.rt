@@ -21,7 +21,7 @@ pub enum ConfigFault {
     BadShape,
     /// A list has more entries than it may have.
     TooMany,
-    /// A text is no address, or no endpoint.
+    /// A text is no address, or no transport address.
     BadAddress,
     /// A text is no prefix, or has bits past its length that are not 0.
     BadPrefix,

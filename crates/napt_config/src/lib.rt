@@ -6,7 +6,6 @@
 
 mod address;
 mod config;
-mod endpoint;
 mod fault;
 mod keys;
 mod pairing;
@@ -15,11 +14,12 @@ mod reading;
 mod redirects;
 mod settings;
 mod text;
+mod transport_address;
 mod values;
 
 pub use address::Address;
 pub use config::Config;
-pub use endpoint::Endpoint;
 pub use fault::ConfigFault;
 pub use prefix::Prefix;
 pub use settings::{Filter, Redirect, Refresh, Timers};
+pub use transport_address::TransportAddress;

@@ -3,11 +3,11 @@ ghost use Rattle.std.specs.Prelude.{◌≡◌, ◌≤◌, [], length};
 ghost use Rattle.toml.specs.View.{view, table_view, items_view};
 ghost use Rattle.napt_config.specs.Fault.{Gives};
 ghost use Rattle.napt_config.specs.Rules.{paired, share_inside, share_external, is_double};
-ghost use Rattle.napt_config.specs.Configured.{each_in_order, is_tcp_in, endpoint_in, port_in, redirect_in, have_double, with_redirect, redirects_at, redirects_in};
+ghost use Rattle.napt_config.specs.Configured.{each_in_order, is_tcp_in, transport_address_in, port_in, redirect_in, have_double, with_redirect, redirects_at, redirects_in};
 
 use crate::reading::{between, have_address};
 use crate::values::{list_in, number_in, required, table_in, text_in, value_at};
-use crate::{ConfigFault, Endpoint, Prefix, Redirect, pairing};
+use crate::{ConfigFault, Prefix, Redirect, TransportAddress, pairing};
 use std::alloc::Global;
 use std::collections::BTreeMap;
 use toml::{Table, Value};
@@ -27,13 +27,13 @@ fn is_tcp_in(keys: &Table) -> Result<bool, ConfigFault>
     }
 }
 
-/// The endpoint at a required key.
-#[tactic(auto, unfolding(crate::specs::Configured::endpoint_in))]
-fn endpoint_in(keys: &Table, key: &str) -> Result<Endpoint, ConfigFault>
-    ensures { Gives (λ endpoint. endpoint) result (endpoint_in key.now (table_view keys.now)) }
+/// The transport address at a required key.
+#[tactic(auto, unfolding(crate::specs::Configured::transport_address_in))]
+fn transport_address_in(keys: &Table, key: &str) -> Result<TransportAddress, ConfigFault>
+    ensures { Gives (λ socket. socket) result (transport_address_in key.now (table_view keys.now)) }
 {
     let text = text_in(required(keys, key)?)?;
-    Endpoint::read(text).ok_or(ConfigFault::BadAddress)
+    TransportAddress::read(text).ok_or(ConfigFault::BadAddress)
 }
 
 /// The port at a required key.
@@ -53,7 +53,7 @@ fn redirect_in(entry: &Value, inside: &[Prefix]) -> Result<Redirect, ConfigFault
 {
     let keys = table_in(entry)?;
     let tcp = is_tcp_in(keys)?;
-    let host = endpoint_in(keys, "inside")?;
+    let host = transport_address_in(keys, "inside")?;
     if !have_address(inside, host.address()) {
         return Err(ConfigFault::NotInside);
     }

@@ -1,5 +1,5 @@
 use napt_config::{
-    Address, Config, ConfigFault, Endpoint, Filter, Prefix, Redirect, Refresh, Timers,
+    Address, Config, ConfigFault, Filter, Prefix, Redirect, Refresh, Timers, TransportAddress,
 };
 use std::alloc::Global;
 use std::process::Abort;
@@ -792,10 +792,10 @@ fn texts(rt: HostRuntime) -> Result<(), Fail> {
     let prefix = "172.16.0.0/12".parse::<Prefix>()?;
     assert!(rt; prefix.contains(0xAC1F_FFFF));
     assert_eq!(rt; prefix.to_string(alloc)?.as_str(), "172.16.0.0/12");
-    let endpoint = "10.0.0.3:7000".parse::<Endpoint>()?;
-    assert_eq!(rt; endpoint.address(), 0x0A00_0003);
-    assert_eq!(rt; endpoint.port(), 7000);
-    assert_eq!(rt; endpoint.to_string(alloc)?.as_str(), "10.0.0.3:7000");
+    let inside = "10.0.0.3:7000".parse::<TransportAddress>()?;
+    assert_eq!(rt; inside.address(), 0x0A00_0003);
+    assert_eq!(rt; inside.port(), 7000);
+    assert_eq!(rt; inside.to_string(alloc)?.as_str(), "10.0.0.3:7000");
     for text in [
         "10.0.0.3",
         "10.0.0.3:0",
@@ -805,7 +805,7 @@ fn texts(rt: HostRuntime) -> Result<(), Fail> {
         ":1",
     ] {
         assert_eq!(rt;
-            text.parse::<Endpoint>(),
+            text.parse::<TransportAddress>(),
             Err(ConfigFault::BadAddress),
             "{text}"
         );

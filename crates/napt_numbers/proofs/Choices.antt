@@ -119,6 +119,20 @@ module _ (used : ℕ → Bool) (place : ℕ → ℕ) (class : Class) (p : ℕ) (
       ∙ (let q : k + j ≡ x - place class.least = omega arith in
       ap (λ (n : ℕ). Some (class.least + class.apart * n)) (mod-eq_of_lt lt ∙ q))
 
+  -- the candidates up to the class's end, and so many from its beginning on, are used
+  passed : (many : ℕ) → many ≤ class.many → IsFirstAbsent used first end None → ((j : ℕ) → place class.least ≤ j →
+      j < place class.least + many → used j ≡ true) → (i : ℕ) → k + i < class.many + many →
+      not (used (place (candidate class p i))) ≡ false
+  passed many fits none before i less = elim (ltb (k + i) class.many) as (λ v. ltb (k + i) class.many ≡ v →
+      not (used (place (candidate class p i))) ≡ false) [
+        | true ↦ λ t. let l : k + i < class.many = grind (arith, nat_tests) in
+            near i l ∙ ap not (none (place class.least + (k + i)) (omega arith) (omega arith))
+        | false ↦ λ t.
+            let l : class.many ≤ k + i = grind (arith, nat_tests) in
+            let r : ℕ = k + i - class.many in
+            far i r (omega arith) (omega arith) ∙ ap not (before (place class.least + r) (omega arith) (omega arith))
+      ] refl
+
   -- it is before that
   pub found_far : (x : ℕ) → IsFirstAbsent used first end None → IsFirstAbsent used (place class.least) first (Some x) →
       find (λ n. not (used (place n))) (map (candidate class p) (counted 0 class.many))
@@ -131,15 +145,7 @@ module _ (used : ℕ → Bool) (place : ℕ → ℕ) (class : Class) (p : ℕ) (
       let lt : q < class.many = omega arith in
       find_at (λ n. not (used (place n))) (candidate class p) class.many j (omega arith)
       (far j q e lt ∙ (let y : place class.least + q ≡ x = omega arith in ap (λ (n : ℕ). not (used n)) y) ∙ ap not h.2)
-      (λ i less. elim (ltb (k + i) class.many) as (λ v. ltb (k + i) class.many ≡ v →
-      not (used (place (candidate class p i))) ≡ false) [
-        | true ↦ λ t. let l : k + i < class.many = grind (arith, nat_tests) in
-            near i l ∙ ap not (none (place class.least + (k + i)) (omega arith) (omega arith))
-        | false ↦ λ t.
-            let l : class.many ≤ k + i = grind (arith, nat_tests) in
-            let r : ℕ = k + i - class.many in
-            far i r (omega arith) (omega arith) ∙ ap not (h.3 (place class.least + r) (omega arith) (omega arith))
-      ] refl)
+      (λ i less. passed q (omega arith) none (λ j from to. h.3 j from (omega arith)) i (omega arith))
       ∙ ap (λ (n : ℕ). Some (class.least + class.apart * n)) (ap (λ (n : ℕ). n % class.many) e ∙ wraps class.many q lt)
 
   pub found_nowhere : IsFirstAbsent used first end None → IsFirstAbsent used (place class.least) first None →
@@ -147,15 +153,7 @@ module _ (used : ℕ → Bool) (place : ℕ → ℕ) (class : Class) (p : ℕ) (
   found_nowhere none before =
       let within : k < class.many = s.within in
       find_not (λ n. not (used (place n))) (candidate class p) class.many
-      (λ i less. elim (ltb (k + i) class.many) as (λ v. ltb (k + i) class.many ≡ v →
-      not (used (place (candidate class p i))) ≡ false) [
-        | true ↦ λ t. let l : k + i < class.many = grind (arith, nat_tests) in
-            near i l ∙ ap not (none (place class.least + (k + i)) (omega arith) (omega arith))
-        | false ↦ λ t.
-            let l : class.many ≤ k + i = grind (arith, nat_tests) in
-            let r : ℕ = k + i - class.many in
-            far i r (omega arith) (omega arith) ∙ ap not (before (place class.least + r) (omega arith) (omega arith))
-      ] refl)
+      (λ i less. passed k (omega arith) none before i (omega arith))
 
 -- by a start that is the place of the class's least number, and how far the number is from that
 module _ (used : ℕ → Bool) (protocol : Protocol) (p : ℕ) (lt : p < 2 ^ 16) (class : Class)

@@ -140,11 +140,11 @@ impl Part {
         ensures room { OnOk result (HasRoom self.new) }
     {
         self.by_number.reserve(1)?;
-        self.by_inside.reserve(1)?;
         let hosts = &mut self.hosts;
         hosts.reserve()?;
         let due = &mut self.due;
         due.reserve()?;
+        self.by_inside.reserve(1)?;
         Ok(())
     }
 

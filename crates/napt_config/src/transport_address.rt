@@ -1,4 +1,4 @@
-//! Endpoints.
+//! Transport addresses.
 ghost use Rattle.std.specs.Prelude.{◌≡◌, Some};
 ghost use Rattle.napt_config.specs.Network.{IsSocket};
 ghost use Rattle.napt_config.specs.Text.{socket_of, socket_text, IsReadBack};
@@ -9,35 +9,35 @@ use std::fmt;
 use std::marker::Model;
 use std::str::FromStr;
 
-/// An address and a port that is not 0, written `10.0.0.3:7000`.
+/// An address and a port that is not 0 (RFC 8489, section 5), written `10.0.0.3:7000`.
 #[derive(Clone, Copy, Debug, PartialEq, Eq)]
-pub struct Endpoint {
+pub struct TransportAddress {
     address: u32,
     port: u16,
 }
 
-impl Model for Endpoint {
+impl Model for TransportAddress {
     ghost use Rattle.napt_config.specs.Network.{Socket, IsSocket};
 
     ghost Value = { Socket };
 
-    ghost view = { λ endpoint. record { address = endpoint.address; port = endpoint.port } };
+    ghost view = { λ socket. record { address = socket.address; port = socket.port } };
 
-    ghost invariant = { λ endpoint. IsSocket (record { address = endpoint.address; port = endpoint.port }) };
+    ghost invariant = { λ socket. IsSocket (record { address = socket.address; port = socket.port }) };
 
     ghost inverse = { λ socket. record { address = socket.address; port = socket.port } };
 }
 
-impl Endpoint {
-    /// The endpoint that the text is.
+impl TransportAddress {
+    /// The transport address that the text is.
     #[tactic(auto, unfolding(crate::specs::Text::socket_of))]
-    pub(crate) fn read(text: &str) -> Option<Endpoint>
+    pub(crate) fn read(text: &str) -> Option<TransportAddress>
         ensures { result ≡ socket_of text.now }
     {
         let (address, port) = text.split_once(':')?;
         let address = text::address(address)?;
         let port = text::number(port, 1, 65535)?;
-        Some(Endpoint {
+        Some(TransportAddress {
             address,
             port: port as u16,
         })
@@ -58,8 +58,8 @@ impl Endpoint {
     }
 }
 
-impl fmt::Display for Endpoint {
-    ghost output = { λ endpoint. Some (socket_text endpoint) };
+impl fmt::Display for TransportAddress {
+    ghost output = { λ socket. Some (socket_text socket) };
 
     #[tactic(auto, unfolding(crate::specs::Text::socket_text))]
     fn fmt<W: fmt::Write>(&self, f: &mut fmt::Formatter<W>) -> fmt::Result {
@@ -69,14 +69,14 @@ impl fmt::Display for Endpoint {
     }
 }
 
-impl FromStr for Endpoint {
+impl FromStr for TransportAddress {
     type Err = ConfigFault;
 
     ghost from_str_gives = { IsReadBack socket_text IsSocket BadAddress };
 
-    /// The endpoint that the text is; `ConfigFault::BadAddress` where it is none. What `Display` writes is
+    /// The transport address that the text is; `ConfigFault::BadAddress` where it is none. What `Display` writes is
     /// read back.
-    fn from_str(text: &str) -> Result<Endpoint, ConfigFault> {
-        Endpoint::read(text).ok_or(ConfigFault::BadAddress)
+    fn from_str(text: &str) -> Result<TransportAddress, ConfigFault> {
+        TransportAddress::read(text).ok_or(ConfigFault::BadAddress)
     }
 }

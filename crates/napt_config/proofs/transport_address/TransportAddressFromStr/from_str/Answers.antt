@@ -4,7 +4,7 @@ use Rattle.napt_config.specs.declared.fault.ConfigFault.TheVariants.{BadAddress}
 use Rattle.napt_config.specs.Network.{IsSocket}
 use Rattle.napt_config.specs.Text.{socket_text, IsReadBack}
 use Rattle.napt_config.proofs.Spellings.{sockets_read_back}
-use Rattle.napt_config.proofs.endpoint.EndpointFromStr.from_str.Goals as goal
+use Rattle.napt_config.proofs.transport_address.TransportAddressFromStr.from_str.Goals as goal
 
 pub returns : goal.returns
 returns c =

@@ -2,7 +2,7 @@ use Rattle.std.proofs.Common.{◌≡◌, length, sym, rules}
 use Rattle.std.specs.List.{position_or_len}
 use Rattle.napt_config.specs.Text.{is_colon}
 use Rattle.napt_config.proofs.Splits.{socket_of-whole}
-use Rattle.napt_config.proofs.endpoint.Endpoint.read.Goals as goal
+use Rattle.napt_config.proofs.transport_address.TransportAddress.read.Goals as goal
 
 pub returns-in_err-address : goal.returns-in_err-address
 returns-in_err-address c =
