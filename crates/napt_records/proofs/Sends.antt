@@ -46,12 +46,13 @@ none_left : (side : Side) (times : List ℕ) (outcomes : List Outcome) → (time
     rest_text side times outcomes ≡ []
 none_left side [] outcomes none = refl
 none_left side (time ∷ times) [] none = refl
-none_left side (time ∷ times) (outcome ∷ outcomes) (inl none) = absurd (let more : suc (length times) ≡ 0 = ap length none
-    in omega (arith, more))
-none_left side (time ∷ times) (outcome ∷ outcomes) (inr none) = absurd (let more : suc (length outcomes) ≡ 0 =
-    ap length none in omega (arith, more))
+none_left side (time ∷ times) (outcome ∷ outcomes) (inl none) =
+    absurd (let more : suc (length times) ≡ 0 = ap length none in omega (arith, more))
+none_left side (time ∷ times) (outcome ∷ outcomes) (inr none) =
+    absurd (let more : suc (length outcomes) ≡ 0 = ap length none in omega (arith, more))
 
-pub length-record : (time : ℕ) (packet : List ℕ) → length (record_text (entry_of_packet time packet)) ≡ 16 + length packet
+pub length-record : (time : ℕ) (packet : List ℕ) → length (record_text (entry_of_packet time packet)) ≡ 16
+    + length packet
 unfolding record_text record_header
 length-record time packet = omega arith
 
@@ -72,7 +73,8 @@ pub record Sends (side : Side) (times : List ℕ) (outcomes : List Outcome) (old
   pub timely : All IsTime ins
 
 pub begins : (side : Side) (times : List ℕ) (outcomes : List Outcome) (old now : Option (List ℕ)) (written : ℕ)
-    → All IsTime times → PutsAll 0 old now file_header written → Sends side times outcomes old now written times outcomes
+    → All IsTime times → PutsAll 0 old now file_header written →
+    Sends side times outcomes old now written times outcomes
 unfolding text file_header
 begins side times outcomes old now written timely puts = record {
   done = file_header;
@@ -85,7 +87,8 @@ begins side times outcomes old now written timely puts = record {
 module _ (side : Side) (time : ℕ) (outcome : Outcome) (times ins left : List ℕ) (outcomes outs rest : List Outcome)
     (old now new : Option (List ℕ)) (written : ℕ) where
   -- one outcome more
-  pub goes_on : (then : ℕ) → Sends side times outcomes old now written ins outs → ins ≡ time ∷ left → outs ≡ outcome ∷ rest
+  pub goes_on : (then : ℕ) → Sends side times outcomes old now written ins outs → ins ≡ time ∷ left →
+      outs ≡ outcome ∷ rest
       → PutsAll written now new (text_of_record (record_at time (packet_to side outcome))) then
       → then ≤ written + 65551 → Sends side times outcomes old new then left rest
   goes_on then sends are become puts short =

@@ -29,14 +29,14 @@ loop-time-init g c =
 pub returns-in_err-written-2-clause-err : goal.returns-in_err-written-2-clause-err
 returns-in_err-written-2-clause-err g c =
     let p = err_from_is_err_and c.from_residual-in_err-written-2.result c.from_residual-in_err-written-2.ensures.1 in
-    rw (p.1, p.2) (breaks c.args.side c.in-Some.time.now c.in-Some.outcome.now c.args.times.now _ _ c.args.outcomes.now _ _
-    _ _ _ c.loop-time.written _ c.loop-time.invariant.sends c.in-Some.ensures.steps.0 c.in-Some.ensures.steps.1
-    c.in_err-written-2.ensures.puts)
+    rw (p.1, p.2) (breaks c.args.side c.in-Some.time.now c.in-Some.outcome.now c.args.times.now _ _
+    c.args.outcomes.now _ _ _ _ _ c.loop-time.written _ c.loop-time.invariant.sends c.in-Some.ensures.steps.0
+    c.in-Some.ensures.steps.1 c.in_err-written-2.ensures.puts)
 
 pub loop-time-preserved : goal.loop-time-preserved
 loop-time-preserved g c = record {
-  sends = goes_on c.args.side c.in-Some.time.now c.in-Some.outcome.now c.args.times.now _ _ c.args.outcomes.now _ _ _ _ _
-      c.loop-time.written _ c.loop-time.invariant.sends c.in-Some.ensures.steps.0 c.in-Some.ensures.steps.1
+  sends = goes_on c.args.side c.in-Some.time.now c.in-Some.outcome.now c.args.times.now _ _ c.args.outcomes.now _ _ _ _
+      _ c.loop-time.written _ c.loop-time.invariant.sends c.in-Some.ensures.steps.0 c.in-Some.ensures.steps.1
       c.in_ok-written-2.ensures.puts c.in_ok-written-2.ensures.short;
   failed = search rules;
 }
@@ -44,11 +44,11 @@ loop-time-preserved g c = record {
 pub returns-clause-ok : goal.returns-clause-ok
 returns-clause-ok g c =
     let none = either_empty_from_Zip c.loop-time.time-iterator c.next.new.self _ c.in-None.is c.next.ensures.steps in
-    flushed_ok _ _ _ c.finish.result _ (ends c.args.side c.args.times.now _ c.args.outcomes.now _ _ _ c.loop-time.written
-    c.loop-time.invariant.sends none) c.finish.ensures.bytes
+    flushed_ok _ _ _ c.finish.result _ (ends c.args.side c.args.times.now _ c.args.outcomes.now _ _ _
+    c.loop-time.written c.loop-time.invariant.sends none) c.finish.ensures.bytes
 
 pub returns-clause-err : goal.returns-clause-err
 returns-clause-err g c =
     let none = either_empty_from_Zip c.loop-time.time-iterator c.next.new.self _ c.in-None.is c.next.ensures.steps in
-    flushed_err _ _ _ c.finish.result _ (ends c.args.side c.args.times.now _ c.args.outcomes.now _ _ _ c.loop-time.written
-    c.loop-time.invariant.sends none) c.finish.ensures.bytes c.finish.ensures.fault
+    flushed_err _ _ _ c.finish.result _ (ends c.args.side c.args.times.now _ c.args.outcomes.now _ _ _
+    c.loop-time.written c.loop-time.invariant.sends none) c.finish.ensures.bytes c.finish.ensures.fault
