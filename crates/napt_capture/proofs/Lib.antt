@@ -1,6 +1,6 @@
 mod AnAnswer
 mod OneAnswer
 mod Progress
-mod Puts
+mod ReadsBack
 mod Steps
-mod Written
+pub mod Puts

@@ -1,5 +1,5 @@
 -- Texts that are written one behind the other.
-use Rattle.std.proofs.Common.{◌≡◌, ℕ, ◌+◌, ◌*◌, ◌^◌, ◌<◌, ◌≤◌, List, [], ◌∷◌, ◌++◌, length, take, drop, get_or, All, Option, Result, Ok, Err, sym, ap, ◌∙◌, subst, arith, length-append, take_all, append_assoc, append-nil, take-append-drop}
+use Rattle.std.proofs.Common.{◌≡◌, ℕ, ◌+◌, ◌*◌, ◌^◌, ◌<◌, ◌≤◌, List, [], ◌∷◌, ◌++◌, length, take, drop, get_or, All, Option, Result, Ok, Err, OnOk, IfErr, refl, sym, ap, ◌∙◌, subst, arith, length-append, take_all, append_assoc, append-nil, take-append-drop}
 use Rattle.std.proofs.Math.Seq.{take-append-add}
 use Rattle.std.proofs.lemmas.List.{take-append-le, take_more}
 use Rattle.std.proofs.lemmas.List.Elements.{All-head, All-tail}
@@ -9,7 +9,7 @@ use Rattle.std.specs.Io.KnownBytes.{Appends, Keeps}
 use Rattle.std.proofs.KnownBytes.{Appends-trans, Appends-kept}
 use Rattle.napt_capture.specs.declared.fault.WriteFault.{WriteFault}
 use Rattle.napt_capture.specs.Contents.{Entry}
-use Rattle.napt_capture.specs.Text.{IsWritable, file_header, record_header, record_text, text}
+use Rattle.napt_capture.specs.Text.{IsWritable, entry_of_packet, file_header, record_header, record_text, text}
 use Rattle.napt_capture.specs.Writing.{Puts, PutsAll, PutsFront}
 
 -- the first was written whole, and then the second
@@ -63,6 +63,18 @@ PutsAll-fault old now new xs n p kept is =
           (Appends-kept old now new xs p.appended kept),
     )
 
+-- what follows a flush that comes behind the whole text
+pub flushed_ok : (old now new : Option (List ℕ)) {written : ℕ} (r : Result (Unit {0}) WriteFault) (xs : List ℕ)
+    → PutsAll 0 old now xs written → Keeps now new → OnOk r (Appends old new xs)
+flushed_ok old now new (Ok _) xs p kept = Appends-kept old now new xs p.appended kept
+flushed_ok old now new (Err _) xs p kept = tt
+
+pub flushed_err : (old now new : Option (List ℕ)) {written : ℕ} (r : Result (Unit {0}) WriteFault) (xs : List ℕ)
+    → PutsAll 0 old now xs written → Keeps now new → IfErr r (λ fault. fault.written ≡ written)
+    → IfErr r (λ fault. (fault.written ≤ length xs) × Appends old new (take fault.written xs))
+flushed_err old now new (Ok _) xs p kept is = tt
+flushed_err old now new (Err fault) xs p kept is = PutsAll-fault old now new xs fault.written p kept is
+
 pub PutsAll-same : {before written : ℕ} {old new : Option (List ℕ)} {xs ys : List ℕ} → xs ≡ ys →
     PutsAll before old new xs written → PutsAll before old new ys written
 PutsAll-same {before} {written} {old} {new} e p = subst (λ l. PutsAll before old new l written) e p
@@ -70,6 +82,11 @@ PutsAll-same {before} {written} {old} {new} e p = subst (λ l. PutsAll before ol
 pub PutsFront-same : {before : ℕ} {fault : WriteFault} {old new : Option (List ℕ)} {xs ys : List ℕ} → xs ≡ ys →
     PutsFront before old new xs fault → PutsFront before old new ys fault
 PutsFront-same {before} {fault} {old} {new} e p = subst (λ l. PutsFront before old new l fault) e p
+
+-- the text of a record has its time and its bytes alone
+pub record_text_whole : (r : Entry) → record_text (entry_of_packet r.time r.bytes) ≡ record_text r
+unfolding record_text record_header
+record_text_whole r = refl
 
 -- a record's text is no longer than the limit and its header
 pub length-record_text : (r : Entry) → IsWritable r → length (record_text r) ≤ 262160

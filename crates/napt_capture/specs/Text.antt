@@ -23,6 +23,10 @@ record_text r = record_header r ++ r.bytes
 unfoldable pub text : List Entry → List ℕ
 text records = file_header ++ flat_map record_text records
 
+-- the record of a whole packet that arrived at a time
+abbrev pub entry_of_packet : ℕ → List ℕ → Entry
+entry_of_packet time packet = record { time = time; bytes = packet; original = length packet }
+
 -- what the fields of the text have room for: a time below 2 ^ 32 seconds, and no more bytes than the limit
 pub record IsWritable (r : Entry) : Type 0 where
   pub time : r.time < 2 ^ 32 * 1000000000

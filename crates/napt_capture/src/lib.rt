@@ -16,6 +16,7 @@ mod reading;
 mod spelling;
 mod watched;
 mod writing;
+mod written;
 
 pub use contents::{Capture, Record};
 pub use device::{DeviceFault, Sink, Source};
@@ -25,6 +26,7 @@ pub use laws::{one_answer, reads_back};
 pub use reading::read_capture;
 pub use watched::Watched;
 pub use writing::{write_capture, write_text};
+pub use written::Written;
 
 /// The most bytes that a record may have: larger captured lengths are refused.
 pub const LARGEST_RECORD: u32 = 262_144;

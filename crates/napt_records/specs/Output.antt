@@ -1,9 +1,10 @@
 -- The records that a run writes: the outcomes to a side in the order of their inputs, each with the arrival time of its
 -- input.
-use Rattle.std.specs.Prelude.{ℕ, ◌*◌, ◌<◌, ◌^◌, List, length, filter_map, zip, Option, Some, None}
+use Rattle.std.specs.Prelude.{ℕ, ◌*◌, ◌<◌, ◌^◌, List, [], filter_map, zip, Option, Some, None}
 use Rattle.napt_wire.specs.declared.Side.{Side}
 use Rattle.napt_wire.specs.declared.Side.TheVariants.{Inside, Outside}
 use Rattle.napt_capture.specs.Contents.{Entry}
+use Rattle.napt_capture.specs.Text.{entry_of_packet, record_text}
 use Rattle.napt_sequential.specs.declared.outcome.Outcome.{Outcome}
 use Rattle.napt_sequential.specs.declared.outcome.Outcome.TheVariants.{ToOutside, ToInside}
 use Rattle.napt_sequential.specs.Inputs.{Arrival}
@@ -14,11 +15,8 @@ packet_to Outside (ToOutside packet) = Some packet
 packet_to Inside (ToInside packet) = Some packet
 packet_to side other = None
 
-abbrev pub sent_at : ℕ → List ℕ → Entry
-sent_at time packet = record { time = time; bytes = packet; original = length packet }
-
 abbrev pub record_at : ℕ → Option (List ℕ) → Option Entry
-record_at time (Some packet) = Some (sent_at time packet)
+record_at time (Some packet) = Some (entry_of_packet time packet)
 record_at time None = None
 
 abbrev pub record_to : Side → Arrival × Outcome → Option Entry
@@ -30,6 +28,11 @@ records_to side arrivals outcomes = filter_map (record_to side) (zip arrivals ou
 -- the same by the times alone
 abbrev pub records_at : Side → List ℕ → List Outcome → List Entry
 records_at side times outcomes = filter_map (λ pair. record_at pair.0 (packet_to side pair.1)) (zip times outcomes)
+
+-- the text of a record that is there
+abbrev pub text_of_record : Option Entry → List ℕ
+text_of_record (Some entry) = record_text entry
+text_of_record None = []
 
 -- arrival times for which a capture has room
 abbrev pub IsTime : ℕ → Type 0

@@ -1,7 +1,7 @@
 //! What a run over captures is made of beside its workers: its inputs, the records that it writes, and its report.
 //!
-//! [`merge`] makes the inputs of a run out of the records of both sides' captures; the records of the packets that leave are
-//! those of [`records_sent`], and [`report_text`] is the report. [`Fault`] says why a run over captures ends early.
+//! [`merge`] makes the inputs of a run out of the records of both sides' captures; what leaves to each side is
+//! written by [`write_packets`], and [`report_text`] is the report. [`Fault`] says why a run over captures ends early.
 #![tactic(auto)]
 
 mod fault;
@@ -15,5 +15,5 @@ pub use fault::{Fault, Which};
 pub use merge_laws::merge_is_one;
 pub use merging::merge;
 pub use names::{EndpointText, cause_name, protocol_name};
-pub use output::{Sent, records_sent, times_of};
+pub use output::{times_of, write_packets};
 pub use report::report_text;

@@ -1,20 +1,15 @@
-//! The records that a run writes: the packets that leave, in the order of their inputs.
-ghost use Rattle.std.specs.Prelude.{◌≡◌, ◌++◌, ◌<◌, ◌≤◌, ◌*◌, ◌^◌, [], ◌∷◌, length, map, All, IfOk, OnOk, option_to_list};
-ghost use Rattle.napt_wire.specs.declared.Side.TheVariants as sides;
-ghost use Rattle.napt_capture.specs.Text.{IsWritable};
-ghost use Rattle.napt_records.specs.Output.{IsTime, packet_to, record_at, records_at, sent_at};
+//! What a run writes to each side: the packets that leave, in the order of their inputs.
+ghost use Rattle.std.specs.Prelude.{◌≡◌, ◌+◌, ◌-◌, ◌<◌, ◌≤◌, ◌^◌, length, map, take, All, IfOk, IfSome, OnOk, IfErr, option_map};
+ghost use Rattle.std.specs.Io.KnownBytes.{Appends};
+ghost use Rattle.napt_capture.specs.Device.{failed_calls};
+ghost use Rattle.napt_capture.specs.Text.{text};
+ghost use Rattle.napt_capture.specs.Writing.{Puts};
+ghost use Rattle.napt_records.specs.Output.{IsTime, record_at, records_at, packet_to, text_of_record};
 
-use napt_capture::Record;
+use napt_capture::{Sink, WriteFault, Written};
 use napt_sequential::{Input, Outcome};
-use napt_wire::Packet;
+use napt_wire::Side;
 use std::alloc::{AllocError, Global};
-
-/// The packets of a run that leave, each with the arrival time of its input.
-#[derive(Drop)]
-pub struct Sent {
-    pub to_outside: Vec<Record>,
-    pub to_inside: Vec<Record>,
-}
 
 /// The arrival times of all inputs, in ns.
 pub fn times_of(alloc: Global, inputs: &[Input]) -> Result<Vec<u64>, AllocError>
@@ -27,65 +22,68 @@ pub fn times_of(alloc: Global, inputs: &[Input]) -> Result<Vec<u64>, AllocError>
     Ok(times)
 }
 
-/// Adds the record of a packet that arrived at a time, in ns.
-fn push_record(records: &mut Vec<Record>, time: u64, packet: Packet) -> Result<(), AllocError>
-    requires { time < 2 ^ 32 * 1000000000 }
-    ensures pushed { OnOk result (records.new.items ≡ records.old.items ++ sent_at time packet
-        ∷ []) }
-    ensures writable { OnOk result (IsWritable (sent_at time packet)) }
+/// The bytes of the packet that an outcome sends to a side.
+fn packet_to(side: Side, outcome: &Outcome) -> Option<&[u8]>
+    ensures value { option_map (λ bytes. bytes.now) result ≡ packet_to side outcome.now }
+    ensures short { IfSome result (λ bytes. length bytes.now < 2 ^ 16) }
 {
-    let bytes = packet.into_bytes();
-    let original = bytes.len() as u32;
-    records.push(Record {
-        time,
-        bytes,
-        original,
-    })?;
-    Ok(())
-}
-
-/// Adds the packet of an outcome to the records of its side.
-fn push_outcome(sent: &mut Sent, time: u64, outcome: Outcome) -> Result<(), AllocError>
-    requires { time < 2 ^ 32 * 1000000000 }
-    ensures to_outside { OnOk result (sent.new.to_outside.items ≡ sent.old.to_outside.items
-        ++ option_to_list (record_at time (packet_to sides.Outside outcome))) }
-    ensures to_inside { OnOk result (sent.new.to_inside.items ≡ sent.old.to_inside.items
-        ++ option_to_list (record_at time (packet_to sides.Inside outcome))) }
-    ensures outside_writable { All IsWritable sent.old.to_outside.items →
-        OnOk result (All IsWritable sent.new.to_outside.items) }
-    ensures inside_writable { All IsWritable sent.old.to_inside.items →
-        OnOk result (All IsWritable sent.new.to_inside.items) }
-{
-    match outcome {
-        Outcome::ToOutside(packet) => push_record(&mut sent.to_outside, time, packet),
-        Outcome::ToInside(packet) => push_record(&mut sent.to_inside, time, packet),
-        Outcome::Dropped(_) => Ok(()),
-    }
-}
-
-/// The records of the packets that leave for each side, of inputs that arrived at these times, in ns.
-pub fn records_sent(
-    alloc: Global,
-    times: &[u64],
-    outcomes: Vec<Outcome>,
-) -> Result<Sent, AllocError>
-    requires { All IsTime times.now }
-    ensures to_outside { IfOk result (λ sent. sent.to_outside.items
-        ≡ records_at sides.Outside times.now outcomes.items) }
-    ensures to_inside { IfOk result (λ sent. sent.to_inside.items
-        ≡ records_at sides.Inside times.now outcomes.items) }
-    ensures outside_writable { IfOk result (λ sent. All IsWritable sent.to_outside.items) }
-    ensures inside_writable { IfOk result (λ sent. All IsWritable sent.to_inside.items) }
-    ensures outside_few { IfOk result (λ sent. length sent.to_outside.items ≤ length times.now) }
-    ensures inside_few { IfOk result (λ sent. length sent.to_inside.items ≤ length times.now) }
-{
-    let most = outcomes.len();
-    let mut sent = Sent {
-        to_outside: Vec::with_capacity(alloc, most)?,
-        to_inside: Vec::with_capacity(alloc, most)?,
+    let packet = match (side, outcome) {
+        (Side::Outside, Outcome::ToOutside(packet)) => packet,
+        (Side::Inside, Outcome::ToInside(packet)) => packet,
+        _ => return None,
     };
-    for (time, outcome) in times.iter().zip(outcomes) {
-        push_outcome(&mut sent, *time, outcome)?;
+    let bytes = packet.bytes();
+    Some(bytes)
+}
+
+/// Writes the record of the packet that an outcome sends to a side, behind what is written; where it sends none, nothing.
+fn put_outcome<W: Sink>(
+    writer: &mut W,
+    written: Written,
+    side: Side,
+    time: u64,
+    outcome: &Outcome,
+) -> Result<Written, WriteFault>
+    requires can_fail { W.failed writer.old < 2 ^ 64 - 1 }
+    requires room { written < 2 ^ 63 }
+    requires timely { IsTime time }
+    ensures puts { Puts written (W.contents writer.old) (W.contents writer.new)
+        (text_of_record (record_at time (packet_to side outcome.now))) result }
+    ensures short { IfOk result (λ now. now ≤ written + 65551) }
+    ensures count { W.failed writer.new ≡ W.failed writer.old + failed_calls result }
+{
+    match packet_to(side, outcome) {
+        Some(bytes) => written.record(writer, time, bytes),
+        None => Ok(written),
     }
-    Ok(sent)
+}
+
+/// Writes the capture of the packets that leave to a side, of inputs that arrived at these times, in ns, and flushes it.
+/// It takes no memory.
+///
+/// A fault comes where a write failed or took nothing, or the flush failed: exactly the first `written` bytes of the
+/// capture are written then.
+pub fn write_packets<W: Sink>(
+    writer: &mut W,
+    side: Side,
+    times: &[u64],
+    outcomes: &[Outcome],
+) -> Result<(), WriteFault>
+    requires can_fail { W.failed writer.old < 2 ^ 64 - 1 }
+    requires few { length times.now < 2 ^ 32 }
+    requires timely { All IsTime times.now }
+    ensures ok { OnOk result (Appends (W.contents writer.old) (W.contents writer.new)
+        (text (records_at side times.now outcomes.now))) }
+    ensures flushed { OnOk result (W.is_flushed writer.new) }
+    ensures err { IfErr result (λ fault.
+        (fault.written ≤ length (text (records_at side times.now outcomes.now)))
+        × Appends (W.contents writer.old) (W.contents writer.new)
+        (take fault.written (text (records_at side times.now outcomes.now)))) }
+    ensures count { W.failed writer.new ≡ W.failed writer.old + failed_calls result }
+{
+    let mut written = Written::begin(writer)?;
+    for (time, outcome) in times.iter().zip(outcomes) {
+        written = put_outcome(writer, written, side, *time, outcome)?;
+    }
+    written.finish(writer)
 }

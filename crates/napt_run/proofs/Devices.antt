@@ -1,5 +1,5 @@
 -- From what was read and what was made to what the devices show.
-use Rattle.std.proofs.Common.{◌≡◌, ◌⊎◌, ℕ, ◌+◌, ◌≤◌, inl, inr, refl, ap, subst, List, length, take, string_bytes, Option, Some, None, IfSome, option_map, Result, Err}
+use Rattle.std.proofs.Common.{◌≡◌, ◌⊎◌, ℕ, ◌+◌, ◌≤◌, inl, inr, refl, ap, ap₂, ◌∙◌, subst, List, length, take, string_bytes, Option, Some, None, IfSome, option_map, Result, Err}
 use Rattle.std.specs.Borrow.{MutBor}
 use Rattle.std.specs.Io.KnownBytes.{Appends}
 use Rattle.napt_wire.specs.declared.Side.{Side}
@@ -12,6 +12,10 @@ use Rattle.napt_capture.specs.declared.fault.WriteFault.{WriteFault}
 use Rattle.napt_config.specs.Rules.{Rules}
 use Rattle.napt_records.specs.declared.Fault.{Fault}
 use Rattle.napt_records.specs.declared.Fault.TheVariants.{Capture, Run, Write}
+use Rattle.napt_records.specs.Output.{records_at, records_to}
+use Rattle.napt_records.proofs.Sends.{records_by_time}
+use Rattle.napt_sequential.specs.Sequential.{ran}
+use Rattle.napt_sequential.specs.declared.outcome.Outcome.{Outcome}
 use Rattle.napt_sequential.specs.declared.fault.RunFault.{RunFault}
 use Rattle.napt_sequential.specs.declared.fault.RunFault.TheVariants.{Memory, TooMany, Pool}
 use Rattle.napt_records.specs.declared.Which.{Which}
@@ -108,15 +112,24 @@ gets rules which (front written) inside outside old new captures read got =
 
 -- the text of an output that was made
 abbrev pub text_made : Which → Outputs → List ℕ
-text_made Outside outputs = text outputs.to_outside.items
-text_made Inside outputs = text outputs.to_inside.items
+text_made Outside outputs = text (records_at sides.Outside outputs.times.items outputs.outcomes.items)
+text_made Inside outputs = text (records_at sides.Inside outputs.times.items outputs.outcomes.items)
 text_made Report outputs = string_bytes outputs.report
+
+-- the records of what was made
+records_made : (side : Side) (rules : Rules) (captures : Captures) (outputs : Outputs)
+    (made : AreOutputs rules captures outputs)
+    → records_at side outputs.times.items outputs.outcomes.items
+    ≡ records_to side made.arrivals (ran rules made.arrivals).outcomes
+records_made side rules captures outputs made =
+    ap₂ (λ (times : List ℕ) (outcomes : List Outcome). records_at side times outcomes) made.times made.outcomes
+    ∙ records_by_time side made.arrivals (ran rules made.arrivals).outcomes
 
 text_is : (which : Which) (rules : Rules) (captures : Captures) (outputs : Outputs)
     (made : AreOutputs rules captures outputs)
     → text_made which outputs ≡ text_of rules which captures made.arrivals
-text_is Outside rules captures outputs made = ap text made.to_outside
-text_is Inside rules captures outputs made = ap text made.to_inside
+text_is Outside rules captures outputs made = ap text (records_made sides.Outside rules captures outputs made)
+text_is Inside rules captures outputs made = ap text (records_made sides.Inside rules captures outputs made)
 text_is Report rules captures outputs made = made.report
 
 gets_made : (which : Which) (share : Share) (rules : Rules) (captures : Captures) (outputs : Outputs)

@@ -1,6 +1,6 @@
 -- What a run over captures leaves on its devices. Where the bytes of a reader or a writer are not known, nothing is
 -- claimed of them.
-use Rattle.std.specs.Prelude.{◌≡◌, ℕ, ◌+◌, ◌≤◌, ◌^◌, List, [], length, take, Bool, false, IfSome, string_bytes, Option, Some, None, Result, Ok, Err}
+use Rattle.std.specs.Prelude.{◌≡◌, ℕ, ◌+◌, ◌≤◌, ◌^◌, List, [], length, map, take, Bool, false, IfSome, string_bytes, Option, Some, None, Result, Ok, Err}
 use Rattle.std.specs.Io.KnownBytes.{Appends}
 use Rattle.napt_wire.specs.declared.Side.{Side}
 use Rattle.napt_wire.specs.declared.Side.TheVariants as sides
@@ -175,9 +175,14 @@ IsUnread side known other = ⊥
 pub record AreOutputs (rules : Rules) (captures : Captures) (outputs : Outputs) : Type 0 where
   pub arrivals : List Arrival
   pub merged : IsMerged captures.inside.records captures.outside.records arrivals
-  pub to_outside : outputs.to_outside.items ≡ records_to sides.Outside arrivals (ran rules arrivals).outcomes
-  pub to_inside : outputs.to_inside.items ≡ records_to sides.Inside arrivals (ran rules arrivals).outcomes
+  pub times : outputs.times.items ≡ map (λ input. input.time) arrivals
+  pub outcomes : outputs.outcomes.items ≡ (ran rules arrivals).outcomes
   pub report : string_bytes outputs.report ≡ report_text captures.inside.cut captures.outside.cut (ran rules arrivals)
+
+-- the output that goes to a side
+abbrev pub output_to : Side → Which
+output_to sides.Inside = Inside
+output_to sides.Outside = Outside
 
 -- writing this output failed
 abbrev pub IsWriteFaultOf : Which → Fault → Type 0

@@ -1,18 +1,17 @@
 //! A run over captures: both are read, workers run in memory, and only then anything is written.
 ghost use Rattle.std.specs.Prelude.{◌≡◌, ◌↔◌, ◌+◌, ◌-◌, ◌^◌, ◌<◌, length, All, OnOk, IfOk, IfErr, IfSome, Err, true, false};
 ghost use Rattle.napt_capture.specs.Text.{IsWritable, text};
+ghost use Rattle.napt_records.specs.Output.{IsTime, records_at};
 ghost use Rattle.napt_run.specs.Devices.{IfGiven, GrowsBy, bytes_in};
-ghost use Rattle.napt_run.specs.Captures.{AreOutputs, AreTooMany, Explains, Gets, IsReadFrom, IsUnread, IsWriteFaultOf, Receives, TooManyAreTold, failed_readings, failed_writings, no_contents, share_of, tells_shut_gate};
+ghost use Rattle.napt_run.specs.Captures.{AreOutputs, AreTooMany, Explains, Gets, IsReadAsOutside, IsReadFrom, IsUnread, IsWriteFaultOf, Receives, TooManyAreTold, failed_readings, failed_writings, no_contents, output_to, share_of, tells_shut_gate};
 ghost use Rattle.napt_dispatch.specs.Dispatch.{is_gate_fault};
 
-use napt_capture::{
-    Capture, Record, Sink, Source, one_answer, read_capture, write_capture, write_text,
-};
+use napt_capture::{Capture, Sink, Source, one_answer, read_capture, write_text};
 use napt_config::Config;
 use napt_dispatch::run_on_pool;
 use napt_pool::Gate;
-use napt_records::{Fault, Which, merge, records_sent, report_text, times_of};
-use napt_sequential::RunFault;
+use napt_records::{Fault, Which, merge, report_text, times_of, write_packets};
+use napt_sequential::{Outcome, RunFault};
 use napt_wire::Side;
 use std::alloc::Global;
 use std::sync::{Arc, Wait};
@@ -25,11 +24,13 @@ struct Captures {
     outside: Capture,
 }
 
-/// What a run writes, ready in memory.
+/// What a run writes, but for the headers of its records.
 #[derive(Drop)]
 struct Outputs {
-    to_outside: Vec<Record>,
-    to_inside: Vec<Record>,
+    /// When each input arrived, in ns.
+    times: Vec<u64>,
+    /// What became of each input.
+    outcomes: Vec<Outcome>,
     report: String,
 }
 
@@ -79,10 +80,8 @@ fn make_outputs<T: Threads + Wait + Copy + Send + 'static, G: Gate + Send + Sync
     ensures ok { IfOk result (λ outputs. AreOutputs config.now captures outputs) }
     ensures too_many { (result ≡ Err RunFault.TooMany) ↔ AreTooMany captures }
     ensures gate { G.is_open ≡ true → IfErr result (λ fault. is_gate_fault fault ≡ false) }
-    ensures outside_writable { IfOk result (λ outputs. All IsWritable outputs.to_outside.items) }
-    ensures inside_writable { IfOk result (λ outputs. All IsWritable outputs.to_inside.items) }
-    ensures outside_few { IfOk result (λ outputs. length outputs.to_outside.items < 2 ^ 32) }
-    ensures inside_few { IfOk result (λ outputs. length outputs.to_inside.items < 2 ^ 32) }
+    ensures few { IfOk result (λ outputs. length outputs.times.items < 2 ^ 32) }
+    ensures timely { IfOk result (λ outputs. All IsTime outputs.times.items) }
 {
     if captures.are_too_many() {
         return Err(RunFault::TooMany);
@@ -92,28 +91,41 @@ fn make_outputs<T: Threads + Wait + Copy + Send + 'static, G: Gate + Send + Sync
     let times = times_of(alloc, &inputs)?;
     let run = run_on_pool(rt, alloc, config, inputs, gate)?;
     let report = report_text(alloc, &run, inside.cut, outside.cut)?;
-    let sent = records_sent(alloc, &times, run.outcomes)?;
     Ok(Outputs {
-        to_outside: sent.to_outside,
-        to_inside: sent.to_inside,
+        times,
+        outcomes: run.outcomes,
         report,
     })
 }
 
-/// Writes the capture of an output, and flushes it.
-fn write_records<W: Sink>(which: Which, output: &mut W, records: &[Record]) -> Result<(), Fault>
-    requires output { W.failed output.old < 2 ^ 64 - 1 }
-    requires few { length records.now < 2 ^ 32 }
-    requires writable { All IsWritable records.now }
-    ensures bytes { Receives (share_of which result) (text records.now)
-        (W.contents output.old) (W.contents output.new) }
-    ensures flushed { OnOk result (W.is_flushed output.new) }
-    ensures fault { IfErr result (IsWriteFaultOf which) }
-    ensures count { W.failed output.new ≡ W.failed output.old + failed_writings which result }
+/// The output that goes to a side.
+fn output_to(side: Side) -> Which
+    ensures { result ≡ output_to side }
 {
-    match write_capture(output, records) {
-        Ok(()) => Ok(()),
-        Err(fault) => Err(Fault::Write(which, fault)),
+    match side {
+        Side::Inside => Which::Inside,
+        Side::Outside => Which::Outside,
+    }
+}
+
+impl Outputs {
+    /// Writes the capture that goes to a side, and flushes it.
+    fn write_side<W: Sink>(&self, side: Side, output: &mut W) -> Result<(), Fault>
+        requires output { W.failed output.old < 2 ^ 64 - 1 }
+        requires few { length self.now.times.items < 2 ^ 32 }
+        requires timely { All IsTime self.now.times.items }
+        ensures bytes { Receives (share_of (output_to side) result)
+            (text (records_at side self.now.times.items self.now.outcomes.items))
+            (W.contents output.old) (W.contents output.new) }
+        ensures flushed { OnOk result (W.is_flushed output.new) }
+        ensures fault { IfErr result (IsWriteFaultOf (output_to side)) }
+        ensures count { W.failed output.new
+            ≡ W.failed output.old + failed_writings (output_to side) result }
+    {
+        match write_packets(output, side, &self.times, &self.outcomes) {
+            Ok(()) => Ok(()),
+            Err(fault) => Err(Fault::Write(output_to(side), fault)),
+        }
     }
 }
 
@@ -210,9 +222,9 @@ pub fn run_captures<
     };
     let captures = Captures { inside, outside };
     let outputs = make_outputs(rt, alloc, config, captures, gate)?;
-    write_records(Which::Outside, to_outside, &outputs.to_outside)?;
+    outputs.write_side(Side::Outside, to_outside)?;
     if let Some(to_inside) = to_inside {
-        write_records(Which::Inside, to_inside, &outputs.to_inside)?;
+        outputs.write_side(Side::Inside, to_inside)?;
     }
     if let Some(report) = report {
         write_report(report, &outputs.report)?;

@@ -1,4 +1,4 @@
-use Rattle.napt_capture.proofs.Written.{IsCapture-text}
+use Rattle.napt_capture.proofs.ReadsBack.{IsCapture-text}
 use Rattle.napt_capture.proofs.laws.reads_back.Goals as goal
 
 pub returns : goal.returns

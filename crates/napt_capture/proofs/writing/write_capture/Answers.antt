@@ -1,26 +1,10 @@
 -- After each step the text so far is written, or a front of it.
-use Rattle.std.proofs.Common.{◌≡◌, ◌+◌, ◌≤◌, ℕ, List, length, take, Option, Result, Ok, Err, OnOk, IfErr, sym, rules}
+use Rattle.std.proofs.Common.{◌+◌, sym, rules}
 use Rattle.std.proofs.lemmas.Result.{err_from_is_err_and}
 use Rattle.std.specs.List.{flat_map}
-use Rattle.std.specs.Io.KnownBytes.{Appends, Keeps}
-use Rattle.std.proofs.KnownBytes.{Appends-kept}
-use Rattle.napt_capture.specs.declared.fault.WriteFault.{WriteFault}
 use Rattle.napt_capture.specs.Text.{file_header, record_text, text}
-use Rattle.napt_capture.specs.Writing.{PutsAll}
-use Rattle.napt_capture.proofs.Puts.{PutsAll-append, PutsFront-append, PutsFront-longer, PutsFront-fault, PutsAll-fault, PutsAll-same, PutsFront-same, text_of_first, text_of_first-more, text_of_first-all, text_of_first-room, text-split}
+use Rattle.napt_capture.proofs.Puts.{flushed_ok, flushed_err, PutsAll-append, PutsFront-append, PutsFront-longer, PutsFront-fault, PutsAll-same, PutsFront-same, text_of_first, text_of_first-more, text_of_first-all, text_of_first-room, text-split}
 use Rattle.napt_capture.proofs.writing.write_capture.Goals as goal
-
--- what follows a flush that comes behind the whole text
-flushed_ok : (old now new : Option (List ℕ)) {written : ℕ} (r : Result (Unit {0}) WriteFault) (xs : List ℕ)
-    → PutsAll 0 old now xs written → Keeps now new → OnOk r (Appends old new xs)
-flushed_ok old now new (Ok _) xs p kept = Appends-kept old now new xs p.appended kept
-flushed_ok old now new (Err _) xs p kept = tt
-
-flushed_err : (old now new : Option (List ℕ)) {written : ℕ} (r : Result (Unit {0}) WriteFault) (xs : List ℕ)
-    → PutsAll 0 old now xs written → Keeps now new → IfErr r (λ fault. fault.written ≡ written)
-    → IfErr r (λ fault. (fault.written ≤ length xs) × Appends old new (take fault.written xs))
-flushed_err old now new (Ok _) xs p kept is = tt
-flushed_err old now new (Err fault) xs p kept is = PutsAll-fault old now new xs fault.written p kept is
 
 pub returns-in_err-written-clause-err : goal.returns-in_err-written-clause-err
 unfolding text file_header

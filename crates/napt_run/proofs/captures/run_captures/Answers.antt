@@ -1,6 +1,5 @@
-use Rattle.std.proofs.Common.{rules, inl, inr, ap, Ok, Err}
+use Rattle.std.proofs.Common.{rules, inl, inr, refl, ap, Ok, Err}
 use Rattle.std.proofs.lemmas.Result.{err_from_is_err_and}
-use Rattle.napt_capture.specs.Text.{text}
 use Rattle.napt_run.specs.Devices.{bytes_in}
 use Rattle.napt_run.specs.declared.captures.Captures.{Captures}
 use Rattle.napt_records.specs.declared.Fault.TheVariants.{Run}
@@ -9,7 +8,7 @@ use Rattle.napt_run.specs.Captures.{IsReadAsOutside, share_of, whole}
 use Rattle.napt_run.proofs.Devices.{before_inside, before_report, none_or_some, outside_read, received, refused}
 use Rattle.napt_run.proofs.TooMany.{err_is, fault_told, not_too_many, too_many_told}
 use Rattle.napt_run.proofs.captures.run_captures.Goals as goal
-use Rattle.napt_run.proofs.captures.run_captures.Goals.{in-Some+in_ok-outside-in-Some, in-None, in-Some-to_inside+in_ok-write_records-2, in_default, in-Some-report+in_ok-write_report, in_default-report}
+use Rattle.napt_run.proofs.captures.run_captures.Goals.{in-Some+in_ok-outside-in-Some, in-None, in-Some-to_inside+in_ok-write_side-2, in_default, in-Some-report+in_ok-write_report, in_default-report}
 
 pub returns-in_err-inside-clause-to_inside : goal.returns-in_err-inside-clause-to_inside
 returns-in_err-inside-clause-to_inside g c =
@@ -89,10 +88,10 @@ pub returns-in_err-outputs-clause-report_writings : goal.returns-in_err-outputs-
 returns-in_err-outputs-clause-report_writings g c =
     elim (none_or_some c.args.report) [ inl none ↦ rw none (search rules) | inr some ↦ rw some.1 (search rules) ]
 
-pub returns-in_err-write_records-clause-to_outside : goal.returns-in_err-write_records-clause-to_outside
-returns-in_err-write_records-clause-to_outside g c =
-    let p = err_from_is_err_and c.from_residual-in_err-write_records.result
-    c.from_residual-in_err-write_records.ensures.1 in
+pub returns-in_err-write_side-clause-to_outside : goal.returns-in_err-write_side-clause-to_outside
+returns-in_err-write_side-clause-to_outside g c =
+    let p = err_from_is_err_and c.from_residual-in_err-write_side.result
+    c.from_residual-in_err-write_side.ensures.1 in
     let captures : Captures = record { inside = c.in_ok-inside.inside; outside = c.match-outside.outside2 } in
     let second : IsReadAsOutside (bytes_in g.Q.Source.remaining c.args.outside) captures.outside =
     elim c.match-outside.branch [
@@ -100,39 +99,39 @@ returns-in_err-write_records-clause-to_outside g c =
           (outside_read _ _ w.in_ok-outside-in-Some.ensures.ok)
       | in-None w ↦ rw (w.in-None.is, w.outside2-is) w.no_capture-outside.ensures
     ] in
-    rw (p.1, p.2) (received Outside (share_of Outside (Err c.in_err-write_records.field-0.0)) c.args.config.now
+    rw (p.1, p.2) (received Outside (share_of Outside (Err c.in_err-write_side.field-0.0)) c.args.config.now
     (g.R.Source.remaining c.args.inside.now) (bytes_in g.Q.Source.remaining c.args.outside) captures _
-    (text c.deref.result.now) (g.W.Sink.contents c.args.to_outside.now) (g.W.Sink.contents c.write_records.new.output)
-    c.in_ok-inside.ensures.ok second c.in_ok-outputs.ensures.ok (ap text c.deref.ensures.value)
-    c.in_err-write_records.ensures.bytes)
+    _ (g.W.Sink.contents c.args.to_outside.now) (g.W.Sink.contents c.write_side.new.output)
+    c.in_ok-inside.ensures.ok second c.in_ok-outputs.ensures.ok refl
+    c.in_err-write_side.ensures.bytes)
 
-pub returns-in_err-write_records-clause-to_inside : goal.returns-in_err-write_records-clause-to_inside
-returns-in_err-write_records-clause-to_inside g c =
+pub returns-in_err-write_side-clause-to_inside : goal.returns-in_err-write_side-clause-to_inside
+returns-in_err-write_side-clause-to_inside g c =
     elim (none_or_some c.args.to_inside) [ inl none ↦ rw none tt | inr some ↦ rw some.1 (search rules) ]
 
-pub returns-in_err-write_records-clause-report : goal.returns-in_err-write_records-clause-report
-returns-in_err-write_records-clause-report g c =
+pub returns-in_err-write_side-clause-report : goal.returns-in_err-write_side-clause-report
+returns-in_err-write_side-clause-report g c =
     elim (none_or_some c.args.report) [ inl none ↦ rw none tt | inr some ↦ rw some.1 (search rules) ]
 
-pub returns-in_err-write_records-clause-outside_readings : goal.returns-in_err-write_records-clause-outside_readings
-returns-in_err-write_records-clause-outside_readings g c =
+pub returns-in_err-write_side-clause-outside_readings : goal.returns-in_err-write_side-clause-outside_readings
+returns-in_err-write_side-clause-outside_readings g c =
     elim c.match-outside.branch [
       | in-Some+in_ok-outside-in-Some w ↦ rw (w.outside-is, w.in-Some.is) (search rules)
       | in-None w ↦ rw (w.outside-is, w.in-None.is) (search rules)
     ]
 
-pub returns-in_err-write_records-clause-inside_writings : goal.returns-in_err-write_records-clause-inside_writings
-returns-in_err-write_records-clause-inside_writings g c =
+pub returns-in_err-write_side-clause-inside_writings : goal.returns-in_err-write_side-clause-inside_writings
+returns-in_err-write_side-clause-inside_writings g c =
     elim (none_or_some c.args.to_inside) [ inl none ↦ rw none (search rules) | inr some ↦ rw some.1 (search rules) ]
 
-pub returns-in_err-write_records-clause-report_writings : goal.returns-in_err-write_records-clause-report_writings
-returns-in_err-write_records-clause-report_writings g c =
+pub returns-in_err-write_side-clause-report_writings : goal.returns-in_err-write_side-clause-report_writings
+returns-in_err-write_side-clause-report_writings g c =
     elim (none_or_some c.args.report) [ inl none ↦ rw none (search rules) | inr some ↦ rw some.1 (search rules) ]
 
-pub returns-in_err-write_records-2-clause-to_outside : goal.returns-in_err-write_records-2-clause-to_outside
-returns-in_err-write_records-2-clause-to_outside g c =
-    let p = err_from_is_err_and c.from_residual-in_err-write_records-2.result
-    c.from_residual-in_err-write_records-2.ensures.1 in
+pub returns-in_err-write_side-2-clause-to_outside : goal.returns-in_err-write_side-2-clause-to_outside
+returns-in_err-write_side-2-clause-to_outside g c =
+    let p = err_from_is_err_and c.from_residual-in_err-write_side-2.result
+    c.from_residual-in_err-write_side-2.ensures.1 in
     let captures : Captures = record { inside = c.in_ok-inside.inside; outside = c.match-outside.outside2 } in
     let second : IsReadAsOutside (bytes_in g.Q.Source.remaining c.args.outside) captures.outside =
     elim c.match-outside.branch [
@@ -140,17 +139,17 @@ returns-in_err-write_records-2-clause-to_outside g c =
           (outside_read _ _ w.in_ok-outside-in-Some.ensures.ok)
       | in-None w ↦ rw (w.in-None.is, w.outside2-is) w.no_capture-outside.ensures
     ] in
-    rw (p.1, p.2, before_inside c.in_err-write_records-2.field-0.0 c.in_err-write_records-2.ensures.fault)
+    rw (p.1, p.2, before_inside c.in_err-write_side-2.field-0.0 c.in_err-write_side-2.ensures.fault)
     (received Outside whole c.args.config.now (g.R.Source.remaining c.args.inside.now)
     (bytes_in g.Q.Source.remaining c.args.outside) captures _
-    (text c.deref.result.now) (g.W.Sink.contents c.args.to_outside.now) (g.W.Sink.contents c.write_records.new.output)
-    c.in_ok-inside.ensures.ok second c.in_ok-outputs.ensures.ok (ap text c.deref.ensures.value)
-    c.in_ok-write_records.ensures.bytes)
+    _ (g.W.Sink.contents c.args.to_outside.now) (g.W.Sink.contents c.write_side.new.output)
+    c.in_ok-inside.ensures.ok second c.in_ok-outputs.ensures.ok refl
+    c.in_ok-write_side.ensures.bytes)
 
-pub returns-in_err-write_records-2-clause-to_inside : goal.returns-in_err-write_records-2-clause-to_inside
-returns-in_err-write_records-2-clause-to_inside g c =
-    let p = err_from_is_err_and c.from_residual-in_err-write_records-2.result
-    c.from_residual-in_err-write_records-2.ensures.1 in
+pub returns-in_err-write_side-2-clause-to_inside : goal.returns-in_err-write_side-2-clause-to_inside
+returns-in_err-write_side-2-clause-to_inside g c =
+    let p = err_from_is_err_and c.from_residual-in_err-write_side-2.result
+    c.from_residual-in_err-write_side-2.ensures.1 in
     let captures : Captures = record { inside = c.in_ok-inside.inside; outside = c.match-outside.outside2 } in
     let second : IsReadAsOutside (bytes_in g.Q.Source.remaining c.args.outside) captures.outside =
     elim c.match-outside.branch [
@@ -158,33 +157,33 @@ returns-in_err-write_records-2-clause-to_inside g c =
           (outside_read _ _ w.in_ok-outside-in-Some.ensures.ok)
       | in-None w ↦ rw (w.in-None.is, w.outside2-is) w.no_capture-outside.ensures
     ] in
-    rw (p.1, p.2, c.in-Some-to_inside.is) (received Inside (share_of Inside (Err c.in_err-write_records-2.field-0.0))
+    rw (p.1, p.2, c.in-Some-to_inside.is) (received Inside (share_of Inside (Err c.in_err-write_side-2.field-0.0))
     c.args.config.now (g.R.Source.remaining c.args.inside.now) (bytes_in g.Q.Source.remaining c.args.outside)
     captures _
-    (text c.deref-in-Some-to_inside.result.now) (g.V.Sink.contents c.in-Some-to_inside.to_inside.now)
-    (g.V.Sink.contents c.write_records-in-Some-to_inside.new.output) c.in_ok-inside.ensures.ok second
-    c.in_ok-outputs.ensures.ok (ap text c.deref-in-Some-to_inside.ensures.value)
-    c.in_err-write_records-2.ensures.bytes)
+    _ (g.V.Sink.contents c.in-Some-to_inside.to_inside.now)
+    (g.V.Sink.contents c.write_side-in-Some-to_inside.new.output) c.in_ok-inside.ensures.ok second
+    c.in_ok-outputs.ensures.ok refl
+    c.in_err-write_side-2.ensures.bytes)
 
-pub returns-in_err-write_records-2-clause-report : goal.returns-in_err-write_records-2-clause-report
-returns-in_err-write_records-2-clause-report g c =
+pub returns-in_err-write_side-2-clause-report : goal.returns-in_err-write_side-2-clause-report
+returns-in_err-write_side-2-clause-report g c =
     elim (none_or_some c.args.report) [ inl none ↦ rw none tt | inr some ↦ rw some.1 (search rules) ]
 
-pub returns-in_err-write_records-2-clause-outside_readings : goal.returns-in_err-write_records-2-clause-outside_readings
-returns-in_err-write_records-2-clause-outside_readings g c =
+pub returns-in_err-write_side-2-clause-outside_readings : goal.returns-in_err-write_side-2-clause-outside_readings
+returns-in_err-write_side-2-clause-outside_readings g c =
     elim c.match-outside.branch [
       | in-Some+in_ok-outside-in-Some w ↦ rw (w.outside-is, w.in-Some.is) (search rules)
       | in-None w ↦ rw (w.outside-is, w.in-None.is) (search rules)
     ]
 
-pub returns-in_err-write_records-2-clause-inside_writings : goal.returns-in_err-write_records-2-clause-inside_writings
-returns-in_err-write_records-2-clause-inside_writings g c =
-    let p = err_from_is_err_and c.from_residual-in_err-write_records-2.result
-    c.from_residual-in_err-write_records-2.ensures.1 in
-    rw (p.1, p.2, c.in-Some-to_inside.is) c.in_err-write_records-2.ensures.count
+pub returns-in_err-write_side-2-clause-inside_writings : goal.returns-in_err-write_side-2-clause-inside_writings
+returns-in_err-write_side-2-clause-inside_writings g c =
+    let p = err_from_is_err_and c.from_residual-in_err-write_side-2.result
+    c.from_residual-in_err-write_side-2.ensures.1 in
+    rw (p.1, p.2, c.in-Some-to_inside.is) c.in_err-write_side-2.ensures.count
 
-pub returns-in_err-write_records-2-clause-report_writings : goal.returns-in_err-write_records-2-clause-report_writings
-returns-in_err-write_records-2-clause-report_writings g c =
+pub returns-in_err-write_side-2-clause-report_writings : goal.returns-in_err-write_side-2-clause-report_writings
+returns-in_err-write_side-2-clause-report_writings g c =
     elim (none_or_some c.args.report) [ inl none ↦ rw none (search rules) | inr some ↦ rw some.1 (search rules) ]
 
 pub returns-in_err-write_report-clause-to_outside : goal.returns-in_err-write_report-clause-to_outside
@@ -201,9 +200,9 @@ returns-in_err-write_report-clause-to_outside g c =
     rw (p.1, p.2, (before_report c.in_err-write_report.field-0.0 c.in_err-write_report.ensures.fault).0)
     (received Outside whole c.args.config.now (g.R.Source.remaining c.args.inside.now)
     (bytes_in g.Q.Source.remaining c.args.outside) captures _
-    (text c.deref.result.now) (g.W.Sink.contents c.args.to_outside.now) (g.W.Sink.contents c.write_records.new.output)
-    c.in_ok-inside.ensures.ok second c.in_ok-outputs.ensures.ok (ap text c.deref.ensures.value)
-    c.in_ok-write_records.ensures.bytes)
+    _ (g.W.Sink.contents c.args.to_outside.now) (g.W.Sink.contents c.write_side.new.output)
+    c.in_ok-inside.ensures.ok second c.in_ok-outputs.ensures.ok refl
+    c.in_ok-write_side.ensures.bytes)
 
 pub returns-in_err-write_report-clause-to_inside : goal.returns-in_err-write_report-clause-to_inside
 returns-in_err-write_report-clause-to_inside g c =
@@ -217,7 +216,7 @@ returns-in_err-write_report-clause-to_inside g c =
       | in-None w ↦ rw (w.in-None.is, w.outside2-is) w.no_capture-outside.ensures
     ] in
     elim c.match-to_inside.branch [
-      | in-Some-to_inside+in_ok-write_records-2 w ↦ rw (
+      | in-Some-to_inside+in_ok-write_side-2 w ↦ rw (
         p.1,
         p.2,
         (before_report c.in_err-write_report.field-0.0 c.in_err-write_report.ensures.fault).1,
@@ -225,10 +224,10 @@ returns-in_err-write_report-clause-to_inside g c =
         w.in-Some-to_inside.is,
       ) (received Inside whole c.args.config.now
           (g.R.Source.remaining c.args.inside.now) (bytes_in g.Q.Source.remaining c.args.outside) captures _
-          (text w.deref-in-Some-to_inside.result.now) (g.V.Sink.contents w.in-Some-to_inside.to_inside.now)
-          (g.V.Sink.contents w.write_records-in-Some-to_inside.new.output) c.in_ok-inside.ensures.ok second
-          c.in_ok-outputs.ensures.ok (ap text w.deref-in-Some-to_inside.ensures.value)
-          w.in_ok-write_records-2.ensures.bytes)
+          _ (g.V.Sink.contents w.in-Some-to_inside.to_inside.now)
+          (g.V.Sink.contents w.write_side-in-Some-to_inside.new.output) c.in_ok-inside.ensures.ok second
+          c.in_ok-outputs.ensures.ok refl
+          w.in_ok-write_side-2.ensures.bytes)
       | in_default w ↦ rw (w.to_inside-is, w.in_default.is) tt
     ]
 
@@ -246,9 +245,9 @@ returns-in_err-write_report-clause-report g c =
     rw (p.1, p.2, c.in-Some-report.is) (received Report (share_of Report (Err c.in_err-write_report.field-0.0))
     c.args.config.now (g.R.Source.remaining c.args.inside.now) (bytes_in g.Q.Source.remaining c.args.outside)
     captures _
-    c.deref-in-Some-report.result.now (g.U.Sink.contents c.in-Some-report.report.now)
+    c.deref.result.now (g.U.Sink.contents c.in-Some-report.report.now)
     (g.U.Sink.contents c.write_report.new.output) c.in_ok-inside.ensures.ok second c.in_ok-outputs.ensures.ok
-    c.deref-in-Some-report.ensures c.in_err-write_report.ensures.bytes)
+    c.deref.ensures c.in_err-write_report.ensures.bytes)
 
 pub returns-in_err-write_report-clause-outside_readings : goal.returns-in_err-write_report-clause-outside_readings
 returns-in_err-write_report-clause-outside_readings g c =
@@ -260,7 +259,7 @@ returns-in_err-write_report-clause-outside_readings g c =
 pub returns-in_err-write_report-clause-inside_writings : goal.returns-in_err-write_report-clause-inside_writings
 returns-in_err-write_report-clause-inside_writings g c =
     elim c.match-to_inside.branch [
-      | in-Some-to_inside+in_ok-write_records-2 w ↦ rw (w.to_inside-is, w.in-Some-to_inside.is) (search rules)
+      | in-Some-to_inside+in_ok-write_side-2 w ↦ rw (w.to_inside-is, w.in-Some-to_inside.is) (search rules)
       | in_default w ↦ rw (w.to_inside-is, w.in_default.is) (search rules)
     ]
 
@@ -281,9 +280,9 @@ returns-clause-to_outside g c =
     ] in
     received Outside whole c.args.config.now (g.R.Source.remaining c.args.inside.now)
     (bytes_in g.Q.Source.remaining c.args.outside) captures _
-    (text c.deref.result.now) (g.W.Sink.contents c.args.to_outside.now) (g.W.Sink.contents c.write_records.new.output)
-    c.in_ok-inside.ensures.ok second c.in_ok-outputs.ensures.ok (ap text c.deref.ensures.value)
-    c.in_ok-write_records.ensures.bytes
+    _ (g.W.Sink.contents c.args.to_outside.now) (g.W.Sink.contents c.write_side.new.output)
+    c.in_ok-inside.ensures.ok second c.in_ok-outputs.ensures.ok refl
+    c.in_ok-write_side.ensures.bytes
 
 pub returns-clause-to_inside : goal.returns-clause-to_inside
 returns-clause-to_inside g c =
@@ -295,13 +294,13 @@ returns-clause-to_inside g c =
       | in-None w ↦ rw (w.in-None.is, w.outside2-is) w.no_capture-outside.ensures
     ] in
     elim c.match-to_inside.branch [
-      | in-Some-to_inside+in_ok-write_records-2 w ↦ rw (w.to_inside-is, w.in-Some-to_inside.is)
+      | in-Some-to_inside+in_ok-write_side-2 w ↦ rw (w.to_inside-is, w.in-Some-to_inside.is)
           (received Inside whole c.args.config.now (g.R.Source.remaining c.args.inside.now)
           (bytes_in g.Q.Source.remaining c.args.outside) captures _
-          (text w.deref-in-Some-to_inside.result.now) (g.V.Sink.contents w.in-Some-to_inside.to_inside.now)
-          (g.V.Sink.contents w.write_records-in-Some-to_inside.new.output) c.in_ok-inside.ensures.ok second
-          c.in_ok-outputs.ensures.ok (ap text w.deref-in-Some-to_inside.ensures.value)
-          w.in_ok-write_records-2.ensures.bytes)
+          _ (g.V.Sink.contents w.in-Some-to_inside.to_inside.now)
+          (g.V.Sink.contents w.write_side-in-Some-to_inside.new.output) c.in_ok-inside.ensures.ok second
+          c.in_ok-outputs.ensures.ok refl
+          w.in_ok-write_side-2.ensures.bytes)
       | in_default w ↦ rw (w.to_inside-is, w.in_default.is) tt
     ]
 
@@ -318,9 +317,9 @@ returns-clause-report g c =
       | in-Some-report+in_ok-write_report w ↦ rw (w.report-is, w.in-Some-report.is)
           (received Report whole c.args.config.now (g.R.Source.remaining c.args.inside.now)
           (bytes_in g.Q.Source.remaining c.args.outside) captures _
-          w.deref-in-Some-report.result.now (g.U.Sink.contents w.in-Some-report.report.now)
+          w.deref.result.now (g.U.Sink.contents w.in-Some-report.report.now)
           (g.U.Sink.contents w.write_report.new.output) c.in_ok-inside.ensures.ok second c.in_ok-outputs.ensures.ok
-          w.deref-in-Some-report.ensures w.in_ok-write_report.ensures.bytes)
+          w.deref.ensures w.in_ok-write_report.ensures.bytes)
       | in_default-report w ↦ rw (w.report-is, w.in_default-report.is) tt
     ]
 
@@ -334,7 +333,7 @@ returns-clause-outside_readings g c =
 pub returns-clause-inside_writings : goal.returns-clause-inside_writings
 returns-clause-inside_writings g c =
     elim c.match-to_inside.branch [
-      | in-Some-to_inside+in_ok-write_records-2 w ↦ rw (w.to_inside-is, w.in-Some-to_inside.is) (search rules)
+      | in-Some-to_inside+in_ok-write_side-2 w ↦ rw (w.to_inside-is, w.in-Some-to_inside.is) (search rules)
       | in_default w ↦ rw (w.to_inside-is, w.in_default.is) (search rules)
     ]
 
@@ -348,7 +347,7 @@ returns-clause-report_writings g c =
 pub returns-clause-inside_flushed : goal.returns-clause-inside_flushed
 returns-clause-inside_flushed g c =
     elim c.match-to_inside.branch [
-      | in-Some-to_inside+in_ok-write_records-2 w ↦ rw (w.to_inside-is, w.in-Some-to_inside.is) (search rules)
+      | in-Some-to_inside+in_ok-write_side-2 w ↦ rw (w.to_inside-is, w.in-Some-to_inside.is) (search rules)
       | in_default w ↦ rw (w.to_inside-is, w.in_default.is) (search rules)
     ]
 
@@ -374,10 +373,10 @@ returns-in_err-outputs-clause-too_many g c =
     c.in_ok-inside.ensures.ok second
     (λ many. fault_told _ (err_is _ _ (c.in_err-outputs.ensures.too_many.1 many))))
 
-pub returns-in_err-write_records-clause-too_many : goal.returns-in_err-write_records-clause-too_many
-returns-in_err-write_records-clause-too_many g c =
-    let p = err_from_is_err_and c.from_residual-in_err-write_records.result
-    c.from_residual-in_err-write_records.ensures.1 in
+pub returns-in_err-write_side-clause-too_many : goal.returns-in_err-write_side-clause-too_many
+returns-in_err-write_side-clause-too_many g c =
+    let p = err_from_is_err_and c.from_residual-in_err-write_side.result
+    c.from_residual-in_err-write_side.ensures.1 in
     let captures : Captures = record { inside = c.in_ok-inside.inside; outside = c.match-outside.outside2 } in
     let second : IsReadAsOutside (bytes_in g.Q.Source.remaining c.args.outside) captures.outside =
     elim c.match-outside.branch [
@@ -386,14 +385,14 @@ returns-in_err-write_records-clause-too_many g c =
       | in-None w ↦ rw (w.in-None.is, w.outside2-is) w.no_capture-outside.ensures
     ] in
     rw (p.1, p.2) (too_many_told c.one_answer.ensures.unique (g.R.Source.remaining c.args.inside.now)
-    (bytes_in g.Q.Source.remaining c.args.outside) captures (Err c.in_err-write_records.field-0.0)
+    (bytes_in g.Q.Source.remaining c.args.outside) captures (Err c.in_err-write_side.field-0.0)
     c.in_ok-inside.ensures.ok second
     (λ many. absurd (not_too_many c.in_ok-outputs.outputs (c.in_ok-outputs.ensures.too_many.1 many))))
 
-pub returns-in_err-write_records-2-clause-too_many : goal.returns-in_err-write_records-2-clause-too_many
-returns-in_err-write_records-2-clause-too_many g c =
-    let p = err_from_is_err_and c.from_residual-in_err-write_records-2.result
-    c.from_residual-in_err-write_records-2.ensures.1 in
+pub returns-in_err-write_side-2-clause-too_many : goal.returns-in_err-write_side-2-clause-too_many
+returns-in_err-write_side-2-clause-too_many g c =
+    let p = err_from_is_err_and c.from_residual-in_err-write_side-2.result
+    c.from_residual-in_err-write_side-2.ensures.1 in
     let captures : Captures = record { inside = c.in_ok-inside.inside; outside = c.match-outside.outside2 } in
     let second : IsReadAsOutside (bytes_in g.Q.Source.remaining c.args.outside) captures.outside =
     elim c.match-outside.branch [
@@ -402,7 +401,7 @@ returns-in_err-write_records-2-clause-too_many g c =
       | in-None w ↦ rw (w.in-None.is, w.outside2-is) w.no_capture-outside.ensures
     ] in
     rw (p.1, p.2) (too_many_told c.one_answer.ensures.unique (g.R.Source.remaining c.args.inside.now)
-    (bytes_in g.Q.Source.remaining c.args.outside) captures (Err c.in_err-write_records-2.field-0.0)
+    (bytes_in g.Q.Source.remaining c.args.outside) captures (Err c.in_err-write_side-2.field-0.0)
     c.in_ok-inside.ensures.ok second
     (λ many. absurd (not_too_many c.in_ok-outputs.outputs (c.in_ok-outputs.ensures.too_many.1 many))))
 

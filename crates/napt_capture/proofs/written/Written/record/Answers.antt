@@ -1,22 +1,18 @@
 -- The header of a record, and then its bytes.
-use Rattle.std.proofs.Common.{◌≡◌, ap, ◌∙◌}
 use Rattle.std.proofs.lemmas.Result.{err_from_is_err_and}
-use Rattle.napt_capture.specs.Contents.{Entry}
 use Rattle.napt_capture.specs.Text.{record_text}
 use Rattle.napt_capture.proofs.Puts.{Puts-append, PutsFront-longer}
-use Rattle.napt_capture.proofs.writing.put_record.Goals as goal
+use Rattle.napt_capture.proofs.written.Written.record.Goals as goal
 
 pub returns-in_err-written-clause-puts : goal.returns-in_err-written-clause-puts
 unfolding record_text
 returns-in_err-written-clause-puts g c =
     let p = err_from_is_err_and c.from_residual.result c.from_residual.ensures.1 in
     rw (p.1, p.2, ← c.record_header.ensures)
-    (PutsFront-longer c.record_header.result c.args.packet.now.bytes c.in_err-written.ensures.puts)
+    (PutsFront-longer c.record_header.result c.args.bytes.now c.in_err-written.ensures.puts)
 
 pub returns-clause-puts : goal.returns-clause-puts
 unfolding record_text
 returns-clause-puts g c =
-    let bytes : c.deref.result.now ≡ c.args.packet.now.bytes = c.deref.ensures.value
-    ∙ ap (λ (e : Entry). e.bytes) c.packet.view_is in
-    rw (← c.record_header.ensures, ← bytes) (Puts-append _ _ _ c.record_header.result c.deref.result.now c.put-2.result
+    rw (← c.record_header.ensures) (Puts-append _ _ _ c.record_header.result c.args.bytes.now c.put-2.result
     c.in_ok-written.ensures.puts c.put-2.ensures.puts)

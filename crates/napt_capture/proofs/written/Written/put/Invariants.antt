@@ -1,7 +1,7 @@
 -- The bytes that are done were written, and no write failed.
 use Rattle.std.proofs.Common.{◌≡◌, ◌-◌, ◌≤◌, length, take}
 use Rattle.std.specs.Io.KnownBytes.{Appends}
-use Rattle.napt_capture.proofs.writing.put.Given as goal
+use Rattle.napt_capture.proofs.written.Written.put.Given as goal
 
 abbrev pub invariant-loop-done : goal.invariant-loop-done
 invariant-loop-done g l =

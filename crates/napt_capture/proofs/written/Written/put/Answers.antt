@@ -8,7 +8,7 @@ use Rattle.std.specs.Result.{result_unwrap_or}
 use Rattle.std.proofs.KnownBytes.{Appends-trans}
 use Rattle.napt_capture.specs.Device.{failed_writes}
 use Rattle.napt_capture.specs.declared.device.DeviceFault.{DeviceFault}
-use Rattle.napt_capture.proofs.writing.put.Goals as goal
+use Rattle.napt_capture.proofs.written.Written.put.Goals as goal
 
 -- a write of the rest that took some bytes
 takes_more : (r : Result ℕ DeviceFault) (old mid new : Option (List ℕ)) (bytes : List ℕ)
