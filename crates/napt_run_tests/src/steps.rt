@@ -1,6 +1,6 @@
-//! Packets of a run, each with what becomes of it.
+//! UDP packets of a run from the inside, each with what becomes of it.
 
-use crate::packets::Sample;
+use crate::packets::udp;
 use napt_run::{Input, Outcome, Run};
 use napt_samples::hosts::{CLIENT, RESOLVER, SECOND, external, host};
 use napt_table::Row;
@@ -8,66 +8,54 @@ use napt_wire::{Cause, Endpoint, Protocol, Side};
 use std::alloc::{AllocError, Global};
 use std::process::Abort;
 
-/// Where a packet goes, and as what, or why it is dropped.
+/// Where a packet goes, from which end to which, or why it is dropped.
 #[derive(Clone, Copy)]
-pub(crate) enum Want<'a> {
-    ToOutside(Sample<'a>),
-    ToInside(Sample<'a>),
+pub(crate) enum Want {
+    ToOutside(Endpoint, Endpoint),
+    ToInside(Endpoint, Endpoint),
     Dropped(Cause),
 }
 
-/// A packet that comes from a side at a time, in ns.
+/// A UDP packet without payload that comes from the inside at a time, in ns.
 #[derive(Clone, Copy)]
-pub(crate) struct Step<'a> {
-    side: Side,
+pub(crate) struct Step {
     time: u64,
-    packet: Sample<'a>,
-    want: Want<'a>,
+    source: Endpoint,
+    destination: Endpoint,
+    want: Want,
 }
 
 /// A packet from the inside.
-pub(crate) fn sent<'a>(time: u64, packet: Sample<'a>, want: Want<'a>) -> Step<'a> {
+pub(crate) fn sent(time: u64, source: Endpoint, destination: Endpoint, want: Want) -> Step {
     Step {
-        side: Side::Inside,
         time,
-        packet,
+        source,
+        destination,
         want,
     }
 }
 
-/// A packet from the outside.
-pub(crate) fn received<'a>(time: u64, packet: Sample<'a>, want: Want<'a>) -> Step<'a> {
-    Step {
-        side: Side::Outside,
-        ..sent(time, packet, want)
-    }
-}
-
-/// A UDP packet of a host to the resolver, which leaves from an external endpoint.
-pub(crate) fn query<'a>(time: u64, host: Endpoint, external: Endpoint) -> Step<'a> {
-    sent(
-        time,
-        Sample::Udp(host, RESOLVER),
-        Want::ToOutside(Sample::Udp(external, RESOLVER)),
-    )
+/// A packet of a host to the resolver, which leaves from an external endpoint.
+pub(crate) fn query(time: u64, host: Endpoint, external: Endpoint) -> Step {
+    sent(time, host, RESOLVER, Want::ToOutside(external, RESOLVER))
 }
 
 /// A query of 10.0.0.3:7000, which leaves from an external endpoint, and a packet of 10.0.0.2:5000 to that endpoint.
-pub(crate) fn delivered_hairpin<'a>(served: Endpoint) -> [Step<'a>; 2] {
+pub(crate) fn delivered_hairpin(served: Endpoint) -> [Step; 2] {
     let server = host(3, 7000);
-    let delivered = Want::ToInside(Sample::Udp(external(1, 5000), server));
+    let delivered = Want::ToInside(external(1, 5000), server);
     [
         query(SECOND, server, served),
-        sent(2 * SECOND, Sample::Udp(CLIENT, served), delivered),
+        sent(2 * SECOND, CLIENT, served, delivered),
     ]
 }
 
 /// A packet of 10.0.0.2:5000 to an external endpoint that is nobody's yet, and then the query that gets it.
-pub(crate) fn lost_hairpin<'a>() -> [Step<'a>; 2] {
+pub(crate) fn lost_hairpin() -> [Step; 2] {
     let served = external(2, 7000);
     let lost = Want::Dropped(Cause::NoBinding);
     [
-        sent(SECOND, Sample::Udp(CLIENT, served), lost),
+        sent(SECOND, CLIENT, served, lost),
         query(2 * SECOND, host(3, 7000), served),
     ]
 }
@@ -77,10 +65,10 @@ pub(crate) fn inputs(alloc: Global, steps: &[Step]) -> Result<Vec<Input>, AllocE
     let mut inputs = Vec::new(alloc);
     for step in steps {
         inputs.push(Input {
-            side: step.side,
+            side: Side::Inside,
             time: step.time,
             clock: step.time,
-            bytes: step.packet.bytes(alloc)?,
+            bytes: udp(alloc, step.source, step.destination)?,
         })?;
     }
     Ok(inputs)
@@ -88,15 +76,16 @@ pub(crate) fn inputs(alloc: Global, steps: &[Step]) -> Result<Vec<Input>, AllocE
 
 /// Whether a packet became what it should.
 fn is_met(alloc: Global, outcome: &Outcome, want: Want) -> Result<bool, AllocError> {
-    match (outcome, want) {
-        (Outcome::ToOutside(found), Want::ToOutside(packet)) => {
-            Ok(found.bytes() == packet.bytes(alloc)?.as_slice())
+    match want {
+        Want::ToOutside(source, destination) => {
+            let wanted = udp(alloc, source, destination)?;
+            Ok(matches!(outcome, Outcome::ToOutside(found) if found.bytes() == wanted.as_slice()))
         }
-        (Outcome::ToInside(found), Want::ToInside(packet)) => {
-            Ok(found.bytes() == packet.bytes(alloc)?.as_slice())
+        Want::ToInside(source, destination) => {
+            let wanted = udp(alloc, source, destination)?;
+            Ok(matches!(outcome, Outcome::ToInside(found) if found.bytes() == wanted.as_slice()))
         }
-        (Outcome::Dropped(found), Want::Dropped(cause)) => Ok(*found == cause),
-        _ => Ok(false),
+        Want::Dropped(cause) => Ok(matches!(outcome, Outcome::Dropped(found) if *found == cause)),
     }
 }
 

@@ -4,7 +4,6 @@ ghost use Rattle.napt_config.specs.Rules.{KeepsRules};
 ghost use Rattle.napt_dispatch.specs.Dispatch.{started};
 
 use crate::gates::{AfterThird, Meeting, Slow};
-use crate::packets::Sample::Udp;
 use crate::sample_inputs::{THREE_ADDRESSES, thousand_inputs};
 use crate::steps::Want::Dropped;
 use crate::steps::{
@@ -106,7 +105,7 @@ fn others_go_on(rt: HostRuntime) -> Result<(), Fail> {
     let text = format!(in rt.alloc(); "{THREE_ADDRESSES}ring = 64\n")?;
     let lost = Dropped(Cause::NoBinding);
     let steps = [
-        sent(SECOND, Udp(CLIENT, external(2, 7000)), lost),
+        sent(SECOND, CLIENT, external(2, 7000), lost),
         query(2 * SECOND, host(4, 5000), external(3, 5000)),
     ];
     let entered = AtomicU64::new(0);

@@ -1,10 +1,12 @@
 //! Which numbers are given, and what the table tells of them.
 
 use crate::checked::CheckedTable;
+use crate::steps::{played, query, sent, udp_out};
+use crate::twins::Sent;
 use napt_config::Config;
 use napt_samples::flags::NO_FLAGS;
 use napt_samples::hosts::{
-    CLIENT, EXTERNAL, RESOLVER, SECOND, SECOND_CLIENT, SECOND_RESOLVER, external, host, remote,
+    CLIENT, EXTERNAL, SECOND, SECOND_CLIENT, SECOND_RESOLVER, external, host,
 };
 use napt_samples::settings::{TWO_ADDRESSES, WEB_REDIRECT};
 use napt_table::Row;
@@ -14,12 +16,17 @@ use std::test::Fail;
 
 #[test]
 fn one_binding_for_all_remotes(rt: HostRuntime) -> Result<(), Fail> {
-    let mut table = CheckedTable::with(rt.alloc(), "")?;
-    assert_eq!(rt; table.udp_out(SECOND, CLIENT, RESOLVER)?, Ok(5000));
-    assert_eq!(rt;
-        table.udp_out(2 * SECOND, CLIENT, SECOND_RESOLVER)?,
-        Ok(5000)
-    );
+    let elsewhere = Sent {
+        protocol: Protocol::Udp,
+        inside: CLIENT,
+        remote: SECOND_RESOLVER,
+        flags: NO_FLAGS,
+    };
+    let steps = [
+        udp_out(SECOND, CLIENT, Ok(5000)),
+        sent(2 * SECOND, elsewhere, Ok(5000)),
+    ];
+    let table = played(&rt, rt.alloc(), "", &steps)?;
     assert_eq!(rt; table.rows(2 * SECOND)?.len(), 1);
     assert_eq!(rt; table.at(), 2 * SECOND);
     Ok(())
@@ -27,25 +34,18 @@ fn one_binding_for_all_remotes(rt: HostRuntime) -> Result<(), Fail> {
 
 #[test]
 fn next_number_of_its_class(rt: HostRuntime) -> Result<(), Fail> {
-    let mut table = CheckedTable::with(rt.alloc(), "")?;
-    let sent = [
-        (2, 5000, 5000),
-        (3, 5000, 5002),
-        (4, 5000, 5004),
-        (2, 65_535, 65_535),
-        (3, 65_535, 1025),
-        (2, 1022, 1022),
-        (3, 1022, 2),
+    let steps = [
+        udp_out(SECOND, host(2, 5000), Ok(5000)),
+        udp_out(SECOND, host(3, 5000), Ok(5002)),
+        udp_out(SECOND, host(4, 5000), Ok(5004)),
+        udp_out(SECOND, host(2, 65_535), Ok(65_535)),
+        udp_out(SECOND, host(3, 65_535), Ok(1025)),
+        udp_out(SECOND, host(2, 1022), Ok(1022)),
+        udp_out(SECOND, host(3, 1022), Ok(2)),
+        query(SECOND, Protocol::Icmp, host(2, 65_535), Ok(65_535)),
+        query(SECOND, Protocol::Icmp, host(3, 65_535), Ok(0)),
     ];
-    for (many, port, number) in sent {
-        let answer = table.udp_out(SECOND, host(many, port), RESOLVER)?;
-        assert_eq!(rt; answer, Ok(number));
-    }
-    for (many, number) in [(2, 65_535), (3, 0)] {
-        let inside = host(many, 65_535);
-        let answer = table.send(SECOND, Protocol::Icmp, inside, remote(0), NO_FLAGS)?;
-        assert_eq!(rt; answer, Ok(number));
-    }
+    played(&rt, rt.alloc(), "", &steps)?;
     Ok(())
 }
 
@@ -53,38 +53,30 @@ fn next_number_of_its_class(rt: HostRuntime) -> Result<(), Fail> {
 #[test]
 fn borders_of_the_classes(rt: HostRuntime) -> Result<(), Fail> {
     // each from a host of its own: the port it sends from, and the one it gets
-    let sent = [
-        (1023, 1023),
-        (1023, 1),
-        (1024, 1024),
-        (1024, 1026),
-        (1025, 1025),
-        (1025, 1027),
-        (65_534, 65_534),
-        (65_534, 1028),
+    let steps = [
+        udp_out(SECOND, host(2, 1023), Ok(1023)),
+        udp_out(SECOND, host(3, 1023), Ok(1)),
+        udp_out(SECOND, host(4, 1024), Ok(1024)),
+        udp_out(SECOND, host(5, 1024), Ok(1026)),
+        udp_out(SECOND, host(6, 1025), Ok(1025)),
+        udp_out(SECOND, host(7, 1025), Ok(1027)),
+        udp_out(SECOND, host(8, 65_534), Ok(65_534)),
+        udp_out(SECOND, host(9, 65_534), Ok(1028)),
     ];
-    let mut table = CheckedTable::with(rt.alloc(), "")?;
-    let mut many = 2u16;
-    for (port, number) in sent {
-        let answer = table.udp_out(SECOND, host(many, port), RESOLVER)?;
-        assert_eq!(rt; answer, Ok(number), "from {port}");
-        many = many.saturating_add(1);
-    }
+    played(&rt, rt.alloc(), "", &steps)?;
     Ok(())
 }
 
 #[test]
 fn full_class(rt: HostRuntime) -> Result<(), Fail> {
-    let mut table = CheckedTable::with(rt.alloc(), "")?;
+    let mut steps = Vec::new(rt.alloc());
     for k in 0..511 {
-        let answer = table.udp_out(SECOND, host(256 + k, 2), RESOLVER)?;
-        assert_eq!(rt; answer, Ok(2 + 2 * k));
+        steps.push(udp_out(SECOND, host(256 + k, 2), Ok(2 + 2 * k)))?;
     }
-    let refused = table.udp_out(SECOND, host(256 + 511, 2), RESOLVER)?;
-    assert_eq!(rt; refused, Err(Cause::NoPort));
-    assert_eq!(rt; table.rows(SECOND)?.len(), 511);
-    let odd = host(256 + 511, 1);
-    assert_eq!(rt; table.udp_out(SECOND, odd, RESOLVER)?, Ok(1));
+    steps.push(udp_out(SECOND, host(256 + 511, 2), Err(Cause::NoPort)))?;
+    steps.push(udp_out(SECOND, host(256 + 511, 1), Ok(1)))?;
+    let table = played(&rt, rt.alloc(), "", &steps)?;
+    // the packet that was refused made none
     assert_eq!(rt; table.rows(SECOND)?.len(), 512);
     Ok(())
 }
@@ -174,18 +166,14 @@ fn passing(protocol: Protocol, inside: Endpoint, number: u16) -> Row {
 
 #[test]
 fn rows_in_order(rt: HostRuntime) -> Result<(), Fail> {
-    let mut table = CheckedTable::with(rt.alloc(), WEB_REDIRECT)?;
-    let sent = [
-        (Protocol::Udp, host(3, 5001), 5001),
-        (Protocol::Udp, host(2, 5001), 5003),
-        (Protocol::Tcp, CLIENT, 5000),
-        (Protocol::Udp, SECOND_CLIENT, 5000),
-        (Protocol::Icmp, host(9, 60_000), 60_000),
+    let steps = [
+        udp_out(SECOND, host(3, 5001), Ok(5001)),
+        udp_out(SECOND, host(2, 5001), Ok(5003)),
+        query(SECOND, Protocol::Tcp, CLIENT, Ok(5000)),
+        udp_out(SECOND, SECOND_CLIENT, Ok(5000)),
+        query(SECOND, Protocol::Icmp, host(9, 60_000), Ok(60_000)),
     ];
-    for (protocol, inside, number) in sent {
-        let answer = table.send(SECOND, protocol, inside, RESOLVER, NO_FLAGS)?;
-        assert_eq!(rt; answer, Ok(number));
-    }
+    let table = played(&rt, rt.alloc(), WEB_REDIRECT, &steps)?;
     let web = redirected(Protocol::Tcp, host(3, 80), external(1, 8080));
     let echo = passing(Protocol::Icmp, host(9, 60_000), 60_000);
     let client = passing(Protocol::Tcp, CLIENT, 5000);

@@ -1,8 +1,6 @@
 //! A table for tests, whose calls check what their caller owes.
 
 use napt_config::Config;
-use napt_samples::flags::NO_FLAGS;
-use napt_samples::hosts::EXTERNAL;
 use napt_samples::settings::ONE_ADDRESS;
 use napt_table::{Row, Table};
 use napt_wire::{Cause, Endpoint, Flags, Protocol};
@@ -28,12 +26,6 @@ impl CheckedTable {
     pub(crate) fn of(alloc: Global, address: u32, config: &Config) -> Result<CheckedTable, Fail> {
         let table = Box::new(alloc, Table::new(alloc, address, config)?)?;
         Ok(CheckedTable { alloc, table })
-    }
-
-    /// The table of 203.0.113.1, which is the pool, with these settings.
-    pub(crate) fn with(alloc: Global, settings: &str) -> Result<CheckedTable, Fail> {
-        let config = settings_of(alloc, settings)?;
-        CheckedTable::of(alloc, EXTERNAL, &config)
     }
 
     /// The time of the last call that moved it, in ns.
@@ -74,24 +66,6 @@ impl CheckedTable {
             return Err("a later time".into());
         }
         Ok(self.table.inbound(now, protocol, external, remote, flags))
-    }
-
-    pub(crate) fn udp_out(
-        &mut self,
-        now: u64,
-        inside: Endpoint,
-        remote: Endpoint,
-    ) -> Result<Result<u16, Cause>, Fail> {
-        self.send(now, Protocol::Udp, inside, remote, NO_FLAGS)
-    }
-
-    pub(crate) fn udp_in(
-        &mut self,
-        now: u64,
-        external: u16,
-        remote: Endpoint,
-    ) -> Result<Result<Endpoint, Cause>, Fail> {
-        self.receive(now, Protocol::Udp, external, remote, NO_FLAGS)
     }
 
     pub(crate) fn inside_of(

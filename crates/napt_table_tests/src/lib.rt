@@ -17,6 +17,8 @@ mod remotes;
 #[cfg(test)]
 mod sessions;
 #[cfg(test)]
+mod steps;
+#[cfg(test)]
 mod times;
 #[cfg(test)]
 mod twins;

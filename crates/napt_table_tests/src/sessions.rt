@@ -1,10 +1,10 @@
 //! How long TCP sessions live (RFC 5382, REQ-2 and REQ-5).
 
-use crate::checked::CheckedTable;
+use crate::steps::{Step, client, played, server};
 use napt_samples::flags::{ACK, FIN_ACK, SYN, SYN_ACK};
-use napt_samples::hosts::{CLIENT, SECOND, SERVER};
-use napt_wire::{Cause, Endpoint, Flags, Protocol, Way};
-use std::alloc::Global;
+use napt_samples::hosts::{CLIENT, SECOND};
+use napt_wire::{Cause, Flags, Way};
+use std::alloc::{AllocError, Global};
 use std::process::Abort;
 use std::test::Fail;
 
@@ -16,39 +16,34 @@ struct Session<'a> {
     lives: u64,
 }
 
-/// What a segment from the server gets at a time, in ns, after the session's segments.
-fn answer_at(alloc: Global, session: Session, now: u64) -> Result<Result<Endpoint, Cause>, Fail> {
-    let settings = format!(in alloc; "filter = \"{}\"\n", session.filter)?;
-    let mut table = CheckedTable::with(alloc, &settings)?;
+/// The segments, and then one of the server.
+fn steps_of(alloc: Global, segments: &[(Way, Flags)], last: Step) -> Result<Vec<Step>, AllocError> {
+    let mut steps = Vec::new(alloc);
     let mut at = 0u64;
-    for (way, flags) in session.segments {
-        match way {
-            Way::Outgoing => {
-                let number = table.send(at, Protocol::Tcp, CLIENT, SERVER, *flags)?;
-                if number != Ok(CLIENT.number) {
-                    return Err("another number".into());
-                }
-            }
-            Way::Incoming => {
-                let inside = table.receive(at, Protocol::Tcp, CLIENT.number, SERVER, *flags)?;
-                if inside != Ok(CLIENT) {
-                    return Err("another inside endpoint".into());
-                }
-            }
-        }
+    for (way, flags) in segments {
+        steps.push(match way {
+            Way::Outgoing => client(at, *flags),
+            Way::Incoming => server(at, *flags, Ok(CLIENT)),
+        })?;
         at = at.saturating_add(SECOND);
     }
-    table.receive(now, Protocol::Tcp, CLIENT.number, SERVER, ACK)
+    steps.push(last)?;
+    Ok(steps)
 }
 
-/// The server reaches the client until a nanosecond before the session of a row ends, and not from then on.
-fn assert_lives(rt: &impl Abort, alloc: Global, row: usize, session: Session) -> Result<(), Fail> {
-    let last = (session.segments.len() as u64).saturating_sub(1);
-    let end = last.saturating_add(session.lives).saturating_mul(SECOND);
-    let before = answer_at(alloc, session, end.saturating_sub(1))?;
-    assert_eq!(rt; before, Ok(CLIENT), "row {row}");
-    let after = answer_at(alloc, session, end)?;
-    assert_eq!(rt; after, Err(Cause::NoBinding), "row {row}");
+/// The server reaches the client until a nanosecond before the session ends, and not from then on.
+fn assert_lives(rt: &impl Abort, alloc: Global, session: Session) -> Result<(), Fail> {
+    let settings = format!(in alloc; "filter = \"{}\"\n", session.filter)?;
+    let seconds = (session.segments.len() as u64).saturating_sub(1);
+    let end = seconds.saturating_add(session.lives).saturating_mul(SECOND);
+    let lasts = [
+        server(end.saturating_sub(1), ACK, Ok(CLIENT)),
+        server(end, ACK, Err(Cause::NoBinding)),
+    ];
+    for last in lasts {
+        let steps = steps_of(alloc, session.segments, last)?;
+        played(rt, alloc, &settings, &steps)?;
+    }
     Ok(())
 }
 
@@ -74,13 +69,13 @@ fn sessions_live_on(rt: HostRuntime) -> Result<(), Fail> {
         ("independent", &opened_outside[2..], established),
         ("independent", &opening[..1], transitory),
     ];
-    for (row, (filter, segments, lives)) in rows.into_iter().enumerate() {
+    for (filter, segments, lives) in rows {
         let session = Session {
             filter,
             segments,
             lives,
         };
-        assert_lives(&rt, rt.alloc(), row, session)?;
+        assert_lives(&rt, rt.alloc(), session)?;
     }
     Ok(())
 }
