@@ -28,7 +28,7 @@ use Rattle.napt_dispatch.specs.declared.dispatcher.held.Held.TheVariants.{Ready,
 use Rattle.napt_dispatch.specs.declared.dispatcher.held.Owed.{Owed}
 use Rattle.napt_dispatch.specs.declared.dispatcher.progress.Progress.{Progress}
 use Rattle.napt_dispatch.specs.declared.dispatcher.progress.Progress.TheVariants.{Awaited, Onward, EndedOut, EndedIn}
-use Rattle.napt_dispatch.specs.declared.dispatcher.progress.Second.TheVariants as seconds
+use Rattle.napt_dispatch.specs.declared.dispatcher.second.Second.TheVariants as seconds
 use Rattle.napt_sequential.specs.Inputs.{Arrival}
 use Rattle.napt_sequential.specs.Sequential.{Act, Course, run, last_clock, acts_at, legs_at}
 use Rattle.napt_sequential.specs.Laws.{answer_of, answers_at}

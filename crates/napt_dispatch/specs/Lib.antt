@@ -1,2 +1,4 @@
 pub mod Dispatch
+pub mod Offers
+pub mod Stages
 pub mod Standing

@@ -25,8 +25,8 @@ use Rattle.napt_dispatch.specs.declared.dispatcher.held.Held.TheVariants.{Ready,
 use Rattle.napt_dispatch.specs.declared.dispatcher.held.Owed.{Owed}
 use Rattle.napt_dispatch.specs.declared.dispatcher.progress.Progress.{Progress}
 use Rattle.napt_dispatch.specs.declared.dispatcher.progress.Progress.TheVariants.{Awaited, Onward, EndedOut, EndedIn}
-use Rattle.napt_dispatch.specs.declared.dispatcher.progress.Second.{Second}
-use Rattle.napt_dispatch.specs.declared.dispatcher.progress.Second.TheVariants as seconds
+use Rattle.napt_dispatch.specs.declared.dispatcher.second.Second.{Second}
+use Rattle.napt_dispatch.specs.declared.dispatcher.second.Second.TheVariants as seconds
 use Rattle.napt_sequential.specs.Inputs.{Arrival}
 use Rattle.napt_sequential.specs.Sequential.{Act, Course, run, last_clock, legs_at}
 use Rattle.napt_dispatch.specs.Dispatch.{of_worker, IsDispatchFault, Right}
@@ -63,7 +63,7 @@ parts_of d = record {
   counts = d.offered.items;
   owed = map (λ q. q.items) d.owed.items;
   held = map (λ q. q.items) d.held.items;
-  progress = d.progress.items;
+  progress = d.progress;
 }
 
 -- with what each worker was offered, and what was taken of each

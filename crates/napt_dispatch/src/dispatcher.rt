@@ -19,31 +19,41 @@ ghost use Rattle.napt_sequential.specs.Inputs.{Arrival};
 ghost use Rattle.napt_sequential.specs.Sequential.{last_clock};
 ghost use Rattle.napt_dispatch.specs.Dispatch.{started, of_worker, IsDispatchFault, IsDispatched};
 ghost use Rattle.napt_sequential.specs.Admission.{admission_as};
+ghost use Rattle.napt_dispatch.specs.Offers.{with_offer, with_offered};
 ghost use Rattle.napt_dispatch.specs.Standing.{pushed, parts_of, state_of, IsSized, Stands, Keeps, IsSizedFor, ContinuesUnlessFault, with_held, with_progress, put_first, with_first, Noted, IsFirst, Admits, IsDone};
 
 mod held;
+mod impossible_answer;
+mod offer;
 mod progress;
 mod queues;
+mod run_progress;
+mod second;
+mod stage;
 
 use crate::Worker;
 use crate::inputs::copies;
 use held::{Held, Owed};
+use impossible_answer::ImpossibleAnswer;
 use napt_config::Config;
-use napt_pool::{Backoff, Gate, Machine, OfferRefused, Pool};
+use napt_pool::{Backoff, Gate, Machine, OfferRefused, Pool, PoolFault};
 use napt_sequential::{Input, Outcome, RunFault, places_stand_for_legs, right_answers, way_from};
 use napt_translate::{Answer, Leg, onward, route};
 use napt_wire::{Cause, Packet, Side};
-use progress::{
-    IMPOSSIBLE_ANSWER, ImpossibleAnswer, Progress, Second, all_awaited, all_known, is_unknown,
-    second_leg, told_by, write,
-};
-use queues::{are_empty, empty, first_of, len_at, pop_front, push_back, push_front};
+use offer::Offer;
+use progress::Progress;
+use queues::{are_empty, empty, first_of, is_empty_at, len_at, pop_front, push_back, push_front};
+use run_progress::RunProgress;
+use second::Second;
 use std::alloc::{AllocError, Global};
 use std::collections::VecDeque;
 use std::sync::Wait;
 
 /// The most legs and places that are held. No input is read while fewer than two more would fit.
 const MOST_HELD: u64 = 65_536;
+
+/// What a run tells of an impossible answer.
+const IMPOSSIBLE_ANSWER: RunFault = RunFault::Pool(PoolFault::Ring);
 
 /// After so many inputs the answers of one worker are looked at, of each in its turn. Each look may fetch what another
 /// processor wrote, so fewer looks cost less.
@@ -73,7 +83,7 @@ pub(crate) struct Dispatcher {
     /// How much is held for all of them.
     many_held: u64,
     /// Of each input.
-    progress: Vec<Progress>,
+    progress: RunProgress,
 }
 
 impl Dispatcher {
@@ -87,7 +97,7 @@ impl Dispatcher {
         ensures sized { IfOk result (λ d. IsSized workers (parts_of d)) }
         ensures counts { IfOk result (λ d. d.offered.items ≡ replicate workers 0) }
         ensures idle { IfOk result (λ d. IsDone (parts_of d)) }
-        ensures progress { IfOk result (λ d. d.progress.items ≡ replicate inputs AwaitedInput) }
+        ensures progress { IfOk result (λ d. d.progress ≡ replicate inputs AwaitedInput) }
     {
         Ok(Dispatcher {
             ring,
@@ -95,7 +105,7 @@ impl Dispatcher {
             owed: empty(alloc, workers)?,
             held: empty(alloc, workers)?,
             many_held: 0,
-            progress: all_awaited(alloc, inputs)?,
+            progress: RunProgress::new(alloc, inputs)?,
         })
     }
 
@@ -134,7 +144,7 @@ impl Dispatcher {
                 self.many_held = self.many_held.saturating_sub(1);
                 Ok(First::Next(leg))
             }
-            Some(Held::Place(number)) => match second_leg(&mut self.progress, number) {
+            Some(Held::Place(number)) => match self.progress.second_leg(number) {
                 Second::Unknown => {
                     push_front(&mut self.held, w, Held::Place(number))?;
                     Ok(First::Waits)
@@ -160,7 +170,7 @@ impl Dispatcher {
             return true;
         }
         match first_of(&self.held, w) {
-            Some(Held::Place(number)) => is_unknown(&self.progress, *number),
+            Some(Held::Place(number)) => self.progress.is_unknown(*number),
             _ => false,
         }
     }
@@ -187,8 +197,8 @@ impl Dispatcher {
             return Err(ImpossibleAnswer);
         };
         let Answer { number, end } = answer;
-        let progress = told_by(owed, end)?;
-        write(&mut self.progress, number, progress)?;
+        let progress = Progress::told_by(owed, end)?;
+        self.progress.write(number, progress)?;
         Ok(())
     }
 
@@ -490,23 +500,57 @@ impl Dispatcher {
 
 // Reading.
 impl Dispatcher {
-    /// Holds a first leg for worker `w`, and a place where it may be answered onward.
-    fn hold_first(&mut self, w: u32, leg: Leg, to: Option<u32>) -> Result<(), AllocError>
-        requires place { w < length (parts_of self.old).held }
-        requires to { IfSome to (λ v. v < length (parts_of self.old).held) }
-        ensures { OnOk result
-            (MatchOption to (parts_of self.new
-            ≡ with_held (pushed w (Ready leg) (parts_of self.old).held) (parts_of self.old)) (λ v.
+    /// Holds a place at worker `to`, where there is one, for the second leg of the input of a number.
+    fn hold_place(&mut self, to: Option<u32>, number: u64) -> Result<(), AllocError>
+        requires { IfSome to (λ v. v < length (parts_of self.old).held) }
+        ensures { OnOk result (MatchOption to (parts_of self.new ≡ parts_of self.old) (λ v.
             parts_of self.new
-            ≡ with_held (pushed v (Place leg.number)
-            (pushed w (Ready leg) (parts_of self.old).held)) (parts_of self.old))) }
+            ≡ with_held (pushed v (Place number) (parts_of self.old).held) (parts_of self.old))) }
     {
-        let number = leg.number;
-        self.hold(w, Held::Ready(leg))?;
         match to {
             None => Ok(()),
             Some(v) => self.hold(v, Held::Place(number)),
         }
+    }
+
+    /// Whether worker `w` takes a leg at once: nothing is held for it, and its ring has room.
+    fn is_free(&self, w: u32) -> bool
+        requires held { w < length (parts_of self.now).held }
+        requires owed { w < length (parts_of self.now).owed }
+        ensures { result ≡ true → of_worker (parts_of self.now).held w ≡ [] }
+    {
+        is_empty_at(&self.held, w) && len_at(&self.owed, w) < self.ring
+    }
+
+    /// Gives back a first leg for worker `w` where it may be offered at once, and else holds it. Either way a place is held
+    /// where it may be answered onward.
+    fn place_first(
+        &mut self,
+        w: u32,
+        leg: Leg,
+        to: Option<u32>,
+    ) -> Result<Option<Offer>, AllocError>
+        requires place { w < length (parts_of self.old).held }
+        requires owed { w < length (parts_of self.old).owed }
+        requires to { IfSome to (λ v. v < length (parts_of self.old).held) }
+        ensures worker { IfOk result (λ found. IfSome found (λ o. o.worker ≡ w)) }
+        ensures sized { OnOk result ((count : ℕ) → IsSized count (parts_of self.old) →
+            IsSized count (parts_of self.new)) }
+        ensures placed { IfOk result (λ found.
+            MatchOption to (with_offer found (parts_of self.new)
+            ≡ with_held (pushed w (Ready leg) (parts_of self.old).held) (parts_of self.old)) (λ v.
+            with_offer found (parts_of self.new)
+            ≡ with_held (pushed v (Place leg.number)
+            (pushed w (Ready leg) (parts_of self.old).held)) (parts_of self.old))) }
+    {
+        let number = leg.number;
+        if self.is_free(w) {
+            self.hold_place(to, number)?;
+            return Ok(Some(Offer { worker: w, leg }));
+        }
+        self.hold(w, Held::Ready(leg))?;
+        self.hold_place(to, number)?;
+        Ok(None)
     }
 
     /// Notes that the input of a number is dropped before any leg.
@@ -516,24 +560,25 @@ impl Dispatcher {
             (parts_of self.old)) }
     {
         let dropped = Progress::EndedIn(Outcome::Dropped(cause));
-        write(&mut self.progress, number, dropped)?;
+        self.progress.write(number, dropped)?;
         Ok(())
     }
 
-    /// Reads an input of a number, at a time in ns, and tells the worker of its first leg.
+    /// Reads an input of a number, at a time in ns, and gives its first leg where that may be offered at once.
     fn admit(
         &mut self,
         config: &Config,
         number: u64,
         now: u64,
         input: Input,
-    ) -> Result<Option<u32>, RunFault>
+    ) -> Result<Option<Offer>, RunFault>
         requires keeps { KeepsRules config.now }
         requires sized { IsSized (length config.now.pool) (parts_of self.old) }
         ensures sized { OnOk result (IsSized (length config.now.pool) (parts_of self.new)) }
-        ensures place { IfOk result (λ found. IfSome found (λ w. w < length config.now.pool)) }
-        ensures admits { OnOk result (Admits config.now number now input (parts_of self.old)
-            (parts_of self.new)) }
+        ensures place { IfOk result (λ found.
+            IfSome found (λ o. o.worker < length config.now.pool)) }
+        ensures admits { IfOk result (λ found. Admits config.now number now input
+            (parts_of self.old) (with_offer found (parts_of self.new))) }
         ensures fault { (open_gate : Bool) → IfErr result (IsDispatchFault open_gate) }
     {
         right_answers();
@@ -548,8 +593,8 @@ impl Dispatcher {
                     way: way_from(side),
                     packet,
                 };
-                match self.hold_first(place, leg, to) {
-                    Ok(()) => Ok(Some(place)),
+                match self.place_first(place, leg, to) {
+                    Ok(found) => Ok(found),
                     Err(_) => Err(RunFault::Memory),
                 }
             }
@@ -560,20 +605,27 @@ impl Dispatcher {
         }
     }
 
-    /// Offers what is held for a worker, if there is one.
-    fn offer_to<G: Gate>(
+    /// Offers a leg, if there is one.
+    fn offer_admitted<G: Gate>(
         &mut self,
         alloc: Global,
         pool: &mut Pool<Worker, G>,
-        found: Option<u32>,
+        found: Option<Offer>,
     ) -> Result<(), RunFault>
-        requires place { IfSome found (λ w. w < length (starts pool.old)) }
+        requires place { IfSome found (λ o. o.worker < length (starts pool.old)) }
         requires sized { IsSizedFor pool.old self.old }
-        ensures { ContinuesUnlessFault G.is_open pool.old self.old pool.new self.new result }
+        ensures starts { starts pool.new ≡ starts pool.old }
+        ensures sized { OnOk result (IsSizedFor pool.new self.new) }
+        ensures keeps { OnOk result (Keeps (with_offered found (state_of pool.old self.old))
+            (state_of pool.new self.new)) }
+        ensures fault { IfErr result (IsDispatchFault G.is_open) }
     {
         match found {
             None => Ok(()),
-            Some(w) => self.offer_held(alloc, pool, w),
+            Some(Offer { worker, leg }) => {
+                self.offer(alloc, pool, worker, leg)?;
+                Ok(())
+            }
         }
     }
 
@@ -607,7 +659,7 @@ impl Dispatcher {
             clock = input.clock.max(clock);
             self.make_room(rt, alloc, pool, count as u32)?;
             let found = self.admit(config, number as u64, clock, input)?;
-            self.offer_to(alloc, pool, found)?;
+            self.offer_admitted(alloc, pool, found)?;
             let turn = turn_after(number, count);
             self.look_at(rt, alloc, pool, turn, count as u32)?;
         }
@@ -720,9 +772,8 @@ pub(crate) fn dispatch_owned<R: Wait, G: Gate>(
         progress,
         ..
     } = dispatcher;
-    match all_known(alloc, progress, many) {
-        Ok(Some(outcomes)) => Ok((outcomes, offered)),
-        Ok(None) => Err(IMPOSSIBLE_ANSWER),
-        Err(_) => Err(RunFault::Memory),
+    match progress.into_outcomes(many) {
+        Some(outcomes) => Ok((outcomes, offered)),
+        None => Err(IMPOSSIBLE_ANSWER),
     }
 }

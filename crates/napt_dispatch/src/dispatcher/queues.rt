@@ -75,6 +75,14 @@ pub(crate) fn len_at<T>(queues: &[VecDeque<T>], w: u32) -> usize
     queues[w as usize].len()
 }
 
+/// Whether no item waits for worker `w`.
+pub(crate) fn is_empty_at<T>(queues: &[VecDeque<T>], w: u32) -> bool
+    requires { w < length (map (λ q. q.items) queues.now) }
+    ensures { result ≡ true → of_worker (map (λ q. q.items) queues.now) w ≡ [] }
+{
+    queues[w as usize].is_empty()
+}
+
 /// Whether no item waits for any worker.
 pub(crate) fn are_empty<T>(queues: &[VecDeque<T>]) -> bool
     ensures { result ≡ true → (w : ℕ) → of_worker (map (λ q. q.items) queues.now) w ≡ [] }

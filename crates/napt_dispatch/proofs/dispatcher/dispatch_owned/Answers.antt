@@ -10,8 +10,8 @@ use Rattle.napt_dispatch.proofs.Standing.{begin_stands, all_taken, dispatched}
 use Rattle.napt_dispatch.proofs.Ended.{same_lengths, right_since}
 use Rattle.napt_dispatch.proofs.dispatcher.dispatch_owned.Goals as goal
 
-pub returns-in-Ok-Some-clause-settled : goal.returns-in-Ok-Some-clause-settled
-returns-in-Ok-Some-clause-settled g c =
+pub returns-in-Some-clause-settled : goal.returns-in-Some-clause-settled
+returns-in-Some-clause-settled g c =
     let config : Rules = c.args.config.now in
     let inputs : List Arrival = c.args.inputs.items in
     let pool : List ℕ = config.pool in
@@ -30,8 +30,8 @@ returns-in-Ok-Some-clause-settled g c =
     (λ v lt. all_taken config inputs inputs later stands c.in_ok-finish.ensures.done v
     (subst (λ (n : ℕ). v < n) stands.offered_many lt))
 
-pub returns-in-Ok-Some-clause-run : goal.returns-in-Ok-Some-clause-run
-returns-in-Ok-Some-clause-run g c = λ right.
+pub returns-in-Some-clause-run : goal.returns-in-Some-clause-run
+returns-in-Some-clause-run g c = λ right.
     let config : Rules = c.args.config.now in
     let inputs : List Arrival = c.args.inputs.items in
     let pool : List ℕ = config.pool in
@@ -48,15 +48,15 @@ returns-in-Ok-Some-clause-run g c = λ right.
     (c.in_ok-dispatch_all.ensures.served begun) in
     let began : starts c.finish.new.pool ≡ started config (length pool) = c.in_ok-finish.ensures.state.starts_stay
     ∙ (c.in_ok-dispatch_all.ensures.starts ∙ c.requires.started) in
-    let known : map outcome_in c.finish.new.self.progress.items ≡ map (λ (o : Outcome). let x : Option Outcome =
-    Some o in x) c.in-Ok-Some.outcomes.items = rw c.in-Ok-Some.field-0-is at c.in-Ok-Some.ensures.known in
-    let long_as : length c.finish.new.self.progress.items ≡ c.len-many.result =
-    rw c.in-Ok-Some.field-0-is at c.in-Ok-Some.ensures.many in
+    let known : map outcome_in c.finish.new.self.progress ≡ map (λ (o : Outcome). let x : Option Outcome =
+    Some o in x) c.in-Some.outcomes.items = c.in-Some.ensures.known in
+    let long_as : length c.finish.new.self.progress ≡ c.len-many.result =
+    c.in-Some.ensures.many in
     let own = c.args.inputs.ok.0 in
     let counted = c.len-many.ensures in
-    let long : length c.finish.new.self.progress.items ≡ length inputs = omega (arith, long_as, own, counted) in
+    let long : length c.finish.new.self.progress ≡ length inputs = omega (arith, long_as, own, counted) in
     let answers_right : Right config (accepts c.finish.new.pool) (takes c.finish.new.pool) =
     right_since ghosts (λ s leg. refl) (λ s leg. refl) config (starts c.finish.new.pool) (accepts c.finish.new.pool)
     (takes c.finish.new.pool) began stands.offered_many right in
-    dispatched config inputs later c.in-Ok-Some.outcomes.items stands c.in_ok-finish.ensures.done known long
+    dispatched config inputs later c.in-Some.outcomes.items stands c.in_ok-finish.ensures.done known long
     answers_right

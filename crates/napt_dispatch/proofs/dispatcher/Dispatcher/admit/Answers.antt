@@ -9,13 +9,14 @@ use Rattle.napt_translate.specs.Sides.{way_from, served_at}
 use Rattle.napt_dispatch.specs.declared.dispatcher.held.Held.TheVariants.{Ready, Place}
 use Rattle.napt_sequential.specs.Inputs.{Arrival}
 use Rattle.napt_sequential.specs.Admission.{admission}
+use Rattle.napt_dispatch.specs.Offers.{with_offer}
 use Rattle.napt_dispatch.specs.Standing.{Parts, parts_of, with_held, pushed}
 use Rattle.napt_sequential.proofs.Steps.{side_as}
 use Rattle.napt_dispatch.proofs.Standing.{admitted_admits, refused_admits}
 use Rattle.napt_dispatch.proofs.dispatcher.Dispatcher.admit.Goals as goal
 
-pub returns-in-Ok-hold_first-clause-admits : goal.returns-in-Ok-hold_first-clause-admits
-returns-in-Ok-hold_first-clause-admits c =
+pub returns-in-Ok-place_first-clause-admits : goal.returns-in-Ok-place_first-clause-admits
+returns-in-Ok-place_first-clause-admits c =
     let config : Rules = c.args.config.now in
     let input : Arrival = c.args.input in
     let copy : Arrival = record {
@@ -28,7 +29,7 @@ returns-in-Ok-hold_first-clause-admits c =
     let place : ℕ = c.in-Ok.place in
     let to : Option ℕ = c.second_place-to.result in
     let parts : Parts = parts_of c.args.self.now in
-    let later : Parts = parts_of c.hold_first.new.self in
+    let later : Parts = with_offer c.in-Ok-place_first.found (parts_of c.place_first.new.self) in
     let routed : (admission config copy ≡ Ok packet)
     × (slice_get config.pool place ≡ Some (served_at config (way_from copy.side) packet)) =
     IfOk-at_ok _ c.in-Ok.is c.read_and_route.ensures.admitted in
@@ -53,7 +54,7 @@ returns-in-Ok-hold_first-clause-admits c =
     (λ v. later ≡ with_held
     (pushed v (Place c.args.number)
     (pushed place (Ready (record { number = c.args.number; now = c.args.now; way = t; packet = packet }))
-    parts.held)) parts)) way c.in-Ok-hold_first.ensures)
+    parts.held)) parts)) way c.in-Ok-place_first.ensures.placed)
 
 pub returns-in-Ok-note_dropped-clause-admits : goal.returns-in-Ok-note_dropped-clause-admits
 returns-in-Ok-note_dropped-clause-admits c =

@@ -5,6 +5,7 @@ use Rattle.napt_config.specs.Rules.{Rules}
 use Rattle.napt_pool.specs.Pools.{accepts, takes}
 use Rattle.napt_sequential.specs.Inputs.{Arrival}
 use Rattle.napt_sequential.specs.Sequential.{last_clock}
+use Rattle.napt_dispatch.specs.Offers.{with_offered}
 use Rattle.napt_dispatch.specs.Standing.{DispatchState, state_of, Stands}
 use Rattle.napt_sequential.proofs.OneInput.{clock_taken, long_taken}
 use Rattle.napt_dispatch.proofs.dispatcher.Dispatcher.dispatch_all.Goals as goal
@@ -42,10 +43,10 @@ loop-number-preserved g c =
     let whole : (take n inputs ++ input ∷ []) ++ drop (n + 1) inputs ≡ inputs =
     ap (λ (l : List Arrival). l ++ drop (n + 1) inputs) (sym more) ∙ take-append-drop (n + 1) inputs in
     let room : DispatchState = state_of c.make_room.new.pool c.make_room.new.self in
-    let read : DispatchState = state_of c.make_room.new.pool c.admit.new.self in
+    let read : DispatchState = with_offered c.in_ok-found.found (state_of c.make_room.new.pool c.admit.new.self) in
     record {
       same = c.in_ok-look_at.ensures.starts_stay
-          ∙ (c.in_ok-offer_to.ensures.starts_stay
+          ∙ (c.in_ok-offer_admitted.ensures.starts
           ∙ (c.in_ok-make_room.ensures.starts_stay ∙ c.loop-number.invariant.same));
       sized = c.in_ok-look_at.ensures.sized;
       left = left;
@@ -62,6 +63,8 @@ loop-number-preserved g c =
           let three : Stands rules_now (take (n + 1) inputs) inputs read =
           subst (λ (done : List Arrival). Stands rules_now done inputs read) (sym more)
           (subst (λ (all : List Arrival). Stands rules_now (take n inputs ++ input ∷ []) all read) whole two) in
-          c.in_ok-look_at.ensures.keeps rules_now (take (n + 1) inputs) inputs (c.in_ok-offer_to.ensures.keeps rules_now
-          (take (n + 1) inputs) inputs three);
+          let four : Stands rules_now (take (n + 1) inputs) inputs
+          (state_of c.offer_admitted.new.pool c.offer_admitted.new.self) =
+          c.in_ok-offer_admitted.ensures.keeps rules_now (take (n + 1) inputs) inputs three in
+          c.in_ok-look_at.ensures.keeps rules_now (take (n + 1) inputs) inputs four;
     }

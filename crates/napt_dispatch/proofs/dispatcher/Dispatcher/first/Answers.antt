@@ -11,4 +11,4 @@ returns-in-Known-clause-first c = λ offered taken.
     let popped : Popped c.args.w (Place c.in-Some-Place.number) (parts_of c.args.self.now).held (parts_of left).held =
     rw c.in-Some-Place.field-0-is at c.in-Some-Place.ensures in
     next_keeps_as c.args.w c.in-Some-Place.number state (parts_of left).held c.requires.place popped c.in-Known.leg
-    c.second_leg.new.all.items c.in-Known.ensures
+    c.second_leg.new.self c.in-Known.ensures

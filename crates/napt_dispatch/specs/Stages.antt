@@ -1,0 +1,24 @@
+-- How far an input has come.
+use Rattle.std.specs.Prelude.{Bool, true, false}
+use Rattle.napt_sequential.specs.declared.outcome.Outcome.{Outcome}
+use Rattle.napt_sequential.specs.declared.outcome.Outcome.TheVariants.{ToOutside, ToInside, Dropped}
+use Rattle.napt_dispatch.specs.declared.dispatcher.progress.Progress.{Progress}
+use Rattle.napt_dispatch.specs.declared.dispatcher.progress.Progress.TheVariants.{Awaited, Onward, EndedOut, EndedIn}
+use Rattle.napt_dispatch.specs.declared.dispatcher.stage.Stage.{Stage}
+use Rattle.napt_dispatch.specs.declared.dispatcher.stage.Stage.TheVariants as stages
+
+-- what is known of an input of a stage, with what is kept beside it
+abbrev pub progress_of : Stage → Outcome → Progress
+progress_of stages.Awaited kept = Awaited
+progress_of (stages.Onward now) (ToInside packet) = Onward now packet
+progress_of (stages.Onward now) (ToOutside packet) = Awaited
+progress_of (stages.Onward now) (Dropped cause) = Awaited
+progress_of stages.EndedOut kept = EndedOut kept
+progress_of stages.EndedIn kept = EndedIn kept
+
+-- its outcome is known
+abbrev pub has_ended : Stage → Bool
+has_ended stages.Awaited = false
+has_ended (stages.Onward now) = false
+has_ended stages.EndedOut = true
+has_ended stages.EndedIn = true

@@ -1,0 +1,20 @@
+//! An answer that no worker gives.
+
+ghost use Rattle.std.specs.Prelude.{◌≡◌};
+ghost use Rattle.napt_pool.specs.declared.fault.PoolFault.TheVariants.{Ring};
+ghost use Rattle.napt_sequential.specs.declared.fault.RunFault.TheVariants.{Pool};
+
+use napt_pool::PoolFault;
+use napt_sequential::RunFault;
+
+/// An answer, or a number of answers, that no worker gives.
+#[derive(Clone, Copy)]
+pub(crate) struct ImpossibleAnswer;
+
+impl From<ImpossibleAnswer> for RunFault {
+    ghost from_gives = { λ _ fault. fault ≡ Pool Ring };
+
+    fn from(_impossible: ImpossibleAnswer) -> RunFault {
+        RunFault::Pool(PoolFault::Ring)
+    }
+}
