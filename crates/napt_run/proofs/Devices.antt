@@ -22,8 +22,8 @@ use Rattle.napt_records.specs.declared.Which.{Which}
 use Rattle.napt_records.specs.declared.Which.TheVariants.{Outside, Inside, Report}
 use Rattle.napt_run.specs.declared.captures.Captures.{Captures}
 use Rattle.napt_run.specs.declared.captures.Outputs.{Outputs}
-use Rattle.napt_run.specs.Devices.{some_bytes}
-use Rattle.napt_run.specs.Captures.{AreOutputs, AreRead, Explains, Gets, GetsOf, IfKnown, IsReadAsOutside, IsReadFrom, AreTooMany, IsUnread, IsWriteFaultOf, Receives, Share, whole, front, nothing, WasRead, failed_readings, failed_writings, share_of, text_of}
+use Rattle.napt_run.specs.Devices.{bytes_in, some_bytes}
+use Rattle.napt_run.specs.Captures.{AreOutputs, AreRead, Explains, Gets, GetsOf, IfKnown, IsReadAsOutside, IsReadFrom, AreTooMany, IsUnread, IsWriteFaultOf, Receives, Share, whole, front, nothing, WasRead, failed_readings, failed_writings, no_contents, share_of, text_of}
 
 IfKnown-more : {P Q : List ℕ → Option (List ℕ) → Type 0} (inside : Option (List ℕ)) (outside : Option (Option (List ℕ)))
     → ((bytes : List ℕ) (others : Option (List ℕ)) → P bytes others → Q bytes others) → IfKnown inside outside P →
@@ -45,6 +45,17 @@ pub outside_read : (known : Option (List ℕ)) (contents : Contents) → IsReadF
     IsReadAsOutside (option_map some_bytes known) contents
 outside_read None contents is = tt
 outside_read (Some bytes) contents is = is
+
+-- by what the reader is, and what came of it
+pub read_some : {D : Type 0} (remaining : D → Option (List ℕ)) {outside : Option (MutBor D)} {given : MutBor D}
+    {contents read : Contents} → outside ≡ Some given → contents ≡ read →
+    IsReadFrom (remaining given.now) read → IsReadAsOutside (bytes_in remaining outside) contents
+read_some remaining {given} {read} is same from = rw (is, same) (outside_read (remaining given.now) read from)
+
+pub read_none : {D : Type 0} (remaining : D → Option (List ℕ)) {outside : Option (MutBor D)}
+    {contents read : Contents} → outside ≡ None → contents ≡ read → read ≡ no_contents →
+    IsReadAsOutside (bytes_in remaining outside) contents
+read_none remaining is same none = rw (is, same) none
 
 pub outside_unread : (known : Option (List ℕ)) (fault : Fault) (inside : Option (List ℕ))
     → WasRead inside → IsUnread sides.Outside known fault → Explains inside (option_map some_bytes known) fault

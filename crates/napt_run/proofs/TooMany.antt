@@ -9,7 +9,9 @@ use Rattle.napt_records.specs.declared.Fault.{Fault}
 use Rattle.napt_records.specs.declared.Fault.TheVariants.{Run}
 use Rattle.napt_sequential.specs.declared.fault.RunFault.{RunFault}
 use Rattle.napt_sequential.specs.declared.fault.RunFault.TheVariants.{TooMany}
-use Rattle.napt_run.specs.Captures.{AreTooMany, IsReadAsOutside, IsReadFrom, TellsTooMany, TooManyAreTold}
+use Rattle.napt_run.specs.declared.captures.Outputs.{Outputs}
+use Rattle.napt_config.specs.Rules.{Rules}
+use Rattle.napt_run.specs.Captures.{AreOutputs, AreTooMany, IsReadAsOutside, IsReadFrom, TellsTooMany, TooManyAreTold}
 use Rattle.napt_sequential.specs.Inputs.{Arrival}
 use Rattle.napt_records.specs.Merge.{IsMerged, is_from, of_input, of_record}
 use Rattle.napt_run.proofs.OutputsAreOne.{HaveOneAnswer, captures-one}
@@ -77,3 +79,12 @@ err_is fault other is = cc
 
 pub fault_told : (fault : RunFault) → fault ≡ TooMany → TellsTooMany (Err (Run fault))
 fault_told fault is = subst (λ (f : RunFault). TellsTooMany (Err (Run f))) (sym is) tt
+
+-- where outputs were made, there is nothing to tell
+pub few_told : HaveOneAnswer → (inside : Option (List ℕ)) (outside : Option (Option (List ℕ))) {rules : Rules}
+    {captures : Captures} {outputs : Outputs} → AreOutputs rules captures outputs →
+    (result : Result (Unit {0}) Fault) → IsReadFrom inside captures.inside → IsReadAsOutside outside captures.outside →
+    (AreTooMany captures → ◌≡◌ {A = Result Outputs RunFault} (Ok outputs) (Err TooMany))
+    → TooManyAreTold inside outside result
+few_told unique inside outside {captures} {outputs} made result first second is =
+    too_many_told unique inside outside captures result first second (λ many. absurd (not_too_many outputs (is many)))

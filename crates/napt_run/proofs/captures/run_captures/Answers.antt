@@ -1,12 +1,11 @@
 use Rattle.std.proofs.Common.{rules, inl, inr, refl, ap, Ok, Err}
 use Rattle.std.proofs.lemmas.Result.{err_from_is_err_and}
 use Rattle.napt_run.specs.Devices.{bytes_in}
-use Rattle.napt_run.specs.declared.captures.Captures.{Captures}
 use Rattle.napt_records.specs.declared.Fault.TheVariants.{Run}
 use Rattle.napt_records.specs.declared.Which.TheVariants.{Outside, Inside, Report}
 use Rattle.napt_run.specs.Captures.{IsReadAsOutside, share_of, whole}
-use Rattle.napt_run.proofs.Devices.{before_inside, before_report, none_or_some, outside_read, received, refused}
-use Rattle.napt_run.proofs.TooMany.{err_is, fault_told, not_too_many, too_many_told}
+use Rattle.napt_run.proofs.Devices.{before_inside, before_report, none_or_some, read_none, read_some, received, refused}
+use Rattle.napt_run.proofs.TooMany.{err_is, fault_told, few_told, too_many_told}
 use Rattle.napt_run.proofs.captures.run_captures.Goals as goal
 use Rattle.napt_run.proofs.captures.run_captures.Goals.{in-Some+in_ok-outside-in-Some, in-None, in-Some-to_inside+in_ok-write_side-2, in_default, in-Some-report+in_ok-write_report, in_default-report}
 
@@ -63,15 +62,14 @@ returns-in_err-outputs-clause-report g c =
 pub returns-in_err-outputs-clause-fault : goal.returns-in_err-outputs-clause-fault
 returns-in_err-outputs-clause-fault g c =
     let p = err_from_is_err_and c.from_residual-in_err-outputs.result c.from_residual-in_err-outputs.ensures.1 in
-    let captures : Captures = record { inside = c.in_ok-inside.inside; outside = c.match-outside.outside2 } in
-    let second : IsReadAsOutside (bytes_in g.Q.Source.remaining c.args.outside) captures.outside =
+    let second : IsReadAsOutside (bytes_in g.Q.Source.remaining c.args.outside) c.match-outside.outside2 =
     elim c.match-outside.branch [
-      | in-Some+in_ok-outside-in-Some w ↦ rw (w.in-Some.is, w.outside2-is)
-          (outside_read _ _ w.in_ok-outside-in-Some.ensures.ok)
-      | in-None w ↦ rw (w.in-None.is, w.outside2-is) w.no_capture-outside.ensures
+      | in-Some+in_ok-outside-in-Some w ↦ read_some _ w.in-Some.is w.outside2-is w.in_ok-outside-in-Some.ensures.ok
+      | in-None w ↦ read_none _ w.in-None.is w.outside2-is w.no_capture-outside.ensures
     ] in
     rw (p.1, p.2) (refused (g.R.Source.remaining c.args.inside.now) (bytes_in g.Q.Source.remaining c.args.outside)
-    captures _ c.in_ok-inside.ensures.ok second (λ is. c.in_err-outputs.ensures.too_many.0 (ap Err is)))
+    (record { inside = c.in_ok-inside.inside; outside = c.match-outside.outside2 }) _ c.in_ok-inside.ensures.ok second
+    (λ is. c.in_err-outputs.ensures.too_many.0 (ap Err is)))
 
 pub returns-in_err-outputs-clause-outside_readings : goal.returns-in_err-outputs-clause-outside_readings
 returns-in_err-outputs-clause-outside_readings g c =
@@ -92,17 +90,15 @@ pub returns-in_err-write_side-clause-to_outside : goal.returns-in_err-write_side
 returns-in_err-write_side-clause-to_outside g c =
     let p = err_from_is_err_and c.from_residual-in_err-write_side.result
     c.from_residual-in_err-write_side.ensures.1 in
-    let captures : Captures = record { inside = c.in_ok-inside.inside; outside = c.match-outside.outside2 } in
-    let second : IsReadAsOutside (bytes_in g.Q.Source.remaining c.args.outside) captures.outside =
+    let second : IsReadAsOutside (bytes_in g.Q.Source.remaining c.args.outside) c.match-outside.outside2 =
     elim c.match-outside.branch [
-      | in-Some+in_ok-outside-in-Some w ↦ rw (w.in-Some.is, w.outside2-is)
-          (outside_read _ _ w.in_ok-outside-in-Some.ensures.ok)
-      | in-None w ↦ rw (w.in-None.is, w.outside2-is) w.no_capture-outside.ensures
+      | in-Some+in_ok-outside-in-Some w ↦ read_some _ w.in-Some.is w.outside2-is w.in_ok-outside-in-Some.ensures.ok
+      | in-None w ↦ read_none _ w.in-None.is w.outside2-is w.no_capture-outside.ensures
     ] in
-    rw (p.1, p.2) (received Outside (share_of Outside (Err c.in_err-write_side.field-0.0)) c.args.config.now
-    (g.R.Source.remaining c.args.inside.now) (bytes_in g.Q.Source.remaining c.args.outside) captures _
-    _ (g.W.Sink.contents c.args.to_outside.now) (g.W.Sink.contents c.write_side.new.output)
-    c.in_ok-inside.ensures.ok second c.in_ok-outputs.ensures.ok refl
+    rw (p.1, p.2) (received Outside (share_of Outside (Err c.in_err-write_side.field-0.0)) _
+    (g.R.Source.remaining c.args.inside.now)
+    (bytes_in g.Q.Source.remaining c.args.outside) _ _ _ (g.W.Sink.contents c.args.to_outside.now)
+    (g.W.Sink.contents c.write_side.new.output) c.in_ok-inside.ensures.ok second c.in_ok-outputs.ensures.ok refl
     c.in_err-write_side.ensures.bytes)
 
 pub returns-in_err-write_side-clause-to_inside : goal.returns-in_err-write_side-clause-to_inside
@@ -132,35 +128,29 @@ pub returns-in_err-write_side-2-clause-to_outside : goal.returns-in_err-write_si
 returns-in_err-write_side-2-clause-to_outside g c =
     let p = err_from_is_err_and c.from_residual-in_err-write_side-2.result
     c.from_residual-in_err-write_side-2.ensures.1 in
-    let captures : Captures = record { inside = c.in_ok-inside.inside; outside = c.match-outside.outside2 } in
-    let second : IsReadAsOutside (bytes_in g.Q.Source.remaining c.args.outside) captures.outside =
+    let second : IsReadAsOutside (bytes_in g.Q.Source.remaining c.args.outside) c.match-outside.outside2 =
     elim c.match-outside.branch [
-      | in-Some+in_ok-outside-in-Some w ↦ rw (w.in-Some.is, w.outside2-is)
-          (outside_read _ _ w.in_ok-outside-in-Some.ensures.ok)
-      | in-None w ↦ rw (w.in-None.is, w.outside2-is) w.no_capture-outside.ensures
+      | in-Some+in_ok-outside-in-Some w ↦ read_some _ w.in-Some.is w.outside2-is w.in_ok-outside-in-Some.ensures.ok
+      | in-None w ↦ read_none _ w.in-None.is w.outside2-is w.no_capture-outside.ensures
     ] in
     rw (p.1, p.2, before_inside c.in_err-write_side-2.field-0.0 c.in_err-write_side-2.ensures.fault)
-    (received Outside whole c.args.config.now (g.R.Source.remaining c.args.inside.now)
-    (bytes_in g.Q.Source.remaining c.args.outside) captures _
-    _ (g.W.Sink.contents c.args.to_outside.now) (g.W.Sink.contents c.write_side.new.output)
-    c.in_ok-inside.ensures.ok second c.in_ok-outputs.ensures.ok refl
+    (received Outside whole _ (g.R.Source.remaining c.args.inside.now)
+    (bytes_in g.Q.Source.remaining c.args.outside) _ _ _ (g.W.Sink.contents c.args.to_outside.now)
+    (g.W.Sink.contents c.write_side.new.output) c.in_ok-inside.ensures.ok second c.in_ok-outputs.ensures.ok refl
     c.in_ok-write_side.ensures.bytes)
 
 pub returns-in_err-write_side-2-clause-to_inside : goal.returns-in_err-write_side-2-clause-to_inside
 returns-in_err-write_side-2-clause-to_inside g c =
     let p = err_from_is_err_and c.from_residual-in_err-write_side-2.result
     c.from_residual-in_err-write_side-2.ensures.1 in
-    let captures : Captures = record { inside = c.in_ok-inside.inside; outside = c.match-outside.outside2 } in
-    let second : IsReadAsOutside (bytes_in g.Q.Source.remaining c.args.outside) captures.outside =
+    let second : IsReadAsOutside (bytes_in g.Q.Source.remaining c.args.outside) c.match-outside.outside2 =
     elim c.match-outside.branch [
-      | in-Some+in_ok-outside-in-Some w ↦ rw (w.in-Some.is, w.outside2-is)
-          (outside_read _ _ w.in_ok-outside-in-Some.ensures.ok)
-      | in-None w ↦ rw (w.in-None.is, w.outside2-is) w.no_capture-outside.ensures
+      | in-Some+in_ok-outside-in-Some w ↦ read_some _ w.in-Some.is w.outside2-is w.in_ok-outside-in-Some.ensures.ok
+      | in-None w ↦ read_none _ w.in-None.is w.outside2-is w.no_capture-outside.ensures
     ] in
-    rw (p.1, p.2, c.in-Some-to_inside.is) (received Inside (share_of Inside (Err c.in_err-write_side-2.field-0.0))
-    c.args.config.now (g.R.Source.remaining c.args.inside.now) (bytes_in g.Q.Source.remaining c.args.outside)
-    captures _
-    _ (g.V.Sink.contents c.in-Some-to_inside.to_inside.now)
+    rw (p.1, p.2, c.in-Some-to_inside.is) (received Inside (share_of Inside (Err c.in_err-write_side-2.field-0.0)) _
+    (g.R.Source.remaining c.args.inside.now)
+    (bytes_in g.Q.Source.remaining c.args.outside) _ _ _ (g.V.Sink.contents c.in-Some-to_inside.to_inside.now)
     (g.V.Sink.contents c.write_side-in-Some-to_inside.new.output) c.in_ok-inside.ensures.ok second
     c.in_ok-outputs.ensures.ok refl
     c.in_err-write_side-2.ensures.bytes)
@@ -190,30 +180,25 @@ pub returns-in_err-write_report-clause-to_outside : goal.returns-in_err-write_re
 returns-in_err-write_report-clause-to_outside g c =
     let p = err_from_is_err_and c.from_residual-in_err-write_report.result
     c.from_residual-in_err-write_report.ensures.1 in
-    let captures : Captures = record { inside = c.in_ok-inside.inside; outside = c.match-outside.outside2 } in
-    let second : IsReadAsOutside (bytes_in g.Q.Source.remaining c.args.outside) captures.outside =
+    let second : IsReadAsOutside (bytes_in g.Q.Source.remaining c.args.outside) c.match-outside.outside2 =
     elim c.match-outside.branch [
-      | in-Some+in_ok-outside-in-Some w ↦ rw (w.in-Some.is, w.outside2-is)
-          (outside_read _ _ w.in_ok-outside-in-Some.ensures.ok)
-      | in-None w ↦ rw (w.in-None.is, w.outside2-is) w.no_capture-outside.ensures
+      | in-Some+in_ok-outside-in-Some w ↦ read_some _ w.in-Some.is w.outside2-is w.in_ok-outside-in-Some.ensures.ok
+      | in-None w ↦ read_none _ w.in-None.is w.outside2-is w.no_capture-outside.ensures
     ] in
     rw (p.1, p.2, (before_report c.in_err-write_report.field-0.0 c.in_err-write_report.ensures.fault).0)
-    (received Outside whole c.args.config.now (g.R.Source.remaining c.args.inside.now)
-    (bytes_in g.Q.Source.remaining c.args.outside) captures _
-    _ (g.W.Sink.contents c.args.to_outside.now) (g.W.Sink.contents c.write_side.new.output)
-    c.in_ok-inside.ensures.ok second c.in_ok-outputs.ensures.ok refl
+    (received Outside whole _ (g.R.Source.remaining c.args.inside.now)
+    (bytes_in g.Q.Source.remaining c.args.outside) _ _ _ (g.W.Sink.contents c.args.to_outside.now)
+    (g.W.Sink.contents c.write_side.new.output) c.in_ok-inside.ensures.ok second c.in_ok-outputs.ensures.ok refl
     c.in_ok-write_side.ensures.bytes)
 
 pub returns-in_err-write_report-clause-to_inside : goal.returns-in_err-write_report-clause-to_inside
 returns-in_err-write_report-clause-to_inside g c =
     let p = err_from_is_err_and c.from_residual-in_err-write_report.result
     c.from_residual-in_err-write_report.ensures.1 in
-    let captures : Captures = record { inside = c.in_ok-inside.inside; outside = c.match-outside.outside2 } in
-    let second : IsReadAsOutside (bytes_in g.Q.Source.remaining c.args.outside) captures.outside =
+    let second : IsReadAsOutside (bytes_in g.Q.Source.remaining c.args.outside) c.match-outside.outside2 =
     elim c.match-outside.branch [
-      | in-Some+in_ok-outside-in-Some w ↦ rw (w.in-Some.is, w.outside2-is)
-          (outside_read _ _ w.in_ok-outside-in-Some.ensures.ok)
-      | in-None w ↦ rw (w.in-None.is, w.outside2-is) w.no_capture-outside.ensures
+      | in-Some+in_ok-outside-in-Some w ↦ read_some _ w.in-Some.is w.outside2-is w.in_ok-outside-in-Some.ensures.ok
+      | in-None w ↦ read_none _ w.in-None.is w.outside2-is w.no_capture-outside.ensures
     ] in
     elim c.match-to_inside.branch [
       | in-Some-to_inside+in_ok-write_side-2 w ↦ rw (
@@ -222,9 +207,8 @@ returns-in_err-write_report-clause-to_inside g c =
         (before_report c.in_err-write_report.field-0.0 c.in_err-write_report.ensures.fault).1,
         w.to_inside-is,
         w.in-Some-to_inside.is,
-      ) (received Inside whole c.args.config.now
-          (g.R.Source.remaining c.args.inside.now) (bytes_in g.Q.Source.remaining c.args.outside) captures _
-          _ (g.V.Sink.contents w.in-Some-to_inside.to_inside.now)
+      ) (received Inside whole _ (g.R.Source.remaining c.args.inside.now)
+          (bytes_in g.Q.Source.remaining c.args.outside) _ _ _ (g.V.Sink.contents w.in-Some-to_inside.to_inside.now)
           (g.V.Sink.contents w.write_side-in-Some-to_inside.new.output) c.in_ok-inside.ensures.ok second
           c.in_ok-outputs.ensures.ok refl
           w.in_ok-write_side-2.ensures.bytes)
@@ -235,19 +219,17 @@ pub returns-in_err-write_report-clause-report : goal.returns-in_err-write_report
 returns-in_err-write_report-clause-report g c =
     let p = err_from_is_err_and c.from_residual-in_err-write_report.result
     c.from_residual-in_err-write_report.ensures.1 in
-    let captures : Captures = record { inside = c.in_ok-inside.inside; outside = c.match-outside.outside2 } in
-    let second : IsReadAsOutside (bytes_in g.Q.Source.remaining c.args.outside) captures.outside =
+    let second : IsReadAsOutside (bytes_in g.Q.Source.remaining c.args.outside) c.match-outside.outside2 =
     elim c.match-outside.branch [
-      | in-Some+in_ok-outside-in-Some w ↦ rw (w.in-Some.is, w.outside2-is)
-          (outside_read _ _ w.in_ok-outside-in-Some.ensures.ok)
-      | in-None w ↦ rw (w.in-None.is, w.outside2-is) w.no_capture-outside.ensures
+      | in-Some+in_ok-outside-in-Some w ↦ read_some _ w.in-Some.is w.outside2-is w.in_ok-outside-in-Some.ensures.ok
+      | in-None w ↦ read_none _ w.in-None.is w.outside2-is w.no_capture-outside.ensures
     ] in
-    rw (p.1, p.2, c.in-Some-report.is) (received Report (share_of Report (Err c.in_err-write_report.field-0.0))
-    c.args.config.now (g.R.Source.remaining c.args.inside.now) (bytes_in g.Q.Source.remaining c.args.outside)
-    captures _
-    c.deref.result.now (g.U.Sink.contents c.in-Some-report.report.now)
+    rw (p.1, p.2, c.in-Some-report.is) (received Report (share_of Report (Err c.in_err-write_report.field-0.0)) _
+    (g.R.Source.remaining c.args.inside.now)
+    (bytes_in g.Q.Source.remaining c.args.outside) _ _ _ (g.U.Sink.contents c.in-Some-report.report.now)
     (g.U.Sink.contents c.write_report.new.output) c.in_ok-inside.ensures.ok second c.in_ok-outputs.ensures.ok
-    c.deref.ensures c.in_err-write_report.ensures.bytes)
+    c.deref.ensures
+    c.in_err-write_report.ensures.bytes)
 
 pub returns-in_err-write_report-clause-outside_readings : goal.returns-in_err-write_report-clause-outside_readings
 returns-in_err-write_report-clause-outside_readings g c =
@@ -271,33 +253,27 @@ returns-in_err-write_report-clause-report_writings g c =
 
 pub returns-clause-to_outside : goal.returns-clause-to_outside
 returns-clause-to_outside g c =
-    let captures : Captures = record { inside = c.in_ok-inside.inside; outside = c.match-outside.outside2 } in
-    let second : IsReadAsOutside (bytes_in g.Q.Source.remaining c.args.outside) captures.outside =
+    let second : IsReadAsOutside (bytes_in g.Q.Source.remaining c.args.outside) c.match-outside.outside2 =
     elim c.match-outside.branch [
-      | in-Some+in_ok-outside-in-Some w ↦ rw (w.in-Some.is, w.outside2-is)
-          (outside_read _ _ w.in_ok-outside-in-Some.ensures.ok)
-      | in-None w ↦ rw (w.in-None.is, w.outside2-is) w.no_capture-outside.ensures
+      | in-Some+in_ok-outside-in-Some w ↦ read_some _ w.in-Some.is w.outside2-is w.in_ok-outside-in-Some.ensures.ok
+      | in-None w ↦ read_none _ w.in-None.is w.outside2-is w.no_capture-outside.ensures
     ] in
-    received Outside whole c.args.config.now (g.R.Source.remaining c.args.inside.now)
-    (bytes_in g.Q.Source.remaining c.args.outside) captures _
-    _ (g.W.Sink.contents c.args.to_outside.now) (g.W.Sink.contents c.write_side.new.output)
-    c.in_ok-inside.ensures.ok second c.in_ok-outputs.ensures.ok refl
+    received Outside whole _ (g.R.Source.remaining c.args.inside.now)
+    (bytes_in g.Q.Source.remaining c.args.outside) _ _ _ (g.W.Sink.contents c.args.to_outside.now)
+    (g.W.Sink.contents c.write_side.new.output) c.in_ok-inside.ensures.ok second c.in_ok-outputs.ensures.ok refl
     c.in_ok-write_side.ensures.bytes
 
 pub returns-clause-to_inside : goal.returns-clause-to_inside
 returns-clause-to_inside g c =
-    let captures : Captures = record { inside = c.in_ok-inside.inside; outside = c.match-outside.outside2 } in
-    let second : IsReadAsOutside (bytes_in g.Q.Source.remaining c.args.outside) captures.outside =
+    let second : IsReadAsOutside (bytes_in g.Q.Source.remaining c.args.outside) c.match-outside.outside2 =
     elim c.match-outside.branch [
-      | in-Some+in_ok-outside-in-Some w ↦ rw (w.in-Some.is, w.outside2-is)
-          (outside_read _ _ w.in_ok-outside-in-Some.ensures.ok)
-      | in-None w ↦ rw (w.in-None.is, w.outside2-is) w.no_capture-outside.ensures
+      | in-Some+in_ok-outside-in-Some w ↦ read_some _ w.in-Some.is w.outside2-is w.in_ok-outside-in-Some.ensures.ok
+      | in-None w ↦ read_none _ w.in-None.is w.outside2-is w.no_capture-outside.ensures
     ] in
     elim c.match-to_inside.branch [
       | in-Some-to_inside+in_ok-write_side-2 w ↦ rw (w.to_inside-is, w.in-Some-to_inside.is)
-          (received Inside whole c.args.config.now (g.R.Source.remaining c.args.inside.now)
-          (bytes_in g.Q.Source.remaining c.args.outside) captures _
-          _ (g.V.Sink.contents w.in-Some-to_inside.to_inside.now)
+          (received Inside whole _ (g.R.Source.remaining c.args.inside.now)
+          (bytes_in g.Q.Source.remaining c.args.outside) _ _ _ (g.V.Sink.contents w.in-Some-to_inside.to_inside.now)
           (g.V.Sink.contents w.write_side-in-Some-to_inside.new.output) c.in_ok-inside.ensures.ok second
           c.in_ok-outputs.ensures.ok refl
           w.in_ok-write_side-2.ensures.bytes)
@@ -306,20 +282,18 @@ returns-clause-to_inside g c =
 
 pub returns-clause-report : goal.returns-clause-report
 returns-clause-report g c =
-    let captures : Captures = record { inside = c.in_ok-inside.inside; outside = c.match-outside.outside2 } in
-    let second : IsReadAsOutside (bytes_in g.Q.Source.remaining c.args.outside) captures.outside =
+    let second : IsReadAsOutside (bytes_in g.Q.Source.remaining c.args.outside) c.match-outside.outside2 =
     elim c.match-outside.branch [
-      | in-Some+in_ok-outside-in-Some w ↦ rw (w.in-Some.is, w.outside2-is)
-          (outside_read _ _ w.in_ok-outside-in-Some.ensures.ok)
-      | in-None w ↦ rw (w.in-None.is, w.outside2-is) w.no_capture-outside.ensures
+      | in-Some+in_ok-outside-in-Some w ↦ read_some _ w.in-Some.is w.outside2-is w.in_ok-outside-in-Some.ensures.ok
+      | in-None w ↦ read_none _ w.in-None.is w.outside2-is w.no_capture-outside.ensures
     ] in
     elim c.match-report.branch [
       | in-Some-report+in_ok-write_report w ↦ rw (w.report-is, w.in-Some-report.is)
-          (received Report whole c.args.config.now (g.R.Source.remaining c.args.inside.now)
-          (bytes_in g.Q.Source.remaining c.args.outside) captures _
-          w.deref.result.now (g.U.Sink.contents w.in-Some-report.report.now)
+          (received Report whole _ (g.R.Source.remaining c.args.inside.now)
+          (bytes_in g.Q.Source.remaining c.args.outside) _ _ _ (g.U.Sink.contents w.in-Some-report.report.now)
           (g.U.Sink.contents w.write_report.new.output) c.in_ok-inside.ensures.ok second c.in_ok-outputs.ensures.ok
-          w.deref.ensures w.in_ok-write_report.ensures.bytes)
+          w.deref.ensures
+          w.in_ok-write_report.ensures.bytes)
       | in_default-report w ↦ rw (w.report-is, w.in_default-report.is) tt
     ]
 
@@ -361,15 +335,15 @@ returns-clause-report_flushed g c =
 pub returns-in_err-outputs-clause-too_many : goal.returns-in_err-outputs-clause-too_many
 returns-in_err-outputs-clause-too_many g c =
     let p = err_from_is_err_and c.from_residual-in_err-outputs.result c.from_residual-in_err-outputs.ensures.1 in
-    let captures : Captures = record { inside = c.in_ok-inside.inside; outside = c.match-outside.outside2 } in
-    let second : IsReadAsOutside (bytes_in g.Q.Source.remaining c.args.outside) captures.outside =
+    let second : IsReadAsOutside (bytes_in g.Q.Source.remaining c.args.outside) c.match-outside.outside2 =
     elim c.match-outside.branch [
-      | in-Some+in_ok-outside-in-Some w ↦ rw (w.in-Some.is, w.outside2-is)
-          (outside_read _ _ w.in_ok-outside-in-Some.ensures.ok)
-      | in-None w ↦ rw (w.in-None.is, w.outside2-is) w.no_capture-outside.ensures
+      | in-Some+in_ok-outside-in-Some w ↦ read_some _ w.in-Some.is w.outside2-is w.in_ok-outside-in-Some.ensures.ok
+      | in-None w ↦ read_none _ w.in-None.is w.outside2-is w.no_capture-outside.ensures
     ] in
     rw (p.1, p.2) (too_many_told c.one_answer.ensures.unique (g.R.Source.remaining c.args.inside.now)
-    (bytes_in g.Q.Source.remaining c.args.outside) captures (Err (Run c.in_err-outputs.field-0.0))
+    (bytes_in g.Q.Source.remaining c.args.outside)
+    (record { inside = c.in_ok-inside.inside; outside = c.match-outside.outside2 })
+    (Err (Run c.in_err-outputs.field-0.0))
     c.in_ok-inside.ensures.ok second
     (λ many. fault_told _ (err_is _ _ (c.in_err-outputs.ensures.too_many.1 many))))
 
@@ -377,59 +351,51 @@ pub returns-in_err-write_side-clause-too_many : goal.returns-in_err-write_side-c
 returns-in_err-write_side-clause-too_many g c =
     let p = err_from_is_err_and c.from_residual-in_err-write_side.result
     c.from_residual-in_err-write_side.ensures.1 in
-    let captures : Captures = record { inside = c.in_ok-inside.inside; outside = c.match-outside.outside2 } in
-    let second : IsReadAsOutside (bytes_in g.Q.Source.remaining c.args.outside) captures.outside =
+    let second : IsReadAsOutside (bytes_in g.Q.Source.remaining c.args.outside) c.match-outside.outside2 =
     elim c.match-outside.branch [
-      | in-Some+in_ok-outside-in-Some w ↦ rw (w.in-Some.is, w.outside2-is)
-          (outside_read _ _ w.in_ok-outside-in-Some.ensures.ok)
-      | in-None w ↦ rw (w.in-None.is, w.outside2-is) w.no_capture-outside.ensures
+      | in-Some+in_ok-outside-in-Some w ↦ read_some _ w.in-Some.is w.outside2-is w.in_ok-outside-in-Some.ensures.ok
+      | in-None w ↦ read_none _ w.in-None.is w.outside2-is w.no_capture-outside.ensures
     ] in
-    rw (p.1, p.2) (too_many_told c.one_answer.ensures.unique (g.R.Source.remaining c.args.inside.now)
-    (bytes_in g.Q.Source.remaining c.args.outside) captures (Err c.in_err-write_side.field-0.0)
+    rw (p.1, p.2) (few_told c.one_answer.ensures.unique (g.R.Source.remaining c.args.inside.now)
+    (bytes_in g.Q.Source.remaining c.args.outside) c.in_ok-outputs.ensures.ok (Err c.in_err-write_side.field-0.0)
     c.in_ok-inside.ensures.ok second
-    (λ many. absurd (not_too_many c.in_ok-outputs.outputs (c.in_ok-outputs.ensures.too_many.1 many))))
+    c.in_ok-outputs.ensures.too_many.1)
 
 pub returns-in_err-write_side-2-clause-too_many : goal.returns-in_err-write_side-2-clause-too_many
 returns-in_err-write_side-2-clause-too_many g c =
     let p = err_from_is_err_and c.from_residual-in_err-write_side-2.result
     c.from_residual-in_err-write_side-2.ensures.1 in
-    let captures : Captures = record { inside = c.in_ok-inside.inside; outside = c.match-outside.outside2 } in
-    let second : IsReadAsOutside (bytes_in g.Q.Source.remaining c.args.outside) captures.outside =
+    let second : IsReadAsOutside (bytes_in g.Q.Source.remaining c.args.outside) c.match-outside.outside2 =
     elim c.match-outside.branch [
-      | in-Some+in_ok-outside-in-Some w ↦ rw (w.in-Some.is, w.outside2-is)
-          (outside_read _ _ w.in_ok-outside-in-Some.ensures.ok)
-      | in-None w ↦ rw (w.in-None.is, w.outside2-is) w.no_capture-outside.ensures
+      | in-Some+in_ok-outside-in-Some w ↦ read_some _ w.in-Some.is w.outside2-is w.in_ok-outside-in-Some.ensures.ok
+      | in-None w ↦ read_none _ w.in-None.is w.outside2-is w.no_capture-outside.ensures
     ] in
-    rw (p.1, p.2) (too_many_told c.one_answer.ensures.unique (g.R.Source.remaining c.args.inside.now)
-    (bytes_in g.Q.Source.remaining c.args.outside) captures (Err c.in_err-write_side-2.field-0.0)
+    rw (p.1, p.2) (few_told c.one_answer.ensures.unique (g.R.Source.remaining c.args.inside.now)
+    (bytes_in g.Q.Source.remaining c.args.outside) c.in_ok-outputs.ensures.ok (Err c.in_err-write_side-2.field-0.0)
     c.in_ok-inside.ensures.ok second
-    (λ many. absurd (not_too_many c.in_ok-outputs.outputs (c.in_ok-outputs.ensures.too_many.1 many))))
+    c.in_ok-outputs.ensures.too_many.1)
 
 pub returns-in_err-write_report-clause-too_many : goal.returns-in_err-write_report-clause-too_many
 returns-in_err-write_report-clause-too_many g c =
     let p = err_from_is_err_and c.from_residual-in_err-write_report.result
     c.from_residual-in_err-write_report.ensures.1 in
-    let captures : Captures = record { inside = c.in_ok-inside.inside; outside = c.match-outside.outside2 } in
-    let second : IsReadAsOutside (bytes_in g.Q.Source.remaining c.args.outside) captures.outside =
+    let second : IsReadAsOutside (bytes_in g.Q.Source.remaining c.args.outside) c.match-outside.outside2 =
     elim c.match-outside.branch [
-      | in-Some+in_ok-outside-in-Some w ↦ rw (w.in-Some.is, w.outside2-is)
-          (outside_read _ _ w.in_ok-outside-in-Some.ensures.ok)
-      | in-None w ↦ rw (w.in-None.is, w.outside2-is) w.no_capture-outside.ensures
+      | in-Some+in_ok-outside-in-Some w ↦ read_some _ w.in-Some.is w.outside2-is w.in_ok-outside-in-Some.ensures.ok
+      | in-None w ↦ read_none _ w.in-None.is w.outside2-is w.no_capture-outside.ensures
     ] in
-    rw (p.1, p.2) (too_many_told c.one_answer.ensures.unique (g.R.Source.remaining c.args.inside.now)
-    (bytes_in g.Q.Source.remaining c.args.outside) captures (Err c.in_err-write_report.field-0.0)
+    rw (p.1, p.2) (few_told c.one_answer.ensures.unique (g.R.Source.remaining c.args.inside.now)
+    (bytes_in g.Q.Source.remaining c.args.outside) c.in_ok-outputs.ensures.ok (Err c.in_err-write_report.field-0.0)
     c.in_ok-inside.ensures.ok second
-    (λ many. absurd (not_too_many c.in_ok-outputs.outputs (c.in_ok-outputs.ensures.too_many.1 many))))
+    c.in_ok-outputs.ensures.too_many.1)
 
 pub returns-clause-too_many : goal.returns-clause-too_many
 returns-clause-too_many g c =
-    let captures : Captures = record { inside = c.in_ok-inside.inside; outside = c.match-outside.outside2 } in
-    let second : IsReadAsOutside (bytes_in g.Q.Source.remaining c.args.outside) captures.outside =
+    let second : IsReadAsOutside (bytes_in g.Q.Source.remaining c.args.outside) c.match-outside.outside2 =
     elim c.match-outside.branch [
-      | in-Some+in_ok-outside-in-Some w ↦ rw (w.in-Some.is, w.outside2-is)
-          (outside_read _ _ w.in_ok-outside-in-Some.ensures.ok)
-      | in-None w ↦ rw (w.in-None.is, w.outside2-is) w.no_capture-outside.ensures
+      | in-Some+in_ok-outside-in-Some w ↦ read_some _ w.in-Some.is w.outside2-is w.in_ok-outside-in-Some.ensures.ok
+      | in-None w ↦ read_none _ w.in-None.is w.outside2-is w.no_capture-outside.ensures
     ] in
-    too_many_told c.one_answer.ensures.unique (g.R.Source.remaining c.args.inside.now)
-    (bytes_in g.Q.Source.remaining c.args.outside) captures (Ok tt) c.in_ok-inside.ensures.ok second
-    (λ many. absurd (not_too_many c.in_ok-outputs.outputs (c.in_ok-outputs.ensures.too_many.1 many)))
+    few_told c.one_answer.ensures.unique (g.R.Source.remaining c.args.inside.now)
+    (bytes_in g.Q.Source.remaining c.args.outside) c.in_ok-outputs.ensures.ok (Ok tt) c.in_ok-inside.ensures.ok second
+    c.in_ok-outputs.ensures.too_many.1
