@@ -34,9 +34,9 @@ mod stage;
 use crate::Worker;
 use crate::inputs::copies;
 use held::{Held, Owed};
-use impossible_answer::ImpossibleAnswer;
+use impossible_answer::{IMPOSSIBLE_ANSWER, ImpossibleAnswer};
 use napt_config::Config;
-use napt_pool::{Backoff, Gate, Machine, OfferRefused, Pool, PoolFault};
+use napt_pool::{Backoff, Gate, Machine, OfferRefused, Pool};
 use napt_sequential::{Input, Outcome, RunFault, places_stand_for_legs, right_answers, way_from};
 use napt_translate::{Answer, Leg, onward, route};
 use napt_wire::{Cause, Packet, Side};
@@ -51,9 +51,6 @@ use std::sync::Wait;
 
 /// The most legs and places that are held. No input is read while fewer than two more would fit.
 const MOST_HELD: u64 = 65_536;
-
-/// What a run tells of an impossible answer.
-const IMPOSSIBLE_ANSWER: RunFault = RunFault::Pool(PoolFault::Ring);
 
 /// After so many inputs the answers of one worker are looked at, of each in its turn. Each look may fetch what another
 /// processor wrote, so fewer looks cost less.
