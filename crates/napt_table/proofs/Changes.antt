@@ -17,9 +17,32 @@ use Rattle.napt_table.specs.declared.host_counts.HostCounts.{HostCounts}
 use Rattle.napt_table.specs.Counts.{are_counted, count_in}
 use Rattle.napt_table.specs.Endpoints.{Key, key}
 use Rattle.napt_table.specs.Hosts.{held_for}
-use Rattle.napt_table.specs.Part.{held, number_at, IsDue, IsPart, AreDue, ChangesOne, StaysPart}
+use Rattle.napt_table.specs.Part.{held, number_at, IsDue, IsPart, AreDue, IsSamePlace, HoldsSame, ChangesOne, StaysPart}
 use Rattle.napt_numbers.specs.Places.{is_used}
 use Rattle.napt_table.proofs.Hosts.{count_same}
+
+-- ONE STEP AFTER THE OTHER
+
+pub place_then : (a b c : Part) → IsSamePlace a b → IsSamePlace b c → IsSamePlace a c
+place_then a b c p q = record {
+  address_is = q.address_is ∙ p.address_is;
+  timers_is = q.timers_is ∙ p.timers_is;
+  at_is = q.at_is ∙ p.at_is;
+  protocol_same = q.protocol_same ∙ p.protocol_same;
+  counting_is = q.counting_is ∙ p.counting_is;
+}
+
+pub same_then : (a b c : Part) → HoldsSame a b → HoldsSame b c → HoldsSame a c
+same_then a b c p q = record {
+  place = place_then a b c p.place q.place;
+  held_same = λ n. q.held_same n ∙ p.held_same n;
+  inside_same = λ e. q.inside_same e ∙ p.inside_same e;
+  entries_same = q.entries_same ∙ p.entries_same;
+  numbers_same = q.numbers_same ∙ p.numbers_same;
+  counts_same = λ host. q.counts_same host ∙ p.counts_same host;
+}
+
+-- A BINDING THAT CHANGES
 
 -- bindings of one host count alike
 for_alike : (host : ℕ) (x y : Binding) → key x ≡ key y → x.fixed ≡ y.fixed → held_for host (Some x)

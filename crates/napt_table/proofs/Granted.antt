@@ -1,7 +1,7 @@
 -- A packet that goes out, on the parts of a table and on the list.
 use Rattle.std.proofs.Common.{◌≡◌, ◌≢◌, ℕ, ◌+◌, Bool, true, false, cond, List, map, Option, Some, None, Result, Ok, Err, refl, sym, ◌∙◌, ap, subst, arith}
 use Rattle.std.specs.Prelude.{find, ok_or, OnErr}
-use Rattle.std.specs.Option.{is_some, option_map}
+use Rattle.std.specs.Option.{is_some}
 use Rattle.napt_wire.specs.declared.Protocol.{Protocol}
 use Rattle.napt_wire.specs.declared.Protocol.TheVariants.{Icmp, Tcp, Udp}
 use Rattle.napt_wire.specs.declared.Cause.{Cause}
@@ -10,6 +10,7 @@ use Rattle.napt_wire.specs.declared.Endpoint.{Endpoint}
 use Rattle.napt_wire.specs.declared.Flags.{Flags}
 use Rattle.napt_config.specs.declared.settings.Timers.{Timers}
 use Rattle.napt_binding.specs.declared.Binding.{Binding}
+use Rattle.napt_binding.specs.declared.sent.Sent.{Sent}
 use Rattle.napt_table.specs.declared.part.Part.{Part}
 use Rattle.napt_table.specs.declared.parts.Parts.{Parts as AllParts}
 use Rattle.napt_binding.specs.Bindings.{is_of_inside}
@@ -19,14 +20,15 @@ use Rattle.napt_table.specs.Endpoints.{key, Apart}
 use Rattle.napt_table.specs.Held.{seen, Shows}
 use Rattle.napt_table.specs.Hosts.{count_held}
 use Rattle.napt_binding.specs.Life.{is_live, with_live_flows}
-use Rattle.napt_table.specs.Part.{held, number_at, HoldsSame, ChangesOne, IsPurged}
+use Rattle.napt_table.specs.Part.{held, number_at, HoldsSame, StaysPart, WentThrough, HasNone, WentOut, IsPurged}
 use Rattle.napt_table.specs.Parts.{part_of, IsOf, AreOf, AreCounted, AllShow}
 use Rattle.napt_table.specs.Quota.{count_for, reaches}
 use Rattle.napt_binding.specs.Traffic.{sent}
 use Rattle.napt_table.specs.Steps.{Out, out_made, out_found, out_purged}
 use Rattle.napt_table.proofs.Hosts.{count_is_held}
 use Rattle.napt_table.proofs.PartSteps.{by_protocol, out_others, all_of, all_counted, protocols_of, externals_of}
-use Rattle.napt_table.proofs.Sends.{seen_is, known, unknown, same_stays, same_of, known_answer, known_shows, not_found}
+use Rattle.napt_table.proofs.Changes.{same_then}
+use Rattle.napt_table.proofs.Sends.{seen_is, same_stays, sent_stays, known_answer, known_shows, not_found}
 
 -- where what is held under the protocol shows the list of a step, and nothing else is seen to have changed, all show it
 pub all_sent : (quota : Option ℕ) (timers : Timers) (address now : ℕ) (protocol : Protocol) (inside remote : Endpoint)
@@ -56,28 +58,42 @@ said_of part address timers protocol a t p P h =
 
 -- NOTHING THAT IS HELD HAS CHANGED
 
-module _ (protocol : Protocol) (old new : AllParts) (others : (q : Protocol) → q ≢ protocol → part_of new q
-    ≡ part_of old q) (same : HoldsSame (part_of old protocol) (part_of new protocol)) where
+pub record LeavesHeld (protocol : Protocol) (old new : AllParts) : Type 0 where
+  pub others : (q : Protocol) → q ≢ protocol → part_of new q ≡ part_of old q
+  pub same : HoldsSame (part_of old protocol) (part_of new protocol)
+
+-- no live binding was found, and then memory was taken
+module _ (packet : Sent) (old mid : AllParts) (others : (q : Protocol) → q ≢ packet.protocol → part_of mid q
+    ≡ part_of old q) (found : Option ℕ) (none : found ≡ None)
+    (went : WentOut packet (part_of old packet.protocol) (part_of mid packet.protocol) found) where
+  has_none : HasNone packet (part_of old packet.protocol) (part_of mid packet.protocol)
+  has_none = subst (WentOut packet (part_of old packet.protocol) (part_of mid packet.protocol)) none went
+
+  pub absent : (n : ℕ) → number_at (part_of old packet.protocol) packet.inside ≡ Some n →
+      seen (part_of old packet.protocol).timers packet.now (held (part_of old packet.protocol) n) ≡ None
+  absent = has_none.none
+
+  pub leaves : (new : AllParts) → ((q : Protocol) → q ≢ packet.protocol → part_of new q ≡ part_of mid q) →
+      HoldsSame (part_of mid packet.protocol) (part_of new packet.protocol) → LeavesHeld packet.protocol old new
+  leaves new rest same = record {
+    others = λ r d. rest r d ∙ others r d;
+    same = same_then (part_of old packet.protocol) (part_of mid packet.protocol) (part_of new packet.protocol)
+        has_none.same same;
+  }
+
+module _ (protocol : Protocol) (old new : AllParts) (leaves : LeavesHeld protocol old new) where
   pub mid_held : (q : Protocol) (n : ℕ) → held (part_of new q) n ≡ held (part_of old q) n
-  mid_held q n = by_protocol protocol q (λ r. held (part_of new r) n ≡ held (part_of old r) n) (same.held_same n) (λ d.
-      ap (λ (p : Part). held p n) (others q d))
+  mid_held q n = by_protocol protocol q (λ r. held (part_of new r) n ≡ held (part_of old r) n)
+      (leaves.same.held_same n) (λ d. ap (λ (p : Part). held p n) (leaves.others q d))
 
   pub mid_show : (address : ℕ) (timers : Timers) (now : ℕ) (list : List Binding) → AllShow address timers now old list →
       AllShow address timers now new list
   mid_show address timers now list shows q n = shows q n ∙ ap (seen timers now) (sym (mid_held q n))
 
   pub mid_of : (address : ℕ) (timers : Timers) (at : ℕ) → AreOf address timers at old → AreOf address timers at new
-  mid_of address timers at all = all_of protocol old new others
-      (same_stays (part_of old protocol) (part_of new protocol) (all protocol).is (all protocol).due same) address
-      timers at all
-
--- a packet that was refused memory for its flow leaves the parts as they are
-pub refused_of : (protocol : Protocol) (old new : AllParts) → ((q : Protocol) → q ≢ protocol → part_of new q
-    ≡ part_of old q) → (number : ℕ) → ChangesOne number (part_of old protocol) (part_of new protocol) →
-    held (part_of new protocol) number ≡ held (part_of old protocol) number →
-    (address : ℕ) (timers : Timers) (at : ℕ) → AreOf address timers at old → AreOf address timers at new
-refused_of protocol old new others number one here =
-    mid_of protocol old new others (same_of number (part_of old protocol) (part_of new protocol) one here)
+  mid_of address timers at all = all_of protocol old new leaves.others
+      (same_stays (part_of old protocol) (part_of new protocol) (all protocol).is (all protocol).due leaves.same)
+      address timers at all
 
 -- THE PURGE
 
@@ -192,35 +208,34 @@ module _ (quota : Option ℕ) (address now : ℕ) (protocol : Protocol) (inside 
 
 -- A PACKET WHOSE BINDING IS FOUND
 
-pub record IsKnown (quota : Option ℕ) (timers : Timers) (address now : ℕ) (protocol : Protocol)
-    (inside remote : Endpoint) (flags : Flags) (old : Part) (number : ℕ) (list : List Binding) : Type 0 where
-  pub binding : Binding
-  pub is : seen old.timers now (held old number) ≡ Some binding
-  pub answer : Ok number ≡ (out_purged quota address now protocol inside remote flags list).number
-  pub shows : (new : ℕ → Option Binding) → ((n : ℕ) → n ≢ number → new n ≡ held old n) →
-      seen timers now (new number) ≡ Some (sent remote flags now binding) →
-      Shows timers now address protocol new (out_purged quota address now protocol inside remote flags list).list
+module _ (timers : Timers) (address : ℕ) (packet : Sent) (old new : Part) (number : ℕ)
+    (of : IsOf address timers packet.now packet.protocol old) (went : WentThrough packet old new number) where
+  pub went_stays : StaysPart old new
+  went_stays =
+      let s = seen_is old.timers packet.now (held old number) went.binding went.found in
+      sent_stays old new packet.now number packet.remote packet.flags of.is went.one s.0 s.1
+      (went.left ∙ ap (λ (b : Binding). Some (sent packet.remote packet.flags packet.now b)) (sym s.3)) of.before of.due
 
-pub known_in : (quota : Option ℕ) (timers : Timers) (address now : ℕ) (protocol : Protocol) (inside remote : Endpoint)
-    (flags : Flags) (old : Part) (number : ℕ) → IsOf address timers now protocol old →
-    (number_at old inside ≡ None → Some number ≡ None) →
-    ((n : ℕ) → number_at old inside ≡ Some n → Some number ≡ option_map (λ b. n) (seen old.timers now (held old n))) →
-    (list : List Binding) → Apart (map key list) → Shows timers now address protocol (held old) list →
-    IsKnown quota timers address now protocol inside remote flags old number list
-known_in quota timers address now protocol inside remote flags old number of none some list apart shows =
-    let there = known old.timers now (held old) (number_at old inside) number (Some number) refl none some in
-    let is : seen timers now (held old number) ≡ Some there.1.0 =
-    subst (λ (t : Timers). seen t now (held old number) ≡ Some there.1.0) of.timers_is there.1.1 in
-    let protocols = protocols_of address timers now protocol old of in
-    let externals = externals_of address timers now protocol old of in
-    record {
-      binding = there.1.0;
-      is = there.1.1;
-      answer = known_answer timers quota now address protocol inside remote flags (held old) (number_at old) list apart
-          shows protocols externals of.is.inside_is of.is.number_is number there.1.0 there.0 is;
-      shows = known_shows timers quota now address protocol inside remote flags (held old) (number_at old) list apart
-          shows protocols externals of.is.inside_is of.is.number_is number there.1.0 there.0 is;
-    }
+  module _ (quota : Option ℕ) (list : List Binding) (apart : Apart (map key list))
+      (shows : Shows timers packet.now address packet.protocol (held old) list) where
+    is : seen timers packet.now (held old number) ≡ Some went.binding
+    is = subst (λ (t : Timers). seen t packet.now (held old number) ≡ Some went.binding) of.timers_is went.found
+
+    pub went_answer : Ok number ≡ (out_purged quota address packet.now packet.protocol packet.inside packet.remote
+        packet.flags list).number
+    went_answer = known_answer timers quota packet.now address packet.protocol packet.inside packet.remote packet.flags
+        (held old) (number_at old) list apart shows (protocols_of address timers packet.now packet.protocol old of)
+        (externals_of address timers packet.now packet.protocol old of) of.is.inside_is of.is.number_is number
+        went.binding went.number_is is
+
+    pub went_shows : Shows timers packet.now address packet.protocol (held new) (out_purged quota address packet.now
+        packet.protocol packet.inside packet.remote packet.flags list).list
+    went_shows = known_shows timers quota packet.now address packet.protocol packet.inside packet.remote packet.flags
+        (held old) (number_at old) list apart shows (protocols_of address timers packet.now packet.protocol old of)
+        (externals_of address timers packet.now packet.protocol old of) of.is.inside_is of.is.number_is number
+        went.binding went.number_is is (held new) went.one.others
+        (subst (λ (t : Timers). seen t packet.now (held new number) ≡ Some (sent packet.remote packet.flags packet.now
+        went.binding)) of.timers_is went.left)
 
 -- A PACKET WHOSE BINDING IS NOT: memory is taken, and what is dead goes
 
@@ -236,33 +251,31 @@ pub record IsReady (quota : Option ℕ) (timers : Timers) (address now : ℕ) (p
       + count_in gone.udp.hosts inside.address)
 
 module _ (quota : Option ℕ) (timers : Timers) (address now : ℕ) (protocol : Protocol) (inside remote : Endpoint)
-    (flags : Flags) (old mid gone : AllParts) (others : (q : Protocol) → q ≢ protocol → part_of mid q ≡ part_of old q)
-    (same : HoldsSame (part_of old protocol) (part_of mid protocol))
+    (flags : Flags) (old mid gone : AllParts) (leaves : LeavesHeld protocol old mid)
     (purged : (q : Protocol) → IsPurged now (part_of mid q) (part_of gone q)) where
   pub ready : AreOf address timers now old → AreCounted (is_some quota) old →
       ((n : ℕ) → number_at (part_of old protocol) inside ≡ Some n →
-      None ≡ option_map (λ b. n) (seen (part_of old protocol).timers now (held (part_of old protocol) n))) →
+      seen (part_of old protocol).timers now (held (part_of old protocol) n) ≡ None) →
       (list : List Binding) → Apart (map key list) → AllShow address timers now old list →
       IsReady quota timers address now protocol inside old gone list
   ready all counted absent list apart shows =
       let part = part_of old protocol in
       let of = all protocol in
-      let all_mid = mid_of protocol old mid others same address timers now all in
+      let all_mid = mid_of protocol old mid leaves address timers now all in
       let show = gone_show address timers now mid gone all_mid purged list
-      (mid_show protocol old mid others same address timers now list shows) in
+      (mid_show protocol old mid leaves address timers now list shows) in
       record {
         of = gone_of address timers now mid gone all_mid purged;
         shows = show;
         same = λ q n. gone_seen address timers now mid gone all_mid purged q n
-            ∙ ap (seen timers now) (mid_held protocol old mid others same q n);
+            ∙ ap (seen timers now) (mid_held protocol old mid leaves q n);
         none = not_found timers quota now address protocol inside remote flags (held part) (number_at part) list apart
             (shows protocol) (protocols_of address timers now protocol part of)
             (externals_of address timers now protocol part of) of.is.inside_is of.is.number_is
-            (λ n h. subst (λ (t : Timers). seen t now (held part n) ≡ None) of.timers_is
-            (unknown part.timers now (held part) (number_at part inside) None refl absent n h));
+            (λ n h. subst (λ (t : Timers). seen t now (held part n) ≡ None) of.timers_is (absent n h));
         reached = gone_reaches address timers now mid gone all_mid purged quota inside.address list apart show
             (gone_counted address timers now mid gone all_mid purged (is_some quota)
-            (all_counted protocol old mid others same.place (is_some quota) counted));
+            (all_counted protocol old mid leaves.others leaves.same.place (is_some quota) counted));
       }
 
 -- the choice among what the part shows is that of the list

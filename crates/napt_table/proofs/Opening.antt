@@ -189,15 +189,6 @@ module _ (address : ℕ) (protocol : Protocol) (inside : Endpoint) (number : ℕ
 
 -- THE QUEUE
 
-pub place_then : (a b c : Part) → IsSamePlace a b → IsSamePlace b c → IsSamePlace a c
-place_then a b c p q = record {
-  address_is = q.address_is ∙ p.address_is;
-  timers_is = q.timers_is ∙ p.timers_is;
-  at_is = q.at_is ∙ p.at_is;
-  protocol_same = q.protocol_same ∙ p.protocol_same;
-  counting_is = q.counting_is ∙ p.counting_is;
-}
-
 -- a redirect is not in it
 pub fixed_due : (old new : Part) (number : ℕ) (binding : Binding) → AreDue old → binding.fixed ≡ true →
     IsSamePlace old new → new.due.entries ≡ old.due.entries →

@@ -317,7 +317,7 @@ impl Part {
     ghost use Rattle.napt_binding.specs.Lists.{change_first};
     ghost use Rattle.napt_binding.specs.Traffic.{is_flow_of, used, with_flow, sent};
     ghost use Rattle.napt_table.specs.Steps.{out_made};
-    ghost use Rattle.napt_table.specs.Part.{held, number_at, IsPart, AreDue, HoldsSame, ChangesOne, StaysPart, HasRoom};
+    ghost use Rattle.napt_table.specs.Part.{held, number_at, IsPart, AreDue, HoldsSame, StaysPart, WentOut, HasRoom};
 
     /// A redirect, neither of whose ends is taken. It never expires, so it has no entry in the queue. Where memory is
     /// refused nothing that is held is changed.
@@ -353,25 +353,31 @@ impl Part {
         Ok(())
     }
 
-    /// A packet goes out through the held binding with the number.
-    pub(crate) fn send_known(
+    /// A packet goes out through the live binding of its inside endpoint: the number of that, where there is one. Where memory
+    /// is refused nothing that is held is changed.
+    pub(crate) fn send_held(
         &mut self,
         alloc: Global,
-        number: u16,
         packet: Sent,
-    ) -> Result<(), AllocError>
+    ) -> Result<Option<u16>, AllocError>
         requires { AreTimers self.old.timers }
-        ensures one { ChangesOne number self.old self.new }
-        ensures refused { OnErr result (held self.new number ≡ held self.old number) }
-        ensures ok { (b : Binding) → held self.old number ≡ Some b →
-            OnOk result (seen self.old.timers packet.now (held self.new number) ≡
-            Some (sent packet.remote packet.flags packet.now (with_live_flows self.old.timers packet.now b))) }
+        ensures went { IfOk result (WentOut packet self.old self.new) }
+        ensures refused { OnErr result (HoldsSame self.old self.new) }
     {
         let timers = self.timers;
-        let Some(binding) = self.by_number.get_mut(&number) else {
-            return Ok(());
+        let inside = packet.inside;
+        let number = match self.by_inside.get(&(inside.address, inside.number)) {
+            Some(number) => *number,
+            None => return Ok(None),
         };
-        binding.send(alloc, timers, packet.now, packet.remote, packet.flags)
+        let Some(binding) = self.by_number.get_mut(&number) else {
+            return Ok(None);
+        };
+        if !binding.is_live(timers, packet.now) {
+            return Ok(None);
+        }
+        binding.send(alloc, timers, packet.now, packet.remote, packet.flags)?;
+        Ok(Some(number))
     }
 
     /// Takes the memory for a new binding through which the packet goes out, and begins its flows. What is held stays as it is.

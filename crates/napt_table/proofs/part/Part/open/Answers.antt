@@ -1,7 +1,8 @@
 use Rattle.std.proofs.Common.{refl, ◌∙◌, ap, true, Option, Some, cond, eqb}
 use Rattle.napt_due.specs.Queue.{Queue}
 use Rattle.napt_binding.specs.declared.Binding.{Binding}
-use Rattle.napt_table.proofs.Opening.{fixed_due, place_then}
+use Rattle.napt_table.proofs.Changes.{place_then}
+use Rattle.napt_table.proofs.Opening.{fixed_due}
 use Rattle.napt_table.proofs.part.Part.open.Goals as goal
 
 pub returns-clause-stays : goal.returns-clause-stays
