@@ -7,13 +7,11 @@ use Rattle.napt_wire.specs.declared.Protocol.TheVariants.{Icmp, Tcp, Udp}
 use Rattle.napt_wire.specs.declared.Cause.{Cause}
 use Rattle.napt_wire.specs.declared.Cause.TheVariants.{OverQuota, NoPort}
 use Rattle.napt_wire.specs.declared.Endpoint.{Endpoint}
-use Rattle.napt_wire.specs.declared.Flags.{Flags}
 use Rattle.napt_config.specs.declared.settings.Timers.{Timers}
 use Rattle.napt_binding.specs.declared.Binding.{Binding}
 use Rattle.napt_binding.specs.declared.sent.Sent.{Sent}
 use Rattle.napt_table.specs.declared.part.Part.{Part}
 use Rattle.napt_table.specs.declared.parts.Parts.{Parts as AllParts}
-use Rattle.napt_binding.specs.Bindings.{is_of_inside}
 use Rattle.napt_table.specs.Choice.{choice}
 use Rattle.napt_table.specs.Counts.{count_in}
 use Rattle.napt_table.specs.Endpoints.{key, Apart}
@@ -23,25 +21,23 @@ use Rattle.napt_binding.specs.Life.{is_live, with_live_flows}
 use Rattle.napt_table.specs.Part.{held, number_at, HoldsSame, StaysPart, WentThrough, HasNone, WentOut, IsPurged}
 use Rattle.napt_table.specs.Parts.{part_of, IsOf, AreOf, AreCounted, AllShow}
 use Rattle.napt_table.specs.Quota.{count_for, reaches}
-use Rattle.napt_binding.specs.Traffic.{sent}
-use Rattle.napt_table.specs.Steps.{Out, out_made, out_found, out_purged}
+use Rattle.napt_table.specs.Steps.{Out, out_made, out_found, out_purged, of_source, sent_by}
 use Rattle.napt_table.proofs.Hosts.{count_is_held}
 use Rattle.napt_table.proofs.PartSteps.{by_protocol, out_others, all_of, all_counted, protocols_of, externals_of}
 use Rattle.napt_table.proofs.Changes.{same_then}
 use Rattle.napt_table.proofs.Sends.{seen_is, same_stays, sent_stays, known_answer, known_shows, not_found}
 
 -- where what is held under the protocol shows the list of a step, and nothing else is seen to have changed, all show it
-pub all_sent : (quota : Option ℕ) (timers : Timers) (address now : ℕ) (protocol : Protocol) (inside remote : Endpoint)
-    (flags : Flags) (old new : AllParts) (list : List Binding) → AllShow address timers now old list →
-    ((q : Protocol) → q ≢ protocol → (n : ℕ) → seen timers now (held (part_of new q) n)
-    ≡ seen timers now (held (part_of old q) n)) →
-    Shows timers now address protocol (held (part_of new protocol))
-    (out_purged quota address now protocol inside remote flags list).list →
-    AllShow address timers now new (out_purged quota address now protocol inside remote flags list).list
-all_sent quota timers address now protocol inside remote flags old new list shows others here q =
-    by_protocol protocol q (λ r. Shows timers now address r (held (part_of new r))
-    (out_purged quota address now protocol inside remote flags list).list) here
-    (λ d n. out_others quota timers address now protocol inside remote flags list q d n
+pub all_sent : (quota : Option ℕ) (timers : Timers) (address : ℕ) (packet : Sent) (old new : AllParts)
+    (list : List Binding) → AllShow address timers packet.now old list →
+    ((q : Protocol) → q ≢ packet.protocol → (n : ℕ) → seen timers packet.now (held (part_of new q) n)
+    ≡ seen timers packet.now (held (part_of old q) n)) →
+    Shows timers packet.now address packet.protocol (held (part_of new packet.protocol))
+    (out_purged quota address packet list).list →
+    AllShow address timers packet.now new (out_purged quota address packet list).list
+all_sent quota timers address packet old new list shows others here q =
+    by_protocol packet.protocol q (λ r. Shows timers packet.now address r (held (part_of new r))
+    (out_purged quota address packet list).list) here (λ d n. out_others quota timers address packet list q d n
     ∙ (shows q n ∙ sym (others q d n)))
 
 pub on_err : {X E : Type 0} (r : Result X E) (P : Type 0) → P → OnErr r P
@@ -167,43 +163,38 @@ module _ (address : ℕ) (timers : Timers) (now : ℕ) (old gone : AllParts) (al
 
 -- THE LIST
 
-module _ (quota : Option ℕ) (address now : ℕ) (protocol : Protocol) (inside remote : Endpoint) (flags : Flags)
-    (list : List Binding) (none : find (is_of_inside address protocol inside) list ≡ None) where
-  over_is : reaches quota (count_for address inside.address list) ≡ true →
-      out_purged quota address now protocol inside remote flags list
-      ≡ out_made list address now protocol inside remote flags (Err OverQuota)
+module _ (quota : Option ℕ) (address : ℕ) (packet : Sent) (list : List Binding)
+    (none : find (of_source address packet) list ≡ None) where
+  over_is : reaches quota (count_for address packet.inside.address list) ≡ true → out_purged quota address packet list
+      ≡ out_made list address packet (Err OverQuota)
   over_is over =
-      ap (out_found quota list address now protocol inside remote flags) none
-      ∙ ap (λ v. out_made list address now protocol inside remote flags
-      (cond v (Err OverQuota) (ok_or (choice list protocol address inside.number) NoPort))) over
+      ap (out_found quota list address packet) none ∙ ap (λ v. out_made list address packet
+      (cond v (Err OverQuota) (ok_or (choice list packet.protocol address packet.inside.number) NoPort))) over
 
-  pub over_answer : reaches quota (count_for address inside.address list) ≡ true → Err OverQuota
-      ≡ (out_purged quota address now protocol inside remote flags list).number
+  pub over_answer : reaches quota (count_for address packet.inside.address list) ≡ true → Err OverQuota
+      ≡ (out_purged quota address packet list).number
   over_answer over = sym (ap (λ (o : Out). o.number) (over_is over))
 
-  pub over_list : reaches quota (count_for address inside.address list) ≡ true →
-      (out_purged quota address now protocol inside remote flags list).list ≡ list
+  pub over_list : reaches quota (count_for address packet.inside.address list) ≡ true →
+      (out_purged quota address packet list).list ≡ list
   over_list over = ap (λ (o : Out). o.list) (over_is over)
 
-  module _ (result : Result ℕ Cause) (under : reaches quota (count_for address inside.address list) ≡ false)
-      (chosen : result ≡ ok_or (choice list protocol address inside.number) NoPort) where
-    made_is : out_purged quota address now protocol inside remote flags list
-        ≡ out_made list address now protocol inside remote flags result
+  module _ (result : Result ℕ Cause) (under : reaches quota (count_for address packet.inside.address list) ≡ false)
+      (chosen : result ≡ ok_or (choice list packet.protocol address packet.inside.number) NoPort) where
+    made_is : out_purged quota address packet list ≡ out_made list address packet result
     made_is =
-        ap (out_found quota list address now protocol inside remote flags) none
-        ∙ (ap (λ v. out_made list address now protocol inside remote flags
-        (cond v (Err OverQuota) (ok_or (choice list protocol address inside.number) NoPort))) under
-        ∙ ap (out_made list address now protocol inside remote flags) (sym chosen))
+        ap (out_found quota list address packet) none ∙ (ap (λ v. out_made list address packet
+        (cond v (Err OverQuota) (ok_or (choice list packet.protocol address packet.inside.number) NoPort))) under
+        ∙ ap (out_made list address packet) (sym chosen))
 
-    number_is : (r : Result ℕ Cause) → (out_made list address now protocol inside remote flags r).number ≡ r
+    number_is : (r : Result ℕ Cause) → (out_made list address packet r).number ≡ r
     number_is (Ok number) = refl
     number_is (Err cause) = refl
 
-    pub made_answer : result ≡ (out_purged quota address now protocol inside remote flags list).number
+    pub made_answer : result ≡ (out_purged quota address packet list).number
     made_answer = sym (ap (λ (o : Out). o.number) made_is ∙ number_is result)
 
-    pub made_list : (out_purged quota address now protocol inside remote flags list).list
-        ≡ (out_made list address now protocol inside remote flags result).list
+    pub made_list : (out_purged quota address packet list).list ≡ (out_made list address packet result).list
     made_list = ap (λ (o : Out). o.list) made_is
 
 -- A PACKET WHOSE BINDING IS FOUND
@@ -214,68 +205,67 @@ module _ (timers : Timers) (address : ℕ) (packet : Sent) (old new : Part) (num
   went_stays =
       let s = seen_is old.timers packet.now (held old number) went.binding went.found in
       sent_stays old new packet.now number packet.remote packet.flags of.is went.one s.0 s.1
-      (went.left ∙ ap (λ (b : Binding). Some (sent packet.remote packet.flags packet.now b)) (sym s.3)) of.before of.due
+      (went.left ∙ ap (λ (b : Binding). Some (sent_by packet b)) (sym s.3)) of.before of.due
 
   module _ (quota : Option ℕ) (list : List Binding) (apart : Apart (map key list))
       (shows : Shows timers packet.now address packet.protocol (held old) list) where
     is : seen timers packet.now (held old number) ≡ Some went.binding
     is = subst (λ (t : Timers). seen t packet.now (held old number) ≡ Some went.binding) of.timers_is went.found
 
-    pub went_answer : Ok number ≡ (out_purged quota address packet.now packet.protocol packet.inside packet.remote
-        packet.flags list).number
-    went_answer = known_answer timers quota packet.now address packet.protocol packet.inside packet.remote packet.flags
-        (held old) (number_at old) list apart shows (protocols_of address timers packet.now packet.protocol old of)
+    pub went_answer : Ok number ≡ (out_purged quota address packet list).number
+    went_answer = known_answer timers quota address packet (held old) (number_at old) list apart shows
+        (protocols_of address timers packet.now packet.protocol old of)
         (externals_of address timers packet.now packet.protocol old of) of.is.inside_is of.is.number_is number
         went.binding went.number_is is
 
-    pub went_shows : Shows timers packet.now address packet.protocol (held new) (out_purged quota address packet.now
-        packet.protocol packet.inside packet.remote packet.flags list).list
-    went_shows = known_shows timers quota packet.now address packet.protocol packet.inside packet.remote packet.flags
-        (held old) (number_at old) list apart shows (protocols_of address timers packet.now packet.protocol old of)
+    pub went_shows : Shows timers packet.now address packet.protocol (held new)
+        (out_purged quota address packet list).list
+    went_shows = known_shows timers quota address packet (held old) (number_at old) list apart shows
+        (protocols_of address timers packet.now packet.protocol old of)
         (externals_of address timers packet.now packet.protocol old of) of.is.inside_is of.is.number_is number
         went.binding went.number_is is (held new) went.one.others
-        (subst (λ (t : Timers). seen t packet.now (held new number) ≡ Some (sent packet.remote packet.flags packet.now
-        went.binding)) of.timers_is went.left)
+        (subst (λ (t : Timers). seen t packet.now (held new number) ≡ Some (sent_by packet went.binding)) of.timers_is
+        went.left)
 
 -- A PACKET WHOSE BINDING IS NOT: memory is taken, and what is dead goes
 
-pub record IsReady (quota : Option ℕ) (timers : Timers) (address now : ℕ) (protocol : Protocol) (inside : Endpoint)
-    (old gone : AllParts) (list : List Binding) : Type 0 where
-  pub of : AreOf address timers now gone
-  pub shows : AllShow address timers now gone list
-  pub same : (q : Protocol) (n : ℕ) → seen timers now (held (part_of gone q) n)
-      ≡ seen timers now (held (part_of old q) n)
-  pub none : find (is_of_inside address protocol inside) list ≡ None
-  pub reached : reaches quota (count_for address inside.address list)
-      ≡ reaches quota ((count_in gone.icmp.hosts inside.address + count_in gone.tcp.hosts inside.address)
-      + count_in gone.udp.hosts inside.address)
+pub record IsReady (quota : Option ℕ) (timers : Timers) (address : ℕ) (packet : Sent) (old gone : AllParts)
+    (list : List Binding) : Type 0 where
+  pub of : AreOf address timers packet.now gone
+  pub shows : AllShow address timers packet.now gone list
+  pub same : (q : Protocol) (n : ℕ) → seen timers packet.now (held (part_of gone q) n)
+      ≡ seen timers packet.now (held (part_of old q) n)
+  pub none : find (of_source address packet) list ≡ None
+  pub reached : reaches quota (count_for address packet.inside.address list)
+      ≡ reaches quota ((count_in gone.icmp.hosts packet.inside.address + count_in gone.tcp.hosts packet.inside.address)
+      + count_in gone.udp.hosts packet.inside.address)
 
-module _ (quota : Option ℕ) (timers : Timers) (address now : ℕ) (protocol : Protocol) (inside remote : Endpoint)
-    (flags : Flags) (old mid gone : AllParts) (leaves : LeavesHeld protocol old mid)
-    (purged : (q : Protocol) → IsPurged now (part_of mid q) (part_of gone q)) where
-  pub ready : AreOf address timers now old → AreCounted (is_some quota) old →
-      ((n : ℕ) → number_at (part_of old protocol) inside ≡ Some n →
-      seen (part_of old protocol).timers now (held (part_of old protocol) n) ≡ None) →
-      (list : List Binding) → Apart (map key list) → AllShow address timers now old list →
-      IsReady quota timers address now protocol inside old gone list
+module _ (quota : Option ℕ) (timers : Timers) (address : ℕ) (packet : Sent) (old mid gone : AllParts)
+    (leaves : LeavesHeld packet.protocol old mid)
+    (purged : (q : Protocol) → IsPurged packet.now (part_of mid q) (part_of gone q)) where
+  pub ready : AreOf address timers packet.now old → AreCounted (is_some quota) old →
+      ((n : ℕ) → number_at (part_of old packet.protocol) packet.inside ≡ Some n →
+      seen (part_of old packet.protocol).timers packet.now (held (part_of old packet.protocol) n) ≡ None) →
+      (list : List Binding) → Apart (map key list) → AllShow address timers packet.now old list →
+      IsReady quota timers address packet old gone list
   ready all counted absent list apart shows =
-      let part = part_of old protocol in
-      let of = all protocol in
-      let all_mid = mid_of protocol old mid leaves address timers now all in
-      let show = gone_show address timers now mid gone all_mid purged list
-      (mid_show protocol old mid leaves address timers now list shows) in
+      let part = part_of old packet.protocol in
+      let of = all packet.protocol in
+      let all_mid = mid_of packet.protocol old mid leaves address timers packet.now all in
+      let show = gone_show address timers packet.now mid gone all_mid purged list
+      (mid_show packet.protocol old mid leaves address timers packet.now list shows) in
       record {
-        of = gone_of address timers now mid gone all_mid purged;
+        of = gone_of address timers packet.now mid gone all_mid purged;
         shows = show;
-        same = λ q n. gone_seen address timers now mid gone all_mid purged q n
-            ∙ ap (seen timers now) (mid_held protocol old mid leaves q n);
-        none = not_found timers quota now address protocol inside remote flags (held part) (number_at part) list apart
-            (shows protocol) (protocols_of address timers now protocol part of)
-            (externals_of address timers now protocol part of) of.is.inside_is of.is.number_is
-            (λ n h. subst (λ (t : Timers). seen t now (held part n) ≡ None) of.timers_is (absent n h));
-        reached = gone_reaches address timers now mid gone all_mid purged quota inside.address list apart show
-            (gone_counted address timers now mid gone all_mid purged (is_some quota)
-            (all_counted protocol old mid leaves.others leaves.same.place (is_some quota) counted));
+        same = λ q n. gone_seen address timers packet.now mid gone all_mid purged q n
+            ∙ ap (seen timers packet.now) (mid_held packet.protocol old mid leaves q n);
+        none = not_found timers quota address packet (held part) (number_at part) list apart
+            (shows packet.protocol) (protocols_of address timers packet.now packet.protocol part of)
+            (externals_of address timers packet.now packet.protocol part of) of.is.inside_is of.is.number_is
+            (λ n h. subst (λ (t : Timers). seen t packet.now (held part n) ≡ None) of.timers_is (absent n h));
+        reached = gone_reaches address timers packet.now mid gone all_mid purged quota packet.inside.address list
+            apart show (gone_counted address timers packet.now mid gone all_mid purged (is_some quota)
+            (all_counted packet.protocol old mid leaves.others leaves.same.place (is_some quota) counted));
       }
 
 -- the choice among what the part shows is that of the list

@@ -2,6 +2,7 @@ pub mod Quotas
 pub mod QuotaKept
 pub mod StepsLocal
 pub mod Live
+mod Passes
 pub mod Sound
 pub mod Named
 pub mod Tables

@@ -1,26 +1,25 @@
 -- The parts of a table, when one of them takes a step.
-use Rattle.std.proofs.Common.{◌≡◌, ◌≢◌, ℕ, ◌≤◌, Bool, true, false, ◌&&◌, cond, List, [], ◌∷◌, ◌++◌, Option, Some, None, Ok, Err, refl, sym, ◌∙◌, ap, subst, eqb}
+use Rattle.std.proofs.Common.{◌≡◌, ◌≢◌, ℕ, ◌≤◌, Bool, true, false, ◌&&◌, List, [], ◌∷◌, ◌++◌, Option, Some, None, Ok, Err, refl, sym, ◌∙◌, ap, subst, eqb}
 use Rattle.std.specs.Prelude.{find}
 use Rattle.napt_wire.specs.declared.Protocol.{Protocol}
 use Rattle.napt_wire.specs.declared.Protocol.TheVariants.{Icmp, Tcp, Udp}
-use Rattle.napt_wire.specs.declared.Cause.TheVariants.{Filtered}
 use Rattle.napt_wire.specs.declared.Endpoint.{Endpoint}
-use Rattle.napt_wire.specs.declared.Flags.{Flags}
 use Rattle.napt_binding.specs.declared.inbound.Inbound.{Inbound}
 use Rattle.napt_config.specs.declared.settings.Timers.{Timers}
 use Rattle.napt_binding.specs.declared.Binding.{Binding}
+use Rattle.napt_binding.specs.declared.sent.Sent.{Sent}
+use Rattle.napt_table.specs.declared.received.Received.{Received}
 use Rattle.napt_table.specs.declared.part.Part.{Part}
 use Rattle.napt_table.specs.declared.event.Event.{Event}
-use Rattle.napt_binding.specs.Lists.{change_first}
-use Rattle.napt_binding.specs.Bindings.{has_number, is_of_inside, same_protocol}
+use Rattle.napt_binding.specs.Bindings.{has_number, same_protocol}
 use Rattle.napt_binding.specs.Filtering.{permits}
-use Rattle.napt_binding.specs.Traffic.{sent, received}
-use Rattle.napt_table.specs.Steps.{fresh, In, in_found, in_purged, out_made, out_found, out_purged}
+use Rattle.napt_table.specs.Steps.{fresh, in_found, in_purged, out_made, out_found, out_purged, of_source, sent_by, of_destination, received_by}
 use Rattle.napt_table.specs.Quota.{granted}
 use Rattle.napt_table.specs.Counts.{are_counted}
 use Rattle.napt_table.specs.declared.parts.Parts.{Parts as AllParts}
 use Rattle.napt_table.specs.Endpoints.{Key}
 use Rattle.napt_binding.proofs.Finds.{find_other, find_passed_over}
+use Rattle.napt_table.proofs.Passes.{in_passed}
 use Rattle.napt_table.proofs.Sound.{sent_key, received_key}
 use Rattle.napt_table.specs.Part.{held, IsSamePlace, StaysPart}
 use Rattle.napt_table.specs.Parts.{part_of, IsOf, AreOf, AreCounted}
@@ -82,48 +81,39 @@ set_counted protocol parts new same counted are = with_part (λ q p. are_counted
     (same.counting_is ∙ are protocol) are
 
 -- other protocols are as before
-pub in_others : (inbound : Inbound) (timers : Timers) (address now : ℕ) (protocol : Protocol) (number : ℕ)
-    (remote : Endpoint) (flags : Flags) (list : List Binding) (q : Protocol) → q ≢ protocol → (n : ℕ) →
-    find (has_number address q n) (in_purged inbound address now protocol number remote flags list).list
-    ≡ find (has_number address q n) list
-in_others inbound timers address now protocol number remote flags list q differs n =
-    elim (find (has_number address protocol number) list) as (λ o.
-    find (has_number address q n) (in_found inbound list address now protocol number remote flags o).list
-    ≡ find (has_number address q n) list) [
+pub in_others : (inbound : Inbound) (timers : Timers) (address : ℕ) (packet : Received) (list : List Binding)
+    (q : Protocol) → q ≢ packet.protocol → (n : ℕ) →
+    find (has_number address q n) (in_purged inbound address packet list).list ≡ find (has_number address q n) list
+in_others inbound timers address packet list q differs n =
+    elim (find (of_destination address packet) list) as (λ o.
+    find (has_number address q n) (in_found inbound list address packet o).list ≡ find (has_number address q n) list) [
       | None ↦ refl
-      | Some b ↦ elim (permits inbound b remote) as (λ v. find (has_number address q n) (let i : In =
-          cond v (record {
-            inside = Ok b.inside;
-            list = change_first (has_number address protocol number)
-                (received inbound remote flags now) list;
-          }) (record { inside = Err Filtered; list = list }) in i.list)
+      | Some b ↦ elim (permits inbound b packet.remote) as (λ v.
+          find (has_number address q n) (in_passed inbound list address packet b v).list
           ≡ find (has_number address q n) list) [
-            | true ↦ changed_other timers now address protocol number (received inbound remote flags now)
-                (received_key inbound remote flags now) list q n (λ p. absurd (differs p))
+            | true ↦ changed_other timers packet.now address packet.protocol packet.number (received_by inbound packet)
+                (received_key inbound packet.remote packet.flags packet.now) list q n (λ p. absurd (differs p))
             | false ↦ refl
           ]
     ]
 
-pub out_others : (quota : Option ℕ) (timers : Timers) (address now : ℕ) (protocol : Protocol) (inside remote : Endpoint)
-    (flags : Flags) (list : List Binding) (q : Protocol) → q ≢ protocol → (n : ℕ) →
-    find (has_number address q n) (out_purged quota address now protocol inside remote flags list).list
-    ≡ find (has_number address q n) list
-out_others quota timers address now protocol inside remote flags list q differs n =
-    elim (find (is_of_inside address protocol inside) list) as (λ o.
-    find (has_number address q n) (out_found quota list address now protocol inside remote flags o).list
-    ≡ find (has_number address q n) list) [
-      | None ↦ elim (granted quota list address protocol inside) as (λ m.
-          find (has_number address q n) (out_made list address now protocol inside remote flags m).list
-          ≡ find (has_number address q n) list) [
+pub out_others : (quota : Option ℕ) (timers : Timers) (address : ℕ) (packet : Sent) (list : List Binding)
+    (q : Protocol) → q ≢ packet.protocol → (n : ℕ) →
+    find (has_number address q n) (out_purged quota address packet list).list ≡ find (has_number address q n) list
+out_others quota timers address packet list q differs n =
+    elim (find (of_source address packet) list) as (λ o.
+    find (has_number address q n) (out_found quota list address packet o).list ≡ find (has_number address q n) list) [
+      | None ↦ elim (granted quota list address packet) as (λ m.
+          find (has_number address q n) (out_made list address packet m).list ≡ find (has_number address q n) list) [
             | Err cause ↦ refl
-            | Ok m ↦ find_passed_over (has_number address q n) list
-                (sent remote flags now (fresh protocol inside address m now))
-                (not_has address q n (sent remote flags now (fresh protocol inside address m now)) differs)
+            | Ok m ↦ find_passed_over (has_number address q n) list (sent_by packet (fresh address packet m))
+                (not_has address q n (sent_by packet (fresh address packet m)) differs)
           ]
-      | Some b ↦ find_other (is_of_inside address protocol inside) (sent remote flags now) (has_number address q n)
+      | Some b ↦ find_other (of_source address packet) (sent_by packet) (has_number address q n)
           (λ x. ap (λ (k : Key). eqb k.external.address address
-          && (same_protocol q k.protocol && eqb k.external.number n)) (sent_key remote flags now x))
-          (λ x h. not_has address q n x (λ p. differs (p ∙ sym (inside_protocol address protocol inside x h)))) list
+          && (same_protocol q k.protocol && eqb k.external.number n))
+          (sent_key packet.remote packet.flags packet.now x)) (λ x h. not_has address q n x (λ p. differs (p ∙ sym
+          (inside_protocol address packet.protocol packet.inside x h)))) list
     ]
 
 -- what holds of the protocol, and of each other one

@@ -5,25 +5,27 @@ use Rattle.std.proofs.lemmas.Bool.{and_parts, leb-false, true≢false}
 use Rattle.napt_wire.specs.declared.Protocol.{Protocol}
 use Rattle.napt_wire.specs.declared.Way.TheVariants.{Outgoing, Incoming}
 use Rattle.napt_wire.specs.declared.Cause.{Cause}
-use Rattle.napt_wire.specs.declared.Cause.TheVariants.{Filtered}
 use Rattle.napt_wire.specs.declared.Endpoint.{Endpoint}
 use Rattle.napt_wire.specs.declared.Flags.{Flags}
 use Rattle.napt_config.specs.declared.settings.Refresh.{Refresh}
 use Rattle.napt_config.specs.declared.settings.Timers.{Timers}
 use Rattle.napt_binding.specs.declared.inbound.Inbound.{Inbound}
 use Rattle.napt_binding.specs.declared.Binding.{Binding}
+use Rattle.napt_binding.specs.declared.sent.Sent.{Sent as Packet}
+use Rattle.napt_table.specs.declared.received.Received.{Received}
 use Rattle.napt_table.specs.declared.event.Event.{Event}
 use Rattle.napt_table.specs.declared.event.Event.TheVariants.{Redirected, Sent, Entered}
 use Rattle.napt_binding.specs.Lists.{change_first}
-use Rattle.napt_binding.specs.Bindings.{is_tcp, is_of_inside, has_number}
+use Rattle.napt_binding.specs.Bindings.{is_tcp}
 use Rattle.napt_binding.specs.Life.{is_live, with_live_flows, purge}
 use Rattle.napt_table.specs.Quota.{counts_for, count_for, granted}
 use Rattle.napt_binding.specs.Filtering.{permits}
 use Rattle.napt_table.specs.Held.{redirect_of}
 use Rattle.napt_binding.specs.Traffic.{is_flow_of, used, with_flow, sent, refreshes, refreshed, received}
-use Rattle.napt_table.specs.Steps.{fresh, out_made, out_found, In, in_found}
+use Rattle.napt_table.specs.Steps.{fresh, out_made, out_found, in_found, of_source, sent_by, of_destination, received_by}
 use Rattle.napt_table.specs.Events.{played, played_all}
 use Rattle.napt_table.specs.QuotaKept.{PurgeKeepsQuota, OutKeepsQuota, InKeepsQuota, PlayedKeepsQuota}
+use Rattle.napt_table.proofs.Passes.{in_passed}
 use Rattle.napt_table.proofs.Quotas.{granted_is_within}
 
 -- LISTS
@@ -101,60 +103,51 @@ module _ (at host : ℕ) where
 
     -- OUT
 
-    module _ (address now : ℕ) (protocol : Protocol) (inside remote : Endpoint) (flags : Flags) (list : List Binding)
-        (le : IsWithin list) where
+    module _ (address : ℕ) (packet : Packet) (list : List Binding) (le : IsWithin list) where
       -- a new binding counts for its host alone, which has fewer than the quota
-      has_room : (n : ℕ) → granted (Some quota) list address protocol inside ≡ Ok n →
-          counts_for at host (sent remote flags now (fresh protocol inside address n now)) ≡ true →
-          count_for at host list < quota
+      has_room : (n : ℕ) → granted (Some quota) list address packet ≡ Ok n →
+          counts_for at host (sent_by packet (fresh address packet n)) ≡ true → count_for at host list < quota
       has_room n is counts =
           let there = and_parts (eqb address at) _ counts in
-          let his = and_parts (eqb inside.address host) _ there.1 in
-          let many = count_for address inside.address list in
+          let his = and_parts (eqb packet.inside.address host) _ there.1 in
+          let many = count_for address packet.inside.address list in
           let fewer : many < quota =
-          leb-false quota many (granted_is_within (Some quota) list address protocol inside n is) in
-          subst (λ h. count_for at h list < quota) (eqb-true inside.address host his.0)
-          (subst (λ a. count_for a inside.address list < quota) (eqb-true address at there.0) fewer)
+          leb-false quota many (granted_is_within (Some quota) list address packet n is) in
+          subst (λ h. count_for at h list < quota) (eqb-true packet.inside.address host his.0)
+          (subst (λ a. count_for a packet.inside.address list < quota) (eqb-true address at there.0) fewer)
 
-      within_made : (number : Result ℕ Cause) → granted (Some quota) list address protocol inside ≡ number →
-          IsWithin (out_made list address now protocol inside remote flags number).list
+      within_made : (number : Result ℕ Cause) → granted (Some quota) list address packet ≡ number →
+          IsWithin (out_made list address packet number).list
       within_made (Err cause) is = le
       within_made (Ok n) is =
-          within_pushed list (sent remote flags now (fresh protocol inside address n now)) le (has_room n is)
+          within_pushed list (sent_by packet (fresh address packet n)) le (has_room n is)
 
-      within_left : (found : Option Binding) →
-          IsWithin (out_found (Some quota) list address now protocol inside remote flags found).list
+      within_left : (found : Option Binding) → IsWithin (out_found (Some quota) list address packet found).list
       within_left (Some b) =
-          let change : Binding → Binding = sent remote flags now in
-          let test : Binding → Bool = is_of_inside address protocol inside in
+          let change : Binding → Binding = sent_by packet in
+          let test : Binding → Bool = of_source address packet in
           within_same (change_first test change list) list
-          (as_many_changed (counts_for at host) change (sent_counts remote flags now) test list) le
-      within_left None = within_made (granted (Some quota) list address protocol inside) refl
+          (as_many_changed (counts_for at host) change (sent_counts packet.remote packet.flags packet.now) test list) le
+      within_left None = within_made (granted (Some quota) list address packet) refl
 
     -- IN
 
-    module _ (inbound : Inbound) (address now : ℕ) (protocol : Protocol) (number : ℕ) (remote : Endpoint)
-        (flags : Flags) (list : List Binding) (le : IsWithin list) where
+    module _ (inbound : Inbound) (address : ℕ) (packet : Received) (list : List Binding) (le : IsWithin list) where
       abbrev changed : List Binding
-      changed = change_first (has_number address protocol number) (received inbound remote flags now) list
+      changed = change_first (of_destination address packet) (received_by inbound packet) list
 
       within_changed : IsWithin changed
       within_changed =
-          within_same changed list
-          (as_many_changed (counts_for at host) (received inbound remote flags now)
-          (received_counts remote flags now inbound) (has_number address protocol number) list) le
+          within_same changed list (as_many_changed (counts_for at host) (received_by inbound packet)
+          (received_counts packet.remote packet.flags packet.now inbound) (of_destination address packet) list) le
 
-      within_passed : (b : Binding) (passes : Bool) →
-          (let r : In = cond passes
-          (record { inside = Ok b.inside; list = changed }) (record { inside = Err Filtered; list = list }) in
-          IsWithin r.list)
+      within_passed : (b : Binding) (passes : Bool) → IsWithin (in_passed inbound list address packet b passes).list
       within_passed b true = within_changed
       within_passed b false = le
 
-      within_entered : (found : Option Binding) →
-          IsWithin (in_found inbound list address now protocol number remote flags found).list
+      within_entered : (found : Option Binding) → IsWithin (in_found inbound list address packet found).list
       within_entered None = le
-      within_entered (Some b) = within_passed b (permits inbound b remote)
+      within_entered (Some b) = within_passed b (permits inbound b packet.remote)
 
 -- THE LAWS
 
@@ -162,16 +155,16 @@ pub purge_keeps_quota : PurgeKeepsQuota
 purge_keeps_quota timers now at host quota list le = within_purged at host quota timers now list le
 
 pub out_keeps_quota : OutKeepsQuota
-out_keeps_quota timers quota address now protocol inside remote flags list at host le =
-    let live : List Binding = purge timers now list in
-    within_left at host quota address now protocol inside remote flags live
-    (within_purged at host quota timers now list le) (find (is_of_inside address protocol inside) live)
+out_keeps_quota timers quota address packet list at host le =
+    let live : List Binding = purge timers packet.now list in
+    within_left at host quota address packet live
+    (within_purged at host quota timers packet.now list le) (find (of_source address packet) live)
 
 pub in_keeps_quota : InKeepsQuota
-in_keeps_quota timers inbound address now protocol number remote flags list at host quota le =
-    let live : List Binding = purge timers now list in
-    within_entered at host quota inbound address now protocol number remote flags live
-    (within_purged at host quota timers now list le) (find (has_number address protocol number) live)
+in_keeps_quota timers inbound address packet list at host quota le =
+    let live : List Binding = purge timers packet.now list in
+    within_entered at host quota inbound address packet live
+    (within_purged at host quota timers packet.now list le) (find (of_destination address packet) live)
 
 module _ (timers : Timers) (quota : ℕ) (inbound : Inbound) (address at host : ℕ) where
   redirect_counts : (protocol : Protocol) (inside : Endpoint) (number : ℕ) →
@@ -184,9 +177,11 @@ module _ (timers : Timers) (quota : ℕ) (inbound : Inbound) (address at host : 
       within_pushed at host quota list (redirect_of protocol address inside number) le
       (λ counts. absurd (true≢false (sym counts ∙ redirect_counts protocol inside number)))
   within_played now (Sent protocol inside remote flags) list le =
-      out_keeps_quota timers quota address now protocol inside remote flags list at host le
+      out_keeps_quota timers quota address
+      (record { protocol = protocol; inside = inside; remote = remote; flags = flags; now = now }) list at host le
   within_played now (Entered protocol number remote flags) list le =
-      in_keeps_quota timers inbound address now protocol number remote flags list at host quota le
+      in_keeps_quota timers inbound address
+      (record { protocol = protocol; number = number; remote = remote; flags = flags; now = now }) list at host quota le
 
   within_all : (events : List (ℕ × Event)) (list : List Binding) → count_for at host list ≤ quota →
       count_for at host (played_all timers (Some quota) inbound address events list) ≤ quota

@@ -3,10 +3,10 @@ use Rattle.std.proofs.Common.{◌≡◌, ℕ, Bool, true, false, not, ◌&&◌, 
 use Rattle.std.specs.Prelude.{ok_or}
 use Rattle.std.proofs.lemmas.Bool.{and_parts}
 use Rattle.napt_wire.specs.declared.Protocol.{Protocol}
-use Rattle.napt_wire.specs.declared.Endpoint.{Endpoint}
 use Rattle.napt_wire.specs.declared.Cause.{Cause}
 use Rattle.napt_wire.specs.declared.Cause.TheVariants.{OverQuota, NoPort}
 use Rattle.napt_binding.specs.declared.Binding.{Binding}
+use Rattle.napt_binding.specs.declared.sent.Sent.{Sent}
 use Rattle.napt_binding.specs.Bindings.{same_protocol, of, is_at}
 use Rattle.napt_numbers.specs.Candidates.{candidates}
 use Rattle.napt_table.specs.Choice.{is_free, choice}
@@ -25,17 +25,17 @@ module _ (choice : Option ℕ) (n : ℕ) where
   within_by true e = cc
   within_by false e = refl
 
-module _ (quota : Option ℕ) (list : List Binding) (address : ℕ) (protocol : Protocol) (inside : Endpoint) (n : ℕ)
-    (is : granted quota list address protocol inside ≡ Ok n) where
-  pub granted_is_chosen : choice list protocol address inside.number ≡ Some n
+module _ (quota : Option ℕ) (list : List Binding) (address : ℕ) (packet : Sent) (n : ℕ)
+    (is : granted quota list address packet ≡ Ok n) where
+  pub granted_is_chosen : choice list packet.protocol address packet.inside.number ≡ Some n
   granted_is_chosen =
-      let over = reaches quota (count_for address inside.address list) in
-      chosen_by (choice list protocol address inside.number) n over is
+      let over = reaches quota (count_for address packet.inside.address list) in
+      chosen_by (choice list packet.protocol address packet.inside.number) n over is
 
-  pub granted_is_within : reaches quota (count_for address inside.address list) ≡ false
+  pub granted_is_within : reaches quota (count_for address packet.inside.address list) ≡ false
   granted_is_within =
-      let over = reaches quota (count_for address inside.address list) in
-      within_by (choice list protocol address inside.number) n over is
+      let over = reaches quota (count_for address packet.inside.address list) in
+      within_by (choice list packet.protocol address packet.inside.number) n over is
 
 -- OF ITS ADDRESS ALONE
 
@@ -51,12 +51,12 @@ count_local address host list =
     ap length
     (filter_narrow (is_at address) (counts_for address host) list (λ b h. (and_parts (is_at address b) _ h).0))
 
-pub granted_local : (quota : Option ℕ) (list : List Binding) (address : ℕ) (protocol : Protocol) (inside : Endpoint) →
-    granted quota (of address list) address protocol inside ≡ granted quota list address protocol inside
-granted_local quota list address protocol inside =
-    let own = choice (of address list) protocol address inside.number in
-    let many = count_for address inside.address list in
-    let counts = count_local address inside.address list in
-    let choices = choice_local list protocol address inside.number in
+pub granted_local : (quota : Option ℕ) (list : List Binding) (address : ℕ) (packet : Sent) →
+    granted quota (of address list) address packet ≡ granted quota list address packet
+granted_local quota list address packet =
+    let own = choice (of address list) packet.protocol address packet.inside.number in
+    let many = count_for address packet.inside.address list in
+    let counts = count_local address packet.inside.address list in
+    let choices = choice_local list packet.protocol address packet.inside.number in
     ap (λ count. cond (reaches quota count) (Err OverQuota) (ok_or own NoPort)) counts
     ∙ ap (λ c. cond (reaches quota many) (Err OverQuota) (ok_or c NoPort)) choices

@@ -1,6 +1,8 @@
 -- What happened to a table, and the list that it leaves.
 use Rattle.std.specs.Prelude.{ℕ, List, [], ◌∷◌, ◌++◌, Option}
 use Rattle.napt_binding.specs.declared.inbound.Inbound.{Inbound}
+use Rattle.napt_binding.specs.declared.sent.Sent.{Sent as Packet}
+use Rattle.napt_table.specs.declared.received.Received.{Received}
 use Rattle.napt_config.specs.declared.settings.Timers.{Timers}
 use Rattle.napt_binding.specs.declared.Binding.{Binding}
 use Rattle.napt_table.specs.declared.event.Event.{Event}
@@ -12,9 +14,11 @@ abbrev pub played : Timers → Option ℕ → Inbound → ℕ → ℕ → Event 
 played timers quota inbound address now (Redirected protocol inside number) list =
     list ++ redirect_of protocol address inside number ∷ []
 played timers quota inbound address now (Sent protocol inside remote flags) list =
-    (step_out timers quota address now protocol inside remote flags list).list
+    let packet : Packet = record { protocol = protocol; inside = inside; remote = remote; flags = flags; now = now } in
+    (step_out timers quota address packet list).list
 played timers quota inbound address now (Entered protocol number remote flags) list =
-    (step_in timers inbound address now protocol number remote flags list).list
+    let packet : Received = record { protocol = protocol; number = number; remote = remote; flags = flags; now = now }
+    in (step_in timers inbound address packet list).list
 
 -- one after another, each with its time in ns
 abbrev pub played_all : Timers → Option ℕ → Inbound → ℕ → List (ℕ × Event) → List Binding → List Binding

@@ -4,11 +4,10 @@
 -- that no one takes all of them. A host has one external address (RFC 4787, REQ-2), and its bindings there are counted
 -- over all protocols. Redirects do not count: the configuration gives them.
 use Rattle.std.specs.Prelude.{ℕ, ◌==◌, nat_le, Bool, false, not, ◌&&◌, cond, List, length, filter, Option, Some, None, Result, Err, ok_or}
-use Rattle.napt_wire.specs.declared.Protocol.{Protocol}
-use Rattle.napt_wire.specs.declared.Endpoint.{Endpoint}
 use Rattle.napt_wire.specs.declared.Cause.{Cause}
 use Rattle.napt_wire.specs.declared.Cause.TheVariants.{OverQuota, NoPort}
 use Rattle.napt_binding.specs.declared.Binding.{Binding}
+use Rattle.napt_binding.specs.declared.sent.Sent.{Sent}
 use Rattle.napt_binding.specs.Bindings.{is_at}
 use Rattle.napt_table.specs.Choice.{choice}
 
@@ -26,7 +25,7 @@ reaches None count = false
 reaches (Some quota) count = nat_le quota count
 
 -- the number of a new binding, or why there is none: the quota comes before the choice
-abbrev pub granted : Option ℕ → List Binding → ℕ → Protocol → Endpoint → Result ℕ Cause
-granted quota list address protocol inside =
-    cond (reaches quota (count_for address inside.address list)) (Err OverQuota)
-    (ok_or (choice list protocol address inside.number) NoPort)
+abbrev pub granted : Option ℕ → List Binding → ℕ → Sent → Result ℕ Cause
+granted quota list address packet =
+    cond (reaches quota (count_for address packet.inside.address list)) (Err OverQuota)
+    (ok_or (choice list packet.protocol address packet.inside.number) NoPort)

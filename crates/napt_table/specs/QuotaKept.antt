@@ -1,10 +1,9 @@
 -- No inside host comes to have more bindings than its quota (RFC 6888, REQ-4).
 use Rattle.std.specs.Prelude.{ℕ, ◌≤◌, List, [], Some}
-use Rattle.napt_wire.specs.declared.Protocol.{Protocol}
-use Rattle.napt_wire.specs.declared.Endpoint.{Endpoint}
-use Rattle.napt_wire.specs.declared.Flags.{Flags}
 use Rattle.napt_config.specs.declared.settings.Timers.{Timers}
 use Rattle.napt_binding.specs.declared.inbound.Inbound.{Inbound}
+use Rattle.napt_binding.specs.declared.sent.Sent.{Sent}
+use Rattle.napt_table.specs.declared.received.Received.{Received}
 use Rattle.napt_binding.specs.declared.Binding.{Binding}
 use Rattle.napt_table.specs.declared.event.Event.{Event}
 use Rattle.napt_binding.specs.Life.{purge}
@@ -19,14 +18,13 @@ PurgeKeepsQuota = (timers : Timers) (now at host quota : ℕ) (list : List Bindi
     count_for at host list ≤ quota → count_for at host (purge timers now list) ≤ quota
 
 abbrev pub OutKeepsQuota : Type 0
-OutKeepsQuota = (timers : Timers) (quota address now : ℕ) (protocol : Protocol) (inside remote : Endpoint)
-    (flags : Flags) (list : List Binding) (at host : ℕ) → count_for at host list ≤ quota →
-    count_for at host (step_out timers (Some quota) address now protocol inside remote flags list).list ≤ quota
+OutKeepsQuota = (timers : Timers) (quota address : ℕ) (packet : Sent) (list : List Binding) (at host : ℕ) →
+    count_for at host list ≤ quota → count_for at host (step_out timers (Some quota) address packet list).list ≤ quota
 
 abbrev pub InKeepsQuota : Type 0
-InKeepsQuota = (timers : Timers) (inbound : Inbound) (address now : ℕ) (protocol : Protocol) (number : ℕ)
-    (remote : Endpoint) (flags : Flags) (list : List Binding) (at host quota : ℕ) → count_for at host list ≤ quota →
-    count_for at host (step_in timers inbound address now protocol number remote flags list).list ≤ quota
+InKeepsQuota = (timers : Timers) (inbound : Inbound) (address : ℕ) (packet : Received) (list : List Binding)
+    (at host quota : ℕ) → count_for at host list ≤ quota →
+    count_for at host (step_in timers inbound address packet list).list ≤ quota
 
 -- so whatever happened to a table, no host has more than the quota
 abbrev pub PlayedKeepsQuota : Type 0

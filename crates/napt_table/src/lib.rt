@@ -16,12 +16,14 @@ mod event;
 mod host_counts;
 mod part;
 mod parts;
+mod received;
 mod rows;
 mod table;
 
 pub use napt_binding::{Binding, Flow, Flows, Inbound, Marks};
 pub use napt_numbers::{Class, Numbers, candidates_are_the_class};
 use napt_wire::{Endpoint, Protocol};
+pub use received::Received;
 pub use table::Table;
 
 /// What a table tells of one binding.

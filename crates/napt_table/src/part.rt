@@ -14,11 +14,12 @@ ghost use Rattle.napt_table.specs.Counts.{are_counted, count_in, HasPlace};
 
 use crate::Row;
 use crate::host_counts::HostCounts;
+use crate::received::Received;
 use napt_binding::{Binding, Flows, Inbound, Sent};
 use napt_config::Timers;
 use napt_due::Due;
 use napt_numbers::Numbers;
-use napt_wire::{Cause, Endpoint, Flags, Protocol};
+use napt_wire::{Cause, Endpoint, Protocol};
 use std::alloc::{AllocError, Global};
 use std::collections::HashMap;
 
@@ -108,30 +109,25 @@ impl Part {
     }
 
     /// A packet comes in: the inside endpoint of the live binding with the number, where it lets the remote through.
-    pub(crate) fn receive(
-        &mut self,
-        inbound: Inbound,
-        now: u64,
-        number: u16,
-        remote: Endpoint,
-        flags: Flags,
-    ) -> Result<Endpoint, Cause>
+    pub(crate) fn receive(&mut self, inbound: Inbound, packet: Received) -> Result<Endpoint, Cause>
         requires { AreTimers self.old.timers }
-        ensures one { ChangesOne number self.old self.new }
-        ensures absent { seen self.old.timers now (held self.old number) ≡ None →
-            (result ≡ Err NoBinding) × (held self.new number ≡ held self.old number) }
-        ensures found { (b : Binding) → seen self.old.timers now (held self.old number) ≡ Some b →
-            (result ≡ entered inbound remote b)
-            × (held self.new number ≡ Some (left_by inbound remote flags now b)) }
+        ensures one { ChangesOne packet.number self.old self.new }
+        ensures absent { seen self.old.timers packet.now (held self.old packet.number) ≡ None →
+            (result ≡ Err NoBinding)
+            × (held self.new packet.number ≡ held self.old packet.number) }
+        ensures found { (b : Binding) →
+            seen self.old.timers packet.now (held self.old packet.number) ≡ Some b →
+            (result ≡ entered inbound packet.remote b) × (held self.new packet.number
+            ≡ Some (left_by inbound packet.remote packet.flags packet.now b)) }
     {
         let timers = self.timers;
-        let Some(binding) = self.by_number.get_mut(&number) else {
+        let Some(binding) = self.by_number.get_mut(&packet.number) else {
             return Err(Cause::NoBinding);
         };
-        if !binding.is_live(timers, now) {
+        if !binding.is_live(timers, packet.now) {
             return Err(Cause::NoBinding);
         }
-        binding.take_in(timers, inbound, now, remote, flags)
+        binding.take_in(timers, inbound, packet.now, packet.remote, packet.flags)
     }
 
     /// Makes room for one more binding.
@@ -415,7 +411,8 @@ impl Part {
             Shows self.old.timers packet.now self.old.address self.old.numbers.protocol
             (held self.old) list →
             Shows self.old.timers packet.now self.old.address self.old.numbers.protocol (held self.new)
-            (out_made list self.old.address packet.now self.old.numbers.protocol packet.inside packet.remote packet.flags result).list }
+            (out_made list self.old.address
+            (record packet { protocol = self.old.numbers.protocol }) result).list }
     {
         let Some(number) = self.numbers.choose(packet.inside.number) else {
             return Err(Cause::NoPort);
@@ -437,36 +434,18 @@ impl Part {
 }
 
 impl Part {
-    ghost use Rattle.std.specs.Prelude.{List, map};
-    ghost use Rattle.napt_binding.specs.declared.Binding.{Binding};
-    ghost use Rattle.napt_table.specs.Endpoints.{key, Apart};
-    ghost use Rattle.napt_table.specs.Held.{Shows};
-    ghost use Rattle.napt_table.specs.Steps.{in_purged};
-    ghost use Rattle.napt_table.specs.Part.{held, number_at, IsPart, AreDue, StaysPart};
+    ghost use Rattle.napt_table.specs.Part.{IsPart, AreDue, StaysPart, Enters};
 
     /// A packet comes in to the number: answers the inside endpoint, `NoBinding` or `Filtered`. It takes no memory.
-    pub(crate) fn enter(
-        &mut self,
-        inbound: Inbound,
-        now: u64,
-        number: u16,
-        remote: Endpoint,
-        flags: Flags,
-    ) -> Result<Endpoint, Cause>
+    pub(crate) fn enter(&mut self, inbound: Inbound, packet: Received) -> Result<Endpoint, Cause>
         requires part { IsPart self.old }
         requires due { AreDue self.old }
-        requires later { self.old.at ≤ now }
+        requires later { self.old.at ≤ packet.now }
         ensures stays { StaysPart self.old self.new }
-        ensures answer { (list : List Binding) → Apart (map key list) →
-            Shows self.old.timers now self.old.address self.old.numbers.protocol
-            (held self.old) list →
-            result ≡ (in_purged inbound self.old.address now self.old.numbers.protocol number remote flags list).inside }
-        ensures shows { (list : List Binding) → Apart (map key list) →
-            Shows self.old.timers now self.old.address self.old.numbers.protocol
-            (held self.old) list →
-            Shows self.old.timers now self.old.address self.old.numbers.protocol (held self.new) (in_purged inbound self.old.address now self.old.numbers.protocol number remote flags list).list }
+        ensures enters { Enters inbound (record packet { protocol = self.old.numbers.protocol })
+            self.old self.new result }
     {
-        self.receive(inbound, now, number, remote, flags)
+        self.receive(inbound, packet)
     }
 }
 
