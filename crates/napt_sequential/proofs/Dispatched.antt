@@ -17,10 +17,10 @@ use Rattle.napt_translate.specs.declared.translator.End.TheVariants.{ToOutside, 
 use Rattle.napt_translate.specs.Legs.{Acted, act, Kept, kept_after, kept_answer, kept_replies}
 use Rattle.napt_sequential.specs.declared.outcome.Outcome.{Outcome}
 use Rattle.napt_sequential.specs.Inputs.{Arrival}
-use Rattle.napt_sequential.specs.Sequential.{Act, Stepped, outcome_of, follow_by, step, Course, run_from, run}
+use Rattle.napt_sequential.specs.Sequential.{Act, Stepped, outcome_of, follow_by, first_leg, step, Course, run_from, run}
 use Rattle.napt_sequential.specs.Laws.{answers_at}
 use Rattle.napt_sequential.specs.Dispatching.{IsFront, RightAnswersAreTheRuns, RunsGrow, told, IsTold, AnswersTellOutcomes, OnwardIsForetold}
-use Rattle.napt_sequential.proofs.AnyStep.{of_read}
+use Rattle.napt_sequential.proofs.AnyStep.{of_step}
 use Rattle.napt_sequential.proofs.Grown.{grows}
 use Rattle.napt_sequential.proofs.Lists.{each_append}
 use Rattle.napt_sequential.proofs.RunsLocal.{translators_answer_alone}
@@ -106,10 +106,9 @@ tells_from rules number clock (input ∷ inputs) list =
     let first : Stepped = step rules number now input list in
     let rest : Course = run_from rules (number + 1) now inputs first.list in
     let here : Each (TellsHere number first.outcome) first.acts =
-    of_read rules number now list (λ (s : Stepped). Each (TellsHere number s.outcome) s.acts) (λ cause. tt)
-    (λ address way packet. let leg : Leg = record { number = number; now = now; way = way; packet = packet } in
-    let acted : Acted = act rules address leg list in follow_tells rules address leg acted.list acted.end)
-    input.side (reading input.side input.bytes) in
+    of_step rules number now list (λ (s : Stepped). Each (TellsHere number s.outcome) s.acts) (λ cause. tt)
+    (λ address side packet. let leg : Leg = first_leg number now side packet in
+    let acted : Acted = act rules address leg list in follow_tells rules address leg acted.list acted.end) input in
     each_append (TellsFrom number (first.outcome ∷ rest.outcomes)) first.acts rest.acts
     (each_weaker (TellsHere number first.outcome) (TellsFrom number (first.outcome ∷ rest.outcomes)) (λ a h.
     let e : a.leg.number ≡ number = h.0 in
@@ -135,6 +134,6 @@ answers_tell rules inputs list =
 pub foretold : SourcesLeaveDestinations → ErrorsLeaveDestinations → OnwardIsForetold
 foretold packets errors rules address leg list place packet side reads h =
     let goes : List ℕ → Type 0 = λ q. (destination q).address ≡ (destination leg.packet).address in
-    let to : OnwardBy rules goes leg.way place packet = onward rules leg.packet goes (packets side leg.packet reads)
-    (errors side leg.packet reads) address leg.now list leg.way (kind leg.packet) refl place packet h in
+    let to : OnwardBy rules goes leg.way place packet = onward rules leg goes (packets side leg.packet reads)
+    (errors side leg.packet reads) address list leg.way (kind leg.packet) refl place packet h in
     record { way = to.0; served = ap (place_of rules) (sym to.2) ∙ to.1; kept = to.2 }

@@ -14,10 +14,10 @@ use Rattle.napt_translate.specs.Legs.{Acted, act}
 use Rattle.napt_sequential.specs.Inputs.{Arrival}
 use Rattle.napt_sequential.specs.declared.outcome.Outcome.{Outcome}
 use Rattle.napt_sequential.specs.declared.counted_translator.CountedTranslator.{CountedTranslator}
-use Rattle.napt_sequential.specs.Sequential.{Act, Stepped, follow_by, read_as, step, Course, ahead, run_from, run, last_clock}
+use Rattle.napt_sequential.specs.Sequential.{Act, Stepped, follow_by, first_leg, step, Course, ahead, run_from, run, last_clock}
 use Rattle.napt_sequential.specs.CountedTranslators.{AreCountedTranslators, CanTake, Follows, state_of}
 use Rattle.napt_sequential.specs.Dispatching.{joined}
-use Rattle.napt_sequential.proofs.AnyStep.{of_read}
+use Rattle.napt_sequential.proofs.AnyStep.{of_step}
 
 ahead_joined : (first : Stepped) (course : Course) (next : Stepped) → ahead first (joined course next)
     ≡ joined (ahead first course) next
@@ -75,12 +75,12 @@ follow_few rules address leg first (ToInside packet) = omega arith
 follow_few rules address leg first (Dropped cause) = omega arith
 follow_few rules address leg first (Onward place packet) = omega arith
 
-read_few : (rules : Rules) (number now : ℕ) (side : Side) (read : Result (List ℕ) Cause) (list : List Binding) →
-    length (read_as rules number now side read list).acts ≤ 2
-read_few rules number now side read list =
-    of_read rules number now list (λ (s : Stepped). length s.acts ≤ 2) (λ cause. omega arith)
-    (λ address way packet. let leg : Leg = record { number = number; now = now; way = way; packet = packet } in
-    let first : Acted = act rules address leg list in follow_few rules address leg first first.end) side read
+step_few : (rules : Rules) (number now : ℕ) (input : Arrival) (list : List Binding) →
+    length (step rules number now input list).acts ≤ 2
+step_few rules number now input list =
+    of_step rules number now list (λ (s : Stepped). length s.acts ≤ 2) (λ cause. omega arith)
+    (λ address side packet. let leg : Leg = first_leg number now side packet in
+    let first : Acted = act rules address leg list in follow_few rules address leg first first.end) input
 
 pub acts_few : (rules : Rules) (number clock : ℕ) (inputs : List Arrival) (list : List Binding) →
     length (run_from rules number clock inputs list).acts ≤ 2 * length inputs
@@ -89,7 +89,7 @@ acts_few rules number clock (i ∷ inputs) list =
     let now : ℕ = max clock i.clock in
     let first : Stepped = step rules number now i list in
     let rest : Course = run_from rules (number + 1) now inputs first.list in
-    let one : length first.acts ≤ 2 = read_few rules number now i.side (reading i.side i.bytes) list in
+    let one : length first.acts ≤ 2 = step_few rules number now i list in
     let more : length rest.acts ≤ 2 * length inputs = acts_few rules (number + 1) now inputs first.list in
     let all : length (first.acts ++ rest.acts) ≡ length first.acts + length rest.acts =
     length-append first.acts rest.acts in

@@ -13,85 +13,75 @@ use Rattle.napt_wire.specs.Fields.{source, destination, kind}
 use Rattle.napt_config.specs.Rules.{Rules}
 use Rattle.napt_binding.specs.Inbound.{inbound_of}
 use Rattle.napt_binding.specs.declared.Binding.{Binding}
+use Rattle.napt_binding.specs.declared.sent.Sent.{Sent}
+use Rattle.napt_table.specs.declared.received.Received.{Received}
 use Rattle.napt_binding.specs.Bindings.{same_protocol, same_endpoint, of, is_at, is_of_inside, has_number}
 use Rattle.napt_binding.specs.Life.{purge}
-use Rattle.napt_table.specs.Steps.{Out, In, out_purged, in_purged}
+use Rattle.napt_table.specs.Steps.{Out, In, out_purged, in_purged, step_out, step_in}
 use Rattle.napt_binding.proofs.Lists.{find_filter}
 use Rattle.napt_binding.proofs.Purges.{of_purge, purge_purge}
 use Rattle.napt_table.proofs.StepsLocal.{out_local, out_other, in_local, in_other}
 use Rattle.napt_translate.specs.declared.translator.Leg.{Leg}
 use Rattle.napt_sequential.specs.CountedTranslators.{Agrees}
-use Rattle.napt_translate.specs.Legs.{no_flags, Acted, acted_out, acted_in, error_out, error_in, act_by, act}
+use Rattle.napt_translate.proofs.Acts.{of_act}
+use Rattle.napt_translate.specs.Legs.{no_flags, Acted, acted_out, acted_in, error_out, error_in, sent_of, received_of, act_out, act_in, act_by, act}
 
 -- what a leg gives on the one and on the other
 pub record ActsAlike (rules : Rules) (address now : ℕ) (own whole : Acted) : Type 0 where
   pub end : own.end ≡ whole.end
   pub list : Agrees rules address now own.list whole.list
 
-module _ (rules : Rules) (address now : ℕ) (own list : List Binding) (same : purge rules.timers now own
-    ≡ of address (purge rules.timers now list)) where
-  alike_out : (packet : List ℕ) (protocol : Protocol) (inside remote : Endpoint) (flags : Flags) →
-      (let o : List Binding → Out = λ l. out_purged rules.quota address now protocol inside remote flags
-      (purge rules.timers now l) in
-      ActsAlike rules address now (acted_out rules address packet (o own)) (acted_out rules address packet (o list)))
-  alike_out packet protocol inside remote flags =
-      let e : out_purged rules.quota address now protocol inside remote flags (purge rules.timers now own)
-      ≡ record {
-        number =
-            (out_purged rules.quota address now protocol inside remote flags (purge rules.timers now list)).number;
-        list =
-            of address (out_purged rules.quota address now protocol inside remote flags
-            (purge rules.timers now list)).list;
-      }
-      = ap (out_purged rules.quota address now protocol inside remote flags) same
-      ∙ out_local rules.quota address now protocol inside remote flags (purge rules.timers now list) in
+module _ (rules : Rules) (address : ℕ) (leg : Leg) (own list : List Binding) (same : purge rules.timers leg.now own
+    ≡ of address (purge rules.timers leg.now list)) where
+  alike_out : (protocol : Protocol) (flags : Flags) → ActsAlike rules address leg.now
+      (act_out rules address leg own protocol flags) (act_out rules address leg list protocol flags)
+  alike_out protocol flags =
+      let packet : Sent = sent_of protocol flags leg.now leg.packet in
+      let whole : Out = step_out rules.timers rules.quota address packet list in
+      let e : step_out rules.timers rules.quota address packet own
+      ≡ record { number = whole.number; list = of address whole.list } =
+      ap (out_purged rules.quota address packet) same
+      ∙ out_local rules.quota address packet (purge rules.timers leg.now list) in
       record {
-        end = ap (λ (o : Out). (acted_out rules address packet o).end) e;
-        list = record { same = ap (λ (o : Out). purge rules.timers now o.list) e };
+        end = ap (λ (o : Out). (acted_out rules address leg.packet o).end) e;
+        list = record { same = ap (λ (o : Out). purge rules.timers leg.now o.list) e };
       }
 
-  alike_in : (packet : List ℕ) (protocol : Protocol) (number : ℕ) (remote : Endpoint) (flags : Flags) →
-      (let o : List Binding → In = λ l. in_purged (inbound_of rules) address now protocol number remote flags
-      (purge rules.timers now l) in
-      ActsAlike rules address now (acted_in packet (o own)) (acted_in packet (o list)))
-  alike_in packet protocol number remote flags =
-      let e : in_purged (inbound_of rules) address now protocol number remote flags (purge rules.timers now own)
-      ≡ record {
-        inside =
-            (in_purged (inbound_of rules) address now protocol number remote flags
-            (purge rules.timers now list)).inside;
-        list = of address (in_purged (inbound_of rules) address now protocol number remote flags
-            (purge rules.timers now list)).list;
-      }
-      = ap (in_purged (inbound_of rules) address now protocol number remote flags) same
-      ∙ in_local (inbound_of rules) address now protocol number remote flags (purge rules.timers now list) in
+  alike_in : (protocol : Protocol) (flags : Flags) → ActsAlike rules address leg.now
+      (act_in rules address leg own protocol flags) (act_in rules address leg list protocol flags)
+  alike_in protocol flags =
+      let packet : Received = received_of protocol flags leg.now leg.packet in
+      let whole : In = step_in rules.timers (inbound_of rules) address packet list in
+      let e : step_in rules.timers (inbound_of rules) address packet own
+      ≡ record { inside = whole.inside; list = of address whole.list } =
+      ap (in_purged (inbound_of rules) address packet) same
+      ∙ in_local (inbound_of rules) address packet (purge rules.timers leg.now list) in
       record {
-        end = ap (λ (o : In). (acted_in packet o).end) e;
-        list = record { same = ap (λ (o : In). purge rules.timers now o.list) e };
+        end = ap (λ (o : In). (acted_in leg.packet o).end) e;
+        list = record { same = ap (λ (o : In). purge rules.timers leg.now o.list) e };
       }
 
-  alike_by : (packet : List ℕ) (way : Way) (kind : Kind) →
-      ActsAlike rules address now (act_by rules address now packet own way kind)
-      (act_by rules address now packet list way kind)
-  alike_by packet Outgoing Udp = alike_out packet protocols.Udp (source packet) (destination packet) no_flags
-  alike_by packet Outgoing (Tcp flags) = alike_out packet protocols.Tcp (source packet) (destination packet) flags
-  alike_by packet Outgoing Echo = alike_out packet protocols.Icmp (source packet) (destination packet) no_flags
-  alike_by packet Incoming Udp = alike_in packet protocols.Udp (destination packet).number (source packet) no_flags
-  alike_by packet Incoming (Tcp flags) = alike_in packet protocols.Tcp (destination packet).number (source packet) flags
-  alike_by packet Incoming Echo = alike_in packet protocols.Icmp (destination packet).number (source packet) no_flags
-  alike_by packet Outgoing (ErrorOf inner) = record {
-    end = ap (error_out rules packet)
+  alike_by : (way : Way) (kind : Kind) → ActsAlike rules address leg.now (act_by rules address leg own way kind)
+      (act_by rules address leg list way kind)
+  alike_by Outgoing Udp = alike_out protocols.Udp no_flags
+  alike_by Outgoing (Tcp flags) = alike_out protocols.Tcp flags
+  alike_by Outgoing Echo = alike_out protocols.Icmp no_flags
+  alike_by Incoming Udp = alike_in protocols.Udp no_flags
+  alike_by Incoming (Tcp flags) = alike_in protocols.Tcp flags
+  alike_by Incoming Echo = alike_in protocols.Icmp no_flags
+  alike_by Outgoing (ErrorOf inner) = record {
+    end = ap (error_out rules leg.packet)
         (ap (find (is_of_inside address inner.protocol inner.destination)) same ∙ find_filter (is_at address) (λ b.
         same_protocol inner.protocol b.protocol && same_endpoint inner.destination b.inside)
-        (purge rules.timers now list));
-    list = record { same = same ∙ of_purge rules.timers now address list };
+        (purge rules.timers leg.now list));
+    list = record { same = same ∙ of_purge rules.timers leg.now address list };
   }
-  alike_by packet Incoming (ErrorOf inner) = record {
-    end = ap (error_in packet)
+  alike_by Incoming (ErrorOf inner) = record {
+    end = ap (error_in leg.packet)
         (ap (find (has_number address inner.protocol inner.source.number)) same ∙ find_filter (is_at address) (λ b.
         same_protocol inner.protocol b.protocol && eqb b.external.number inner.source.number)
-        (purge rules.timers now list));
-    list = record { same = same ∙ of_purge rules.timers now address list };
+        (purge rules.timers leg.now list));
+    list = record { same = same ∙ of_purge rules.timers leg.now address list };
   }
 
 -- later on they still agree
@@ -106,43 +96,33 @@ agrees_later rules address n m le own list agrees = record {
 pub alike : (rules : Rules) (address n : ℕ) (own list : List Binding) → Agrees rules address n own list → (leg : Leg) →
     n ≤ leg.now → ActsAlike rules address leg.now (act rules address leg own) (act rules address leg list)
 alike rules address n own list agrees leg le =
-    alike_by rules address leg.now own list
+    alike_by rules address leg own list
     ((agrees_later rules address n leg.now le own list agrees).same ∙ sym (of_purge rules.timers leg.now address list))
-    leg.packet leg.way (kind leg.packet)
+    leg.way (kind leg.packet)
 
 -- a leg at another address
-module _ (rules : Rules) (address now : ℕ) (list : List Binding) (other : ℕ) (differ : other ≢ address) where
-  kept_out : (protocol : Protocol) (inside remote : Endpoint) (flags : Flags) →
-      purge rules.timers now (of other (out_purged rules.quota address now protocol inside remote flags
-      (purge rules.timers now list)).list) ≡ purge rules.timers now (of other list)
-  kept_out protocol inside remote flags =
-      ap (purge rules.timers now) (out_other rules.quota address now protocol inside remote flags other differ
-      (purge rules.timers now list) ∙ of_purge rules.timers now other list)
-      ∙ purge_purge rules.timers now now (omega arith) (of other list)
+module _ (rules : Rules) (address : ℕ) (leg : Leg) (list : List Binding) (other : ℕ) (differ : other ≢ address) where
+  abbrev IsKept : Acted → Type 0
+  IsKept acted = purge rules.timers leg.now (of other acted.list) ≡ purge rules.timers leg.now (of other list)
 
-  kept_in : (protocol : Protocol) (number : ℕ) (remote : Endpoint) (flags : Flags) →
-      purge rules.timers now (of other (in_purged (inbound_of rules) address now protocol number remote flags
-      (purge rules.timers now list)).list) ≡ purge rules.timers now (of other list)
-  kept_in protocol number remote flags =
-      ap (purge rules.timers now) (in_other (inbound_of rules) address now protocol number remote flags other differ
-      (purge rules.timers now list) ∙ of_purge rules.timers now other list)
-      ∙ purge_purge rules.timers now now (omega arith) (of other list)
+  kept_from : (new : List Binding) → of other new ≡ of other (purge rules.timers leg.now list) →
+      purge rules.timers leg.now (of other new) ≡ purge rules.timers leg.now (of other list)
+  kept_from new e = ap (purge rules.timers leg.now) (e ∙ of_purge rules.timers leg.now other list)
+      ∙ purge_purge rules.timers leg.now leg.now (omega arith) (of other list)
 
-  kept_by : (packet : List ℕ) (way : Way) (kind : Kind) →
-      purge rules.timers now (of other (act_by rules address now packet list way kind).list) ≡ purge rules.timers now
-      (of other list)
-  kept_by packet Outgoing Udp = kept_out protocols.Udp (source packet) (destination packet) no_flags
-  kept_by packet Outgoing (Tcp flags) = kept_out protocols.Tcp (source packet) (destination packet) flags
-  kept_by packet Outgoing Echo = kept_out protocols.Icmp (source packet) (destination packet) no_flags
-  kept_by packet Outgoing (ErrorOf inner) = refl
-  kept_by packet Incoming Udp = kept_in protocols.Udp (destination packet).number (source packet) no_flags
-  kept_by packet Incoming (Tcp flags) = kept_in protocols.Tcp (destination packet).number (source packet) flags
-  kept_by packet Incoming Echo = kept_in protocols.Icmp (destination packet).number (source packet) no_flags
-  kept_by packet Incoming (ErrorOf inner) = refl
+  kept_out : (protocol : Protocol) (flags : Flags) → IsKept (act_out rules address leg list protocol flags)
+  kept_out protocol flags = kept_from _ (out_other rules.quota address
+      (sent_of protocol flags leg.now leg.packet) other differ (purge rules.timers leg.now list))
+
+  kept_in : (protocol : Protocol) (flags : Flags) → IsKept (act_in rules address leg list protocol flags)
+  kept_in protocol flags = kept_from _ (in_other (inbound_of rules) address
+      (received_of protocol flags leg.now leg.packet) other differ (purge rules.timers leg.now list))
 
 pub kept : (rules : Rules) (address n : ℕ) (own list : List Binding) → Agrees rules address n own list → (at : ℕ) →
     address ≢ at → (leg : Leg) → n ≤ leg.now → Agrees rules address leg.now own (act rules at leg list).list
 kept rules address n own list agrees at differ leg le = record {
   same = (agrees_later rules address n leg.now le own list agrees).same
-      ∙ sym (kept_by rules at leg.now list address differ leg.packet leg.way (kind leg.packet));
+      ∙ sym (of_act rules at leg list (IsKept rules at leg list address differ)
+      (kept_out rules at leg list address differ) (kept_in rules at leg list address differ) (λ end. refl) leg.way
+      (kind leg.packet));
 }

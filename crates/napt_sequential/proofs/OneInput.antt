@@ -11,9 +11,9 @@ use Rattle.napt_table.specs.Opening.{opening}
 use Rattle.napt_translate.specs.Sides.{refusal, way_from, served_at}
 use Rattle.napt_sequential.specs.declared.outcome.Outcome.{Outcome}
 use Rattle.napt_sequential.specs.Inputs.{Arrival}
-use Rattle.napt_sequential.specs.Sequential.{Act, Stepped, Course, refused, admitted, judged, read_as, step, run_from, run, last_clock}
+use Rattle.napt_sequential.specs.Sequential.{Act, Stepped, Course, first_leg, step_as, step, run_from, run, last_clock}
 use Rattle.napt_sequential.specs.Dispatching.{IsFront, joined}
-use Rattle.napt_sequential.specs.Admission.{judged_by, admission_as, admission}
+use Rattle.napt_sequential.specs.Admission.{admission}
 use Rattle.napt_sequential.proofs.Grown.{clock_more}
 use Rattle.napt_sequential.proofs.Dispatched.{runs_grow}
 
@@ -49,41 +49,18 @@ get_at [] o rest (suc n) e = absurd (omega arith)
 get_at (x ∷ xs) o rest zero e = absurd (omega arith)
 get_at (x ∷ xs) o rest (suc n) e = get_at xs o rest n (omega arith)
 
--- a step by the admission of its input
-abbrev pub step_as : Rules → ℕ → ℕ → Side → Result (List ℕ) Cause → List Binding → Stepped
-step_as rules number now side (Err cause) list = refused cause list
-step_as rules number now side (Ok packet) list = admitted rules (served_at rules (way_from side) packet)
-    (record { number = number; now = now; way = way_from side; packet = packet }) list
-
-judged_is : (rules : Rules) (number now : ℕ) (side : Side) (packet : List ℕ) (cause : Option Cause)
-    (list : List Binding) → judged rules number now (way_from side) packet cause list ≡ step_as rules number now side
-    (judged_by packet cause) list
-judged_is rules number now side packet (Some cause) list = refl
-judged_is rules number now side packet None list = refl
-
-read_is : (rules : Rules) (number now : ℕ) (side : Side) (read : Result (List ℕ) Cause) (list : List Binding) →
-    read_as rules number now side read list ≡ step_as rules number now side (admission_as rules side read) list
-read_is rules number now side (Err cause) list = refl
-read_is rules number now side (Ok packet) list = judged_is rules number now side packet (refusal rules side packet) list
-
-pub step_is : (rules : Rules) (number now : ℕ) (input : Arrival) (admitted_as : Result (List ℕ) Cause)
-    (list : List Binding) → admission rules input ≡ admitted_as → step rules number now input list
-    ≡ step_as rules number now input.side admitted_as list
-step_is rules number now input admitted_as list e = read_is rules number now input.side (reading input.side input.bytes)
-    list ∙ ap (λ (r : Result (List ℕ) Cause). step_as rules number now input.side r list) e
-
 module _ (rules : Rules) (done rest : List Arrival) (input : Arrival) (number now : ℕ) (long : length done ≡ number)
     (clock : max (last_clock 0 done) input.clock ≡ now) where
   -- the run of one input more
   pub grown : (admitted_as : Result (List ℕ) Cause) → admission rules input ≡ admitted_as →
       run rules (done ++ input ∷ []) (opening rules) ≡ joined (run rules done (opening rules))
-      (step_as rules number now input.side admitted_as (run rules done (opening rules)).list)
+      (step_as rules (first_leg number now input.side) admitted_as (run rules done (opening rules)).list)
   grown admitted_as is =
       let r : Course = run rules done (opening rules) in
       runs_grow rules done input (opening rules)
       ∙ (ap (λ (n : ℕ). joined r (step rules n (max (last_clock 0 done) input.clock) input r.list)) long
       ∙ (ap (λ (t : ℕ). joined r (step rules number t input r.list)) clock
-      ∙ ap (joined r) (step_is rules number now input admitted_as r.list is)))
+      ∙ ap (λ (a : Result (List ℕ) Cause). joined r (step_as rules (first_leg number now input.side) a r.list)) is))
 
 -- A STEP OF THE LOOP
 

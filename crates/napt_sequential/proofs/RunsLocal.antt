@@ -16,10 +16,10 @@ use Rattle.napt_translate.specs.declared.translator.End.{End}
 use Rattle.napt_translate.specs.declared.translator.End.TheVariants.{ToOutside, ToInside, Onward, Dropped}
 use Rattle.napt_translate.specs.Legs.{Acted, act_by, act, Kept, time_after, kept_act, kept_after, kept_replies, kept_after_all}
 use Rattle.napt_sequential.specs.Inputs.{Arrival}
-use Rattle.napt_sequential.specs.Sequential.{Act, Stepped, follow_by, read_as, step, Course, run_from, run, last_clock, acts_at, legs_at}
+use Rattle.napt_sequential.specs.Sequential.{Act, Stepped, follow_by, first_leg, step, Course, run_from, run, last_clock, acts_at, legs_at}
 use Rattle.napt_sequential.specs.Laws.{answer_of, TranslatorsAnswerAlone, TranslatorsKeepTheirOwn}
 use Rattle.napt_sequential.specs.CountedTranslators.{IsAtOnce, Agrees}
-use Rattle.napt_sequential.proofs.AnyStep.{of_read}
+use Rattle.napt_sequential.proofs.AnyStep.{of_step}
 use Rattle.napt_sequential.proofs.LegsLocal.{ActsAlike, agrees_later, alike, kept}
 
 -- A RUN'S LEGS ACT IN TURN
@@ -47,16 +47,16 @@ follow_turn rules clock address leg le list (ToInside packet) is rest last new p
 follow_turn rules clock address leg le list (Dropped cause) is rest last new p = (le, is, p)
 follow_turn rules clock address leg le list (Onward place packet) is rest last new p = (le, is, (omega arith, refl, p))
 
-read_turn : (rules : Rules) (number clock now : ℕ) → clock ≤ now → (side : Side) (read : Result (List ℕ) Cause)
-    (list : List Binding) (rest : List Act) (last : ℕ) (new : List Binding) →
-    InTurn rules now (read_as rules number now side read list).list rest last new →
-    InTurn rules clock list ((read_as rules number now side read list).acts ++ rest) last new
-read_turn rules number clock now le side read list rest last new =
-    of_read rules number now list
+step_turn : (rules : Rules) (number clock now : ℕ) → clock ≤ now → (input : Arrival) (list : List Binding)
+    (rest : List Act) (last : ℕ) (new : List Binding) →
+    InTurn rules now (step rules number now input list).list rest last new →
+    InTurn rules clock list ((step rules number now input list).acts ++ rest) last new
+step_turn rules number clock now le input list rest last new =
+    of_step rules number now list
     (λ (s : Stepped). InTurn rules now s.list rest last new → InTurn rules clock list (s.acts ++ rest) last new)
     (λ cause. turn_earlier rules clock now le list rest last new)
-    (λ address way packet. let leg : Leg = record { number = number; now = now; way = way; packet = packet } in
-    follow_turn rules clock address leg le list (act rules address leg list).end refl rest last new) side read
+    (λ address side packet. let leg : Leg = first_leg number now side packet in
+    follow_turn rules clock address leg le list (act rules address leg list).end refl rest last new) input
 
 pub run_turn : (rules : Rules) (number clock : ℕ) (inputs : List Arrival) (list : List Binding) →
     InTurn rules clock list (run_from rules number clock inputs list).acts (last_clock clock inputs)
@@ -66,8 +66,8 @@ run_turn rules number clock (input ∷ inputs) list =
     let now : ℕ = max clock input.clock in
     let first : Stepped = step rules number now input list in
     let rest : Course = run_from rules (number + 1) now inputs first.list in
-    read_turn rules number clock now (omega arith) input.side (reading input.side input.bytes) list rest.acts
-    (last_clock now inputs) rest.list (run_turn rules (number + 1) now inputs first.list)
+    step_turn rules number clock now (omega arith) input list rest.acts (last_clock now inputs) rest.list
+    (run_turn rules (number + 1) now inputs first.list)
 
 -- SEEN FROM ONE ADDRESS
 
@@ -88,8 +88,7 @@ pub record ActsOnTime (rules : Rules) (address : ℕ) (leg : Leg) (kept : Kept) 
 pub on_time : (rules : Rules) (address : ℕ) (leg : Leg) (kept : Kept) → kept.at ≤ leg.now →
     ActsOnTime rules address leg kept
 on_time rules address leg kept le = record {
-  is = ap (λ (t : ℕ). act_by rules address t leg.packet kept.list leg.way (kind leg.packet))
-      (latest leg.now kept.at le);
+  is = ap (λ (t : ℕ). act rules address (record leg { now = t }) kept.list) (latest leg.now kept.at le);
   soon = subst (λ (t : ℕ). time_after (kind leg.packet) kept.at t ≤ leg.now) (sym (latest leg.now kept.at le))
       (time_kept (kind leg.packet) kept.at leg.now le);
 }

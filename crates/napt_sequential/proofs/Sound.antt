@@ -1,6 +1,7 @@
 -- Every step keeps the list sound.
 use Rattle.std.proofs.Common.{◌≡◌, ℕ, ◌+◌, max, false, List, [], ◌∷◌, Option, Some, None, Result, Ok, Err, refl}
 use Rattle.napt_wire.specs.declared.Side.{Side}
+use Rattle.napt_wire.specs.declared.Side.TheVariants.{Inside, Outside}
 use Rattle.napt_wire.specs.declared.Protocol.TheVariants as protocols
 use Rattle.napt_wire.specs.declared.Way.{Way}
 use Rattle.napt_wire.specs.declared.Way.TheVariants.{Outgoing, Incoming}
@@ -18,50 +19,37 @@ use Rattle.napt_table.specs.Opening.{opening, OpeningIsSound}
 use Rattle.napt_translate.specs.declared.translator.Leg.{Leg}
 use Rattle.napt_translate.specs.declared.translator.End.{End}
 use Rattle.napt_translate.specs.declared.translator.End.TheVariants.{ToOutside, ToInside, Onward, Dropped}
-use Rattle.napt_translate.specs.Sides.{refusal, way_from, served_at}
-use Rattle.napt_translate.specs.Legs.{no_flags, Acted, act_by, act}
+use Rattle.napt_translate.specs.Sides.{refusal, served_at}
+use Rattle.napt_translate.specs.Legs.{no_flags, Acted, sent_of, received_of, act_by, act}
 use Rattle.napt_sequential.specs.Inputs.{Arrival}
-use Rattle.napt_sequential.specs.Sequential.{follow_by, judged, read_as, step, run_from, run}
+use Rattle.napt_sequential.specs.Admission.{judged_by, admission_as}
+use Rattle.napt_sequential.specs.Sequential.{follow_by, first_leg, step_as, step, run_from, run}
 use Rattle.napt_sequential.specs.Sound.{RunsAreSound, RunsStayApart}
 
 module _ (carry : PacketsCarryNumbers) (out_sound : OutStaysSound) (in_sound : InStaysSound) (rules : Rules) where
   -- an incoming leg, whatever the packet
-  sound_in : (address now : ℕ) (packet : List ℕ) (list : List Binding) (kind : Kind) → IsSound (pair_of rules) list →
-      IsSound (pair_of rules) (act_by rules address now packet list Incoming kind).list
-  sound_in address now packet list Udp s = in_sound (pair_of rules) rules.timers (inbound_of rules) address now
-      protocols.Udp (destination packet).number (source packet) no_flags list s
-  sound_in address now packet list (Tcp flags) s = in_sound (pair_of rules) rules.timers (inbound_of rules) address now
-      protocols.Tcp (destination packet).number (source packet) flags list s
-  sound_in address now packet list Echo s = in_sound (pair_of rules) rules.timers (inbound_of rules) address now
-      protocols.Icmp (destination packet).number (source packet) no_flags list s
-  sound_in address now packet list (ErrorOf inner) s = s
+  sound_in : (address : ℕ) (leg : Leg) (list : List Binding) (kind : Kind) → IsSound (pair_of rules) list →
+      IsSound (pair_of rules) (act_by rules address leg list Incoming kind).list
+  sound_in address leg list Udp s = in_sound (pair_of rules) rules.timers (inbound_of rules) address
+      (received_of protocols.Udp no_flags leg.now leg.packet) list s
+  sound_in address leg list (Tcp flags) s = in_sound (pair_of rules) rules.timers (inbound_of rules) address
+      (received_of protocols.Tcp flags leg.now leg.packet) list s
+  sound_in address leg list Echo s = in_sound (pair_of rules) rules.timers (inbound_of rules) address
+      (received_of protocols.Icmp no_flags leg.now leg.packet) list s
+  sound_in address leg list (ErrorOf inner) s = s
 
   -- an outgoing leg at the address of its host's pairing, of a packet whose source has a number
-  sound_out : (address now : ℕ) (packet : List ℕ) (list : List Binding) (kind : Kind) →
-      address ≡ pair_of rules (local_of kind Outgoing packet).address →
-      (is_error kind ≡ false → CanCarry kind (source packet).number) →
-      IsSound (pair_of rules) list → IsSound (pair_of rules) (act_by rules address now packet list Outgoing kind).list
-  sound_out address now packet list Udp paired carried s =
-      out_sound (pair_of rules) rules.timers rules.quota address now protocols.Udp (source packet)
-      (destination packet) no_flags list s paired (carried refl)
-  sound_out address now packet list (Tcp flags) paired carried s =
-      out_sound (pair_of rules) rules.timers rules.quota address now protocols.Tcp (source packet)
-      (destination packet) flags list s paired (carried refl)
-  sound_out address now packet list Echo paired carried s =
-      out_sound (pair_of rules) rules.timers rules.quota address now protocols.Icmp (source packet)
-      (destination packet) no_flags list s paired tt
-  sound_out address now packet list (ErrorOf inner) paired carried s = s
-
-  -- a first leg
-  sound_first : (number now : ℕ) (side : Side) (bytes packet : List ℕ) → reading side bytes ≡ Ok packet →
-      (way : Way) (list : List Binding) → IsSound (pair_of rules) list →
-      (let leg : Leg = record { number = number; now = now; way = way; packet = packet } in
-      IsSound (pair_of rules) (act rules (served_at rules way packet) leg list).list)
-  unfolding local_end
-  sound_first number now side bytes packet reads Outgoing list s =
-      sound_out (served_at rules Outgoing packet) now packet list (kind packet) refl (carry side bytes packet reads) s
-  sound_first number now side bytes packet reads Incoming list s =
-      sound_in (served_at rules Incoming packet) now packet list (kind packet) s
+  sound_out : (address : ℕ) (leg : Leg) (list : List Binding) (kind : Kind) →
+      address ≡ pair_of rules (local_of kind Outgoing leg.packet).address →
+      (is_error kind ≡ false → CanCarry kind (source leg.packet).number) →
+      IsSound (pair_of rules) list → IsSound (pair_of rules) (act_by rules address leg list Outgoing kind).list
+  sound_out address leg list Udp paired carried s = out_sound (pair_of rules) rules.timers rules.quota address
+      (sent_of protocols.Udp no_flags leg.now leg.packet) list s paired (carried refl)
+  sound_out address leg list (Tcp flags) paired carried s = out_sound (pair_of rules) rules.timers rules.quota address
+      (sent_of protocols.Tcp flags leg.now leg.packet) list s paired (carried refl)
+  sound_out address leg list Echo paired carried s = out_sound (pair_of rules) rules.timers rules.quota address
+      (sent_of protocols.Icmp no_flags leg.now leg.packet) list s paired tt
+  sound_out address leg list (ErrorOf inner) paired carried s = s
 
   sound_follow : (address : ℕ) (leg : Leg) (list : List Binding) (end : End) → IsSound (pair_of rules) list →
       (let first : Acted = record { end = end; list = list } in
@@ -69,25 +57,35 @@ module _ (carry : PacketsCarryNumbers) (out_sound : OutStaysSound) (in_sound : I
   sound_follow address leg list (ToOutside packet) s = s
   sound_follow address leg list (ToInside packet) s = s
   sound_follow address leg list (Dropped cause) s = s
-  sound_follow address leg list (Onward place packet) s = sound_in (destination packet).address leg.now packet list
-      (kind packet) s
+  sound_follow address leg list (Onward place packet) s = sound_in (destination packet).address
+      (record leg { way = Incoming; packet = packet }) list (kind packet) s
 
-  sound_judged : (number now : ℕ) (side : Side) (bytes packet : List ℕ) → reading side bytes ≡ Ok packet →
-      (way : Way) (refused : Option Cause) (list : List Binding) → IsSound (pair_of rules) list →
-      IsSound (pair_of rules) (judged rules number now way packet refused list).list
-  sound_judged number now side bytes packet reads way (Some cause) list s = s
-  sound_judged number now side bytes packet reads way None list s =
-      let leg : Leg = record { number = number; now = now; way = way; packet = packet } in
-      let address : ℕ = served_at rules way packet in
-      let first : Acted = act rules address leg list in
-      sound_follow address leg first.list first.end (sound_first number now side bytes packet reads way list s)
+  -- a packet that was read
+  module _ (number now : ℕ) (bytes packet : List ℕ) (list : List Binding) (s : IsSound (pair_of rules) list) where
+    sound_first : (side : Side) → reading side bytes ≡ Ok packet →
+        (let leg : Leg = first_leg number now side packet in
+        IsSound (pair_of rules) (act rules (served_at rules leg.way packet) leg list).list)
+    unfolding local_end
+    sound_first Inside reads = sound_out (served_at rules Outgoing packet) (first_leg number now Inside packet) list
+        (kind packet) refl (carry Inside bytes packet reads) s
+    sound_first Outside reads = sound_in (served_at rules Incoming packet) (first_leg number now Outside packet) list
+        (kind packet) s
+
+    sound_judged : (side : Side) → reading side bytes ≡ Ok packet → (refused : Option Cause) →
+        IsSound (pair_of rules) (step_as rules (first_leg number now side) (judged_by packet refused) list).list
+    sound_judged side reads (Some cause) = s
+    sound_judged side reads None =
+        let leg : Leg = first_leg number now side packet in
+        let address : ℕ = served_at rules leg.way packet in
+        let first : Acted = act rules address leg list in
+        sound_follow address leg first.list first.end (sound_first side reads)
 
   sound_read : (number now : ℕ) (side : Side) (bytes : List ℕ) (read : Result (List ℕ) Cause) → reading side bytes
       ≡ read → (list : List Binding) → IsSound (pair_of rules) list →
-      IsSound (pair_of rules) (read_as rules number now side read list).list
+      IsSound (pair_of rules) (step_as rules (first_leg number now side) (admission_as rules side read) list).list
   sound_read number now side bytes (Err cause) reads list s = s
-  sound_read number now side bytes (Ok packet) reads list s = sound_judged number now side bytes packet reads
-      (way_from side) (refusal rules side packet) list s
+  sound_read number now side bytes (Ok packet) reads list s =
+      sound_judged number now bytes packet list s side reads (refusal rules side packet)
 
   pub run_sound : (number clock : ℕ) (inputs : List Arrival) (list : List Binding) → IsSound (pair_of rules) list →
       IsSound (pair_of rules) (run_from rules number clock inputs list).list

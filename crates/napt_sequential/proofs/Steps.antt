@@ -26,9 +26,10 @@ use Rattle.napt_translate.specs.Sides.{is_spoofed, is_not_ours, is_unsupported, 
 use Rattle.napt_translate.specs.Legs.{Acted, onward_by, end_out, end_in, error_out, error_in, act_by, act}
 use Rattle.napt_sequential.specs.declared.outcome.Outcome.{Outcome}
 use Rattle.napt_sequential.specs.declared.counted_translator.CountedTranslator.{CountedTranslator}
-use Rattle.napt_sequential.specs.Sequential.{Act, legs_at, Stepped, outcome_of, once, then_in, follow_by, refused, admitted, judged, read_as, step}
+use Rattle.napt_sequential.specs.Sequential.{Act, legs_at, Stepped, outcome_of, once, then_in, follow_by, refused, admitted, first_leg, step_as, step}
 use Rattle.napt_sequential.specs.declared.input.Input.TheInside as fields
 use Rattle.napt_sequential.specs.Inputs.{Arrival}
+use Rattle.napt_sequential.specs.Admission.{judged_by, admission_as}
 use Rattle.napt_wire.specs.Reading.{reading}
 use Rattle.napt_sequential.specs.CountedTranslators.{RunState, IsCountedTranslator, AreCountedTranslators, state_after, Follows}
 use Rattle.napt_sequential.proofs.RunsLocal.{later_at_once}
@@ -49,8 +50,8 @@ OnwardBy rules P way place packet = (way ≡ Outgoing) × (place_of rules (desti
     × P packet
 
 -- where P holds of a packet that leaves
-module _ (rules : Rules) (p : List ℕ) (P : List ℕ → Type 0) (sources : (end : Endpoint) → P (with_source end p))
-    (errors : is_error (kind p) ≡ true → (end : Endpoint) → P (reverted Outgoing end p)) where
+module _ (rules : Rules) (leg : Leg) (P : List ℕ → Type 0) (sources : (end : Endpoint) → P (with_source end leg.packet))
+    (errors : is_error (kind leg.packet) ≡ true → (end : Endpoint) → P (reverted Outgoing end leg.packet)) where
   onward_from : (gone : List ℕ) → P gone → (found : Option ℕ) → place_of rules (destination gone).address ≡ found →
       (place : ℕ) (packet : List ℕ) → onward_by found gone ≡ Onward place packet →
       OnwardBy rules P Outgoing place packet
@@ -63,49 +64,48 @@ module _ (rules : Rules) (p : List ℕ) (P : List ℕ → Type 0) (sources : (en
         subst P same holds,
       )
 
-  onward_out : (address : ℕ) (number : Result ℕ Cause) (place : ℕ) (packet : List ℕ) → end_out rules address p number
-      ≡ Onward place packet → OnwardBy rules P Outgoing place packet
+  onward_out : (address : ℕ) (number : Result ℕ Cause) (place : ℕ) (packet : List ℕ) →
+      end_out rules address leg.packet number ≡ Onward place packet → OnwardBy rules P Outgoing place packet
   onward_out address (Ok number) place packet h =
       let end : Endpoint = record { address = address; number = number } in
-      onward_from (with_source end p) (sources end) (place_of rules (destination (with_source end p)).address) refl
-      place packet h
+      onward_from (with_source end leg.packet) (sources end) (place_of rules
+      (destination (with_source end leg.packet)).address) refl place packet h
   onward_out address (Err cause) place packet h = cc
 
-  onward_in : (inside : Result Endpoint Cause) (place : ℕ) (packet : List ℕ) → end_in p inside ≡ Onward place packet →
-      OnwardBy rules P Incoming place packet
+  onward_in : (inside : Result Endpoint Cause) (place : ℕ) (packet : List ℕ) →
+      end_in leg.packet inside ≡ Onward place packet → OnwardBy rules P Incoming place packet
   onward_in (Ok end) place packet h = cc
   onward_in (Err cause) place packet h = cc
 
-  onward_error_out : is_error (kind p) ≡ true → (found : Option Binding) (place : ℕ) (packet : List ℕ) →
-      error_out rules p found ≡ Onward place packet → OnwardBy rules P Outgoing place packet
+  onward_error_out : is_error (kind leg.packet) ≡ true → (found : Option Binding) (place : ℕ) (packet : List ℕ) →
+      error_out rules leg.packet found ≡ Onward place packet → OnwardBy rules P Outgoing place packet
   onward_error_out is (Some binding) place packet h =
-      onward_from (reverted Outgoing binding.external p) (errors is binding.external)
-      (place_of rules (destination (reverted Outgoing binding.external p)).address) refl place packet h
+      onward_from (reverted Outgoing binding.external leg.packet) (errors is binding.external)
+      (place_of rules (destination (reverted Outgoing binding.external leg.packet)).address) refl place packet h
   onward_error_out is None place packet h = cc
 
-  onward_error_in : (found : Option Binding) (place : ℕ) (packet : List ℕ) → error_in p found ≡ Onward place packet →
-      OnwardBy rules P Incoming place packet
+  onward_error_in : (found : Option Binding) (place : ℕ) (packet : List ℕ) →
+      error_in leg.packet found ≡ Onward place packet → OnwardBy rules P Incoming place packet
   onward_error_in (Some binding) place packet h = cc
   onward_error_in None place packet h = cc
 
-  pub onward : (address now : ℕ) (list : List Binding) (way : Way) (k : Kind) → kind p ≡ k →
-      (place : ℕ) (packet : List ℕ) → (act_by rules address now p list way k).end ≡ Onward place packet →
+  pub onward : (address : ℕ) (list : List Binding) (way : Way) (k : Kind) → kind leg.packet ≡ k →
+      (place : ℕ) (packet : List ℕ) → (act_by rules address leg list way k).end ≡ Onward place packet →
       OnwardBy rules P way place packet
-  onward address now list Outgoing Udp is place packet h = onward_out address _ place packet h
-  onward address now list Outgoing (Tcp flags) is place packet h = onward_out address _ place packet h
-  onward address now list Outgoing Echo is place packet h = onward_out address _ place packet h
-  onward address now list Outgoing (ErrorOf inner) is place packet h =
-      onward_error_out (ap is_error is) _ place packet h
-  onward address now list Incoming Udp is place packet h = onward_in _ place packet h
-  onward address now list Incoming (Tcp flags) is place packet h = onward_in _ place packet h
-  onward address now list Incoming Echo is place packet h = onward_in _ place packet h
-  onward address now list Incoming (ErrorOf inner) is place packet h = onward_error_in _ place packet h
+  onward address list Outgoing Udp is place packet h = onward_out address _ place packet h
+  onward address list Outgoing (Tcp flags) is place packet h = onward_out address _ place packet h
+  onward address list Outgoing Echo is place packet h = onward_out address _ place packet h
+  onward address list Outgoing (ErrorOf inner) is place packet h = onward_error_out (ap is_error is) _ place packet h
+  onward address list Incoming Udp is place packet h = onward_in _ place packet h
+  onward address list Incoming (Tcp flags) is place packet h = onward_in _ place packet h
+  onward address list Incoming Echo is place packet h = onward_in _ place packet h
+  onward address list Incoming (ErrorOf inner) is place packet h = onward_error_in _ place packet h
 
 pub onward_place : (rules : Rules) (address : ℕ) (leg : Leg) (list : List Binding) (place : ℕ) (packet : List ℕ) →
     (act rules address leg list).end ≡ Onward place packet → place_of rules (destination packet).address ≡ Some place
 onward_place rules address leg list place packet h =
-    let onward_to : OnwardBy rules (λ q. Unit {0}) leg.way place packet = onward rules leg.packet (λ q. Unit {0})
-    (λ end. tt) (λ is end. tt) address leg.now list leg.way (kind leg.packet) refl place packet h in
+    let onward_to : OnwardBy rules (λ q. Unit {0}) leg.way place packet = onward rules leg (λ q. Unit {0})
+    (λ end. tt) (λ is end. tt) address list leg.way (kind leg.packet) refl place packet h in
     onward_to.1
 
 -- A FIRST LEG ALONE, OR TWO
@@ -229,23 +229,23 @@ route_err rules keeps side packet cause h = routed_err rules (served_at rules (w
 
 pub step_unread : (rules : Rules) (number now : ℕ) (input : Arrival) (list : List Binding) (cause : Cause) →
     reading input.side input.bytes ≡ Err cause → step rules number now input list ≡ refused cause list
-step_unread rules number now input list cause reads =
-    ap (λ (r : Result (List ℕ) Cause). read_as rules number now input.side r list) reads
+step_unread rules number now input list cause reads = ap (λ (r : Result (List ℕ) Cause).
+    step_as rules (first_leg number now input.side) (admission_as rules input.side r) list) reads
 
-pub step_refused : (rules : Rules) (number now : ℕ) (input : Arrival) (list : List Binding) (packet : List ℕ)
-    (cause : Cause) → reading input.side input.bytes ≡ Ok packet → refusal rules input.side packet ≡ Some cause →
-    step rules number now input list ≡ refused cause list
-step_refused rules number now input list packet cause reads against =
-    ap (λ (r : Result (List ℕ) Cause). read_as rules number now input.side r list) reads
-    ∙ ap (λ (o : Option Cause). judged rules number now (way_from input.side) packet o list) against
+module _ (rules : Rules) (number now : ℕ) (input : Arrival) (list : List Binding) (packet : List ℕ)
+    (reads : reading input.side input.bytes ≡ Ok packet) where
+  judged : (cause : Option Cause) → refusal rules input.side packet ≡ cause → step rules number now input list
+      ≡ step_as rules (first_leg number now input.side) (judged_by packet cause) list
+  judged cause is = ap (λ (r : Result (List ℕ) Cause). step_as rules (first_leg number now input.side) r list)
+      (ap (admission_as rules input.side) reads ∙ ap (judged_by packet) is)
 
-pub step_admitted : (rules : Rules) (number now : ℕ) (input : Arrival) (list : List Binding) (packet : List ℕ) →
-    reading input.side input.bytes ≡ Ok packet → refusal rules input.side packet ≡ None →
-    step rules number now input list ≡ admitted rules (served_at rules (way_from input.side) packet)
-    (record { number = number; now = now; way = way_from input.side; packet = packet }) list
-step_admitted rules number now input list packet reads free =
-    ap (λ (r : Result (List ℕ) Cause). read_as rules number now input.side r list) reads
-    ∙ ap (λ (o : Option Cause). judged rules number now (way_from input.side) packet o list) free
+  pub step_refused : (cause : Cause) → refusal rules input.side packet ≡ Some cause →
+      step rules number now input list ≡ refused cause list
+  step_refused cause against = judged (Some cause) against
+
+  pub step_admitted : refusal rules input.side packet ≡ None → step rules number now input list
+      ≡ admitted rules (served_at rules (way_from input.side) packet) (first_leg number now input.side packet) list
+  step_admitted free = judged None free
 
 -- what contracts see of an input, of its fields
 abbrev pub arrival_of : fields.Inside → Arrival

@@ -5,11 +5,9 @@
 -- once (RFC 4787, REQ-9, hairpinning). A run's time is the greatest clock so far, so it never goes back.
 use Rattle.std.specs.Prelude.{ℕ, ◌+◌, ◌==◌, max, length, List, [], ◌∷◌, ◌++◌, map, filter, flat_map, Option, Some, None, Result, Ok, Err}
 use Rattle.napt_wire.specs.declared.Side.{Side}
-use Rattle.napt_wire.specs.declared.Way.{Way}
 use Rattle.napt_wire.specs.declared.Way.TheVariants.{Incoming}
 use Rattle.napt_wire.specs.declared.Cause.{Cause}
 use Rattle.napt_wire.specs.Fields.{destination}
-use Rattle.napt_wire.specs.Reading.{reading}
 use Rattle.napt_config.specs.Rules.{Rules}
 use Rattle.napt_binding.specs.declared.Binding.{Binding}
 use Rattle.napt_table.specs.declared.Row.{Row}
@@ -19,11 +17,12 @@ use Rattle.napt_table.specs.Rows.{rows}
 use Rattle.napt_translate.specs.declared.translator.Leg.{Leg}
 use Rattle.napt_translate.specs.declared.translator.End.{End}
 use Rattle.napt_translate.specs.declared.translator.End.TheVariants as ends
-use Rattle.napt_translate.specs.Sides.{refusal, way_from, served_at}
+use Rattle.napt_translate.specs.Sides.{way_from, served_at}
 use Rattle.napt_translate.specs.Legs.{Acted, act}
 use Rattle.napt_sequential.specs.declared.outcome.Outcome.{Outcome}
 use Rattle.napt_sequential.specs.declared.outcome.Outcome.TheVariants.{ToOutside, ToInside, Dropped}
 use Rattle.napt_sequential.specs.Inputs.{Arrival}
+use Rattle.napt_sequential.specs.Admission.{admission}
 
 -- ONE INPUT
 
@@ -80,19 +79,20 @@ refused cause list = record { outcome = Dropped cause; acts = []; list = list }
 abbrev pub admitted : Rules → ℕ → Leg → List Binding → Stepped
 admitted rules address leg list = follow rules address leg (act rules address leg list)
 
-abbrev pub judged : Rules → ℕ → ℕ → Way → List ℕ → Option Cause → List Binding → Stepped
-judged rules number now way packet (Some cause) list = refused cause list
-judged rules number now way packet None list =
-    admitted rules (served_at rules way packet) (record { number = number; now = now; way = way; packet = packet }) list
+-- the first leg of an input by its number, its time and its side, as a packet
+abbrev pub first_leg : ℕ → ℕ → Side → List ℕ → Leg
+first_leg number now side packet = record { number = number; now = now; way = way_from side; packet = packet }
 
-abbrev pub read_as : Rules → ℕ → ℕ → Side → Result (List ℕ) Cause → List Binding → Stepped
-read_as rules number now side (Err cause) list = refused cause list
-read_as rules number now side (Ok packet) list = judged rules number now (way_from side) packet
-    (refusal rules side packet) list
+-- by what an input comes to: the packet's first leg acts at the address that serves it
+abbrev pub step_as : Rules → (List ℕ → Leg) → Result (List ℕ) Cause → List Binding → Stepped
+step_as rules leg_of (Err cause) list = refused cause list
+step_as rules leg_of (Ok packet) list =
+    let leg : Leg = leg_of packet in
+    admitted rules (served_at rules leg.way packet) leg list
 
 -- the input of a number, at a time
 abbrev pub step : Rules → ℕ → ℕ → Arrival → List Binding → Stepped
-step rules number now input list = read_as rules number now input.side (reading input.side input.bytes) list
+step rules number now input list = step_as rules (first_leg number now input.side) (admission rules input) list
 
 -- ALL INPUTS
 

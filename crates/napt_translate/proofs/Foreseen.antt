@@ -1,5 +1,5 @@
 -- A packet on its way out goes where its destination has a place in the pool.
-use Rattle.std.proofs.Common.{◌≡◌, ℕ, true, max, List, Option, Some, None, Result, Ok, Err, refl, sym, ◌∙◌, ap, subst}
+use Rattle.std.proofs.Common.{◌≡◌, ℕ, true, max, List, Option, Some, None, Result, Ok, Err, refl, sym, ap, subst}
 use Rattle.napt_wire.specs.declared.Way.{Way}
 use Rattle.napt_wire.specs.declared.Way.TheVariants.{Outgoing}
 use Rattle.napt_wire.specs.declared.Cause.{Cause}
@@ -15,7 +15,7 @@ use Rattle.napt_binding.specs.declared.Binding.{Binding}
 use Rattle.napt_translate.specs.declared.translator.Leg.{Leg}
 use Rattle.napt_translate.specs.declared.translator.End.TheVariants.{Dropped}
 use Rattle.napt_translate.specs.Ends.{IsForeseen, Foresees}
-use Rattle.napt_translate.specs.Legs.{Kept, act_by, onward_by, gone_out, end_out, error_out}
+use Rattle.napt_translate.specs.Legs.{act_by, onward_by, gone_out, end_out, error_out}
 
 by_place : (packet : List ℕ) (found : Option ℕ) → IsForeseen found (onward_by found packet)
 by_place packet None = tt
@@ -25,39 +25,38 @@ dropped_is : (found : Option ℕ) (cause : Cause) → IsForeseen found (Dropped 
 dropped_is None cause = tt
 dropped_is (Some place) cause = tt
 
-module _ (rules : Rules) (p : List ℕ) (sources : (end : Endpoint) → (destination (with_source end p)).address
-    ≡ (destination p).address)
-    (errors : is_error (kind p) ≡ true → (end : Endpoint) → (destination (reverted Outgoing end p)).address
-    ≡ (destination p).address) where
-  gone : (q : List ℕ) → (destination q).address ≡ (destination p).address →
-      IsForeseen (place_of rules (destination p).address) (gone_out rules q)
+module _ (rules : Rules) (leg : Leg) (sources : (end : Endpoint) → (destination (with_source end leg.packet)).address
+    ≡ (destination leg.packet).address) (errors : is_error (kind leg.packet) ≡ true → (end : Endpoint) →
+    (destination (reverted Outgoing end leg.packet)).address ≡ (destination leg.packet).address) where
+  gone : (q : List ℕ) → (destination q).address ≡ (destination leg.packet).address →
+      IsForeseen (place_of rules (destination leg.packet).address) (gone_out rules q)
   gone q same = subst (λ (a : ℕ). IsForeseen (place_of rules a) (gone_out rules q)) same
       (by_place q (place_of rules (destination q).address))
 
-  sent : (address : ℕ) (number : Result ℕ Cause) → IsForeseen (place_of rules (destination p).address)
-      (end_out rules address p number)
+  sent : (address : ℕ) (number : Result ℕ Cause) → IsForeseen (place_of rules (destination leg.packet).address)
+      (end_out rules address leg.packet number)
   sent address (Ok number) = let end : Endpoint = record { address = address; number = number } in
-      gone (with_source end p) (sources end)
-  sent address (Err cause) = dropped_is (place_of rules (destination p).address) cause
+      gone (with_source end leg.packet) (sources end)
+  sent address (Err cause) = dropped_is (place_of rules (destination leg.packet).address) cause
 
-  error_sent : is_error (kind p) ≡ true → (found : Option Binding) → IsForeseen (place_of rules (destination p).address)
-      (error_out rules p found)
-  error_sent is (Some binding) = gone (reverted Outgoing binding.external p) (errors is binding.external)
-  error_sent is None = dropped_is (place_of rules (destination p).address) _
+  error_sent : is_error (kind leg.packet) ≡ true → (found : Option Binding) →
+      IsForeseen (place_of rules (destination leg.packet).address) (error_out rules leg.packet found)
+  error_sent is (Some binding) = gone (reverted Outgoing binding.external leg.packet) (errors is binding.external)
+  error_sent is None = dropped_is (place_of rules (destination leg.packet).address) _
 
-  leg_sent : (address now : ℕ) (list : List Binding) (k : Kind) → kind p ≡ k →
-      IsForeseen (place_of rules (destination p).address) (act_by rules address now p list Outgoing k).end
-  leg_sent address now list Udp is = sent address _
-  leg_sent address now list (Tcp flags) is = sent address _
-  leg_sent address now list Echo is = sent address _
-  leg_sent address now list (ErrorOf inner) is = error_sent (ap is_error is) _
+  leg_sent : (address : ℕ) (list : List Binding) (k : Kind) → kind leg.packet ≡ k →
+      IsForeseen (place_of rules (destination leg.packet).address) (act_by rules address leg list Outgoing k).end
+  leg_sent address list Udp is = sent address _
+  leg_sent address list (Tcp flags) is = sent address _
+  leg_sent address list Echo is = sent address _
+  leg_sent address list (ErrorOf inner) is = error_sent (ap is_error is) _
 
 pub foresees : SourcesLeaveDestinations → ErrorsLeaveDestinations → (rules : Rules) (packet : List ℕ) →
     IsPacket packet → Foresees rules packet (place_of rules (destination packet).address)
 foresees packets errors rules packet is address leg kept way same =
     let found : Option ℕ = place_of rules (destination packet).address in
-    let now : ℕ = max leg.now kept.at in
-    subst (λ (q : List ℕ). IsForeseen found (act_by rules address now q kept.list leg.way (kind q)).end) (sym same)
-    (subst (λ (w : Way). IsForeseen found (act_by rules address now packet kept.list w (kind packet)).end) (sym way)
-    (leg_sent rules packet (packets is.0 packet is.1) (errors is.0 packet is.1) address now kept.list
-    (kind packet) refl))
+    let of : List ℕ → Leg = λ q. record leg { now = max leg.now kept.at; packet = q } in
+    subst (λ (q : List ℕ). IsForeseen found (act_by rules address (of q) kept.list leg.way (kind q)).end) (sym same)
+    (subst (λ (w : Way). IsForeseen found (act_by rules address (of packet) kept.list w (kind packet)).end) (sym way)
+    (leg_sent rules (of packet) (packets is.0 packet is.1) (errors is.0 packet is.1) address kept.list (kind packet)
+    refl))

@@ -9,17 +9,17 @@ use Rattle.napt_wire.specs.declared.Kind.TheVariants.{Udp, Tcp, Echo, ErrorOf}
 use Rattle.napt_wire.specs.Fields.{destination, kind, is_error}
 use Rattle.napt_config.specs.Rules.{Rules, place_of}
 use Rattle.napt_binding.specs.declared.Binding.{Binding}
+use Rattle.napt_translate.specs.declared.translator.Leg.{Leg}
 use Rattle.napt_translate.specs.Ends.{ErrorsChangeNothing, IsToItsSide, LegsEndAtTheirSide, is_in_or_dropped, InStaysIn}
 use Rattle.napt_translate.specs.Legs.{Kept, act_by, onward_by, gone_out, end_out, end_in, error_out, error_in, time_after}
 
 -- ERRORS
 
-module _ (rules : Rules) (address now at : ℕ) (packet : List ℕ) (list : List Binding) where
+module _ (rules : Rules) (address : ℕ) (leg : Leg) (list : List Binding) (at : ℕ) where
   error_keeps : (way : Way) (k : Kind) → is_error k ≡ true →
       (let kept : Kept = record {
-        list = (act_by rules address now packet list way k).list;
-        at =
-            time_after k at now;
+        list = (act_by rules address leg list way k).list;
+        at = time_after k at leg.now;
       } in kept ≡ record { list = list; at = at })
   error_keeps Outgoing (ErrorOf inner) h = refl
   error_keeps Incoming (ErrorOf inner) h = refl
@@ -28,8 +28,8 @@ module _ (rules : Rules) (address now at : ℕ) (packet : List ℕ) (list : List
   error_keeps way Echo h = cc
 
 pub errors_change_nothing : ErrorsChangeNothing
-errors_change_nothing rules address leg kept h = error_keeps rules address (max leg.now kept.at) kept.at leg.packet
-    kept.list leg.way (kind leg.packet) h
+errors_change_nothing rules address leg kept h =
+    error_keeps rules address (record leg { now = max leg.now kept.at }) kept.list kept.at leg.way (kind leg.packet) h
 
 -- SIDES
 
@@ -59,20 +59,20 @@ module _ (rules : Rules) where
   error_came_side packet (Some binding) = tt
   error_came_side packet None = tt
 
-  leg_side : (address now : ℕ) (packet : List ℕ) (list : List Binding) (way : Way) (k : Kind) →
-      IsToItsSide rules (act_by rules address now packet list way k).end
-  leg_side address now packet list Outgoing Udp = sent_side _ _ _
-  leg_side address now packet list Outgoing (Tcp flags) = sent_side _ _ _
-  leg_side address now packet list Outgoing Echo = sent_side _ _ _
-  leg_side address now packet list Outgoing (ErrorOf inner) = error_side _ _
-  leg_side address now packet list Incoming Udp = came_side _ _
-  leg_side address now packet list Incoming (Tcp flags) = came_side _ _
-  leg_side address now packet list Incoming Echo = came_side _ _
-  leg_side address now packet list Incoming (ErrorOf inner) = error_came_side _ _
+  leg_side : (address : ℕ) (leg : Leg) (list : List Binding) (way : Way) (k : Kind) →
+      IsToItsSide rules (act_by rules address leg list way k).end
+  leg_side address leg list Outgoing Udp = sent_side _ _ _
+  leg_side address leg list Outgoing (Tcp flags) = sent_side _ _ _
+  leg_side address leg list Outgoing Echo = sent_side _ _ _
+  leg_side address leg list Outgoing (ErrorOf inner) = error_side _ _
+  leg_side address leg list Incoming Udp = came_side _ _
+  leg_side address leg list Incoming (Tcp flags) = came_side _ _
+  leg_side address leg list Incoming Echo = came_side _ _
+  leg_side address leg list Incoming (ErrorOf inner) = error_came_side _ _
 
 pub legs_end_at_their_side : LegsEndAtTheirSide
 legs_end_at_their_side rules address leg kept =
-    leg_side rules address (max leg.now kept.at) leg.packet kept.list leg.way (kind leg.packet)
+    leg_side rules address (record leg { now = max leg.now kept.at }) kept.list leg.way (kind leg.packet)
 
 -- IN
 
@@ -84,15 +84,15 @@ error_came_in : (packet : List ℕ) (found : Option Binding) → is_in_or_droppe
 error_came_in packet (Some binding) = refl
 error_came_in packet None = refl
 
-leg_in : (rules : Rules) (address now : ℕ) (packet : List ℕ) (list : List Binding) (k : Kind) →
-    is_in_or_dropped (act_by rules address now packet list Incoming k).end ≡ true
-leg_in rules address now packet list Udp = came_in _ _
-leg_in rules address now packet list (Tcp flags) = came_in _ _
-leg_in rules address now packet list Echo = came_in _ _
-leg_in rules address now packet list (ErrorOf inner) = error_came_in _ _
+leg_in : (rules : Rules) (address : ℕ) (leg : Leg) (list : List Binding) (k : Kind) →
+    is_in_or_dropped (act_by rules address leg list Incoming k).end ≡ true
+leg_in rules address leg list Udp = came_in _ _
+leg_in rules address leg list (Tcp flags) = came_in _ _
+leg_in rules address leg list Echo = came_in _ _
+leg_in rules address leg list (ErrorOf inner) = error_came_in _ _
 
 pub in_stays_in : InStaysIn
 in_stays_in rules address leg kept way =
-    ap (λ (w : Way). is_in_or_dropped (act_by rules address (max leg.now kept.at) leg.packet kept.list w
-    (kind leg.packet)).end) way
-    ∙ leg_in rules address (max leg.now kept.at) leg.packet kept.list (kind leg.packet)
+    let then : Leg = record leg { now = max leg.now kept.at } in
+    ap (λ (w : Way). is_in_or_dropped (act_by rules address then kept.list w (kind leg.packet)).end) way
+    ∙ leg_in rules address then kept.list (kind leg.packet)

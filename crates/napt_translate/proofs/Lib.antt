@@ -1,3 +1,4 @@
+pub mod Acts
 pub mod Places
 pub mod LegLaws
 pub mod Foreseen

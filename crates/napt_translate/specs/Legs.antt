@@ -5,6 +5,7 @@
 -- it quotes and changes no binding. RFC 4787, REQ-9: a packet that goes out to an external address of the pool goes
 -- back in at that address.
 use Rattle.std.specs.Prelude.{ℕ, max, false, List, [], ◌∷◌, Option, Some, None, Result, Ok, Err}
+use Rattle.napt_wire.specs.declared.Protocol.{Protocol}
 use Rattle.napt_wire.specs.declared.Protocol.TheVariants as protocols
 use Rattle.napt_wire.specs.declared.Way.{Way}
 use Rattle.napt_wire.specs.declared.Way.TheVariants.{Outgoing, Incoming}
@@ -19,6 +20,8 @@ use Rattle.napt_wire.specs.Rewriting.{with_source, with_destination, reverted}
 use Rattle.napt_config.specs.Rules.{Rules, place_of}
 use Rattle.napt_binding.specs.Inbound.{inbound_of}
 use Rattle.napt_binding.specs.declared.Binding.{Binding}
+use Rattle.napt_binding.specs.declared.sent.Sent.{Sent}
+use Rattle.napt_table.specs.declared.received.Received.{Received}
 use Rattle.napt_table.specs.Steps.{Out, In, step_out, step_in, by_inside, by_number}
 use Rattle.napt_translate.specs.declared.translator.Leg.{Leg}
 use Rattle.napt_translate.specs.declared.translator.Answer.{Answer}
@@ -70,41 +73,46 @@ abbrev pub error_in : List ℕ → Option Binding → End
 error_in packet (Some binding) = ToInside (reverted Incoming binding.inside packet)
 error_in packet None = Dropped NoBinding
 
--- by what the packet is
-abbrev pub act_by : Rules → ℕ → ℕ → List ℕ → List Binding → Way → Kind → Acted
-act_by rules address now packet list Outgoing Udp =
-    acted_out rules address packet (step_out rules.timers rules.quota address now protocols.Udp (source packet)
-    (destination packet) no_flags list)
-act_by rules address now packet list Outgoing (Tcp flags) =
-    acted_out rules address packet (step_out rules.timers rules.quota address now protocols.Tcp (source packet)
-    (destination packet) flags list)
-act_by rules address now packet list Outgoing Echo =
-    acted_out rules address packet (step_out rules.timers rules.quota address now protocols.Icmp (source packet)
-    (destination packet) no_flags list)
-act_by rules address now packet list Outgoing (ErrorOf inner) =
-    record {
-      end = error_out rules packet (by_inside rules.timers address now inner.protocol inner.destination list);
-      list = list;
-    }
-act_by rules address now packet list Incoming Udp =
-    acted_in packet (step_in rules.timers (inbound_of rules) address now protocols.Udp (destination packet).number
-    (source packet) no_flags list)
-act_by rules address now packet list Incoming (Tcp flags) =
-    acted_in packet (step_in rules.timers (inbound_of rules) address now protocols.Tcp (destination packet).number
-    (source packet) flags list)
-act_by rules address now packet list Incoming Echo =
-    acted_in packet (step_in rules.timers (inbound_of rules) address now protocols.Icmp (destination packet).number
-    (source packet) no_flags list)
-act_by rules address now packet list Incoming (ErrorOf inner) =
-    record {
-      end = error_in packet (by_number rules.timers address now inner.protocol inner.source.number list);
-      list =
-          list;
-    }
+-- BY WHAT THE PACKET IS
+
+-- a packet that is no error, of the protocol, with the flags and at the time: as it goes out, and as it comes in
+abbrev pub sent_of : Protocol → Flags → ℕ → List ℕ → Sent
+sent_of protocol flags now packet =
+    record { protocol = protocol; inside = source packet; remote = destination packet; flags = flags; now = now }
+
+abbrev pub received_of : Protocol → Flags → ℕ → List ℕ → Received
+received_of protocol flags now packet = let number : ℕ = (destination packet).number in
+    record { protocol = protocol; number = number; remote = source packet; flags = flags; now = now }
+
+abbrev pub act_out : Rules → ℕ → Leg → List Binding → Protocol → Flags → Acted
+act_out rules address leg list protocol flags =
+    acted_out rules address leg.packet
+    (step_out rules.timers rules.quota address (sent_of protocol flags leg.now leg.packet) list)
+
+abbrev pub act_in : Rules → ℕ → Leg → List Binding → Protocol → Flags → Acted
+act_in rules address leg list protocol flags =
+    acted_in leg.packet
+    (step_in rules.timers (inbound_of rules) address (received_of protocol flags leg.now leg.packet) list)
+
+abbrev pub act_by : Rules → ℕ → Leg → List Binding → Way → Kind → Acted
+act_by rules address leg list Outgoing Udp = act_out rules address leg list protocols.Udp no_flags
+act_by rules address leg list Outgoing (Tcp flags) = act_out rules address leg list protocols.Tcp flags
+act_by rules address leg list Outgoing Echo = act_out rules address leg list protocols.Icmp no_flags
+act_by rules address leg list Outgoing (ErrorOf inner) = record {
+  end = error_out rules leg.packet (by_inside rules.timers address leg.now inner.protocol inner.destination list);
+  list = list;
+}
+act_by rules address leg list Incoming Udp = act_in rules address leg list protocols.Udp no_flags
+act_by rules address leg list Incoming (Tcp flags) = act_in rules address leg list protocols.Tcp flags
+act_by rules address leg list Incoming Echo = act_in rules address leg list protocols.Icmp no_flags
+act_by rules address leg list Incoming (ErrorOf inner) = record {
+  end = error_in leg.packet (by_number rules.timers address leg.now inner.protocol inner.source.number list);
+  list = list;
+}
 
 -- a leg at an address
 abbrev pub act : Rules → ℕ → Leg → List Binding → Acted
-act rules address leg list = act_by rules address leg.now leg.packet list leg.way (kind leg.packet)
+act rules address leg list = act_by rules address leg list leg.way (kind leg.packet)
 
 -- A TRANSLATOR BY ITS LIST AND ITS TIME: a leg before that time acts at that time, and an error moves neither
 
@@ -119,8 +127,7 @@ time_after (Tcp flags) at now = now
 time_after Echo at now = now
 
 abbrev pub kept_act : Rules → ℕ → Leg → Kept → Acted
-kept_act rules address leg kept = act_by rules address (max leg.now kept.at) leg.packet kept.list leg.way
-    (kind leg.packet)
+kept_act rules address leg kept = act rules address (record leg { now = max leg.now kept.at }) kept.list
 
 abbrev pub kept_after : Rules → ℕ → Leg → Kept → Kept
 kept_after rules address leg kept = record {

@@ -2,12 +2,11 @@
 use Rattle.std.specs.Prelude.{◌≡◌, ℕ, ◌<◌, List, length, slice_index}
 use Rattle.napt_wire.specs.declared.Protocol.{Protocol}
 use Rattle.napt_wire.specs.declared.Flags.{Flags}
-use Rattle.napt_wire.specs.Fields.{source, destination}
 use Rattle.napt_binding.specs.Inbound.{inbound_of}
 use Rattle.napt_table.specs.Steps.{Out, In, step_out, step_in}
 use Rattle.napt_config.specs.Rules.{Rules, KeepsRules}
 use Rattle.napt_table.specs.Tables.{TableState, opened}
-use Rattle.napt_translate.specs.Legs.{Kept, kept_after}
+use Rattle.napt_translate.specs.Legs.{Kept, kept_after, sent_of, received_of}
 use Rattle.napt_translate.specs.declared.translator.Leg.{Leg}
 
 pub record TranslatorState : Type 0 where
@@ -41,9 +40,9 @@ left_by leg state = with_kept state (kept_after state.rules state.table.address 
 
 -- a packet's step out at a time, and in
 abbrev pub out_at : TranslatorState → ℕ → Protocol → Flags → List ℕ → Out
-out_at state now protocol flags packet = step_out state.rules.timers state.rules.quota state.table.address now protocol
-    (source packet) (destination packet) flags state.table.list
+out_at state now protocol flags packet = step_out state.rules.timers state.rules.quota state.table.address
+    (sent_of protocol flags now packet) state.table.list
 
 abbrev pub in_at : TranslatorState → ℕ → Protocol → Flags → List ℕ → In
-in_at state now protocol flags packet = step_in state.rules.timers (inbound_of state.rules) state.table.address now
-    protocol (destination packet).number (source packet) flags state.table.list
+in_at state now protocol flags packet = step_in state.rules.timers (inbound_of state.rules) state.table.address
+    (received_of protocol flags now packet) state.table.list

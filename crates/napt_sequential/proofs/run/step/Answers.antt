@@ -39,7 +39,7 @@ returns-in-Err-route c = λ state are later.
     ∙ (sym c.route.ensures.place ∙ c.in-Err-route.is)) in
     let is : step c.args.config.now c.args.number c.args.now input state.list
     ≡ refused c.in-Err-route.cause state.list =
-    step_refused c.args.config.now c.args.number c.args.now input state.list packet c.in-Err-route.cause reads
+    step_refused c.args.config.now c.args.number c.args.now input state.list packet reads c.in-Err-route.cause
     against in
     subst (λ (s : Stepped). Follows c.args.config.now c.args.now s state c.args.translators.now
     (Dropped c.in-Err-route.cause)) (sym is)
