@@ -34,7 +34,7 @@ mod stage;
 use crate::Worker;
 use crate::inputs::copies;
 use held::{Held, Owed};
-use impossible_answer::{IMPOSSIBLE_ANSWER, ImpossibleAnswer};
+use impossible_answer::ImpossibleAnswer;
 use napt_config::Config;
 use napt_pool::{Backoff, Gate, Machine, OfferRefused, Pool};
 use napt_sequential::{Input, Outcome, RunFault, places_stand_for_legs, right_answers, way_from};
@@ -231,22 +231,16 @@ impl Dispatcher {
         };
         match pool.offer(alloc, w, leg) {
             Ok(()) => {
-                let Ok(()) = self.count_offer(w) else {
-                    return Err(IMPOSSIBLE_ANSWER);
-                };
-                let Ok(()) = push_back(&mut self.owed, w, owed) else {
-                    return Err(RunFault::Memory);
-                };
+                self.count_offer(w)?;
+                push_back(&mut self.owed, w, owed)?;
                 Ok(true)
             }
             Err(OfferRefused::Full(leg)) => {
-                let Ok(()) = self.put_back(w, leg) else {
-                    return Err(RunFault::Memory);
-                };
+                self.put_back(w, leg)?;
                 Ok(false)
             }
             Err(OfferRefused::Memory(_)) => Err(RunFault::Memory),
-            Err(OfferRefused::Ring(_)) => Err(IMPOSSIBLE_ANSWER),
+            Err(OfferRefused::Ring(_)) => Err(RunFault::from(ImpossibleAnswer)),
         }
     }
 
@@ -264,10 +258,7 @@ impl Dispatcher {
         if self.waits(w) {
             return Ok(false);
         }
-        let Ok(first) = self.first(w) else {
-            return Err(RunFault::Memory);
-        };
-        match first {
+        match self.first(w)? {
             First::Waits => Ok(false),
             First::Gone => Ok(true),
             First::Next(leg) => {
@@ -329,16 +320,11 @@ impl Dispatcher {
         requires sized { IsSizedFor pool.old self.old }
         ensures { ContinuesUnlessFault G.is_open pool.old self.old pool.new self.new result }
     {
-        match pool.take(rt, alloc, w) {
-            Ok(Some(answer)) => {
-                let Ok(()) = self.note(w, answer) else {
-                    return Err(IMPOSSIBLE_ANSWER);
-                };
-                Ok(true)
-            }
-            Ok(None) => Ok(false),
-            Err(fault) => Err(RunFault::Pool(fault)),
-        }
+        let Some(answer) = pool.take(rt, alloc, w)? else {
+            return Ok(false);
+        };
+        self.note(w, answer)?;
+        Ok(true)
     }
 
     /// Takes and notes the answers of worker `w` that are there. Says whether there were any.
@@ -397,7 +383,7 @@ impl Dispatcher {
         ensures { ContinuesUnlessFault G.is_open pool.old self.old pool.new self.new result }
     {
         if are_empty(&self.owed) {
-            return Err(IMPOSSIBLE_ANSWER);
+            return Err(RunFault::from(ImpossibleAnswer));
         }
         let mut backoff = Backoff::new();
         for _ in rt.forever() {
@@ -590,15 +576,12 @@ impl Dispatcher {
                     way: way_from(side),
                     packet,
                 };
-                match self.place_first(place, leg, to) {
-                    Ok(found) => Ok(found),
-                    Err(_) => Err(RunFault::Memory),
-                }
+                Ok(self.place_first(place, leg, to)?)
             }
-            Err(cause) => match self.note_dropped(number, cause) {
-                Ok(()) => Ok(None),
-                Err(_) => Err(IMPOSSIBLE_ANSWER),
-            },
+            Err(cause) => {
+                self.note_dropped(number, cause)?;
+                Ok(None)
+            }
         }
     }
 
@@ -650,9 +633,7 @@ impl Dispatcher {
         let many = inputs.len();
         let mut inputs = VecDeque::from(inputs);
         for number in 0..many {
-            let Some(input) = inputs.pop_front() else {
-                return Err(IMPOSSIBLE_ANSWER);
-            };
+            let input = inputs.pop_front().ok_or(ImpossibleAnswer)?;
             clock = input.clock.max(clock);
             self.make_room(rt, alloc, pool, count as u32)?;
             let found = self.admit(config, number as u64, clock, input)?;
@@ -732,9 +713,7 @@ pub fn dispatch<R: Wait, G: Gate>(
         (accepts pool.new) done.0.items done.1.items) }
     ensures fault { IfErr result (IsDispatchFault G.is_open) }
 {
-    let Ok(inputs) = copies(alloc, inputs) else {
-        return Err(RunFault::Memory);
-    };
+    let inputs = copies(alloc, inputs)?;
     dispatch_owned(rt, alloc, pool, config, inputs)
 }
 
@@ -759,9 +738,7 @@ pub(crate) fn dispatch_owned<R: Wait, G: Gate>(
 {
     let count = config.pool().len();
     let many = inputs.len();
-    let Ok(mut dispatcher) = Dispatcher::new(alloc, count, config.ring(), many) else {
-        return Err(RunFault::Memory);
-    };
+    let mut dispatcher = Dispatcher::new(alloc, count, config.ring(), many)?;
     dispatcher.dispatch_all(rt, alloc, pool, config, inputs)?;
     dispatcher.finish(rt, alloc, pool, count as u32)?;
     let Dispatcher {
@@ -769,8 +746,6 @@ pub(crate) fn dispatch_owned<R: Wait, G: Gate>(
         progress,
         ..
     } = dispatcher;
-    match progress.into_outcomes(many) {
-        Some(outcomes) => Ok((outcomes, offered)),
-        None => Err(IMPOSSIBLE_ANSWER),
-    }
+    let outcomes = progress.into_outcomes(many).ok_or(ImpossibleAnswer)?;
+    Ok((outcomes, offered))
 }
