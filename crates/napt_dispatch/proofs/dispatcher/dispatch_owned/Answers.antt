@@ -16,8 +16,13 @@ dispatch_all-requires-clause-sized g c =
 
 pub finish-requires-clause-count : goal.finish-requires-clause-count
 finish-requires-clause-count g c =
-    omega (arith, ap length c.in_ok-dispatch_all.ensures.starts, ap length c.requires.started,
-    length_started c.args.config.now (length c.args.config.now.pool), ap length c.pool-count.ensures.addresses)
+    omega (
+      arith,
+      ap length c.in_ok-dispatch_all.ensures.starts,
+      ap length c.requires.started,
+      length_started c.args.config.now (length c.args.config.now.pool),
+      ap length c.pool-count.ensures.addresses,
+    )
 
 pub returns : goal.returns
 returns g c =

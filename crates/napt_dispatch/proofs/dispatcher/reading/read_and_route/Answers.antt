@@ -3,7 +3,7 @@ use Rattle.napt_wire.specs.Reading.{reading}
 use Rattle.napt_translate.specs.Sides.{refusal}
 use Rattle.napt_sequential.specs.Admission.{judged_by, admission_as}
 use Rattle.napt_sequential.proofs.Steps.{route_ok, route_err}
-use Rattle.napt_dispatch.proofs.dispatcher.read_and_route.Goals as goal
+use Rattle.napt_dispatch.proofs.dispatcher.reading.read_and_route.Goals as goal
 
 pub returns-in-Ok-route-clause-admitted : goal.returns-in-Ok-route-clause-admitted
 returns-in-Ok-route-clause-admitted c =
