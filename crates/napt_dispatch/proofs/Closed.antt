@@ -47,8 +47,7 @@ flat_each h k [] [] d e same = refl
 flat_each h k [] (a ∷ pool) d e same = absurd (omega arith)
 flat_each h k (x ∷ xs) [] d e same = absurd (omega arith)
 flat_each h k (x ∷ xs) (a ∷ pool) d e same =
-    ap (λ (r : List Row). r ++ flat_map h xs) (same zero (omega arith)) ∙ ap (λ (r : List Row). k a ++ r)
-    (flat_each h k xs pool d (omega arith) (λ w lt. same (suc w) (omega arith)))
+    rw (same zero (omega arith), flat_each h k xs pool d (omega arith) (λ w lt. same (suc w) (omega arith))) refl
 
 -- WORKERS
 
@@ -60,8 +59,7 @@ module _ (g : Ghosts TranslatorState Leg Answer) (stepped_is : (s : TranslatorSt
   after_kept : (s : TranslatorState) (legs : List Leg) → after g s legs
       ≡ with_kept s (kept_after_all s.rules s.table.address legs (kept_of s.table))
   after_kept s [] = refl
-  after_kept s (leg ∷ legs) = ap (λ (m : TranslatorState). after g m legs) (stepped_is s leg)
-      ∙ after_kept (left_by leg s) legs
+  after_kept s (leg ∷ legs) = rw (stepped_is s leg) (after_kept (left_by leg s) legs)
 
   pub workers_shown : (rules : Rules) (inputs : List Arrival) (starts : List TranslatorState)
       (accepts : List (List Leg)) (machines : List TranslatorState) (outcomes : List Outcome) (numbers : List ℕ)
@@ -76,8 +74,7 @@ module _ (g : Ghosts TranslatorState Leg Answer) (stepped_is : (s : TranslatorSt
       let course : Course = run rules inputs (opening rules) in
       let give : List (List Leg) = map (λ (address : ℕ). legs_at address course.acts) rules.pool in
       let states : List TranslatorState = zip_with (after g) (started rules n) give in
-      let states_are : machines ≡ states = left ∙ (ap (λ (s : List TranslatorState). zip_with (after g) s accepts) began
-      ∙ ap (zip_with (after g) (started rules n)) done.legs) in
+      let states_are : machines ≡ states = rw (left, began, done.legs) refl in
       let long : length (started rules n) ≡ n = length_started rules n in
       let long_give : length give ≡ n = length-map rules.pool (λ (address : ℕ). legs_at address course.acts) in
       let at_last : List Row =
@@ -94,10 +91,12 @@ module _ (g : Ghosts TranslatorState Leg Answer) (stepped_is : (s : TranslatorSt
       let once : IsAtOnce rules address (last_clock 0 inputs) kept course.list =
       (seen rules inputs (opening rules) address).leaves in
       let state_is : slice_index_or states w (begun 0 rules) ≡ with_kept (begun w rules) kept =
-      zip_index (after g) (started rules n) give w (begun 0 rules) (begun 0 rules) (omega arith) (omega arith)
-      ∙ (ap (λ (s : TranslatorState). after g s (of_worker give w)) (started_at rules n w (begun 0 rules) lt)
-      ∙ (ap (after g (begun w rules)) (map_index (λ (a : ℕ). legs_at a course.acts) rules.pool w lt)
-      ∙ after_kept (begun w rules) legs)) in
+      rw (
+        zip_index (after g) (started rules n) give w (begun 0 rules) (begun 0 rules) (omega arith) (omega arith),
+        started_at rules n w (begun 0 rules) lt,
+        map_index (λ (a : ℕ). legs_at a course.acts) rules.pool w lt,
+      )
+      (after_kept (begun w rules) legs) in
       ap (rows_after last) state_is
       ∙ (ap (λ (t : ℕ). rows rules.timers t kept.list) (latest last (last_clock 0 inputs) kept.at clock once.past)
       ∙ ap rows_of once.agrees.same)) in
@@ -122,21 +121,14 @@ not_shut gate (Err faults.Memory) h e = refl
 not_shut gate (Err faults.TooMany) h e = refl
 not_shut gate (Err (faults.Pool fault)) h e = h e
 
-abbrev IsOkay : {T E : Type 0} → Result T E → Type 0
-IsOkay (Ok done) = Unit {0}
-IsOkay (Err fault) = ⊥
-
-abbrev AreBoth : {D C : Type 0} → D → C → Result (D × C) RunFault → Type 0
-AreBoth {D} {C} made left (Ok both) = (◌≡◌ {A = Result D RunFault} (Ok made) (Ok both.0))
-    × (◌≡◌ {A = Result C PoolFault} (Ok left) (Ok both.1))
-AreBoth made left (Err fault) = ⊥
-
 pub on_ok_at : {T E P : Type 0} (result : Result T E) (value : T) → result ≡ Ok value → OnOk result P → P
 on_ok_at {P = P} result value is holds = subst (λ (r : Result _ _). OnOk r P) is holds
 
 -- where no fault is told there was none
 pub both_ended : {D C : Type 0} (dispatched : Result D RunFault) (closed : Result C PoolFault) (done : D) (ended : C)
     → Ok (done, ended) ≡ first_fault dispatched closed → (dispatched ≡ Ok done) × (closed ≡ Ok ended)
-both_ended (Ok made) (Ok left) done ended is = subst (AreBoth made left) (sym is) (refl, refl)
-both_ended (Ok made) (Err fault) done ended is = absurd (subst IsOkay is tt)
-both_ended (Err fault) closed done ended is = absurd (subst IsOkay is tt)
+both_ended (Ok made) (Ok left) done ended is =
+    let same : (let both : _ × _ = (done, ended) in both) ≡ (made, left) = cc (is) in
+    (ap (λ both. Ok both.0) (sym same), ap (λ both. Ok both.1) (sym same))
+both_ended (Ok made) (Err fault) done ended is = absurd (cc (is))
+both_ended (Err fault) closed done ended is = absurd (cc (is))

@@ -1,6 +1,7 @@
 -- What the end of a dispatch tells.
-use Rattle.std.proofs.Common.{◌≡◌, ℕ, zero, suc, ◌+◌, ◌<◌, List, [], ◌∷◌, ◌++◌, length, map, Option, Some, refl, sym, ◌∙◌, ap, arith, append-nil, length-append, inl, inr, ◌⊎◌}
+use Rattle.std.proofs.Common.{◌≡◌, ℕ, zero, suc, ◌+◌, ◌<◌, List, [], ◌∷◌, ◌++◌, length, map, Option, Some, refl, ◌∙◌, arith, append-nil, length-append, inl, inr}
 use Rattle.std.specs.Prelude.{slice_index, slice_index_or, slice_get}
+use Rattle.std.proofs.lemmas.Bool.{cases_eq}
 use Rattle.std.proofs.Math.ListN.{get_or-append}
 use Rattle.std.proofs.Math.Seq.{get_or-append_seam}
 use Rattle.napt_config.specs.Rules.{Rules}
@@ -29,16 +30,15 @@ map_at f [] [] e h = refl
 map_at f [] (a ∷ pool) e h = absurd (omega arith)
 map_at f (l ∷ lists) [] e h = absurd (omega arith)
 map_at f (l ∷ lists) (a ∷ pool) e h =
-    ap (λ (x : List _). x ∷ lists) (h zero (omega arith)) ∙ ap (λ (xs : List (List _)). f a ∷ xs)
-    (map_at f lists pool (omega arith) (λ w lt. h (suc w) (omega arith)))
+    rw (h zero (omega arith), map_at f lists pool (omega arith) (λ w lt. h (suc w) (omega arith))) refl
 
 pub same_lengths : {X Y : Type 0} (xs : List (List X)) (ys : List (List Y)) → length xs ≡ length ys →
     ((v : ℕ) → v < length ys → length (of_worker xs v) ≡ length (of_worker ys v)) → map length xs ≡ map length ys
 same_lengths [] [] e h = refl
 same_lengths [] (y ∷ ys) e h = absurd (omega arith)
 same_lengths (x ∷ xs) [] e h = absurd (omega arith)
-same_lengths (x ∷ xs) (y ∷ ys) e h = ap (λ (n : ℕ). n ∷ map length xs) (h zero (omega arith))
-    ∙ ap (λ (ns : List ℕ). length y ∷ ns) (same_lengths xs ys (omega arith) (λ v lt. h (suc v) (omega arith)))
+same_lengths (x ∷ xs) (y ∷ ys) e h =
+    rw (h zero (omega arith), same_lengths xs ys (omega arith) (λ v lt. h (suc v) (omega arith))) refl
 
 pub same_known : (all outs : List Outcome) → length all ≡ length outs →
     ((i : ℕ) (o : Outcome) → slice_get (map (λ (x : Outcome). let s : Option Outcome = Some x in s) all) i
@@ -48,19 +48,8 @@ same_known [] (o ∷ outs) e h = absurd (omega arith)
 same_known (a ∷ all) [] e h = absurd (omega arith)
 same_known (a ∷ all) (o ∷ outs) e h =
     let here : slice_get (o ∷ outs) 0 ≡ Some a = h zero a refl in
-    let same : o ≡ a = cc in
-    ap (λ (x : Outcome). x ∷ all) (sym same) ∙ ap (λ (xs : List Outcome). o ∷ xs)
-    (same_known all outs (omega arith) (λ i x g. h (suc i) x g))
-
-less_or_same : (w n : ℕ) → w < suc n → (w < n) ⊎ (w ≡ n)
-less_or_same zero zero lt = inr refl
-less_or_same zero (suc n) lt = inl (omega arith)
-less_or_same (suc w) zero lt = absurd (omega arith)
-less_or_same (suc w) (suc n) lt = elim (less_or_same w n (omega arith)) [
-  | inl less ↦ inl (omega arith)
-  | inr same ↦ inr
-      (ap suc same)
-]
+    let rest = same_known all outs (omega arith) (λ i x g. h (suc i) x g) in
+    cc
 
 -- WORKERS
 
@@ -77,10 +66,10 @@ pub started_at : (rules : Rules) (n w : ℕ) (d : TranslatorState) → w < n →
 started_at rules zero w d lt = absurd (omega arith)
 started_at rules (suc n) w d lt =
     let long : length (started rules n) ≡ n = length_started rules n in
-    elim (less_or_same w n lt) [
-      | inl less ↦ get_or-append (started rules n) (begun n rules ∷ []) d w (omega arith) ∙ started_at rules n w d less
-      | inr same ↦ ap (λ (k : ℕ). slice_index_or (started rules n ++ begun n rules ∷ []) k d) (same ∙ sym long)
-          ∙ (get_or-append_seam (started rules n) (begun n rules) [] d ∙ ap (λ (k : ℕ). begun k rules) (sym same))
+    elim (cases_eq w n) [
+      | inl same ↦ rw same (rw long at (get_or-append_seam (started rules n) (begun n rules) [] d))
+      | inr other ↦ get_or-append (started rules n) (begun n rules ∷ []) d w (omega arith)
+          ∙ started_at rules n w d (omega arith)
     ]
 
 module _ (g : Ghosts TranslatorState Leg Answer) (stepped_is : (s : TranslatorState) (leg : Leg) → g.stepped s leg
@@ -89,27 +78,22 @@ module _ (g : Ghosts TranslatorState Leg Answer) (stepped_is : (s : TranslatorSt
   replies_kept : (s : TranslatorState) (legs : List Leg) → replies g s legs ≡ kept_replies s.rules s.table.address legs
       (kept_of s.table)
   replies_kept s [] = refl
-  replies_kept s (leg ∷ legs) =
-      ap (λ (a : Answer). a ∷ replies g (g.stepped s leg) legs) (reply_is s leg)
-      ∙ (ap (λ (m : TranslatorState). kept_answer s.rules s.table.address leg (kept_of s.table) ∷ replies g m legs)
-      (stepped_is s leg)
-      ∙ ap (λ (as_are : List Answer). kept_answer s.rules s.table.address leg (kept_of s.table) ∷ as_are)
-      (replies_kept (left_by leg s) legs))
+  replies_kept s (leg ∷ legs) = rw (reply_is s leg, stepped_is s leg, replies_kept (left_by leg s) legs) refl
 
   -- what the workers answered is right
   pub right_since : (rules : Rules) (starts : List TranslatorState) (offered : List (List Leg))
       (taken : List (List Answer)) → starts ≡ started rules (length rules.pool) → length offered ≡ length rules.pool →
       taken ≡ zip_with (replies g) starts offered → Right rules offered taken
   right_since rules starts offered taken began many is_taken = λ w lt.
-      let long : length (started rules (length rules.pool)) ≡ length rules.pool =
-      length_started rules (length rules.pool) in
+      let long = length_started rules (length rules.pool) in
       let is : of_worker taken w ≡ kept_replies rules (slice_index rules.pool w) (of_worker offered w)
       (fresh rules (slice_index rules.pool w)) =
-      ap (λ (t : List (List Answer)). of_worker t w) is_taken
-      ∙ (ap (λ (s : List TranslatorState). of_worker (zip_with (replies g) s offered) w) began
-      ∙ (zip_index (replies g) (started rules (length rules.pool)) offered w (begun w rules) [] (omega arith)
-      (omega arith)
-      ∙ (ap (λ (s : TranslatorState). replies g s (of_worker offered w)) (started_at rules (length rules.pool) w
-      (begun w rules) lt)
-      ∙ replies_kept (begun w rules) (of_worker offered w)))) in
+      rw (
+        is_taken,
+        began,
+        zip_index (replies g) (started rules (length rules.pool)) offered w (begun w rules) []
+            (omega arith) (omega arith),
+        started_at rules (length rules.pool) w (begun w rules) lt,
+      )
+      (replies_kept (begun w rules) (of_worker offered w)) in
       ([], append-nil (of_worker taken w) ∙ is)

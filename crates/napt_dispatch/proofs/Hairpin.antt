@@ -1,5 +1,5 @@
 -- Fronts of legs and of their answers.
-use Rattle.std.proofs.Common.{◌≡◌, ◌≢◌, ℕ, suc, ◌<◌, ◌≤◌, List, [], ◌∷◌, ◌++◌, length, refl, sym, ◌∙◌, ap, subst, arith, inl, inr, append_assoc}
+use Rattle.std.proofs.Common.{◌≡◌, ◌≢◌, ℕ, suc, ◌<◌, ◌≤◌, List, [], ◌∷◌, ◌++◌, length, refl, sym, ◌∙◌, ap, arith, inl, inr, append_assoc}
 use Rattle.std.specs.Prelude.{slice_index}
 use Rattle.std.proofs.lemmas.Bool.{cases_eq}
 use Rattle.napt_config.specs.Rules.{Rules}
@@ -18,18 +18,15 @@ short_front : {X : Type 0} (xs ys : List X) (zs : List X) → length xs ≤ leng
 short_front [] ys zs le h = (ys, refl)
 short_front (x ∷ xs) [] zs le h = absurd (omega arith)
 short_front (x ∷ xs) (y ∷ ys) zs le h =
-    let same : x ≡ y = cc (h.1) in
     let rest : xs ++ h.0 ≡ ys ++ zs = cc (h.1) in
-    let more : IsFront xs ys = short_front xs ys zs (omega arith) (h.0, rest) in
-    (more.0, ap (λ a. a ∷ (xs ++ more.0)) same ∙ ap (λ (l : List _). y ∷ l) more.1)
+    let more = short_front xs ys zs (omega arith) (h.0, rest) in
+    (more.0, (cc))
 
 replies_push : (rules : Rules) (address : ℕ) (legs : List Leg) (leg : Leg) (kept : Kept) → (last : Answer)
     × (kept_replies rules address (legs ++ leg ∷ []) kept ≡ kept_replies rules address legs kept ++ last ∷ [])
 replies_push rules address [] leg kept = (kept_answer rules address leg kept, refl)
 replies_push rules address (l ∷ legs) leg kept =
-    let more : (last : Answer) × (kept_replies rules address (legs ++ leg ∷ []) (kept_after rules address l kept)
-    ≡ kept_replies rules address legs (kept_after rules address l kept) ++ last ∷ []) =
-    replies_push rules address legs leg (kept_after rules address l kept) in
+    let more = replies_push rules address legs leg (kept_after rules address l kept) in
     (more.0, ap (λ (xs : List Answer). kept_answer rules address l kept ∷ xs) more.1)
 
 length_replies : (rules : Rules) (address : ℕ) (legs : List Leg) (kept : Kept) →
@@ -46,23 +43,15 @@ pub offer_back : (rules : Rules) (offered later : List (List Leg)) (taken : List
 offer_back rules offered later taken w leg few own others right = λ v lt.
     let address : ℕ = slice_index rules.pool v in
     let kept : Kept = fresh rules address in
-    let r : IsFront (of_worker taken v) (kept_replies rules address (of_worker later v) kept) = right v lt in
     elim (cases_eq v w) [
       | inl e ↦
-          let own_v : of_worker later v ≡ of_worker offered v ++ leg ∷ [] =
-          subst (λ (u : ℕ). of_worker later u ≡ of_worker offered u ++ leg ∷ []) (sym e) own in
-          let p : (last : Answer) × (kept_replies rules address (of_worker offered v ++ leg ∷ []) kept
-          ≡ kept_replies rules address (of_worker offered v) kept ++ last ∷ []) =
-          replies_push rules address (of_worker offered v) leg kept in
-          let n : length (kept_replies rules address (of_worker offered v) kept) ≡ length (of_worker offered v) =
-          length_replies rules address (of_worker offered v) kept in
-          let f : length (of_worker taken v) ≤ length (of_worker offered v) = few v lt in
+          let own_v : of_worker later v ≡ of_worker offered v ++ leg ∷ [] = rw e own in
+          let p = replies_push rules address (of_worker offered v) leg kept in
+          let n = length_replies rules address (of_worker offered v) kept in
+          let f = few v lt in
           short_front (of_worker taken v) (kept_replies rules address (of_worker offered v) kept) (p.0 ∷ [])
-          (omega arith)
-          (subst (λ (xs : List Answer). IsFront (of_worker taken v) xs)
-          (ap (λ (ls : List Leg). kept_replies rules address ls kept) own_v ∙ p.1) r)
-      | inr n ↦ subst (λ (ls : List Leg). IsFront (of_worker taken v) (kept_replies rules address ls kept))
-          (others v n) r
+          (omega arith) (rw (own_v, p.1) at (right v lt))
+      | inr n ↦ rw (others v n) at (right v lt)
     ]
 
 -- and answers that are right after one more were right before it
@@ -76,11 +65,11 @@ pub answer_back : (rules : Rules) (offered : List (List Leg)) (taken later : Lis
 answer_back rules offered taken later w answer own others right = λ v lt.
     let address : ℕ = slice_index rules.pool v in
     let all : List Answer = kept_replies rules address (of_worker offered v) (fresh rules address) in
-    let r : IsFront (of_worker later v) all = right v lt in
     elim (cases_eq v w) [
-      | inl e ↦ front_less (of_worker taken v) (answer ∷ []) all (subst (λ (xs : List Answer). IsFront xs all)
-          (subst (λ (u : ℕ). of_worker later u ≡ of_worker taken u ++ answer ∷ []) (sym e) own) r)
-      | inr n ↦ subst (λ (xs : List Answer). IsFront xs all) (others v n) r
+      | inl e ↦
+          let own_v : of_worker later v ≡ of_worker taken v ++ answer ∷ [] = rw e own in
+          front_less (of_worker taken v) (answer ∷ []) all (rw own_v at (right v lt))
+      | inr n ↦ rw (others v n) at (right v lt)
     ]
 
 module _ (rules : Rules) (address : ℕ) (leg : Leg) where

@@ -1,5 +1,5 @@
 -- What stands while a dispatcher hands out the legs of a run.
-use Rattle.std.proofs.Common.{◌≡◌, ◌≢◌, ℕ, zero, suc, ◌+◌, ◌<◌, ◌≤◌, ◌==◌, max, Bool, true, false, cond, List, [], ◌∷◌, ◌++◌, length, map, set, replicate, Option, Some, None, Ok, Err, refl, sym, ◌∙◌, ap, subst, arith, inl, inr, ◌⊎◌, append_assoc, append-nil, length-append}
+use Rattle.std.proofs.Common.{◌≡◌, ◌≢◌, ℕ, zero, suc, ◌+◌, ◌<◌, ◌≤◌, ◌==◌, max, true, false, cond, List, [], ◌∷◌, ◌++◌, length, map, set, replicate, Option, Some, None, Ok, Err, refl, sym, ◌∙◌, ap, subst, arith, inl, inr, ◌⊎◌, append_assoc, append-nil, length-append}
 use Rattle.std.specs.Prelude.{IfSome, MatchOption, flat_map, slice_index, slice_get, slice_set}
 use Rattle.std.proofs.lemmas.Bool.{cases_eq, eq-eqb, ne_eqb}
 use Rattle.std.proofs.lemmas.List.{length-set, set-set, length_push, map-append, get_or-set_same, length-replicate, length-map}
@@ -31,7 +31,7 @@ use Rattle.napt_dispatch.specs.declared.dispatcher.progress.Progress.TheVariants
 use Rattle.napt_dispatch.specs.declared.dispatcher.second.Second.TheVariants as seconds
 use Rattle.napt_sequential.specs.Inputs.{Arrival}
 use Rattle.napt_sequential.specs.Sequential.{Act, Course, run, last_clock, acts_at, legs_at}
-use Rattle.napt_sequential.specs.Laws.{answer_of, answers_at}
+use Rattle.napt_sequential.specs.Laws.{answer_of}
 use Rattle.napt_sequential.specs.Dispatching.{IsFront, told, IsTold, IsForetold, OnwardIsForetold}
 use Rattle.napt_dispatch.specs.Dispatch.{of_worker, Right, Distinct, IsDispatched}
 use Rattle.napt_sequential.specs.Places.{first_act, second_legs, second_of, IsSeconded}
@@ -52,93 +52,37 @@ pub set_own : {X : Type 0} (lists : List (List X)) (w : ℕ) (xs : List X) → w
     of_worker (slice_set lists w xs) w ≡ xs
 set_own lists w xs lt = get_or-set_same lists w xs [] lt
 
-cond_test : (b c : Bool) → b ≡ c → {X : Type 0} (xs : List X) → cond b xs [] ≡ cond c xs []
-cond_test b c e xs = ap (λ (t : Bool). cond t xs []) e
-
 -- what is read of each list after one more
 pub push_reads : {X Y : Type 0} (f : X → List Y) (lists : List (List X)) (w : ℕ) (x : X) → w < length lists → (v : ℕ) →
     flat_map f (of_worker (pushed w x lists) v) ≡ flat_map f (of_worker lists v) ++ cond (v == w) (f x) []
 push_reads f lists w x lt v = elim (cases_eq v w) [
-  | inl e ↦
-      let own : of_worker (pushed w x lists) v ≡ of_worker lists v ++ x ∷ [] =
-      subst (λ (u : ℕ). of_worker (pushed w x lists) u ≡ of_worker lists u ++ x ∷ []) (sym e)
-      (push_own lists w x lt) in
-      ap (flat_map f) own
-      ∙ (flat_map-append f (of_worker lists v) (x ∷ [])
-      ∙ (ap (λ (ys : List _). flat_map f (of_worker lists v) ++ ys) (append-nil (f x))
-      ∙ ap (λ (b : Bool). flat_map f (of_worker lists v) ++ cond b (f x) []) (sym (eq-eqb v w e))))
-  | inr n ↦
-      ap (flat_map f) (push_other lists w (of_worker lists w ++ x ∷ []) v n)
-      ∙ (sym (append-nil (flat_map f (of_worker lists v)))
-      ∙ ap (λ (b : Bool). flat_map f (of_worker lists v) ++ cond b (f x) []) (sym (ne_eqb v w n)))
+  | inl e ↦ rw (e, push_own lists w x lt, flat_map-append, append-nil (f x), eq-eqb w w refl) refl
+  | inr n ↦ rw (push_other lists w (of_worker lists w ++ x ∷ []) v n, ne_eqb v w n, append-nil) refl
 ]
 
 -- by the addresses of workers as by their places
 same_test : (pool : List ℕ) → Distinct pool → (v w : ℕ) → v < length pool → w < length pool →
     (slice_index pool w == slice_index pool v) ≡ (v == w)
 same_test pool distinct v w lv lw = elim (cases_eq v w) [
-  | inl e ↦ eq-eqb (slice_index pool w) (slice_index pool v) (ap (λ (u : ℕ). slice_index pool u) (sym e))
-      ∙ sym (eq-eqb v w e)
-  | inr n ↦ ne_eqb (slice_index pool w) (slice_index pool v) (λ h. n (distinct v w lv lw (sym h))) ∙ sym (ne_eqb v w n)
+  | inl e ↦ rw (e, eq-eqb (slice_index pool w) (slice_index pool w) refl, eq-eqb w w refl) refl
+  | inr n ↦ rw (ne_eqb (slice_index pool w) (slice_index pool v) (λ h. n (distinct v w lv lw (sym h))), ne_eqb v w n) refl
 ]
 
-state_as : (offered offered' : List (List Leg)) (taken taken' : List (List Answer)) (parts parts' : Parts) →
+-- by their fields
+state_as : {offered offered' : List (List Leg)} {taken taken' : List (List Answer)} {parts parts' : Parts} →
     offered ≡ offered' → taken ≡ taken' → parts ≡ parts' →
-    (let l : DispatchState = record { offered = offered; taken = taken; parts = parts } in l) ≡ record {
-      offered = offered';
-      taken = taken';
-      parts = parts';
-    }
-state_as offered offered' taken taken' parts parts' a b c =
-    ap (λ (o : List (List Leg)). let l : DispatchState = record { offered = o; taken = taken; parts = parts } in l) a
-    ∙ (ap (λ (t : List (List Answer)). let l : DispatchState = record {
-      offered = offered';
-      taken = t;
-      parts = parts;
-    } in l) b
-    ∙ ap (λ (p : Parts). let l : DispatchState = record { offered = offered'; taken = taken'; parts = p } in l) c)
+    (let l : DispatchState = record { offered = offered; taken = taken; parts = parts } in l)
+    ≡ record { offered = offered'; taken = taken'; parts = parts' }
+state_as a b c = rw (a, b, c)
 
-pub parts_as : (counts counts' : List ℕ) (owed owed' : List (List Owed)) (held held' : List (List Held))
-    (progress progress' : List Progress) →
+pub parts_as : {counts counts' : List ℕ} {owed owed' : List (List Owed)} {held held' : List (List Held)}
+    {progress progress' : List Progress} →
     counts ≡ counts' → owed ≡ owed' → held ≡ held' → progress ≡ progress' →
     (let p : Parts = record { counts = counts; owed = owed; held = held; progress = progress } in p)
     ≡ record { counts = counts'; owed = owed'; held = held'; progress = progress' }
-parts_as counts counts' owed owed' held held' progress progress' a b c d =
-    ap (λ (x : List ℕ). let p : Parts = record { counts = x; owed = owed; held = held; progress = progress } in p) a
-    ∙ (ap (λ (x : List (List Owed)). let p : Parts = record {
-      counts = counts';
-      owed = x;
-      held = held;
-      progress =
-          progress;
-    } in p) b
-    ∙ (ap (λ (x : List (List Held)). let p : Parts = record {
-      counts = counts';
-      owed = owed';
-      held = x;
-      progress =
-          progress;
-    } in p) c
-    ∙ ap (λ (x : List Progress). let p : Parts = record {
-      counts = counts';
-      owed = owed';
-      held = held';
-      progress =
-          x;
-    } in p) d))
+parts_as a b c d = rw (a, b, c, d)
 
 -- OWED
-
-owed_as : (offered offered' : List Leg) (taken : List Answer) (owed owed' : List Owed) → offered' ≡ offered →
-    owed' ≡ owed → IsOwed offered taken owed → IsOwed offered' taken owed'
-owed_as offered offered' taken owed owed' a b o = record {
-  before = o.before;
-  rest = o.rest;
-  parts = a ∙ o.parts;
-  long =
-      o.long;
-  owed_is = b ∙ o.owed_is;
-}
 
 answers_few : (offered : List Leg) (taken : List Answer) (owed : List Owed) → IsOwed offered taken owed → length taken
     ≤ length offered
@@ -165,13 +109,13 @@ module _ (w : ℕ) (leg : Leg) (state : DispatchState) (within : w < length stat
     long_held = sym (length-set state.parts.held w (Ready leg ∷ of_worker state.parts.held w)) ∙ s.sized.held
 
     inside : w < length rules.pool
-    inside = subst (λ (n : ℕ). w < n) long_held within
+    inside = rw long_held at within
 
     in_offered : w < length state.offered
-    in_offered = subst (λ (n : ℕ). w < n) (sym s.offered_many) inside
+    in_offered = rw s.offered_many inside
 
     in_owed : w < length state.parts.owed
-    in_owed = subst (λ (n : ℕ). w < n) (sym s.sized.owed) inside
+    in_owed = rw s.sized.owed inside
 
     own : of_worker (pushed w leg state.offered) w ≡ of_worker state.offered w ++ leg ∷ []
     own = push_own state.offered w leg in_offered
@@ -187,32 +131,20 @@ module _ (w : ℕ) (leg : Leg) (state : DispatchState) (within : w < length stat
         record {
           before = o.before;
           rest = o.rest ++ leg ∷ [];
-          parts = own ∙ (ap (λ (ls : List Leg). ls ++ leg ∷ []) o.parts ∙ append_assoc o.before o.rest (leg ∷ []));
+          parts = rw (own, o.parts, append_assoc o.before o.rest (leg ∷ [])) refl;
           long = o.long;
-          owed_is = push_own state.parts.owed w (owed_of leg) in_owed
-              ∙ (ap (λ (xs : List Owed). xs ++ owed_of leg ∷ []) o.owed_is
-              ∙ sym (map-append owed_of o.rest (leg ∷ [])));
+          owed_is = rw (push_own state.parts.owed w (owed_of leg) in_owed, o.owed_is)
+              (sym (map-append owed_of o.rest (leg ∷ [])));
         }
 
     offered_reached : Reaches rules done all (with_first w leg state) → Reaches rules done all offered_now
     offered_reached r =
-        let f : Held → List Leg = resolved (run rules all (opening rules)).acts in
         record {
           reached = λ v lt. elim (cases_eq v w) [
-            | inl e ↦
-                subst (λ (u : ℕ). of_worker (pushed w leg state.offered) u
-                ++ flat_map f (of_worker state.parts.held u) ≡ legs_at (slice_index rules.pool u)
-                (run rules done (opening rules)).acts) (sym e)
-                (ap (λ (ls : List Leg). ls ++ flat_map f (of_worker state.parts.held w)) own
-                ∙ (append_assoc (of_worker state.offered w) (leg ∷ []) (flat_map f (of_worker state.parts.held w))
-                ∙ (ap (λ (hs : List Held). of_worker state.offered w ++ flat_map f hs)
-                (sym (set_own state.parts.held w (Ready leg ∷ of_worker state.parts.held w) within))
-                ∙ r.reached w inside)))
-            | inr n ↦
-                ap (λ (ls : List Leg). ls ++ flat_map f (of_worker state.parts.held v)) (others v n)
-                ∙ (ap (λ (hs : List Held). of_worker state.offered v ++ flat_map f hs)
-                (sym (push_other state.parts.held w (Ready leg ∷ of_worker state.parts.held w) v n))
-                ∙ r.reached v lt)
+            | inl e ↦ rw (e, own, append_assoc)
+                (rw (set_own state.parts.held w (Ready leg ∷ of_worker state.parts.held w) within) at (r.reached w inside))
+            | inr n ↦ rw (others v n)
+                (rw (push_other state.parts.held w (Ready leg ∷ of_worker state.parts.held w) v n) at (r.reached v lt))
           ];
           known = r.known;
         }
@@ -230,12 +162,8 @@ module _ (w : ℕ) (leg : Leg) (state : DispatchState) (within : w < length stat
       taken_many = s.taken_many;
       counts_are = count_push state.offered w leg state.parts.counts s.counts_are;
       owes = λ v lt. elim (cases_eq v w) [
-        | inl e ↦ subst (λ (u : ℕ). IsOwed (of_worker (pushed w leg state.offered) u) (of_worker state.taken u)
-            (of_worker (pushed w (owed_of leg) state.parts.owed) u)) (sym e) owes_here
-        | inr n ↦ owed_as (of_worker state.offered v) (of_worker (pushed w leg state.offered) v)
-            (of_worker state.taken v) (of_worker state.parts.owed v)
-            (of_worker (pushed w (owed_of leg) state.parts.owed) v)
-            (others v n) (push_other state.parts.owed w (of_worker state.parts.owed w ++ owed_of leg ∷ []) v n)
+        | inl e ↦ rw e owes_here
+        | inr n ↦ rw (others v n, push_other state.parts.owed w (of_worker state.parts.owed w ++ owed_of leg ∷ []) v n)
             (s.owes v lt)
       ];
       reaches = λ right.
@@ -247,9 +175,7 @@ module _ (w : ℕ) (leg : Leg) (state : DispatchState) (within : w < length stat
   pub offered_keeps : (later : DispatchState) → later.offered ≡ pushed w leg state.offered → later.taken ≡ state.taken →
       later.parts ≡ offered_parts → Keeps (with_first w leg state) later
   offered_keeps later a b c = λ rules done all s.
-      subst (Stands rules done all)
-      (sym (state_as later.offered (pushed w leg state.offered) later.taken state.taken later.parts offered_parts
-      a b c)) (offered_stand rules done all s)
+      subst (Stands rules done all) (sym (state_as a b c)) (offered_stand rules done all s)
 
 pub offered_parts_are : (w : ℕ) (leg : Leg) (parts mid later : Parts) →
     mid ≡ record parts { counts = slice_set parts.counts w (slice_index parts.counts w + 1) } →
@@ -261,9 +187,7 @@ pub offered_parts_are : (w : ℕ) (leg : Leg) (parts mid later : Parts) →
           pushed w (owed_of leg) parts.owed;
     }
 offered_parts_are w leg parts mid later m counts owed held progress =
-    parts_as later.counts (slice_set parts.counts w (slice_index parts.counts w + 1)) later.owed
-    (pushed w (owed_of leg) parts.owed) later.held parts.held later.progress parts.progress
-    (counts ∙ ap (λ (p : Parts). p.counts) m) (owed ∙ ap (λ (p : Parts). pushed w (owed_of leg) p.owed) m)
+    parts_as (counts ∙ ap (λ (p : Parts). p.counts) m) (owed ∙ ap (λ (p : Parts). pushed w (owed_of leg) p.owed) m)
     (held ∙ ap (λ (p : Parts). p.held) m) (progress ∙ ap (λ (p : Parts). p.progress) m)
 
 -- AN ANSWER
@@ -327,14 +251,21 @@ told_known : (course : Course) (leg : Leg) (e : End) (p : Progress) →
     IfSome (told e) (λ o. slice_get course.outcomes leg.number ≡ Some o) →
     (leg.way ≡ Outgoing → second_legs leg.number course.acts ≡ second_of leg e) →
     IsToldBy (owed_of leg) e p → IsKnown course leg.number p
-told_known course leg (ends.ToOutside packet) p tells seconded h = subst (IsKnown course leg.number) (sym h)
-    (ended_known course leg.number leg.way (outcomes.ToOutside packet) tells seconded)
-told_known course leg (ends.ToInside packet) p tells seconded h = subst (IsKnown course leg.number) (sym h)
-    (ended_known course leg.number leg.way (outcomes.ToInside packet) tells seconded)
-told_known course leg (ends.Dropped cause) p tells seconded h = subst (IsKnown course leg.number) (sym h)
-    (ended_known course leg.number leg.way (outcomes.Dropped cause) tells seconded)
-told_known course leg (ends.Onward place packet) p tells seconded h = subst (IsKnown course leg.number) (sym h.1)
-    (seconded h.0)
+told_known course leg (ends.ToOutside packet) p tells seconded h =
+    rw h (ended_known course leg.number leg.way (outcomes.ToOutside packet) tells seconded)
+told_known course leg (ends.ToInside packet) p tells seconded h =
+    rw h (ended_known course leg.number leg.way (outcomes.ToInside packet) tells seconded)
+told_known course leg (ends.Dropped cause) p tells seconded h =
+    rw h (ended_known course leg.number leg.way (outcomes.Dropped cause) tells seconded)
+told_known course leg (ends.Onward place packet) p tells seconded h = rw h.1 (seconded h.0)
+
+abbrev Tells : Course → Act → Type 0
+Tells course a = IsTold course.outcomes a × IsSeconded course.acts a
+
+act_tells : (course : Course) (leg : Leg) (answer : Answer) (p : Progress) → ActOf (Tells course) leg answer →
+    IsToldBy (owed_of leg) answer.end p → IsKnown course answer.number p
+act_tells course leg answer p x h =
+    rw (← x.answer_is) (told_known course x.a.leg x.a.end p x.holds.0 x.holds.1 (rw (← x.leg_is, ← x.answer_is) at h))
 
 first_owed : (legs : List Leg) (o : Owed) (os : List Owed) → o ∷ os ≡ map owed_of legs → (leg : Leg) × (rest : List Leg)
     × (legs ≡ leg ∷ rest) × (o ≡ owed_of leg) × (os ≡ map owed_of rest)
@@ -348,13 +279,15 @@ offered_front : (rules : Rules) (done all : List Arrival) (state : DispatchState
 offered_front rules done all state s r w lt =
     let address : ℕ = slice_index rules.pool w in
     let more : IsFront (run rules done (opening rules)).acts (run rules all (opening rules)).acts =
-    subst (λ (xs : List Arrival). IsFront (run rules done (opening rules)).acts (run rules xs (opening rules)).acts)
-    s.whole (acts_begin rules 0 0 done s.rest (opening rules)) in
+    rw s.whole at (acts_begin rules 0 0 done s.rest (opening rules)) in
     let held : List Leg = flat_map (resolved (run rules all (opening rules)).acts) (of_worker state.parts.held w) in (
       held ++ legs_at address more.0,
-      sym (append_assoc (of_worker state.offered w) held (legs_at address more.0))
-          ∙ (ap (λ (ls : List Leg). ls ++ legs_at address more.0) (r.reached w lt)
-          ∙ (sym (legs_append address (run rules done (opening rules)).acts more.0) ∙ ap (legs_at address) more.1)),
+      rw (
+        ← append_assoc (of_worker state.offered w) held (legs_at address more.0),
+        r.reached w lt,
+        ← legs_append address (run rules done (opening rules)).acts more.0,
+        more.1,
+      ) refl,
     )
 
 module _ (w : ℕ) (answer : Answer) (state later : DispatchState) (within : w < length state.parts.owed)
@@ -374,10 +307,10 @@ module _ (w : ℕ) (answer : Answer) (state later : DispatchState) (within : w <
 
   module _ (rules : Rules) (done all : List Arrival) (s : Stands rules done all state) where
     w_inside : w < length rules.pool
-    w_inside = subst (λ (k : ℕ). w < k) s.sized.owed within
+    w_inside = rw s.sized.owed at within
 
     in_taken : w < length state.taken
-    in_taken = subst (λ (k : ℕ). w < k) (sym s.taken_many) w_inside
+    in_taken = rw s.taken_many w_inside
 
     own_taken : of_worker (pushed w answer state.taken) w ≡ of_worker state.taken w ++ answer ∷ []
     own_taken = push_own state.taken w answer in_taken
@@ -393,7 +326,7 @@ module _ (w : ℕ) (answer : Answer) (state later : DispatchState) (within : w <
     head = first_owed here.rest n.owed n.popped.rest (sym n.popped.first ∙ here.owed_is)
 
     offered_is : of_worker state.offered w ≡ here.before ++ head.0 ∷ head.1
-    offered_is = here.parts ∙ ap (λ (ls : List Leg). here.before ++ ls) head.2
+    offered_is = rw head.2 at here.parts
 
     answered_owes : IsOwed (of_worker state.offered w) (of_worker (pushed w answer state.taken) w)
         (of_worker (slice_set state.parts.owed w n.popped.rest) w)
@@ -419,31 +352,16 @@ module _ (w : ℕ) (answer : Answer) (state later : DispatchState) (within : w <
         let address : ℕ = slice_index rules.pool w in
         let offers : IsFront (of_worker state.offered w) (legs_at address course.acts) =
         offered_front rules done all state s r w w_inside in
-        let told_front : IsFront (of_worker (pushed w answer state.taken) w) (answers_at address course.acts) =
-        right_answers rules all (opening rules) address (of_worker state.offered w)
-        (of_worker (pushed w answer state.taken) w) offers (right w w_inside) in
-        let P : Act → Type 0 = λ a. IsTold course.outcomes a × IsSeconded course.acts a in
-        let each : Each P (acts_at address course.acts) =
-        each_at P address course.acts (each_both (IsTold course.outcomes) (IsSeconded course.acts) course.acts
-        (answers_tell rules all (opening rules)) (answers_fill rules all (opening rules))) in
+        let told_front = right_answers rules all (opening rules) address (of_worker state.offered w)
+        (of_worker state.taken w ++ answer ∷ []) offers (rw own_taken at (right w w_inside)) in
+        let each : Each (Tells course) (acts_at address course.acts) =
+        each_at (Tells course) address course.acts (each_both (IsTold course.outcomes) (IsSeconded course.acts)
+        course.acts (answers_tell rules all (opening rules)) (answers_fill rules all (opening rules))) in
         let legs : here.before ++ head.0 ∷ (head.1 ++ offers.0) ≡ map (λ (a : Act). a.leg)
-        (acts_at address course.acts) =
-        sym (append_assoc here.before (head.0 ∷ head.1) offers.0)
-        ∙ (ap (λ (ls : List Leg). ls ++ offers.0) (sym offered_is) ∙ offers.1) in
-        let answers : (of_worker state.taken w ++ answer ∷ []) ++ told_front.0
-        ≡ map answer_of (acts_at address course.acts) = ap (λ (xs : List Answer). xs ++ told_front.0)
-        (sym own_taken) ∙ told_front.1 in
-        let x : ActOf P head.0 answer = act_at P (acts_at address course.acts) here.before (head.1 ++ offers.0) head.0
-        (of_worker state.taken w) told_front.0 answer here.long each legs answers in
-        let end_is : x.a.end ≡ answer.end = ap (λ (k : Answer). k.end) x.answer_is in
-        let number_is : x.a.leg.number ≡ answer.number = ap (λ (k : Answer). k.number) x.answer_is in
-        let toldby : IsToldBy (owed_of x.a.leg) answer.end n.progress =
-        subst (λ (o : Owed). IsToldBy o answer.end n.progress) (head.3 ∙ ap owed_of (sym x.leg_is)) n.told in
-        subst (λ (k : ℕ). IsKnown course k n.progress) number_is
-        (told_known course x.a.leg answer.end n.progress
-        (subst (λ (e : End). IfSome (told e) (λ o. slice_get course.outcomes x.a.leg.number ≡ Some o)) end_is x.holds.0)
-        (λ way. x.holds.1 way ∙ ap (second_of x.a.leg) end_is)
-        toldby)
+        (acts_at address course.acts) = rw (offered_is, append_assoc) at offers.1 in
+        act_tells course head.0 answer n.progress (act_at (Tells course) (acts_at address course.acts) here.before
+        (head.1 ++ offers.0) head.0 (of_worker state.taken w) told_front.0 answer here.long each legs told_front.1)
+        (rw head.3 at n.told)
 
     answered_reached : Right rules state.offered (pushed w answer state.taken) → Reaches rules done all answered_now
     answered_reached right =
@@ -468,14 +386,8 @@ module _ (w : ℕ) (answer : Answer) (state later : DispatchState) (within : w <
       taken_many = length-set state.taken w (of_worker state.taken w ++ answer ∷ []) ∙ s.taken_many;
       counts_are = s.counts_are;
       owes = λ v lt. elim (cases_eq v w) [
-        | inl e ↦ subst (λ (u : ℕ). IsOwed (of_worker state.offered u) (of_worker (pushed w answer state.taken) u)
-            (of_worker (slice_set state.parts.owed w n.popped.rest) u)) (sym e) answered_owes
-        | inr d ↦
-            subst (λ (t : List Answer). IsOwed (of_worker state.offered v) t
-            (of_worker (slice_set state.parts.owed w n.popped.rest) v)) (sym (other_taken v d))
-            (owed_as (of_worker state.offered v) (of_worker state.offered v) (of_worker state.taken v)
-            (of_worker state.parts.owed v) (of_worker (slice_set state.parts.owed w n.popped.rest) v)
-            refl (push_other state.parts.owed w n.popped.rest v d) (s.owes v lt))
+        | inl e ↦ rw e answered_owes
+        | inr d ↦ rw (other_taken v d, push_other state.parts.owed w n.popped.rest v d) (s.owes v lt)
       ];
       reaches = answered_reached;
     }
@@ -483,15 +395,29 @@ module _ (w : ℕ) (answer : Answer) (state later : DispatchState) (within : w <
   pub answered_keeps : Keeps state later
   answered_keeps = λ rules done all s.
       subst (Stands rules done all)
-      (sym (state_as later.offered state.offered later.taken (pushed w answer state.taken) later.parts answered_parts
-      same took
-      (parts_as later.parts.counts state.parts.counts later.parts.owed (slice_set state.parts.owed w n.popped.rest)
-      later.parts.held state.parts.held later.parts.progress
-      (slice_set state.parts.progress answer.number n.progress)
-      n.counts_are n.popped.later_is n.held_is n.progress_is)))
+      (sym (state_as same took (parts_as n.counts_are n.popped.later_is n.held_is n.progress_is)))
       (answered_stand rules done all s)
 
 -- WHAT IS HELD
+
+abbrev pub held_as : DispatchState → List (List Held) → List Progress → DispatchState
+held_as state held progress = record state { parts = record state.parts { held = held; progress = progress } }
+
+-- the same but for what is held and known, after perhaps more inputs
+stand_as : (rules : Rules) (done later rest all : List Arrival) (state : DispatchState) (held : List (List Held))
+    (progress : List Progress) → later ++ rest ≡ all → length held ≡ length state.parts.held →
+    (Reaches rules done all state → Reaches rules later all (held_as state held progress)) →
+    Stands rules done all state → Stands rules later all (held_as state held progress)
+stand_as rules done later rest all state held progress whole long reaches s = record {
+  rest = rest;
+  whole = whole;
+  sized = record { counts = s.sized.counts; owed = s.sized.owed; held = long ∙ s.sized.held };
+  offered_many = s.offered_many;
+  taken_many = s.taken_many;
+  counts_are = s.counts_are;
+  owes = s.owes;
+  reaches = λ right. reaches (s.reaches right);
+}
 
 -- other things held and known, for the same legs
 abbrev StandFor : Rules → List Arrival → List Arrival → DispatchState → List (List Held) → List Progress → Type 0
@@ -502,38 +428,20 @@ StandFor rules done all state held progress =
     ≡ flat_map (resolved (run rules all (opening rules)).acts) (of_worker state.parts.held v))
     × ((i : ℕ) (p : Progress) → slice_get progress i ≡ Some p → IsKnown (run rules all (opening rules)) i p)
 
-abbrev pub held_as : DispatchState → List (List Held) → List Progress → DispatchState
-held_as state held progress = record state { parts = record state.parts { held = held; progress = progress } }
-
 held_stand : (rules : Rules) (done all : List Arrival) (state : DispatchState) (held : List (List Held))
     (progress : List Progress) → length held ≡ length state.parts.held →
     StandFor rules done all state held progress → Stands rules done all state →
     Stands rules done all (held_as state held progress)
-held_stand rules done all state held progress long for s = record {
-  rest = s.rest;
-  whole = s.whole;
-  sized = record { counts = s.sized.counts; owed = s.sized.owed; held = long ∙ s.sized.held };
-  offered_many = s.offered_many;
-  taken_many = s.taken_many;
-  counts_are = s.counts_are;
-  owes = s.owes;
-  reaches = λ right.
-      let r : Reaches rules done all state = s.reaches right in
-      let f = for r in
-      record {
-        reached = λ v lt. ap (λ (ls : List Leg). of_worker state.offered v ++ ls) (f.0 v lt) ∙ r.reached v lt;
-        known = f.1;
-      };
-}
+held_stand rules done all state held progress long for s =
+    stand_as rules done done s.rest all state held progress s.whole long
+    (λ r. record { reached = λ v lt. rw ((for r).0 v lt) (r.reached v lt); known = (for r).1 }) s
 
 -- the first of a worker's list stands for these
 first_reads : (f : Held → List Leg) (lists : List (List Held)) (w : ℕ) (x : Held) (xs ys : List Held) →
     w < length lists → of_worker lists w ≡ x ∷ xs → flat_map f ys ≡ f x ++ flat_map f xs → (v : ℕ) →
     flat_map f (of_worker (slice_set lists w ys) v) ≡ flat_map f (of_worker lists v)
 first_reads f lists w x xs ys lt first same v = elim (cases_eq v w) [
-  | inl e ↦
-      subst (λ (u : ℕ). flat_map f (of_worker (slice_set lists w ys) u) ≡ flat_map f (of_worker lists u)) (sym e)
-      (ap (flat_map f) (set_own lists w ys lt) ∙ (same ∙ ap (flat_map f) (sym first)))
+  | inl e ↦ rw (e, set_own lists w ys lt, first) same
   | inr n ↦ ap (flat_map f) (push_other lists w ys v n)
 ]
 
@@ -544,12 +452,11 @@ module _ (w : ℕ) (number : ℕ) (state : DispatchState) (held : List (List Hel
       Keeps state (held_as state held state.parts.progress)
   gone_keeps outcome is = λ rules done all s.
       let f : Held → List Leg = resolved (run rules all (opening rules)).acts in
-      subst (λ (h : List (List Held)). Stands rules done all (held_as state h state.parts.progress)) (sym p.later_is)
-      (held_stand rules done all state (slice_set state.parts.held w p.rest) state.parts.progress
+      rw p.later_is (held_stand rules done all state (slice_set state.parts.held w p.rest) state.parts.progress
       (length-set state.parts.held w p.rest)
       (λ r. (
         λ v lt. first_reads f state.parts.held w (Place number) p.rest p.rest within p.first
-            (ap (λ (ls : List Leg). ls ++ flat_map f p.rest) (sym (r.known number (EndedOut outcome) is).1)) v,
+            (rw (r.known number (EndedOut outcome) is).1 refl) v,
         r.known,
       )) s)
 
@@ -559,20 +466,15 @@ module _ (w : ℕ) (number : ℕ) (state : DispatchState) (held : List (List Hel
       Keeps state (held_as state (put_first w (Ready leg) held) (slice_set state.parts.progress number Awaited))
   next_keeps leg is leg_is = λ rules done all s.
       let f : Held → List Leg = resolved (run rules all (opening rules)).acts in
-      let own : of_worker held w ≡ p.rest = ap (λ (l : List (List Held)). of_worker l w) p.later_is
-      ∙ set_own state.parts.held w p.rest within in
       let put : put_first w (Ready leg) held ≡ slice_set state.parts.held w (Ready leg ∷ p.rest) =
-      ap (λ (xs : List Held). slice_set held w (Ready leg ∷ xs)) own
-      ∙ (ap (λ (l : List (List Held)). slice_set l w (Ready leg ∷ p.rest)) p.later_is
-      ∙ set-set state.parts.held w p.rest (Ready leg ∷ p.rest)) in
-      subst (λ (h : List (List Held)). Stands rules done all
-      (held_as state h (slice_set state.parts.progress number Awaited))) (sym put)
+      rw (p.later_is, set_own state.parts.held w p.rest within)
+      (set-set state.parts.held w p.rest (Ready leg ∷ p.rest)) in
+      rw put
       (held_stand rules done all state (slice_set state.parts.held w (Ready leg ∷ p.rest))
       (slice_set state.parts.progress number Awaited) (length-set state.parts.held w (Ready leg ∷ p.rest))
       (λ r. (
         λ v lt. first_reads f state.parts.held w (Place number) p.rest (Ready leg ∷ p.rest) within p.first
-            (ap (λ (l : Leg). l ∷ flat_map f p.rest) leg_is ∙ ap (λ (ls : List Leg). ls ++ flat_map f p.rest)
-            (sym (r.known number (Onward leg.now leg.packet) is))) v,
+            (rw (r.known number (Onward leg.now leg.packet) is) (ap (λ (l : Leg). l ∷ flat_map f p.rest) leg_is)) v,
         known_set (run rules all (opening rules)) state.parts.progress number Awaited tt r.known,
       )) s)
 
@@ -581,8 +483,7 @@ pub next_keeps_as : (w number : ℕ) (state : DispatchState) (held : List (List 
     IsSecond number state.parts.progress progress (seconds.Known leg) →
     Keeps state (with_first w leg (held_as state held progress))
 next_keeps_as w number state held within p leg progress is = λ rules done all s.
-    subst (λ (ps : List Progress). Stands rules done all (with_first w leg (held_as state held ps))) (sym is.0)
-    (next_keeps w number state held within p leg is.1 is.2 rules done all s)
+    rw is.0 (next_keeps w number state held within p leg is.1 is.2 rules done all s)
 
 -- ONE INPUT MORE
 
@@ -612,26 +513,18 @@ module _ (rules : Rules) (distinct : Distinct rules.pool) (done rest : List Arri
       × (legs_at (at_place v) (run rules now_done (opening rules)).acts
       ≡ legs_at (at_place v) (run rules done (opening rules)).acts ++ more)) →
       Stands rules done all_of state → Stands rules now_done all_of (held_as state held state.parts.progress)
-  grown_stands held many more s = record {
-    rest = rest;
-    whole = refl;
-    sized = record { counts = s.sized.counts; owed = s.sized.owed; held = many ∙ s.sized.held };
-    offered_many = s.offered_many;
-    taken_many = s.taken_many;
-    counts_are = s.counts_are;
-    owes = s.owes;
-    reaches = λ right.
-        let r : Reaches rules done all_of state = s.reaches right in
-        record {
-          reached = λ v lt.
-              let m = more v lt in
-              ap (λ (ls : List Leg). of_worker state.offered v ++ ls) m.1
-              ∙ (sym (append_assoc (of_worker state.offered v)
-              (flat_map (resolved acts_all) (of_worker state.parts.held v)) m.0)
-              ∙ (ap (λ (ls : List Leg). ls ++ m.0) (r.reached v lt) ∙ sym m.2));
-          known = r.known;
-        };
-  }
+  grown_stands held many more s = stand_as rules done now_done rest all_of state held state.parts.progress refl many
+      (λ r. record {
+        reached = λ v lt.
+            rw (
+              (more v lt).1,
+              ← append_assoc (of_worker state.offered v)
+                  (flat_map (resolved acts_all) (of_worker state.parts.held v)) (more v lt).0,
+              r.reached v lt,
+            )
+            (sym (more v lt).2);
+        known = r.known;
+      }) s
 
   pub refused_stands : (cause : Cause) → admission rules input ≡ Err cause → Stands rules done all_of state →
       Stands rules now_done all_of (held_as state state.parts.held (slice_set state.parts.progress number
@@ -650,22 +543,13 @@ module _ (rules : Rules) (distinct : Distinct rules.pool) (done rest : List Arri
       let there : slice_get (run rules all_of (opening rules)).outcomes number ≡ Some (outcomes.Dropped cause) =
       ap (λ (os : List Outcome). slice_get os number) e ∙ get_at before.outcomes (outcomes.Dropped cause) front.0
       number (outcomes_long rules 0 0 done (opening rules) ∙ long) in
-      record {
-        rest = rest;
-        whole = refl;
-        sized = record { counts = s.sized.counts; owed = s.sized.owed; held = s.sized.held };
-        offered_many = s.offered_many;
-        taken_many = s.taken_many;
-        counts_are = s.counts_are;
-        owes = s.owes;
-        reaches = λ right.
-            let r : Reaches rules done all_of state = s.reaches right in
-            record {
-              reached = λ v lt. r.reached v lt ∙ ap (legs_at (at_place v)) (sym acts);
-              known = known_set (run rules all_of (opening rules)) state.parts.progress number
-                  (EndedIn (outcomes.Dropped cause)) there r.known;
-            };
-      }
+      stand_as rules done now_done rest all_of state state.parts.held (slice_set state.parts.progress number
+      (EndedIn (outcomes.Dropped cause))) refl refl
+      (λ r. record {
+        reached = λ v lt. rw acts (r.reached v lt);
+        known = known_set (run rules all_of (opening rules)) state.parts.progress number
+            (EndedIn (outcomes.Dropped cause)) there r.known;
+      }) s
 
   module _ (packet : List ℕ) (admitted : admission rules input ≡ Ok packet) (foretold : OnwardIsForetold)
       (is : IsPacket packet) (w : ℕ) (within : w < length rules.pool) (served : at_place w
@@ -677,7 +561,11 @@ module _ (rules : Rules) (distinct : Distinct rules.pool) (done rest : List Arri
     held_first = pushed w (Ready leg_of) state.parts.held
 
     held_within : Stands rules done all_of state → w < length state.parts.held
-    held_within s = subst (λ (n : ℕ). w < n) (sym s.sized.held) within
+    held_within s = rw s.sized.held within
+
+    same_first : (v : ℕ) → v < length rules.pool →
+        (served_at rules (way_from input.side) packet == at_place v) ≡ (v == w)
+    same_first v lt = rw (← served) (same_test rules.pool distinct v w lt within)
 
     -- its first leg alone
     pub alone_stands : (input.side ≡ Inside → place_of rules (destination packet).address ≡ None) →
@@ -699,12 +587,12 @@ module _ (rules : Rules) (distinct : Distinct rules.pool) (done rest : List Arri
         ++ xs) (single_by rules at_w leg_of first first.end never) in (
           cond (v == w) (leg_of ∷ []) [],
           push_reads (resolved acts_all) state.parts.held w (Ready leg_of) (held_within s) v,
-          ap (legs_at (at_place v)) acts
-              ∙ (legs_append (at_place v) before.acts (first_act rules at_w leg_of before.list ∷ [])
-              ∙ ap (λ (ls : List Leg). legs_at (at_place v) before.acts ++ ls)
-              (cond_map (at_w == at_place v) (first_act rules at_w leg_of before.list)
-              ∙ cond_test (at_w == at_place v) (v == w) (ap (λ (a : ℕ). a == at_place v) (sym served)
-              ∙ same_test rules.pool distinct v w lt within) (leg_of ∷ []))),
+          rw (
+            acts,
+            legs_append (at_place v) before.acts (first_act rules at_w leg_of before.list ∷ []),
+            cond_map,
+            same_first v lt,
+          ) refl,
         )) s
 
     -- with a place for the second
@@ -723,22 +611,18 @@ module _ (rules : Rules) (distinct : Distinct rules.pool) (done rest : List Arri
         let one : List Leg = cond (v == w) (leg_of ∷ []) [] in
         let two : List Leg = cond (v == to) (second_legs number acts_all) [] in
         let to_held : to < length held_first =
-        subst (λ (n : ℕ). to < n) (sym (long_first ∙ s.sized.held)) to_within in (
+        rw (long_first, s.sized.held) to_within in (
           one ++ two,
           push_reads f held_first to (Place number) to_held v
               ∙ (ap (λ (ls : List Leg). ls ++ two) (push_reads f state.parts.held w (Ready leg_of) (held_within s) v)
               ∙ append_assoc (flat_map f (of_worker state.parts.held v)) one two),
-          place_stands rules done rest input number now long clock packet admitted foretold is (ap way_from side)
-              (at_place v)
-              ∙ ap (λ (ls : List Leg). legs_at (at_place v) before.acts ++ ls)
-              (ap (λ (ls : List Leg). ls ++ cond ((destination packet).address == at_place v)
-              (second_legs number acts_all) [])
-              (cond_test (at_w == at_place v) (v == w) (ap (λ (a : ℕ). a == at_place v) (sym served)
-              ∙ same_test rules.pool distinct v w lt within) (leg_of ∷ []))
-              ∙ ap (λ (ls : List Leg). one ++ ls)
-              (cond_test ((destination packet).address == at_place v) (v == to)
-              (ap (λ (a : ℕ). a == at_place v) (sym goes) ∙ same_test rules.pool distinct v to lt to_within)
-              (second_legs number acts_all))),
+          rw (
+            place_stands rules done rest input number now long clock packet admitted foretold is (ap way_from side)
+                (at_place v),
+            same_first v lt,
+            ← goes,
+            same_test rules.pool distinct v to lt to_within,
+          ) refl,
         )) s
 
 -- an input that is dropped before any leg
@@ -747,9 +631,7 @@ pub refused_admits : (rules : Rules) (number now : ℕ) (input : Arrival) (parts
     later ≡ with_progress (slice_set parts.progress number (EndedIn (outcomes.Dropped cause))) parts →
     Admits rules number now input parts later
 refused_admits rules number now input parts later cause distinct is e = λ offered taken done rest long clock s.
-    subst (λ (p : Parts). Stands rules (done ++ input ∷ []) ((done ++ input ∷ []) ++ rest)
-    (record { offered = offered; taken = taken; parts = p })) (sym e)
-    (refused_stands rules distinct done rest input number now long clock (record {
+    rw e (refused_stands rules distinct done rest input number now long clock (record {
       offered = offered;
       taken = taken;
       parts = parts;
@@ -769,9 +651,7 @@ admitted_admits rules number now input parts later packet w distinct foretold is
     λ offered taken done rest long clock s.
     let p : (w < length rules.pool) × (slice_index rules.pool w ≡ served_at rules (way_from input.side) packet) =
     place_within rules.pool w (served_at rules (way_from input.side) packet) place in
-    subst (λ (q : Parts). Stands rules (done ++ input ∷ []) ((done ++ input ∷ []) ++ rest)
-    (record { offered = offered; taken = taken; parts = q })) (sym e)
-    (alone_stands rules distinct done rest input number now long clock (record {
+    rw e (alone_stands rules distinct done rest input number now long clock (record {
       offered = offered;
       taken = taken;
       parts = parts;
@@ -783,9 +663,7 @@ admitted_admits rules number now input parts later packet w distinct foretold is
     let q : (v < length rules.pool) × (slice_index rules.pool v ≡ (destination packet).address) =
     place_within rules.pool v (destination packet).address
     (stands_at rules.pool (destination packet).address v some.1) in
-    subst (λ (k : Parts). Stands rules (done ++ input ∷ []) ((done ++ input ∷ []) ++ rest)
-    (record { offered = offered; taken = taken; parts = k })) (sym e)
-    (placed_stands rules distinct done rest input number now long clock (record {
+    rw e (placed_stands rules distinct done rest input number now long clock (record {
       offered = offered;
       taken = taken;
       parts = parts;
@@ -808,10 +686,9 @@ pub begin_stands : (rules : Rules) (inputs : List Arrival) (state : DispatchStat
     state.parts.counts ≡ replicate (length rules.pool) 0 → IsDone state.parts → state.parts.progress
     ≡ replicate n Awaited → Stands rules [] inputs state
 begin_stands rules inputs state n sized offered taken counts idle progress =
-    let none : (v : ℕ) → of_worker state.offered v ≡ [] = λ v. ap (λ (l : List (List Leg)). of_worker l v) offered
-    ∙ of_replicate Leg (length rules.pool) v in
-    let no_answers : (v : ℕ) → of_worker state.taken v ≡ [] = λ v. ap (λ (l : List (List Answer)). of_worker l v) taken
-    ∙ of_replicate Answer (length rules.pool) v in
+    let none : (v : ℕ) → of_worker state.offered v ≡ [] = λ v. rw offered (of_replicate Leg (length rules.pool) v) in
+    let no_answers : (v : ℕ) → of_worker state.taken v ≡ [] =
+    λ v. rw taken (of_replicate Answer (length rules.pool) v) in
     record {
       rest = inputs;
       whole = refl;
@@ -824,15 +701,11 @@ begin_stands rules inputs state n sized offered taken counts idle progress =
         rest = [];
         parts = none v;
         long = ap length (sym (no_answers v));
-        owed_is =
-            idle.owed v;
+        owed_is = idle.owed v;
       };
       reaches = λ right. record {
-        reached = λ v lt. ap (λ (ls : List Leg). ls ++ flat_map (resolved (run rules inputs (opening rules)).acts)
-            (of_worker state.parts.held v)) (none v) ∙ ap (flat_map (resolved (run rules inputs (opening rules)).acts))
-            (idle.held v);
-        known = λ i p h. awaited_known (run rules inputs (opening rules)) n i p
-            (ap (λ (ps : List Progress). slice_get ps i) (sym progress) ∙ h);
+        reached = λ v lt. rw (none v, idle.held v) refl;
+        known = λ i p h. awaited_known (run rules inputs (opening rules)) n i p (rw progress at h);
       };
     }
 
@@ -875,9 +748,7 @@ dispatched rules inputs state all s idle found long right =
     let r : Reaches rules inputs inputs state = s.reaches right in
     let reached : (w : ℕ) → w < length rules.pool → of_worker state.offered w
     ≡ legs_at (slice_index rules.pool w) course.acts = λ w lt.
-    sym (append-nil (of_worker state.offered w))
-    ∙ (ap (λ (hs : List Held). of_worker state.offered w ++ flat_map (resolved course.acts) hs) (sym (idle.held w))
-    ∙ r.reached w lt) in
+    rw (idle.held w, append-nil) at (r.reached w lt) in
     let legs : state.offered ≡ map (λ (address : ℕ). legs_at address course.acts) rules.pool =
     map_at (λ address. legs_at address course.acts) state.offered rules.pool s.offered_many reached in
     let known : (i : ℕ) (o : Outcome) → slice_get (map (λ (x : Outcome). let s : Option Outcome = Some x in s) all) i

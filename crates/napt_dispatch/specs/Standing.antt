@@ -18,8 +18,8 @@ use Rattle.napt_sequential.specs.declared.fault.RunFault.{RunFault}
 use Rattle.napt_sequential.specs.declared.outcome.Outcome.{Outcome}
 use Rattle.napt_sequential.specs.declared.outcome.Outcome.TheVariants as outcomes
 use Rattle.napt_dispatch.specs.declared.dispatcher.Dispatcher.{Dispatcher}
-use Rattle.napt_dispatch.specs.declared.dispatcher.First.{First}
-use Rattle.napt_dispatch.specs.declared.dispatcher.First.TheVariants as firsts
+use Rattle.napt_dispatch.specs.declared.dispatcher.holding.First.{First}
+use Rattle.napt_dispatch.specs.declared.dispatcher.holding.First.TheVariants as firsts
 use Rattle.napt_dispatch.specs.declared.dispatcher.held.Held.{Held}
 use Rattle.napt_dispatch.specs.declared.dispatcher.held.Held.TheVariants.{Ready, Place}
 use Rattle.napt_dispatch.specs.declared.dispatcher.held.Owed.{Owed}

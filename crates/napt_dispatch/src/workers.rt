@@ -78,9 +78,7 @@ pub fn run_workers<
     if inputs.len() > 4_294_967_295 {
         return Err(RunFault::TooMany);
     }
-    let Ok(inputs) = copies(alloc, inputs) else {
-        return Err(RunFault::Memory);
-    };
+    let inputs = copies(alloc, inputs)?;
     run_on_pool(rt, alloc, config, inputs, gate)
 }
 
@@ -106,20 +104,13 @@ pub fn run_on_pool<
     ensures run { IfOk result (λ run. run ≡ model.ran config.now inputs.items) }
     ensures fault { IfErr result (IsFaultUnder G.is_open) }
 {
-    let Ok(machines) = workers(alloc, config) else {
-        return Err(RunFault::Memory);
-    };
-    let mut pool = match Pool::start(rt, alloc, machines, config.ring(), gate) {
-        Ok(pool) => pool,
-        Err(fault) => return Err(RunFault::Pool(fault)),
-    };
+    let machines = workers(alloc, config)?;
+    let mut pool = Pool::start(rt, alloc, machines, config.ring(), gate)?;
     let last = last_clock(&inputs);
     let dispatched = dispatch_owned(rt, alloc, &mut pool, config, inputs);
     let closed = pool.close(rt, alloc);
     let ((outcomes, legs), ended) = first_fault(dispatched, closed)?;
-    let Ok(bindings) = bindings(alloc, &ended, last) else {
-        return Err(RunFault::Memory);
-    };
+    let bindings = bindings(alloc, &ended, last)?;
     Ok(Run {
         outcomes,
         bindings,

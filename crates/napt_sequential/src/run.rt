@@ -233,8 +233,5 @@ pub fn run_plain(alloc: Global, config: &Config, inputs: &[Input]) -> Result<Run
     if inputs.len() > 4_294_967_295 {
         return Err(RunFault::TooMany);
     }
-    match run(alloc, config, inputs) {
-        Ok(run) => Ok(run),
-        Err(_) => Err(RunFault::Memory),
-    }
+    Ok(run(alloc, config, inputs)?)
 }

@@ -1,5 +1,9 @@
 //! An answer that no worker gives.
 
+ghost use Rattle.std.specs.Prelude.{◌≡◌};
+ghost use Rattle.napt_pool.specs.declared.fault.PoolFault.TheVariants.{Ring};
+ghost use Rattle.napt_sequential.specs.declared.fault.RunFault.TheVariants.{Pool};
+
 use napt_pool::PoolFault;
 use napt_sequential::RunFault;
 
@@ -7,5 +11,10 @@ use napt_sequential::RunFault;
 #[derive(Clone, Copy)]
 pub(crate) struct ImpossibleAnswer;
 
-/// What a run tells of an impossible answer.
-pub(crate) const IMPOSSIBLE_ANSWER: RunFault = RunFault::Pool(PoolFault::Ring);
+impl From<ImpossibleAnswer> for RunFault {
+    ghost from_gives = { λ _ fault. fault ≡ Pool Ring };
+
+    fn from(_answer: ImpossibleAnswer) -> RunFault {
+        RunFault::Pool(PoolFault::Ring)
+    }
+}

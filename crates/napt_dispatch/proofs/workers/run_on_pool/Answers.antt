@@ -22,18 +22,18 @@ returns-clause-run g c =
     let machines : List TranslatorState = map machine c.in_ok-outcomes.ended.items in
     let both = both_ended c.dispatch_owned-dispatched.result c.close-closed.result _ _ c.in_ok-outcomes.ensures in
     let began : starts c.dispatch_owned-dispatched.new.pool ≡ started config (length config.pool) =
-    c.dispatch_owned-dispatched.ensures.starts ∙ (c.in-Ok-start.ensures.starts ∙ c.in-Ok.ensures.made) in
+    c.dispatch_owned-dispatched.ensures.starts ∙ (c.in_ok-pool.ensures.starts ∙ c.in_ok-machines.ensures.made) in
     let settled = on_ok_at _ _ both.0 c.dispatch_owned-dispatched.ensures.settled in
     let answered = on_ok_at _ _ both.1 (c.close-closed.ensures.settled settled) in
     let done : IsDispatched config c.args.inputs.items (accepts c.dispatch_owned-dispatched.new.pool)
     c.in_ok-outcomes.outcomes.items c.in_ok-outcomes.legs.items =
     IfOk-at_ok _ both.0 c.dispatch_owned-dispatched.ensures.run answered in
-    let shown : c.in-Ok-bindings.bindings.items ≡ flat_map (rows_after last) machines =
-    c.in-Ok-bindings.ensures
+    let shown : c.in_ok-bindings.bindings.items ≡ flat_map (rows_after last) machines =
+    c.in_ok-bindings.ensures
     ∙ (ap (flat_map (λ (e : Ended TranslatorState Leg Answer). rows_after last e.machine)) c.deref-2.ensures.value
     ∙ sym (flat_map-map (rows_after last) machine c.in_ok-outcomes.ended.items)) in
     workers_shown ghosts (λ s leg. refl) config c.args.inputs.items (starts c.dispatch_owned-dispatched.new.pool)
     (accepts c.dispatch_owned-dispatched.new.pool) machines c.in_ok-outcomes.outcomes.items
-    c.in_ok-outcomes.legs.items last c.in-Ok-bindings.bindings.items
+    c.in_ok-outcomes.legs.items last c.in_ok-bindings.bindings.items
     began (IfOk-at_ok _ both.1 c.close-closed.ensures.machines) done (c.last_clock-last.ensures
     ∙ ap (last_clock 0) c.deref.ensures.value) shown

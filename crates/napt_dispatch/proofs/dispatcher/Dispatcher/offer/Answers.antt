@@ -13,4 +13,4 @@ returns-in-Ok-clause-keeps g c =
     (state_of c.offer.new.self later)
     c.in-Ok.ensures.accepted c.in-Ok.ensures.takes
     (offered_parts_are c.args.w c.args.leg (parts_of c.args.self.now) (parts_of c.count_offer.new.self)
-    (parts_of later) c.in-Ok-count_offer.ensures refl c.in-Ok-push_back.ensures refl refl)
+    (parts_of later) c.in_ok-count_offer-in-Ok.ensures refl c.in_ok-push_back-in-Ok.ensures refl refl)

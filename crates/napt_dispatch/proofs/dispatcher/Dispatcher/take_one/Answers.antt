@@ -4,15 +4,15 @@ use Rattle.napt_dispatch.specs.Standing.{pushed, parts_of, state_of}
 use Rattle.napt_dispatch.proofs.Standing.{answered_keeps}
 use Rattle.napt_dispatch.proofs.dispatcher.Dispatcher.take_one.Goals as goal
 
-pub returns-in-Ok : goal.returns-in-Ok
-returns-in-Ok g c =
+pub returns : goal.returns
+returns g c =
     let within : c.args.w < length (parts_of c.args.self.now).owed =
     omega (arith, c.requires.sized.owed, c.requires.place) in
-    let took : takes c.take.new.self ≡ pushed c.args.w c.in-Ok-Some.answer (takes c.args.pool.now) =
-    rw c.in-Ok-Some.field-0-is at c.in-Ok-Some.ensures.some in
+    let took : takes c.take.new.self ≡ pushed c.args.w c.in-Some.answer (takes c.args.pool.now) =
+    rw c.in-Some.is at c.in_ok-answer.ensures.some in
     record {
-      starts_stay = c.in-Ok-Some.ensures.starts;
+      starts_stay = c.in_ok-answer.ensures.starts;
       sized = search rules;
-      keeps = answered_keeps c.args.w c.in-Ok-Some.answer (state_of c.args.pool.now c.args.self.now)
-          (state_of c.take.new.self c.note.new.self) within c.in-Ok-Some.ensures.accepts took c.in-Ok.ensures;
+      keeps = answered_keeps c.args.w c.in-Some.answer (state_of c.args.pool.now c.args.self.now)
+          (state_of c.take.new.self c.note.new.self) within c.in_ok-answer.ensures.accepts took c.in_ok-note.ensures;
     }

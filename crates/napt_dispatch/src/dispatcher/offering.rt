@@ -1,0 +1,115 @@
+//! Offering what is held to the workers.
+
+ghost use Rattle.std.specs.Prelude.{◌≡◌, ◌≤◌, ◌<◌, length, IfErr, OnOk};
+ghost use Rattle.napt_pool.specs.Pools.{starts};
+ghost use Rattle.napt_dispatch.specs.Dispatch.{IsDispatchFault};
+ghost use Rattle.napt_dispatch.specs.Standing.{state_of, IsSizedFor, Keeps, ContinuesUnlessFault, with_first};
+
+use crate::Worker;
+use crate::dispatcher::Dispatcher;
+use crate::dispatcher::held::Owed;
+use crate::dispatcher::holding::First;
+use crate::dispatcher::impossible_answer::ImpossibleAnswer;
+use crate::dispatcher::queues::{len_at, push_back};
+use napt_pool::{Gate, OfferRefused, Pool};
+use napt_sequential::RunFault;
+use napt_translate::Leg;
+use std::alloc::Global;
+
+impl Dispatcher {
+    /// Offers a leg to worker `w`, or puts it back where its ring is full. Says whether it was offered.
+    pub(super) fn offer<G: Gate>(
+        &mut self,
+        alloc: Global,
+        pool: &mut Pool<Worker, G>,
+        w: u32,
+        leg: Leg,
+    ) -> Result<bool, RunFault>
+        requires place { w < length (starts pool.old) }
+        requires sized { IsSizedFor pool.old self.old }
+        ensures starts { starts pool.new ≡ starts pool.old }
+        ensures sized { OnOk result (IsSizedFor pool.new self.new) }
+        ensures keeps { OnOk result (Keeps (with_first w leg (state_of pool.old self.old))
+            (state_of pool.new self.new)) }
+        ensures fault { IfErr result (IsDispatchFault G.is_open) }
+    {
+        let owed = Owed {
+            way: leg.way,
+            now: leg.now,
+        };
+        match pool.offer(alloc, w, leg) {
+            Ok(()) => {
+                self.count_offer(w)?;
+                push_back(&mut self.owed, w, owed)?;
+                Ok(true)
+            }
+            Err(OfferRefused::Full(leg)) => {
+                self.put_back(w, leg)?;
+                Ok(false)
+            }
+            Err(OfferRefused::Memory(_)) => Err(RunFault::Memory),
+            Err(OfferRefused::Ring(_)) => Err(RunFault::from(ImpossibleAnswer)),
+        }
+    }
+
+    /// Offers what stands first for worker `w`. Says whether anything went.
+    fn offer_first<G: Gate>(
+        &mut self,
+        alloc: Global,
+        pool: &mut Pool<Worker, G>,
+        w: u32,
+    ) -> Result<bool, RunFault>
+        requires place { w < length (starts pool.old) }
+        requires sized { IsSizedFor pool.old self.old }
+        ensures { ContinuesUnlessFault G.is_open pool.old self.old pool.new self.new result }
+    {
+        if self.waits(w) {
+            return Ok(false);
+        }
+        match self.first(w)? {
+            First::Waits => Ok(false),
+            First::Gone => Ok(true),
+            First::Next(leg) => {
+                let went = self.offer(alloc, pool, w, leg)?;
+                Ok(went)
+            }
+        }
+    }
+
+    /// Offers what is held for worker `w`, until its ring is full or a place waits.
+    fn offer_held<G: Gate>(
+        &mut self,
+        alloc: Global,
+        pool: &mut Pool<Worker, G>,
+        w: u32,
+    ) -> Result<(), RunFault>
+        requires place { w < length (starts pool.old) }
+        requires sized { IsSizedFor pool.old self.old }
+        ensures { ContinuesUnlessFault G.is_open pool.old self.old pool.new self.new result }
+    {
+        let many = len_at(&self.held, w);
+        for _ in 0..many {
+            if !self.offer_first(alloc, pool, w)? {
+                return Ok(());
+            }
+        }
+        Ok(())
+    }
+
+    /// Offers what is held for all workers.
+    pub(super) fn offer_all<G: Gate>(
+        &mut self,
+        alloc: Global,
+        pool: &mut Pool<Worker, G>,
+        count: u32,
+    ) -> Result<(), RunFault>
+        requires count { count ≤ length (starts pool.old) }
+        requires sized { IsSizedFor pool.old self.old }
+        ensures { ContinuesUnlessFault G.is_open pool.old self.old pool.new self.new result }
+    {
+        for w in 0..count {
+            self.offer_held(alloc, pool, w)?;
+        }
+        Ok(())
+    }
+}

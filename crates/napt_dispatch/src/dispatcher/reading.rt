@@ -1,0 +1,245 @@
+//! Reading the inputs in their order.
+
+ghost use Rattle.std.specs.Prelude.{◌≡◌, ◌<◌, ◌^◌, ℕ, Bool, true, [], length, slice_set, slice_get, Ok, Err, Some, None, IfOk, IfErr, IfSome, OnOk, MatchOption};
+ghost use Rattle.napt_wire.specs.declared.Side.TheVariants.{Inside as InsideSide};
+ghost use Rattle.napt_wire.specs.Fields.{destination};
+ghost use Rattle.napt_wire.specs.Packet.{IsPacket};
+ghost use Rattle.napt_wire.specs.Reading.{reading};
+ghost use Rattle.napt_config.specs.Rules.{KeepsRules, place_of};
+ghost use Rattle.napt_translate.specs.Sides.{way_from, served_at};
+ghost use Rattle.napt_pool.specs.Pools.{starts};
+ghost use Rattle.napt_sequential.specs.declared.outcome.Outcome.TheVariants.{Dropped};
+ghost use Rattle.napt_sequential.specs.Admission.{admission_as};
+ghost use Rattle.napt_dispatch.specs.declared.dispatcher.held.Held.TheVariants.{Ready, Place};
+ghost use Rattle.napt_dispatch.specs.declared.dispatcher.progress.Progress.TheVariants.{EndedIn};
+ghost use Rattle.napt_dispatch.specs.Dispatch.{of_worker, IsDispatchFault};
+ghost use Rattle.napt_dispatch.specs.Offers.{with_offer, with_offered};
+ghost use Rattle.napt_dispatch.specs.Standing.{pushed, parts_of, state_of, IsSized, Stands, Keeps, IsSizedFor, with_held, with_progress, Admits};
+
+use crate::Worker;
+use crate::dispatcher::Dispatcher;
+use crate::dispatcher::held::Held;
+use crate::dispatcher::impossible_answer::ImpossibleAnswer;
+use crate::dispatcher::offer::Offer;
+use crate::dispatcher::progress::Progress;
+use crate::dispatcher::queues::{is_empty_at, len_at};
+use napt_config::Config;
+use napt_pool::{Gate, Pool};
+use napt_sequential::{Input, Outcome, RunFault, places_stand_for_legs, right_answers, way_from};
+use napt_translate::{Leg, onward, route};
+use napt_wire::{Cause, Packet, Side};
+use std::alloc::{AllocError, Global};
+use std::collections::VecDeque;
+use std::sync::Wait;
+
+/// After so many inputs the answers of one worker are looked at, of each in its turn. Each look may fetch what another
+/// processor wrote, so fewer looks cost less.
+const LOOK_EACH: usize = 4;
+
+impl Dispatcher {
+    /// Holds a place at worker `to`, where there is one, for the second leg of the input of a number.
+    fn hold_place(&mut self, to: Option<u32>, number: u64) -> Result<(), AllocError>
+        requires { IfSome to (λ v. v < length (parts_of self.old).held) }
+        ensures { OnOk result (MatchOption to (parts_of self.new ≡ parts_of self.old) (λ v.
+            parts_of self.new
+            ≡ with_held (pushed v (Place number) (parts_of self.old).held) (parts_of self.old))) }
+    {
+        match to {
+            None => Ok(()),
+            Some(v) => self.hold(v, Held::Place(number)),
+        }
+    }
+
+    /// Whether worker `w` takes a leg at once: nothing is held for it, and its ring has room.
+    fn is_free(&self, w: u32) -> bool
+        requires held { w < length (parts_of self.now).held }
+        requires owed { w < length (parts_of self.now).owed }
+        ensures { result ≡ true → of_worker (parts_of self.now).held w ≡ [] }
+    {
+        is_empty_at(&self.held, w) && len_at(&self.owed, w) < self.ring
+    }
+
+    /// Gives back a first leg for worker `w` where it may be offered at once, and else holds it. Either way a place is held
+    /// where it may be answered onward.
+    fn place_first(
+        &mut self,
+        w: u32,
+        leg: Leg,
+        to: Option<u32>,
+    ) -> Result<Option<Offer>, AllocError>
+        requires place { w < length (parts_of self.old).held }
+        requires owed { w < length (parts_of self.old).owed }
+        requires to { IfSome to (λ v. v < length (parts_of self.old).held) }
+        ensures worker { IfOk result (λ found. IfSome found (λ o. o.worker ≡ w)) }
+        ensures sized { OnOk result ((count : ℕ) → IsSized count (parts_of self.old) →
+            IsSized count (parts_of self.new)) }
+        ensures placed { IfOk result (λ found.
+            MatchOption to (with_offer found (parts_of self.new)
+            ≡ with_held (pushed w (Ready leg) (parts_of self.old).held) (parts_of self.old)) (λ v.
+            with_offer found (parts_of self.new)
+            ≡ with_held (pushed v (Place leg.number)
+            (pushed w (Ready leg) (parts_of self.old).held)) (parts_of self.old))) }
+    {
+        let number = leg.number;
+        if self.is_free(w) {
+            self.hold_place(to, number)?;
+            return Ok(Some(Offer { worker: w, leg }));
+        }
+        self.hold(w, Held::Ready(leg))?;
+        self.hold_place(to, number)?;
+        Ok(None)
+    }
+
+    /// Notes that the input of a number is dropped before any leg.
+    fn note_dropped(&mut self, number: u64, cause: Cause) -> Result<(), ImpossibleAnswer>
+        ensures { OnOk result (parts_of self.new ≡ with_progress
+            (slice_set (parts_of self.old).progress number (EndedIn (Dropped cause)))
+            (parts_of self.old)) }
+    {
+        let dropped = Progress::EndedIn(Outcome::Dropped(cause));
+        self.progress.write(number, dropped)?;
+        Ok(())
+    }
+
+    /// Reads an input of a number, at a time in ns, and gives its first leg where that may be offered at once.
+    fn admit(
+        &mut self,
+        config: &Config,
+        number: u64,
+        now: u64,
+        input: Input,
+    ) -> Result<Option<Offer>, RunFault>
+        requires keeps { KeepsRules config.now }
+        requires sized { IsSized (length config.now.pool) (parts_of self.old) }
+        ensures sized { OnOk result (IsSized (length config.now.pool) (parts_of self.new)) }
+        ensures place { IfOk result (λ found.
+            IfSome found (λ o. o.worker < length config.now.pool)) }
+        ensures admits { IfOk result (λ found. Admits config.now number now input
+            (parts_of self.old) (with_offer found (parts_of self.new))) }
+        ensures fault { (open_gate : Bool) → IfErr result (IsDispatchFault open_gate) }
+    {
+        right_answers();
+        places_stand_for_legs();
+        let side = input.side;
+        match read_and_route(config, side, input.bytes) {
+            Ok((place, packet)) => {
+                let to = second_place(config, side, &packet);
+                let leg = Leg {
+                    number,
+                    now,
+                    way: way_from(side),
+                    packet,
+                };
+                Ok(self.place_first(place, leg, to)?)
+            }
+            Err(cause) => {
+                self.note_dropped(number, cause)?;
+                Ok(None)
+            }
+        }
+    }
+
+    /// Offers a leg, if there is one.
+    fn offer_admitted<G: Gate>(
+        &mut self,
+        alloc: Global,
+        pool: &mut Pool<Worker, G>,
+        found: Option<Offer>,
+    ) -> Result<(), RunFault>
+        requires place { IfSome found (λ o. o.worker < length (starts pool.old)) }
+        requires sized { IsSizedFor pool.old self.old }
+        ensures starts { starts pool.new ≡ starts pool.old }
+        ensures sized { OnOk result (IsSizedFor pool.new self.new) }
+        ensures keeps { OnOk result (Keeps (with_offered found (state_of pool.old self.old))
+            (state_of pool.new self.new)) }
+        ensures fault { IfErr result (IsDispatchFault G.is_open) }
+    {
+        match found {
+            None => Ok(()),
+            Some(Offer { worker, leg }) => {
+                self.offer(alloc, pool, worker, leg)?;
+                Ok(())
+            }
+        }
+    }
+
+    /// Dispatches all inputs, in their order; their bytes move. Between them the answers of one worker after the other are taken.
+    pub(super) fn dispatch_all<R: Wait, G: Gate>(
+        &mut self,
+        rt: &R,
+        alloc: Global,
+        pool: &mut Pool<Worker, G>,
+        config: &Config,
+        inputs: Vec<Input>,
+    ) -> Result<(), RunFault>
+        requires keeps { KeepsRules config.now }
+        requires count { length (starts pool.old) ≡ length config.now.pool }
+        requires sized { IsSizedFor pool.old self.old }
+        ensures starts { starts pool.new ≡ starts pool.old }
+        ensures sized { OnOk result (IsSizedFor pool.new self.new) }
+        ensures served { OnOk result (Stands config.now [] inputs.items
+            (state_of pool.old self.old) →
+            Stands config.now inputs.items inputs.items (state_of pool.new self.new)) }
+        ensures fault { IfErr result (IsDispatchFault G.is_open) }
+    {
+        let count = config.pool().len();
+        let mut clock = 0;
+        let many = inputs.len();
+        let mut inputs = VecDeque::from(inputs);
+        for number in 0..many {
+            let input = inputs.pop_front().ok_or(ImpossibleAnswer)?;
+            clock = input.clock.max(clock);
+            self.make_room(rt, alloc, pool, count as u32)?;
+            let found = self.admit(config, number as u64, clock, input)?;
+            self.offer_admitted(alloc, pool, found)?;
+            let turn = turn_after(number, count);
+            self.look_at(rt, alloc, pool, turn, count as u32)?;
+        }
+        Ok(())
+    }
+}
+
+/// The worker whose answers are looked at after the input of a number.
+fn turn_after(number: usize, count: usize) -> Option<u32>
+    requires { (0 < count) × (count < 2 ^ 32) }
+    ensures { IfSome result (λ w. w < count) }
+{
+    if number % LOOK_EACH > 0 {
+        return None;
+    }
+    Some((number / LOOK_EACH % count) as u32)
+}
+
+/// The place in the pool at which a first leg may be answered onward.
+fn second_place(config: &Config, side: Side, packet: &Packet) -> Option<u32>
+    ensures some { IfSome result (λ place. (side ≡ InsideSide)
+        × (place_of config.now (destination packet.now).address ≡ Some place)) }
+    ensures none { result ≡ None → side ≡ InsideSide →
+        place_of config.now (destination packet.now).address ≡ None }
+    ensures reads { IsPacket packet.now }
+{
+    let _bytes = packet.bytes();
+    match side {
+        Side::Outside => None,
+        Side::Inside => onward(config, packet),
+    }
+}
+
+/// The packet that an input from a side is and the place in the pool where it is served, or why it is dropped.
+fn read_and_route(config: &Config, side: Side, bytes: Vec<u8>) -> Result<(u32, Packet), Cause>
+    requires keeps { KeepsRules config.now }
+    ensures admitted { IfOk result (λ first.
+        (admission_as config.now side (reading side bytes.items)
+        ≡ Ok first.1) × (slice_get config.now.pool first.0
+        ≡ Some (served_at config.now (way_from side) first.1))) }
+    ensures refused { IfErr result (λ cause. admission_as config.now side (reading side bytes.items)
+        ≡ Err cause) }
+{
+    match Packet::read(side, bytes) {
+        Ok(packet) => match route(config, side, &packet) {
+            Ok(place) => Ok((place, packet)),
+            Err(cause) => Err(cause),
+        },
+        Err((cause, _)) => Err(cause),
+    }
+}

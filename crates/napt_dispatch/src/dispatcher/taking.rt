@@ -1,0 +1,191 @@
+//! Taking the answers of the workers, and going on where there are any.
+
+ghost use Rattle.std.specs.Prelude.{◌≤◌, ◌<◌, length, IfSome, OnOk};
+ghost use Rattle.napt_pool.specs.Pools.{starts};
+ghost use Rattle.napt_dispatch.specs.Standing.{parts_of, IsSizedFor, ContinuesUnlessFault, IsDone};
+
+use crate::Worker;
+use crate::dispatcher::Dispatcher;
+use crate::dispatcher::impossible_answer::ImpossibleAnswer;
+use crate::dispatcher::queues::{are_empty, len_at};
+use napt_pool::{Backoff, Gate, Pool};
+use napt_sequential::RunFault;
+use std::alloc::Global;
+use std::sync::Wait;
+
+/// The most legs and places that are held. No input is read while fewer than two more would fit.
+const MOST_HELD: u64 = 65_536;
+
+impl Dispatcher {
+    /// Takes and notes the next answer of worker `w`, if it is there.
+    fn take_one<R: Wait, G: Gate>(
+        &mut self,
+        rt: &R,
+        alloc: Global,
+        pool: &mut Pool<Worker, G>,
+        w: u32,
+    ) -> Result<bool, RunFault>
+        requires place { w < length (starts pool.old) }
+        requires sized { IsSizedFor pool.old self.old }
+        ensures { ContinuesUnlessFault G.is_open pool.old self.old pool.new self.new result }
+    {
+        let Some(answer) = pool.take(rt, alloc, w)? else {
+            return Ok(false);
+        };
+        self.note(w, answer)?;
+        Ok(true)
+    }
+
+    /// Takes and notes the answers of worker `w` that are there. Says whether there were any.
+    fn take_there<R: Wait, G: Gate>(
+        &mut self,
+        rt: &R,
+        alloc: Global,
+        pool: &mut Pool<Worker, G>,
+        w: u32,
+    ) -> Result<bool, RunFault>
+        requires place { w < length (starts pool.old) }
+        requires sized { IsSizedFor pool.old self.old }
+        ensures { ContinuesUnlessFault G.is_open pool.old self.old pool.new self.new result }
+    {
+        let many = len_at(&self.owed, w);
+        let mut any = false;
+        for _ in 0..many {
+            if !self.take_one(rt, alloc, pool, w)? {
+                return Ok(any);
+            }
+            any = true;
+        }
+        Ok(any)
+    }
+
+    /// Takes the answers that are there of all workers. Says whether there were any.
+    fn take_all_there<R: Wait, G: Gate>(
+        &mut self,
+        rt: &R,
+        alloc: Global,
+        pool: &mut Pool<Worker, G>,
+        count: u32,
+    ) -> Result<bool, RunFault>
+        requires count { count ≤ length (starts pool.old) }
+        requires sized { IsSizedFor pool.old self.old }
+        ensures { ContinuesUnlessFault G.is_open pool.old self.old pool.new self.new result }
+    {
+        let mut any = false;
+        for w in 0..count {
+            let more = self.take_there(rt, alloc, pool, w)?;
+            any = any || more;
+        }
+        Ok(any)
+    }
+
+    /// Takes what answers there are of all workers, once there is one. Where none owes any, none can come.
+    fn take_some<R: Wait, G: Gate>(
+        &mut self,
+        rt: &R,
+        alloc: Global,
+        pool: &mut Pool<Worker, G>,
+        count: u32,
+    ) -> Result<(), RunFault>
+        requires count { count ≤ length (starts pool.old) }
+        requires sized { IsSizedFor pool.old self.old }
+        ensures { ContinuesUnlessFault G.is_open pool.old self.old pool.new self.new result }
+    {
+        if are_empty(&self.owed) {
+            return Err(RunFault::from(ImpossibleAnswer));
+        }
+        let mut backoff = Backoff::new();
+        for _ in rt.forever() {
+            if self.take_all_there(rt, alloc, pool, count)? {
+                return Ok(());
+            }
+            backoff.pause(rt);
+        }
+        unreachable!()
+    }
+
+    /// Takes what answers there are, or waits for one, and offers what may then be offered.
+    fn go_on<R: Wait, G: Gate>(
+        &mut self,
+        rt: &R,
+        alloc: Global,
+        pool: &mut Pool<Worker, G>,
+        count: u32,
+    ) -> Result<(), RunFault>
+        requires count { count ≤ length (starts pool.old) }
+        requires sized { IsSizedFor pool.old self.old }
+        ensures { ContinuesUnlessFault G.is_open pool.old self.old pool.new self.new result }
+    {
+        self.take_some(rt, alloc, pool, count)?;
+        self.offer_all(alloc, pool, count)?;
+        Ok(())
+    }
+
+    /// Goes on until two more legs or places may be held.
+    pub(super) fn make_room<R: Wait, G: Gate>(
+        &mut self,
+        rt: &R,
+        alloc: Global,
+        pool: &mut Pool<Worker, G>,
+        count: u32,
+    ) -> Result<(), RunFault>
+        requires count { count ≤ length (starts pool.old) }
+        requires sized { IsSizedFor pool.old self.old }
+        ensures { ContinuesUnlessFault G.is_open pool.old self.old pool.new self.new result }
+    {
+        for _ in rt.forever() {
+            if self.many_held < MOST_HELD - 1 {
+                return Ok(());
+            }
+            self.go_on(rt, alloc, pool, count)?;
+        }
+        unreachable!()
+    }
+
+    /// Goes on until nothing is held and nothing owed.
+    pub(super) fn finish<R: Wait, G: Gate>(
+        &mut self,
+        rt: &R,
+        alloc: Global,
+        pool: &mut Pool<Worker, G>,
+        count: u32,
+    ) -> Result<(), RunFault>
+        requires count { count ≤ length (starts pool.old) }
+        requires sized { IsSizedFor pool.old self.old }
+        ensures state { ContinuesUnlessFault G.is_open pool.old self.old pool.new self.new result }
+        ensures done { OnOk result (IsDone (parts_of self.new)) }
+    {
+        for _ in rt.forever() {
+            if self.is_done() {
+                return Ok(());
+            }
+            self.go_on(rt, alloc, pool, count)?;
+        }
+        unreachable!()
+    }
+
+    /// Takes what answers a worker has, if there is one, and where there were any offers what may then be offered.
+    pub(super) fn look_at<R: Wait, G: Gate>(
+        &mut self,
+        rt: &R,
+        alloc: Global,
+        pool: &mut Pool<Worker, G>,
+        found: Option<u32>,
+        count: u32,
+    ) -> Result<(), RunFault>
+        requires place { IfSome found (λ w. w < count) }
+        requires count { count ≤ length (starts pool.old) }
+        requires sized { IsSizedFor pool.old self.old }
+        ensures { ContinuesUnlessFault G.is_open pool.old self.old pool.new self.new result }
+    {
+        match found {
+            None => Ok(()),
+            Some(w) => {
+                if self.take_there(rt, alloc, pool, w)? {
+                    self.offer_all(alloc, pool, count)?;
+                }
+                Ok(())
+            }
+        }
+    }
+}
