@@ -207,6 +207,3 @@ fn fault_of(alloc: Global, error: &Error) -> Result<LineFault, AllocError>
         _ => Ok(LineFault::Usage),
     }
 }
-
-#[cfg(test)]
-mod tests;

@@ -115,6 +115,3 @@ fn is_there(file: Place<'_>, place: Option<Place<'_>>) -> bool
         None => false,
     }
 }
-
-#[cfg(test)]
-mod tests;

@@ -71,6 +71,3 @@ pub fn unread_config(error: &io::Error) -> Stop
         _ => Stop::File(Role::Config),
     }
 }
-
-#[cfg(test)]
-mod tests;

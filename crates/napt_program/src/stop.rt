@@ -241,6 +241,3 @@ fn name_of_config_fault(fault: ConfigFault) -> &'static str
         ConfigFault::Memory => "memory",
     }
 }
-
-#[cfg(test)]
-mod tests;

@@ -2,8 +2,6 @@
 #![tactic(auto)]
 
 mod span;
-#[cfg(test)]
-mod tests;
 mod times;
 
 pub use times::Times;

@@ -1,6 +1,6 @@
 //! In which order entries come out.
 
-use crate::Due;
+use napt_due::Due;
 use std::test::Fail;
 
 #[test]

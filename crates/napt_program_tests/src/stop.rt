@@ -1,8 +1,10 @@
-use super::{Stop, StopLine, line_at_end, status_at_end, stop_line, stop_status};
+//! The fault line and the status of each stop.
+
 use napt_capture::{CaptureFault, WriteFault};
 use napt_config::ConfigFault;
 use napt_options::Role;
 use napt_pool::PoolFault;
+use napt_program::{Stop, StopLine, line_at_end, status_at_end, stop_line, stop_status};
 use napt_records::{Fault, Which};
 use napt_sequential::RunFault;
 use napt_wire::Side;

@@ -1,6 +1,6 @@
 //! An earliest and the latest time, as places are added and changed.
 
-use crate::Times;
+use napt_times::Times;
 use std::test::Fail;
 
 #[test]

@@ -1,4 +1,6 @@
-use super::{LineFault, NOTES, Options, parse_words};
+//! Which files a command line names, and what is no command line.
+
+use napt_options::{LineFault, Options, parse_words};
 use std::alloc::{AllocError, Global};
 use std::test::Fail;
 
@@ -39,11 +41,11 @@ fn owned(alloc: Global, text: Option<&str>) -> Result<Option<String>, AllocError
 }
 
 /// The files of the options, in the order of the help text.
-type Named<'a> = [Option<&'a str>; 6];
+pub(crate) type Named<'a> = [Option<&'a str>; 6];
 
-const NOTHING: Named<'static> = [None, None, None, None, None, None];
+pub(crate) const NOTHING: Named<'static> = [None, None, None, None, None, None];
 
-fn options(alloc: Global, named: Named<'_>) -> Result<Options, AllocError> {
+pub(crate) fn options(alloc: Global, named: Named<'_>) -> Result<Options, AllocError> {
     let [config, inside, outside, to_outside, to_inside, report] = named;
     Ok(Options {
         config: owned(alloc, config)?,
@@ -158,21 +160,25 @@ fn refuses_mistaken_lines(rt: HostRuntime) -> Result<(), Fail> {
     Ok(())
 }
 
+/// The text of the help that the arguments ask for.
+fn help_of(alloc: Global, arguments: &[&str]) -> Result<Option<String>, AllocError> {
+    match parsed(alloc, arguments)? {
+        Err(LineFault::Help(text)) => Ok(Some(text)),
+        _ => Ok(None),
+    }
+}
+
+/// What the notes say is seen in tests/end_to_end.
 #[test]
 fn shows_help(rt: HostRuntime) -> Result<(), Fail> {
-    let lines: [&[&str]; 4] = [
-        &["--help"],
-        &["-h"],
-        &["--inside", "i", "--help"],
-        &["--help", "--frob"],
-    ];
+    let alloc = rt.alloc();
+    let help = help_of(alloc, &["--help"])?;
+    let text = help.as_ref().ok_or("a help text")?;
+    let notes = text.strip_prefix(HELP).ok_or("the options first")?;
+    assert!(rt; notes.starts_with("Examples:\n"));
+    let lines: [&[&str]; 3] = [&["-h"], &["--inside", "i", "--help"], &["--help", "--frob"]];
     for arguments in lines {
-        let wanted = LineFault::Help(format!(in rt.alloc(); "{HELP}{NOTES}\n")?);
-        assert_eq!(rt;
-            parsed(rt.alloc(), arguments)?,
-            Err(wanted),
-            "at {arguments:?}"
-        );
+        assert_eq!(rt; help_of(alloc, arguments)?, help, "at {arguments:?}");
     }
     Ok(())
 }

@@ -1,6 +1,6 @@
 //! Sets at the borders of their words.
 
-use crate::Bits;
+use napt_bits::Bits;
 use std::test::Fail;
 
 /// One past the greatest number.

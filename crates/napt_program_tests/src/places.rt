@@ -1,0 +1,68 @@
+//! Which output is a file that an option before it names. That the standard streams are files too is seen in tests/end_to_end.
+
+use crate::options::{NOTHING, Named, options};
+use napt_files::{Node, Place, is_same};
+use napt_options::{Role, lost_file};
+use std::test::Fail;
+
+/// Two files of Linux, and the null device.
+const FILE: Option<&str> = Some("/proc/version");
+
+const OTHER: Option<&str> = Some("/proc/uptime");
+
+const DEVICE: Option<&str> = Some("/dev/null");
+
+/// Files that are not there: two in the folder of the test, and one in no folder.
+const NEW: Option<&str> = Some("new");
+
+const SECOND_NEW: Option<&str> = Some("second-new");
+
+const NOWHERE: Option<&str> = Some("nowhere/new");
+
+#[test]
+fn finds_the_later_of_two(rt: HostRuntime) -> Result<(), Fail> {
+    let rows: [(Named<'_>, Option<Role>); 11] = [
+        (NOTHING, None),
+        ([None, FILE, FILE, None, None, None], None),
+        ([None, FILE, None, OTHER, None, None], None),
+        ([None, FILE, None, FILE, None, None], Some(Role::ToOutside)),
+        ([FILE, None, None, None, FILE, FILE], Some(Role::ToInside)),
+        ([None, None, FILE, None, None, FILE], Some(Role::Report)),
+        ([None, None, None, NEW, NEW, None], Some(Role::ToInside)),
+        ([None, None, None, None, NEW, SECOND_NEW], None),
+        (
+            [None, None, None, NOWHERE, None, NOWHERE],
+            Some(Role::Report),
+        ),
+        ([None, None, None, NEW, None, NOWHERE], None),
+        ([None, DEVICE, None, DEVICE, DEVICE, None], None),
+    ];
+    for (named, wanted) in rows {
+        let lost = lost_file(&rt, &options(rt.alloc(), named)?);
+        assert_eq!(rt; lost, wanted, "at {named:?}");
+    }
+    Ok(())
+}
+
+#[test]
+fn tells_one_file(rt: HostRuntime) {
+    let [file, other] = [7, 8].map(|device| Place::There(Node { device, number: 3 }));
+    let folder = Node {
+        device: 7,
+        number: 2,
+    };
+    let [new, second_new] = ["a", "b"].map(|name| Place::New(folder, name));
+    let words = Place::Words("a");
+    let rows = [
+        (file, file, true),
+        (file, other, false),
+        (new, new, true),
+        (new, second_new, false),
+        (words, words, true),
+        (new, words, false),
+        (Place::Aside, Place::Aside, false),
+    ];
+    for (a, b, is_one) in rows {
+        assert_eq!(rt; is_same(a, b), is_one, "at {a:?} and {b:?}");
+    }
+}
