@@ -4,7 +4,6 @@ use Rattle.napt_wire.specs.declared.Side.{Side}
 use Rattle.napt_wire.specs.declared.Cause.{Cause}
 use Rattle.napt_config.specs.Rules.{Rules}
 use Rattle.napt_binding.specs.declared.Binding.{Binding}
-use Rattle.napt_translate.specs.declared.translator.Leg.{Leg}
 use Rattle.napt_translate.specs.Sides.{way_from, served_at}
 use Rattle.napt_sequential.specs.Inputs.{Arrival}
 use Rattle.napt_sequential.specs.Admission.{admission}

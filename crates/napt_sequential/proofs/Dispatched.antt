@@ -3,7 +3,6 @@ use Rattle.std.proofs.Common.{◌≡◌, ℕ, suc, ◌+◌, ◌-◌, ◌≤◌, 
 use Rattle.std.specs.List.{slice_get}
 use Rattle.napt_wire.specs.declared.Way.TheVariants.{Incoming}
 use Rattle.napt_wire.specs.Fields.{destination, kind}
-use Rattle.napt_wire.specs.Reading.{reading}
 use Rattle.napt_wire.specs.Laws.{SourcesLeaveDestinations, ErrorsLeaveDestinations}
 use Rattle.napt_config.specs.Rules.{Rules, place_of}
 use Rattle.napt_binding.specs.declared.Binding.{Binding}

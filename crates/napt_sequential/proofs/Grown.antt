@@ -1,9 +1,6 @@
 -- A run of one input more.
-use Rattle.std.proofs.Common.{◌≡◌, ℕ, suc, ◌+◌, ◌*◌, ◌^◌, ◌<◌, ◌≤◌, max, List, [], ◌∷◌, ◌++◌, length, take, Result, refl, sym, ◌∙◌, ap, subst, arith, append-nil, append_assoc, length-append, get_or}
+use Rattle.std.proofs.Common.{◌≡◌, ℕ, suc, ◌+◌, ◌*◌, ◌^◌, ◌<◌, ◌≤◌, max, List, [], ◌∷◌, ◌++◌, length, take, refl, sym, ◌∙◌, ap, subst, arith, append-nil, append_assoc, length-append, get_or}
 use Rattle.std.proofs.lemmas.List.{take_more, length-take-le}
-use Rattle.napt_wire.specs.declared.Side.{Side}
-use Rattle.napt_wire.specs.declared.Cause.{Cause}
-use Rattle.napt_wire.specs.Reading.{reading}
 use Rattle.napt_config.specs.Rules.{Rules}
 use Rattle.napt_binding.specs.declared.Binding.{Binding}
 use Rattle.napt_table.specs.Opening.{opening}

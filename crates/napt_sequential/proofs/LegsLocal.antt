@@ -5,11 +5,10 @@ use Rattle.napt_wire.specs.declared.Protocol.{Protocol}
 use Rattle.napt_wire.specs.declared.Protocol.TheVariants as protocols
 use Rattle.napt_wire.specs.declared.Way.{Way}
 use Rattle.napt_wire.specs.declared.Way.TheVariants.{Outgoing, Incoming}
-use Rattle.napt_wire.specs.declared.Endpoint.{Endpoint}
 use Rattle.napt_wire.specs.declared.Flags.{Flags}
 use Rattle.napt_wire.specs.declared.Kind.{Kind}
 use Rattle.napt_wire.specs.declared.Kind.TheVariants.{Udp, Tcp, Echo, ErrorOf}
-use Rattle.napt_wire.specs.Fields.{source, destination, kind}
+use Rattle.napt_wire.specs.Fields.{kind}
 use Rattle.napt_config.specs.Rules.{Rules}
 use Rattle.napt_binding.specs.Inbound.{inbound_of}
 use Rattle.napt_binding.specs.declared.Binding.{Binding}

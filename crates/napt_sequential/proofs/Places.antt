@@ -7,7 +7,6 @@ use Rattle.napt_wire.specs.declared.Way.{Way}
 use Rattle.napt_wire.specs.declared.Way.TheVariants.{Outgoing}
 use Rattle.napt_wire.specs.Fields.{destination}
 use Rattle.napt_wire.specs.Packet.{IsPacket}
-use Rattle.napt_wire.specs.Reading.{reading}
 use Rattle.napt_config.specs.Rules.{Rules}
 use Rattle.napt_binding.specs.declared.Binding.{Binding}
 use Rattle.napt_binding.specs.Lists.{Each}

@@ -1,16 +1,11 @@
 -- Every step keeps each host within the quota.
-use Rattle.std.proofs.Common.{◌≡◌, ℕ, ◌+◌, ◌≤◌, max, List, [], ◌∷◌, map, Option, Some, Result, sym, subst, arith}
-use Rattle.napt_wire.specs.declared.Side.{Side}
+use Rattle.std.proofs.Common.{◌≡◌, ℕ, ◌+◌, ◌≤◌, max, List, [], ◌∷◌, map, Option, Some, sym, subst, arith}
 use Rattle.napt_wire.specs.declared.Protocol.{Protocol}
-use Rattle.napt_wire.specs.declared.Protocol.TheVariants as protocols
 use Rattle.napt_wire.specs.declared.Way.{Way}
-use Rattle.napt_wire.specs.declared.Way.TheVariants.{Outgoing, Incoming}
-use Rattle.napt_wire.specs.declared.Cause.{Cause}
+use Rattle.napt_wire.specs.declared.Way.TheVariants.{Incoming}
 use Rattle.napt_wire.specs.declared.Flags.{Flags}
 use Rattle.napt_wire.specs.declared.Kind.{Kind}
-use Rattle.napt_wire.specs.declared.Kind.TheVariants.{Udp, Tcp, Echo, ErrorOf}
-use Rattle.napt_wire.specs.Fields.{source, destination, kind}
-use Rattle.napt_wire.specs.Reading.{reading}
+use Rattle.napt_wire.specs.Fields.{destination, kind}
 use Rattle.napt_config.specs.Rules.{Rules, pair_of}
 use Rattle.napt_config.specs.declared.settings.Redirect.{Redirect}
 use Rattle.napt_binding.specs.Inbound.{inbound_of}
@@ -23,7 +18,7 @@ use Rattle.napt_table.specs.Steps.{step_out}
 use Rattle.napt_translate.specs.declared.translator.Leg.{Leg}
 use Rattle.napt_translate.specs.declared.translator.End.{End}
 use Rattle.napt_translate.specs.declared.translator.End.TheVariants.{ToOutside, ToInside, Onward, Dropped}
-use Rattle.napt_translate.specs.Legs.{no_flags, Acted, sent_of, received_of, act_out, act_in, act_by, act}
+use Rattle.napt_translate.specs.Legs.{Acted, sent_of, received_of, act_out, act_in, act_by, act}
 use Rattle.napt_translate.proofs.Acts.{of_act}
 use Rattle.napt_sequential.specs.Inputs.{Arrival}
 use Rattle.napt_sequential.specs.Sequential.{Stepped, follow_by, first_leg, step, run_from}

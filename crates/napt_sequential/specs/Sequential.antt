@@ -3,7 +3,7 @@
 -- Each input is read, judged by its side, and taken through the bindings of the external address that serves it (RFC
 -- 3022, sections 4.1 to 4.3). What an inside host sends to an external address of the pool comes in again there at
 -- once (RFC 4787, REQ-9, hairpinning). A run's time is the greatest clock so far, so it never goes back.
-use Rattle.std.specs.Prelude.{ℕ, ◌+◌, ◌==◌, max, length, List, [], ◌∷◌, ◌++◌, map, filter, flat_map, Option, Some, None, Result, Ok, Err}
+use Rattle.std.specs.Prelude.{ℕ, ◌+◌, ◌==◌, max, length, List, [], ◌∷◌, ◌++◌, map, filter, flat_map, Result, Ok, Err}
 use Rattle.napt_wire.specs.declared.Side.{Side}
 use Rattle.napt_wire.specs.declared.Way.TheVariants.{Incoming}
 use Rattle.napt_wire.specs.declared.Cause.{Cause}
