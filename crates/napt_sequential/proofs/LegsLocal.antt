@@ -23,7 +23,7 @@ use Rattle.napt_table.proofs.StepsLocal.{out_local, out_other, in_local, in_othe
 use Rattle.napt_translate.specs.declared.translator.Leg.{Leg}
 use Rattle.napt_sequential.specs.CountedTranslators.{Agrees}
 use Rattle.napt_translate.proofs.Acts.{of_act}
-use Rattle.napt_translate.specs.Legs.{no_flags, Acted, acted_out, acted_in, error_out, error_in, sent_of, received_of, act_out, act_in, act_by, act}
+use Rattle.napt_translate.specs.Legs.{no_flags, Acted, end_out, end_in, error_out, error_in, sent_of, received_of, act_out, act_in, act_by, act}
 
 -- what a leg gives on the one and on the other
 pub record ActsAlike (rules : Rules) (address now : ℕ) (own whole : Acted) : Type 0 where
@@ -42,7 +42,7 @@ module _ (rules : Rules) (address : ℕ) (leg : Leg) (own list : List Binding) (
       ap (out_purged rules.quota address packet) same
       ∙ out_local rules.quota address packet (purge rules.timers leg.now list) in
       record {
-        end = ap (λ (o : Out). (acted_out rules address leg.packet o).end) e;
+        end = ap (λ (o : Out). end_out rules address leg.packet o.number) e;
         list = record { same = ap (λ (o : Out). purge rules.timers leg.now o.list) e };
       }
 
@@ -56,7 +56,7 @@ module _ (rules : Rules) (address : ℕ) (leg : Leg) (own list : List Binding) (
       ap (in_purged (inbound_of rules) address packet) same
       ∙ in_local (inbound_of rules) address packet (purge rules.timers leg.now list) in
       record {
-        end = ap (λ (o : In). (acted_in leg.packet o).end) e;
+        end = ap (λ (o : In). end_in leg.packet o.inside) e;
         list = record { same = ap (λ (o : In). purge rules.timers leg.now o.list) e };
       }
 

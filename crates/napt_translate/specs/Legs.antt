@@ -51,17 +51,11 @@ end_out rules address packet (Ok number) =
     gone_out rules (with_source (record { address = address; number = number }) packet)
 end_out rules address packet (Err cause) = Dropped cause
 
-abbrev pub acted_out : Rules → ℕ → List ℕ → Out → Acted
-acted_out rules address packet out = record { end = end_out rules address packet out.number; list = out.list }
-
 -- IN
 
 abbrev pub end_in : List ℕ → Result Endpoint Cause → End
 end_in packet (Ok inside) = ToInside (with_destination inside packet)
 end_in packet (Err cause) = Dropped cause
-
-abbrev pub acted_in : List ℕ → In → Acted
-acted_in packet came = record { end = end_in packet came.inside; list = came.list }
 
 -- AN ERROR, out and in
 
@@ -86,13 +80,13 @@ received_of protocol flags now packet = let number : ℕ = (destination packet).
 
 abbrev pub act_out : Rules → ℕ → Leg → List Binding → Protocol → Flags → Acted
 act_out rules address leg list protocol flags =
-    acted_out rules address leg.packet
-    (step_out rules.timers rules.quota address (sent_of protocol flags leg.now leg.packet) list)
+    let out : Out = step_out rules.timers rules.quota address (sent_of protocol flags leg.now leg.packet) list in
+    record { end = end_out rules address leg.packet out.number; list = out.list }
 
 abbrev pub act_in : Rules → ℕ → Leg → List Binding → Protocol → Flags → Acted
 act_in rules address leg list protocol flags =
-    acted_in leg.packet
-    (step_in rules.timers (inbound_of rules) address (received_of protocol flags leg.now leg.packet) list)
+    let came : In = step_in rules.timers (inbound_of rules) address (received_of protocol flags leg.now leg.packet) list
+    in record { end = end_in leg.packet came.inside; list = came.list }
 
 abbrev pub act_by : Rules → ℕ → Leg → List Binding → Way → Kind → Acted
 act_by rules address leg list Outgoing Udp = act_out rules address leg list protocols.Udp no_flags

@@ -146,8 +146,8 @@ impl Translator {
         requires later { self.old.table.at ≤ now }
         requires carried { carried_by (kind packet) ≡ Some protocol }
         ensures end { IfOk result (λ end.
-            end ≡ (legs.acted_out self.old.rules self.old.table.address packet
-            (translators.out_at self.old now protocol flags packet)).end) }
+            end ≡ legs.end_out self.old.rules self.old.table.address packet
+            (translators.out_at self.old now protocol flags packet).number) }
         ensures left { OnOk result (self.new ≡ translators.with_kept self.old
             (record {
               list = (translators.out_at self.old now protocol flags packet).list;
@@ -178,7 +178,7 @@ impl Translator {
         requires later { self.old.table.at ≤ now }
         requires carried { carried_by (kind packet) ≡ Some protocol }
         ensures end { result
-            ≡ (legs.acted_in packet (translators.in_at self.old now protocol flags packet)).end }
+            ≡ legs.end_in packet (translators.in_at self.old now protocol flags packet).inside }
         ensures left { self.new ≡ translators.with_kept self.old
             (record {
               list = (translators.in_at self.old now protocol flags packet).list;
