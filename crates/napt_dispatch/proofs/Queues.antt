@@ -1,5 +1,5 @@
 -- Queues of workers, as lists.
-use Rattle.std.proofs.Common.{◌≡◌, ℕ, ◌<◌, List, [], ◌∷◌, ◌++◌, length, map, set, get_or, sym, ◌∙◌, ap, subst, refl, arith, Option, Some, None, MatchOption}
+use Rattle.std.proofs.Common.{◌≡◌, ℕ, zero, suc, ◌<◌, List, [], ◌∷◌, ◌++◌, length, map, set, get_or, sym, ◌∙◌, ap, subst, refl, arith, Option, Some, None, MatchOption}
 use Rattle.std.specs.Prelude.{option_to_list}
 use Rattle.std.proofs.lemmas.List.{map-set, length-map, get_or-map}
 use Rattle.napt_pool.proofs.Lists.{map-grown, map-kept}
@@ -43,3 +43,11 @@ nothing (x ∷ xs) e = absurd (omega arith)
 pub queue_empty : {Q X : Type 0} (queues : List Q) (f : Q → List X) (w : ℕ) (queue : Q) → w < length queues →
     queue ≡ get_or queues w queue → length (f queue) ≡ 0 → of_worker (map f queues) w ≡ []
 queue_empty queues f w queue lt at none = get_or-map f queues w queue [] lt ∙ (sym (ap f at) ∙ nothing (f queue) none)
+
+-- one empty queue more
+pub none_pushed : {Q X : Type 0} (queues : List Q) (f : Q → List X) (queue : Q) → f queue ≡ [] →
+    ((w : ℕ) → of_worker (map f queues) w ≡ []) → (w : ℕ) → of_worker (map f (queues ++ queue ∷ [])) w ≡ []
+none_pushed [] f queue e none zero = e
+none_pushed [] f queue e none (suc w) = refl
+none_pushed (q ∷ queues) f queue e none zero = none zero
+none_pushed (q ∷ queues) f queue e none (suc w) = none_pushed queues f queue e (λ v. none (suc v)) w

@@ -65,7 +65,8 @@ same_test : (pool : List ℕ) → Distinct pool → (v w : ℕ) → v < length p
     (slice_index pool w == slice_index pool v) ≡ (v == w)
 same_test pool distinct v w lv lw = elim (cases_eq v w) [
   | inl e ↦ rw (e, eq-eqb (slice_index pool w) (slice_index pool w) refl, eq-eqb w w refl) refl
-  | inr n ↦ rw (ne_eqb (slice_index pool w) (slice_index pool v) (λ h. n (distinct v w lv lw (sym h))), ne_eqb v w n) refl
+  | inr n ↦ rw (ne_eqb (slice_index pool w) (slice_index pool v) (λ h. n (distinct v w lv lw (sym h))), ne_eqb v w n)
+      refl
 ]
 
 -- by their fields
@@ -142,7 +143,8 @@ module _ (w : ℕ) (leg : Leg) (state : DispatchState) (within : w < length stat
         record {
           reached = λ v lt. elim (cases_eq v w) [
             | inl e ↦ rw (e, own, append_assoc)
-                (rw (set_own state.parts.held w (Ready leg ∷ of_worker state.parts.held w) within) at (r.reached w inside))
+                (rw (set_own state.parts.held w (Ready leg ∷ of_worker state.parts.held w) within) at
+                (r.reached w inside))
             | inr n ↦ rw (others v n)
                 (rw (push_other state.parts.held w (Ready leg ∷ of_worker state.parts.held w) v n) at (r.reached v lt))
           ];

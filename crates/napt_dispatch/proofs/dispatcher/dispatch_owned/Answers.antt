@@ -38,7 +38,8 @@ returns g c =
     (c.in_ok-dispatch_all.ensures.served begun) in
     let began : starts c.finish.new.pool ≡ started config (length config.pool) =
     c.in_ok-finish.ensures.state.starts_stay ∙ (c.in_ok-dispatch_all.ensures.starts ∙ c.requires.started) in
-    let some : c.into_outcomes.result ≡ Some c.in_ok-outcomes.outcomes = grind arith in
+    let some : c.into_outcomes.result ≡ Some c.in_ok-outcomes.outcomes =
+    rw c.in_ok-outcomes.was at c.ok_or.ensures.ok_part in
     let many : length c.finish.new.self.progress ≡ c.len-many.result = rw some at c.into_outcomes.ensures.many in
     let long : length c.finish.new.self.progress ≡ length inputs =
     omega (arith, many, c.args.inputs.ok.0, c.len-many.ensures) in

@@ -22,7 +22,7 @@ loop-number-preserved g c =
     let n : ℕ = c.loop-number.number in
     let lt : n < length inputs = rw c.loop-number.invariant.many at c.loop-number-test.true in
     let input : Arrival = c.in_ok-input.input in
-    let some : c.pop_front.result ≡ Some input = grind arith in
+    let some : c.pop_front.result ≡ Some input = rw c.in_ok-input.was at c.ok_or.ensures.ok_part in
     let same : input ≡ get_or inputs n input =
     rw (some, c.loop-number.invariant.left, drop_more inputs n input lt) at c.pop_front.ensures.lookup in
     let now : max (last_clock 0 (take n inputs)) input.clock ≡ c.max-clock.result =
