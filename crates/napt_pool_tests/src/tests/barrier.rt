@@ -1,9 +1,8 @@
 // Workers step at the same time.
-ghost use Rattle.std.specs.Prelude.{◌≡◌, ◌≤◌, ◌<◌, IfOk, length, vec_len};
-ghost use Rattle.napt_pool.specs.Pools.{starts};
 
 use super::MOST_LOOKS;
-use napt_pool::{Gate, Machine, OpenGate, Pool};
+use super::checked::CheckedPool;
+use napt_pool::{Machine, OpenGate};
 use std::alloc::{AllocError, Global};
 use std::process::Abort;
 use std::sync::atomic::{AtomicU64, Ordering};
@@ -84,9 +83,7 @@ fn waiting_machines(
     alloc: Global,
     barrier: &Arc<Barrier>,
     count: u32,
-) -> Result<Vec<WaitingMachine>, AllocError>
-    ensures { IfOk result (λ v. vec_len v ≡ count) }
-{
+) -> Result<Vec<WaitingMachine>, AllocError> {
     let mut all = Vec::new(alloc);
     for place in 0..count {
         all.push(WaitingMachine {
@@ -97,39 +94,22 @@ fn waiting_machines(
     Ok(all)
 }
 
-/// Offers an item to each worker.
-fn offer_each<R: Abort, G: Gate>(
-    rt: &R,
-    alloc: Global,
-    pool: &mut Pool<WaitingMachine, G>,
-    count: u32,
-)
-    requires { count ≤ length (starts pool.old) }
-    ensures { length (starts pool.new) ≡ length (starts pool.old) }
-{
-    for w in 0..count {
-        assert!(rt; pool.offer(alloc, w, ()).is_ok());
-    }
-}
-
 /// Three items for each worker: each of the steps saw all other workers in a step of the same number.
 fn step_together<R: Threads + Wait + Abort + Copy + Send + 'static>(
     rt: &R,
     alloc: Global,
     count: u32,
-) -> Result<(), Fail>
-    requires { (1 ≤ count) × (count ≤ 16) }
-{
+) -> Result<(), Fail> {
     let barrier = Arc::new(alloc, Barrier::new(alloc, count)?)?;
     let machines = waiting_machines(alloc, &barrier, count)?;
     let gate = Arc::new(alloc, OpenGate)?;
-    let mut pool = Pool::start(rt, alloc, machines, 64, gate)
-        .ok()
-        .expect(rt, "start");
-    offer_each(rt, alloc, &mut pool, count);
-    offer_each(rt, alloc, &mut pool, count);
-    offer_each(rt, alloc, &mut pool, count);
-    assert!(rt; pool.close(rt, alloc).is_ok());
+    let mut pool = CheckedPool::started(rt, alloc, machines, 64, gate);
+    for _ in 0..3 {
+        for w in 0..count {
+            assert!(rt; pool.offer(rt, w, ()).is_ok());
+        }
+    }
+    assert!(rt; pool.close(rt).is_ok());
     assert_eq!(rt; barrier.passed.load(Ordering::SeqCst), 3 * u64::from(count));
     Ok(())
 }

@@ -1,7 +1,7 @@
 // Which fault is told, and that all machines are dropped.
+use super::checked::CheckedPool;
 use super::machines::Echo;
-use super::take_soon;
-use napt_pool::{Gate, OpenGate, Pool, PoolFault};
+use napt_pool::{Gate, OpenGate, PoolFault};
 use std::sync::Arc;
 use std::sync::atomic::{AtomicU64, Ordering};
 use std::test::Fail;
@@ -34,13 +34,11 @@ fn least_fault_is_told(rt: HostRuntime) -> Result<(), Fail> {
         let drops = Arc::new(alloc, AtomicU64::new(0))?;
         let machines = Echo::three(alloc, &drops, refuse)?;
         let gate = Arc::new(alloc, ShutTo { worker })?;
-        let mut pool = Pool::start(&rt, alloc, machines, 2, gate)
-            .ok()
-            .expect(&rt, "start");
-        assert!(rt; pool.offer(alloc, 2, 5).is_ok());
-        assert!(rt; pool.offer(alloc, 1, 5).is_ok());
-        assert!(rt; pool.offer(alloc, 0, 5).is_ok());
-        assert_eq!(rt; pool.close(&rt, alloc).err(), Some(fault));
+        let mut pool = CheckedPool::started(&rt, alloc, machines, 2, gate);
+        assert!(rt; pool.offer(&rt, 2, 5).is_ok());
+        assert!(rt; pool.offer(&rt, 1, 5).is_ok());
+        assert!(rt; pool.offer(&rt, 0, 5).is_ok());
+        assert_eq!(rt; pool.close(&rt).err(), Some(fault));
         assert_eq!(rt; drops.load(Ordering::SeqCst), 3);
     }
     Ok(())
@@ -52,14 +50,12 @@ fn refused_memory_is_told(rt: HostRuntime) -> Result<(), Fail> {
     let drops = Arc::new(alloc, AtomicU64::new(0))?;
     let machines = Echo::three(alloc, &drops, [true, false, false])?;
     let gate = Arc::new(alloc, OpenGate)?;
-    let mut pool = Pool::start(&rt, alloc, machines, 2, gate)
-        .ok()
-        .expect(&rt, "start");
-    assert!(rt; pool.offer(alloc, 0, 5).is_ok());
-    assert!(rt; pool.offer(alloc, 1, 6).is_ok());
-    assert_eq!(rt; take_soon(&rt, alloc, &mut pool, 1), Ok(Some(6)));
-    assert_eq!(rt; take_soon(&rt, alloc, &mut pool, 0), Err(PoolFault::Memory));
-    assert_eq!(rt; pool.close(&rt, alloc).err(), Some(PoolFault::Memory));
+    let mut pool = CheckedPool::started(&rt, alloc, machines, 2, gate);
+    assert!(rt; pool.offer(&rt, 0, 5).is_ok());
+    assert!(rt; pool.offer(&rt, 1, 6).is_ok());
+    assert_eq!(rt; pool.take_soon(&rt, 1), Ok(Some(6)));
+    assert_eq!(rt; pool.take_soon(&rt, 0), Err(PoolFault::Memory));
+    assert_eq!(rt; pool.close(&rt).err(), Some(PoolFault::Memory));
     Ok(())
 }
 
@@ -71,7 +67,7 @@ fn machines_are_dropped(rt: HostRuntime) -> Result<(), Fail> {
     let drops = Arc::new(alloc, AtomicU64::new(0))?;
     let machines = Echo::three(alloc, &drops, [false, false, false])?;
     let gate = Arc::new(alloc, OpenGate)?;
-    let mut pool = match Pool::start(&rt, alloc, machines, 2, gate) {
+    let mut pool = match CheckedPool::start(&rt, alloc, machines, 2, gate) {
         Ok(pool) => pool,
         Err(fault) => {
             assert!(rt; matches!(fault, PoolFault::Memory | PoolFault::NoThread));
@@ -79,8 +75,8 @@ fn machines_are_dropped(rt: HostRuntime) -> Result<(), Fail> {
             return Ok(());
         }
     };
-    assert!(rt; pool.offer(alloc, 0, 5).is_ok());
-    let ended = pool.close(&rt, alloc).ok().expect(&rt, "close");
+    assert!(rt; pool.offer(&rt, 0, 5).is_ok());
+    let ended = pool.close(&rt).ok().expect(&rt, "close");
     assert_eq!(rt; drops.load(Ordering::SeqCst), 0);
     assert_eq!(rt; ended.len(), 3);
     assert_eq!(rt; ended[0].answers.as_slice(), [5].as_slice());

@@ -1,7 +1,7 @@
 // How often and with what a gate is asked.
+use super::checked::CheckedPool;
 use super::machines::Keeper;
-use super::take_soon;
-use napt_pool::{Gate, Machine, Pool, PoolFault};
+use napt_pool::{Gate, Machine, PoolFault};
 use std::alloc::{AllocError, Global};
 use std::sync::Arc;
 use std::sync::atomic::{AtomicU64, Ordering};
@@ -34,13 +34,11 @@ fn shut_gate_is_asked_a_million_times(rt: HostRuntime) -> Result<(), Fail> {
         },
     )?;
     let machines = Keeper::several(alloc, 2)?;
-    let mut pool = Pool::start(&rt, alloc, machines, 4, Arc::try_clone(&gate)?)
-        .ok()
-        .expect(&rt, "start");
-    assert!(rt; pool.offer(alloc, 1, 5).is_ok());
-    assert!(rt; pool.offer(alloc, 1, 6).is_ok());
-    let told = take_soon(&rt, alloc, &mut pool, 1);
-    let ended = pool.close(&rt, alloc).err();
+    let mut pool = CheckedPool::started(&rt, alloc, machines, 4, Arc::try_clone(&gate)?);
+    assert!(rt; pool.offer(&rt, 1, 5).is_ok());
+    assert!(rt; pool.offer(&rt, 1, 6).is_ok());
+    let told = pool.take_soon(&rt, 1);
+    let ended = pool.close(&rt).err();
     assert_eq!(rt; told, Err(PoolFault::GateShut(1)));
     assert_eq!(rt; ended, Some(PoolFault::GateShut(1)));
     assert_eq!(rt; gate.asks.load(Ordering::SeqCst), 1_000_000);
@@ -79,13 +77,11 @@ fn gate_is_asked_by_turns(rt: HostRuntime) -> Result<(), Fail> {
         },
     )?;
     let machines = Keeper::several(alloc, 1)?;
-    let mut pool = Pool::start(&rt, alloc, machines, 4, Arc::try_clone(&gate)?)
-        .ok()
-        .expect(&rt, "start");
-    assert!(rt; pool.offer(alloc, 0, 7).is_ok());
-    assert!(rt; pool.offer(alloc, 0, 8).is_ok());
-    assert!(rt; pool.offer(alloc, 0, 9).is_ok());
-    let ended = pool.close(&rt, alloc).ok().expect(&rt, "close");
+    let mut pool = CheckedPool::started(&rt, alloc, machines, 4, Arc::try_clone(&gate)?);
+    assert!(rt; pool.offer(&rt, 0, 7).is_ok());
+    assert!(rt; pool.offer(&rt, 0, 8).is_ok());
+    assert!(rt; pool.offer(&rt, 0, 9).is_ok());
+    let ended = pool.close(&rt).ok().expect(&rt, "close");
     assert_eq!(rt; ended.len(), 1);
     assert_eq!(rt; ended[0].machine.items.as_slice(), [7, 8, 9].as_slice());
     assert_eq!(rt; gate.asks.load(Ordering::SeqCst), 6);
@@ -149,13 +145,11 @@ fn gate_is_asked_before_the_step(rt: HostRuntime) -> Result<(), Fail> {
     machines.push(Stepper {
         steps: Arc::try_clone(&steps)?,
     })?;
-    let mut pool = Pool::start(&rt, alloc, machines, 4, Arc::try_clone(&gate)?)
-        .ok()
-        .expect(&rt, "start");
-    assert!(rt; pool.offer(alloc, 0, ()).is_ok());
-    assert!(rt; pool.offer(alloc, 0, ()).is_ok());
-    assert!(rt; pool.offer(alloc, 0, ()).is_ok());
-    assert!(rt; pool.close(&rt, alloc).is_ok());
+    let mut pool = CheckedPool::started(&rt, alloc, machines, 4, Arc::try_clone(&gate)?);
+    assert!(rt; pool.offer(&rt, 0, ()).is_ok());
+    assert!(rt; pool.offer(&rt, 0, ()).is_ok());
+    assert!(rt; pool.offer(&rt, 0, ()).is_ok());
+    assert!(rt; pool.close(&rt).is_ok());
     assert_eq!(rt; steps.load(Ordering::SeqCst), 3);
     assert_eq!(rt; gate.strange.load(Ordering::SeqCst), 0);
     Ok(())

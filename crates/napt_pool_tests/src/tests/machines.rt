@@ -1,5 +1,5 @@
 // Machines of the tests.
-ghost use Rattle.std.specs.Prelude.{◌≡◌, [], IfOk, vec_len};
+ghost use Rattle.std.specs.Prelude.{◌≡◌, []};
 
 use napt_pool::Machine;
 use std::alloc::{AllocError, Global};
@@ -48,9 +48,7 @@ impl Keeper {
         }
     }
 
-    pub(crate) fn several(alloc: Global, count: u32) -> Result<Vec<Keeper>, AllocError>
-        ensures { IfOk result (λ v. vec_len v ≡ count) }
-    {
+    pub(crate) fn several(alloc: Global, count: u32) -> Result<Vec<Keeper>, AllocError> {
         let mut all = Vec::new(alloc);
         for _ in 0..count {
             all.push(Keeper::new(alloc))?;
@@ -98,9 +96,7 @@ impl Echo {
         alloc: Global,
         drops: &Arc<AtomicU64>,
         refuse: [bool; 3],
-    ) -> Result<Vec<Echo>, AllocError>
-        ensures { IfOk result (λ v. vec_len v ≡ 3) }
-    {
+    ) -> Result<Vec<Echo>, AllocError> {
         let mut all = Vec::new(alloc);
         for refuses in refuse {
             all.push(Echo {

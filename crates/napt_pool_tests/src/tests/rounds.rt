@@ -1,9 +1,8 @@
 // Pools that are filled and emptied.
-ghost use Rattle.std.specs.Prelude.{◌≡◌, ◌++◌, ◌<◌, ◌≤◌, ◌+◌, ◌^◌, [], ◌∷◌, length, map, IfOk};
-ghost use Rattle.napt_pool.specs.Pools.{starts};
+ghost use Rattle.std.specs.Prelude.{◌≡◌, [], ◌∷◌, map, IfOk};
 
+use super::checked::CheckedPool;
 use super::machines::Keeper;
-use super::take_soon;
 use napt_pool::{Ended, Gate, OfferRefused, OpenGate, Pool, PoolFault};
 use std::alloc::Global;
 use std::process::Abort;
@@ -53,25 +52,20 @@ fn answer_comes(rt: HostRuntime) -> Result<(), Fail> {
     let alloc = rt.alloc();
     let gate = Arc::new(alloc, OpenGate)?;
     let machines = Keeper::several(alloc, 2)?;
-    let mut pool = Pool::start(&rt, alloc, machines, 1, gate)
-        .ok()
-        .expect(&rt, "start");
-    assert_eq!(rt; pool.take(&rt, alloc, 1), Ok(None));
-    assert!(rt; pool.offer(alloc, 1, 40).is_ok());
-    assert!(rt; matches!(pool.offer(alloc, 1, 41), Err(OfferRefused::Full(41))));
-    assert_eq!(rt; take_soon(&rt, alloc, &mut pool, 1), Ok(Some(0)));
-    assert_eq!(rt; pool.take(&rt, alloc, 1), Ok(None));
-    assert!(rt; pool.close(&rt, alloc).is_ok());
+    let mut pool = CheckedPool::started(&rt, alloc, machines, 1, gate);
+    assert_eq!(rt; pool.take(&rt, 1), Ok(None));
+    assert!(rt; pool.offer(&rt, 1, 40).is_ok());
+    assert!(rt; matches!(pool.offer(&rt, 1, 41), Err(OfferRefused::Full(41))));
+    assert_eq!(rt; pool.take_soon(&rt, 1), Ok(Some(0)));
+    assert_eq!(rt; pool.take(&rt, 1), Ok(None));
+    assert!(rt; pool.close(&rt).is_ok());
     Ok(())
 }
 
 /// How many items worker `w` takes until it is full. `None` where it is refused for another cause.
-fn fill<G: Gate>(alloc: Global, pool: &mut Pool<Keeper, G>, w: u32) -> Option<u64>
-    requires { w < length (starts pool.old) }
-    ensures { length (starts pool.new) ≡ length (starts pool.old) }
-{
+fn fill<G: Gate>(rt: &impl Abort, pool: &mut CheckedPool<Keeper, G>, w: u32) -> Option<u64> {
     for count in 0..10_000 {
-        match pool.offer(alloc, w, count) {
+        match pool.offer(rt, w, count) {
             Ok(()) => {}
             Err(OfferRefused::Full(_)) => return Some(count),
             Err(_) => return None,
@@ -81,43 +75,34 @@ fn fill<G: Gate>(alloc: Global, pool: &mut Pool<Keeper, G>, w: u32) -> Option<u6
 }
 
 /// Whether worker `w` answers with this many numbers from `base` on, and then has no more.
-fn empties<R, G: Gate>(
-    rt: &R,
-    alloc: Global,
-    pool: &mut Pool<Keeper, G>,
+fn empties<G: Gate>(
+    rt: &impl Abort,
+    pool: &mut CheckedPool<Keeper, G>,
     w: u32,
     count: u64,
     base: u64,
-) -> bool
-    requires worker { w < length (starts pool.old) }
-    requires fits { base + count < 2 ^ 64 }
-    ensures { length (starts pool.new) ≡ length (starts pool.old) }
-{
+) -> bool {
     for k in 0..count {
-        if take_soon(rt, alloc, pool, w) != Ok(Some(base + k)) {
+        if pool.take_soon(rt, w) != Ok(Some(base.saturating_add(k))) {
             return false;
         }
     }
-    pool.take(rt, alloc, w) == Ok(None)
+    pool.take(rt, w) == Ok(None)
 }
 
 /// Fills all workers, and then empties them.
-fn round<R: Abort, G: Gate>(
-    rt: &R,
-    alloc: Global,
-    pool: &mut Pool<Keeper, G>,
+fn round<G: Gate>(
+    rt: &impl Abort,
+    pool: &mut CheckedPool<Keeper, G>,
     workers: u32,
     capacity: u64,
     base: u64,
-)
-    requires { (length (starts pool.old) ≡ workers) × (base + capacity < 2 ^ 64) }
-    ensures { length (starts pool.new) ≡ length (starts pool.old) }
-{
+) {
     for w in 0..workers {
-        assert_eq!(rt; fill(alloc, pool, w), Some(capacity), "worker {w}");
+        assert_eq!(rt; fill(rt, pool, w), Some(capacity), "worker {w}");
     }
     for w in 0..workers {
-        assert!(rt; empties(rt, alloc, pool, w, capacity, base), "worker {w}");
+        assert!(rt; empties(rt, pool, w, capacity, base), "worker {w}");
     }
 }
 
@@ -126,20 +111,15 @@ fn three_rounds<R: Threads + Wait + Abort + Copy + Send + 'static>(
     alloc: Global,
     workers: u32,
     capacity: u16,
-) -> Result<(), Fail>
-    requires workers { (1 ≤ workers) × (workers ≤ 16) }
-    requires capacity { (1 ≤ capacity) × (capacity ≤ 4096) }
-{
+) -> Result<(), Fail> {
     let gate = Arc::new(alloc, OpenGate)?;
     let machines = Keeper::several(alloc, workers)?;
-    let mut pool = Pool::start(rt, alloc, machines, usize::from(capacity), gate)
-        .ok()
-        .expect(rt, "start");
+    let mut pool = CheckedPool::started(rt, alloc, machines, usize::from(capacity), gate);
     let count = u64::from(capacity);
     for k in 0..3 {
-        round(rt, alloc, &mut pool, workers, count, k * count);
+        round(rt, &mut pool, workers, count, k * count);
     }
-    let ended = pool.close(rt, alloc).ok().expect(rt, "close");
+    let ended = pool.close(rt).ok().expect(rt, "close");
     assert_eq!(rt; ended.len(), workers as usize);
     for end in &ended {
         assert_eq!(rt; end.machine.items.len() as u64, 3 * count);
@@ -164,16 +144,12 @@ fn close_full<R: Threads + Wait + Abort + Copy + Send + 'static>(
     rt: &R,
     alloc: Global,
     capacity: u16,
-) -> Result<(), Fail>
-    requires { (1 ≤ capacity) × (capacity ≤ 4096) }
-{
+) -> Result<(), Fail> {
     let gate = Arc::new(alloc, OpenGate)?;
     let machines = Keeper::several(alloc, 1)?;
-    let mut pool = Pool::start(rt, alloc, machines, usize::from(capacity), gate)
-        .ok()
-        .expect(rt, "start");
-    assert_eq!(rt; fill(alloc, &mut pool, 0), Some(u64::from(capacity)));
-    let ended = pool.close(rt, alloc).ok().expect(rt, "close");
+    let mut pool = CheckedPool::started(rt, alloc, machines, usize::from(capacity), gate);
+    assert_eq!(rt; fill(rt, &mut pool, 0), Some(u64::from(capacity)));
+    let ended = pool.close(rt).ok().expect(rt, "close");
     assert_eq!(rt; ended.len(), 1);
     assert_eq!(rt; ended[0].answers.len(), usize::from(capacity));
     Ok(())

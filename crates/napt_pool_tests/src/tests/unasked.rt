@@ -1,6 +1,7 @@
 // A worker steps on an item though nobody asks for the answer.
 use super::MOST_LOOKS;
-use napt_pool::{Machine, OpenGate, Pool};
+use super::checked::CheckedPool;
+use napt_pool::{Machine, OpenGate};
 use std::alloc::{AllocError, Global};
 use std::sync::Arc;
 use std::sync::atomic::{AtomicBool, Ordering};
@@ -48,12 +49,10 @@ fn steps_unasked(rt: HostRuntime) -> Result<(), Fail> {
         flag: Arc::try_clone(&flag)?,
     })?;
     let gate = Arc::new(alloc, OpenGate)?;
-    let mut pool = Pool::start(&rt, alloc, machines, 4, gate)
-        .ok()
-        .expect(&rt, "start");
-    assert!(rt; pool.offer(alloc, 0, ()).is_ok());
+    let mut pool = CheckedPool::started(&rt, alloc, machines, 4, gate);
+    assert!(rt; pool.offer(&rt, 0, ()).is_ok());
     let seen = is_seen(&flag);
-    let ended = pool.close(&rt, alloc);
+    let ended = pool.close(&rt);
     assert!(rt; seen);
     assert!(rt; ended.is_ok());
     Ok(())

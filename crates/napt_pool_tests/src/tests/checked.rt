@@ -1,0 +1,105 @@
+// A pool for tests, whose calls check what their caller owes.
+ghost use Rattle.std.specs.Prelude.{◌≡◌, length};
+ghost use Rattle.napt_pool.specs.Pools.{starts};
+
+use super::MOST_LOOKS;
+use napt_pool::{Ended, Gate, Machine, OfferRefused, Pool, PoolFault};
+use std::alloc::Global;
+use std::process::Abort;
+use std::sync::{Arc, Wait};
+use std::thread;
+use std::thread::Threads;
+
+/// A pool that stops a test which asks what a caller may not: for no worker, or for a worker that is not there. Its calls promise
+/// nothing, so that the proof of a test is short: the test sees what comes of them when it runs.
+pub(crate) struct CheckedPool<M: Machine, G: Gate> {
+    alloc: Global,
+    pool: Pool<M, G>,
+    workers: u32,
+    ghost many: { length (starts pool) ≡ workers },
+}
+
+impl<M: Machine, G: Gate> CheckedPool<M, G> {
+    pub(crate) fn offer(
+        &mut self,
+        rt: &impl Abort,
+        w: u32,
+        item: M::Item,
+    ) -> Result<(), OfferRefused<M::Item>> {
+        assert!(rt; w < self.workers);
+        self.pool.offer(self.alloc, w, item)
+    }
+
+    pub(crate) fn take(&mut self, rt: &impl Abort, w: u32) -> Result<Option<M::Answer>, PoolFault> {
+        assert!(rt; w < self.workers);
+        self.pool.take(rt, self.alloc, w)
+    }
+
+    /// Takes until worker `w` has an answer or tells why it stopped.
+    pub(crate) fn take_soon(
+        &mut self,
+        rt: &impl Abort,
+        w: u32,
+    ) -> Result<Option<M::Answer>, PoolFault> {
+        for _ in 0..MOST_LOOKS {
+            if let Some(answer) = self.take(rt, w)? {
+                return Ok(Some(answer));
+            }
+            thread::yield_now();
+        }
+        Ok(None)
+    }
+
+    pub(crate) fn close(self, rt: &impl Threads) -> Result<Vec<Ended<M>>, PoolFault> {
+        let CheckedPool {
+            alloc,
+            pool,
+            workers: _,
+        } = self;
+        pool.close(rt, alloc)
+    }
+}
+
+impl<M: Machine, G: Gate + Send + Sync + Drop + 'static> CheckedPool<M, G> {
+    /// Starts a thread for each of 1 to 16 machines, with rings for 1 to 4,096 items.
+    pub(crate) fn start<R: Threads + Wait + Abort + Copy + Send + 'static>(
+        rt: &R,
+        alloc: Global,
+        machines: Vec<M>,
+        capacity: usize,
+        gate: Arc<G>,
+    ) -> Result<CheckedPool<M, G>, PoolFault>
+    where
+        M: 'static,
+        M::Item: 'static,
+        M::Answer: 'static,
+    {
+        let workers = machines.len();
+        assert!(rt; 1 <= workers && workers <= 16);
+        assert!(rt; 1 <= capacity && capacity <= 4096);
+        let pool = Pool::start(rt, alloc, machines, capacity, gate)?;
+        Ok(CheckedPool {
+            alloc,
+            pool,
+            workers: workers as u32,
+        })
+    }
+
+    /// The same, where nothing is refused.
+    pub(crate) fn started<R: Threads + Wait + Abort + Copy + Send + 'static>(
+        rt: &R,
+        alloc: Global,
+        machines: Vec<M>,
+        capacity: usize,
+        gate: Arc<G>,
+    ) -> CheckedPool<M, G>
+    where
+        M: 'static,
+        M::Item: 'static,
+        M::Answer: 'static,
+    {
+        CheckedPool::start(rt, alloc, machines, capacity, gate)
+            .ok()
+            .expect(rt, "start")
+    }
+}
