@@ -60,7 +60,7 @@ fn refused_memory_is_told(rt: HostRuntime) -> Result<(), Fail> {
 }
 
 /// Where `start` is refused memory or a thread, it has dropped each machine when it returns. `close` is refused nothing.
-/// Here nothing is refused: `tests/refused_pool` refuses each growth in turn, in a program of its own.
+/// Here nothing is refused: `tests/refused_calls` refuses each growth in turn, in a program of its own.
 #[test]
 fn machines_are_dropped(rt: HostRuntime) -> Result<(), Fail> {
     let alloc = rt.alloc();
