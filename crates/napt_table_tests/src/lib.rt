@@ -9,8 +9,6 @@ mod checked;
 #[cfg(test)]
 mod numbers;
 #[cfg(test)]
-mod plain;
-#[cfg(test)]
 mod quota;
 #[cfg(test)]
 mod remotes;

@@ -1,8 +1,8 @@
 //! Packets through a table, each with what it must get.
 
 use crate::checked::{CheckedTable, settings_of};
-use crate::plain::PlainTable;
 use crate::twins::Sent;
+use napt_plain_table::PlainTable;
 use napt_samples::flags::NO_FLAGS;
 use napt_samples::hosts::{CLIENT, EXTERNAL, RESOLVER, SERVER};
 use napt_wire::{Cause, Endpoint, Flags, Protocol};

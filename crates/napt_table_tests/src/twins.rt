@@ -3,7 +3,7 @@
 ghost use Rattle.std.specs.Prelude.{ℕ, ◌<◌};
 
 use crate::checked::{CheckedTable, settings_of};
-use crate::plain::PlainTable;
+use napt_plain_table::PlainTable;
 use napt_samples::flags::NO_FLAGS;
 use napt_samples::hosts::{EXTERNAL, RESOLVER, SECOND, host};
 use napt_wire::{Cause, Endpoint, Flags, Protocol};

@@ -1,4 +1,4 @@
-//! A table kept as a plain list, of which each call walks all: a second body, of which nothing is proved but that it is safe.
+//! A table kept as a plain list.
 
 use napt_config::{Config, Filter, Refresh, Timers};
 use napt_samples::hosts::SECOND;
@@ -160,9 +160,10 @@ fn rank(protocol: Protocol) -> u8 {
     }
 }
 
-/// The bindings of one external address in the order in which they were made.
+/// The bindings of one external address in the order in which they were made. Its calls have the words of those of
+/// [`napt_table::Table`], and each walks all bindings. Times are in ns and never go back.
 #[derive(Drop)]
-pub(crate) struct PlainTable {
+pub struct PlainTable {
     address: u32,
     timers: Timers,
     filter: Filter,
@@ -172,8 +173,8 @@ pub(crate) struct PlainTable {
 }
 
 impl PlainTable {
-    /// With the redirects of the configuration at the address.
-    pub(crate) fn new(
+    /// With the redirects of the configuration at the address. `AllocError` where memory is refused.
+    pub fn new(
         alloc: Global,
         address: u32,
         config: &Config,
@@ -245,7 +246,9 @@ impl PlainTable {
         None
     }
 
-    pub(crate) fn outbound(
+    /// A packet goes out (RFC 3022, section 4.1): the external number of its binding, which is made where there is none, or
+    /// `OverQuota`, or `NoPort`. Where memory is refused the packet may have left a part of what it does.
+    pub fn outbound(
         &mut self,
         alloc: Global,
         now: u64,
@@ -280,7 +283,8 @@ impl PlainTable {
         Ok(Ok(external))
     }
 
-    pub(crate) fn inbound(
+    /// A packet comes in (RFC 3022, section 4.1): the inside endpoint of its binding, or `NoBinding`, or `Filtered`.
+    pub fn inbound(
         &mut self,
         now: u64,
         protocol: Protocol,
@@ -308,7 +312,8 @@ impl PlainTable {
         Err(Cause::NoBinding)
     }
 
-    pub(crate) fn by_external(
+    /// The inside endpoint that has the external number.
+    pub fn by_external(
         &self,
         now: u64,
         protocol: Protocol,
@@ -325,7 +330,8 @@ impl PlainTable {
         None
     }
 
-    pub(crate) fn by_inside(&self, now: u64, protocol: Protocol, inside: Endpoint) -> Option<u16> {
+    /// The external number of the inside endpoint.
+    pub fn by_inside(&self, now: u64, protocol: Protocol, inside: Endpoint) -> Option<u16> {
         for binding in &self.list {
             if binding.protocol == protocol
                 && binding.inside == inside
@@ -337,7 +343,8 @@ impl PlainTable {
         None
     }
 
-    pub(crate) fn bindings(&self, alloc: Global, now: u64) -> Result<Vec<Row>, AllocError> {
+    /// The rows of what is live, by protocol, then by external number.
+    pub fn bindings(&self, alloc: Global, now: u64) -> Result<Vec<Row>, AllocError> {
         let mut rows = Vec::new(alloc);
         for binding in &self.list {
             if binding.is_live(self.timers, now) {
