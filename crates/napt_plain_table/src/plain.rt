@@ -174,11 +174,7 @@ pub struct PlainTable {
 
 impl PlainTable {
     /// With the redirects of the configuration at the address. `AllocError` where memory is refused.
-    pub fn new(
-        alloc: Global,
-        address: u32,
-        config: &Config,
-    ) -> Result<PlainTable, AllocError> {
+    pub fn new(alloc: Global, address: u32, config: &Config) -> Result<PlainTable, AllocError> {
         let mut list = Vec::new(alloc);
         for redirect in config.redirects() {
             if config.pair(redirect.address) == address {
@@ -313,12 +309,7 @@ impl PlainTable {
     }
 
     /// The inside endpoint that has the external number.
-    pub fn by_external(
-        &self,
-        now: u64,
-        protocol: Protocol,
-        number: u16,
-    ) -> Option<Endpoint> {
+    pub fn by_external(&self, now: u64, protocol: Protocol, number: u16) -> Option<Endpoint> {
         for binding in &self.list {
             if binding.protocol == protocol
                 && binding.external == number
