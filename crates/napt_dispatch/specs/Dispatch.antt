@@ -18,7 +18,8 @@ use Rattle.napt_sequential.specs.declared.outcome.Outcome.{Outcome}
 use Rattle.napt_sequential.specs.declared.fault.RunFault.{RunFault}
 use Rattle.napt_sequential.specs.declared.fault.RunFault.TheVariants as faults
 use Rattle.napt_sequential.specs.Inputs.{Arrival}
-use Rattle.napt_sequential.specs.Sequential.{run, legs_at}
+use Rattle.napt_dispatch.specs.declared.dispatcher.arrived.Arrived.{Arrived}
+use Rattle.napt_sequential.specs.Sequential.{run, last_clock, legs_at}
 use Rattle.napt_sequential.specs.Dispatching.{IsFront}
 
 -- WORKERS
@@ -88,3 +89,8 @@ pub record IsDispatched (rules : Rules) (inputs : List Arrival) (offered : List 
   pub outcomes_are : outcomes ≡ (run rules inputs (opening rules)).outcomes
   pub numbers_are : numbers ≡ map (λ address. length (legs_at address (run rules inputs (opening rules)).acts))
       rules.pool
+
+-- when the inputs arrived
+pub record HaveArrived (inputs : List Arrival) (arrived : Arrived) : Type 0 where
+  pub times : arrived.times.items ≡ map (λ i. i.time) inputs
+  pub clock : arrived.clock ≡ last_clock 0 inputs

@@ -1,5 +1,6 @@
 -- How far an input has come.
-use Rattle.std.specs.Prelude.{Bool, true, false}
+use Rattle.std.specs.Prelude.{ℕ, ◌++◌, List, replicate, Bool, true, false}
+use Rattle.napt_pool.specs.Pools.{zip_with}
 use Rattle.napt_sequential.specs.declared.outcome.Outcome.{Outcome}
 use Rattle.napt_sequential.specs.declared.outcome.Outcome.TheVariants.{ToOutside, ToInside, Dropped}
 use Rattle.napt_dispatch.specs.declared.dispatcher.progress.Progress.{Progress}
@@ -22,3 +23,7 @@ has_ended stages.Awaited = false
 has_ended (stages.Onward now) = false
 has_ended stages.EndedOut = true
 has_ended stages.EndedIn = true
+
+-- what is known of all inputs: of those that were read, and of so many that were not
+abbrev pub known : List Stage → List Outcome → ℕ → List Progress
+known stages kept unread = zip_with progress_of stages kept ++ replicate unread Awaited

@@ -7,9 +7,10 @@ ghost use Rattle.std.specs.Prelude.{◌≡◌, ◌<◌, ◌^◌, [], length, map
 ghost use Rattle.napt_pool.specs.Pools.{starts, accepts, takes, zip_with};
 ghost use Rattle.napt_pool.specs.Histories.{replies};
 ghost use Rattle.napt_dispatch.specs.declared.dispatcher.progress.Progress.TheVariants.{Awaited as AwaitedInput};
-ghost use Rattle.napt_dispatch.specs.Dispatch.{started, IsDispatchFault, IsDispatched};
+ghost use Rattle.napt_dispatch.specs.Dispatch.{started, HaveArrived, IsDispatchFault, IsDispatched};
 ghost use Rattle.napt_dispatch.specs.Standing.{parts_of, IsSized, IsDone};
 
+mod arrived;
 mod held;
 mod holding;
 mod impossible_answer;
@@ -25,11 +26,12 @@ mod taking;
 
 use crate::Worker;
 use crate::inputs::copies;
+use arrived::Arrived;
 use held::{Held, Owed};
 use impossible_answer::ImpossibleAnswer;
 use napt_config::Config;
 use napt_pool::{Gate, Machine, Pool};
-use napt_sequential::{Input, Outcome, RunFault};
+use napt_sequential::{Arrivals, Input, Outcome, RunFault};
 use queues::empty;
 use run_progress::RunProgress;
 use std::alloc::{AllocError, Global};
@@ -100,33 +102,50 @@ pub fn dispatch<R: Wait, G: Gate>(
         (accepts pool.new) done.0.items done.1.items) }
     ensures fault { IfErr result (IsDispatchFault G.is_open) }
 {
-    let inputs = copies(alloc, inputs)?;
-    dispatch_owned(rt, alloc, pool, config, inputs)
+    let mut inputs = copies(alloc, inputs)?;
+    let Dispatched { outcomes, legs, .. } = dispatch_arrivals(
+        rt,
+        alloc,
+        pool,
+        config,
+        &mut inputs,
+    )?;
+    Ok((outcomes, legs))
 }
 
-/// The same over inputs whose bytes move into the run.
-pub(crate) fn dispatch_owned<R: Wait, G: Gate>(
+/// What dispatching comes to.
+#[derive(Drop)]
+pub(crate) struct Dispatched {
+    pub(crate) outcomes: Vec<Outcome>,
+    /// How many legs each worker was offered.
+    pub(crate) legs: Vec<u64>,
+    pub(crate) arrived: Arrived,
+}
+
+/// The same over inputs that move into the run.
+pub(crate) fn dispatch_arrivals<R: Wait, G: Gate, I: Arrivals>(
     rt: &R,
     alloc: Global,
     pool: &mut Pool<Worker, G>,
     config: &Config,
-    inputs: Vec<Input>,
-) -> Result<(Vec<Outcome>, Vec<u64>), RunFault>
-    requires few { length inputs.items < 2 ^ 32 }
+    inputs: &mut I,
+) -> Result<Dispatched, RunFault>
+    requires few { length (I.rest inputs.old) < 2 ^ 32 }
     requires started { starts pool.old ≡ started config.now (length config.now.pool) }
     requires unoffered { accepts pool.old ≡ replicate (length config.now.pool) [] }
     requires untaken { takes pool.old ≡ replicate (length config.now.pool) [] }
     ensures starts { starts pool.new ≡ starts pool.old }
     ensures settled { OnOk result (map length (takes pool.new) ≡ map length (accepts pool.new)) }
     ensures run { IfOk result (λ done. takes pool.new ≡ zip_with (replies ⟦<Worker as Machine>⟧)
-        (starts pool.new) (accepts pool.new) → IsDispatched config.now inputs.items
-        (accepts pool.new) done.0.items done.1.items) }
+        (starts pool.new) (accepts pool.new) → IsDispatched config.now (I.rest inputs.old)
+        (accepts pool.new) done.outcomes.items done.legs.items) }
+    ensures arrived { IfOk result (λ done. HaveArrived (I.rest inputs.old) done.arrived) }
     ensures fault { IfErr result (IsDispatchFault G.is_open) }
 {
     let count = config.pool().len();
-    let many = inputs.len();
+    let many = inputs.count();
     let mut dispatcher = Dispatcher::new(alloc, count, config.ring(), many)?;
-    dispatcher.dispatch_all(rt, alloc, pool, config, inputs)?;
+    let arrived = dispatcher.dispatch_all(rt, alloc, pool, config, inputs)?;
     dispatcher.finish(rt, alloc, pool, count as u32)?;
     let Dispatcher {
         offered,
@@ -134,5 +153,9 @@ pub(crate) fn dispatch_owned<R: Wait, G: Gate>(
         ..
     } = dispatcher;
     let outcomes = progress.into_outcomes(many).ok_or(ImpossibleAnswer)?;
-    Ok((outcomes, offered))
+    Ok(Dispatched {
+        outcomes,
+        legs: offered,
+        arrived,
+    })
 }

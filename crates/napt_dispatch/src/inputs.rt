@@ -4,6 +4,7 @@ ghost use Rattle.std.specs.Prelude.{◌≡◌, IfOk};
 
 use napt_sequential::Input;
 use std::alloc::{AllocError, Global};
+use std::collections::VecDeque;
 
 /// A copy, with bytes of its own.
 fn copy_of(alloc: Global, input: &Input) -> Result<Input, AllocError>
@@ -18,12 +19,12 @@ fn copy_of(alloc: Global, input: &Input) -> Result<Input, AllocError>
 }
 
 /// Copies of all inputs.
-pub(crate) fn copies(alloc: Global, inputs: &[Input]) -> Result<Vec<Input>, AllocError>
+pub(crate) fn copies(alloc: Global, inputs: &[Input]) -> Result<VecDeque<Input>, AllocError>
     ensures { IfOk result (λ made. made.items ≡ inputs.now) }
 {
     let mut made = Vec::with_capacity(alloc, inputs.len())?;
     for input in inputs {
         made.push(copy_of(alloc, input)?)?;
     }
-    Ok(made)
+    Ok(VecDeque::from(made))
 }

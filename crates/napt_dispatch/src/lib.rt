@@ -11,4 +11,4 @@ mod workers;
 
 pub use dispatcher::dispatch;
 pub use worker::Worker;
-pub use workers::{run_on_pool, run_workers};
+pub use workers::{TimedRun, run_on_pool, run_workers};

@@ -1,17 +1,17 @@
 //! The run over workers on threads of their own.
 
-ghost use Rattle.std.specs.Prelude.{◌≡◌, ◌↔◌, ◌^◌, ◌≤◌, ◌<◌, length, flat_map, vec_len, AllPairs, IfOk, IfErr, Err, true, false};
+ghost use Rattle.std.specs.Prelude.{◌≡◌, ◌↔◌, ◌^◌, ◌≤◌, ◌<◌, length, map, flat_map, vec_len, AllPairs, IfOk, IfErr, Err, true, false};
 ghost use Rattle.napt_config.specs.Rules.{KeepsRules};
 ghost use Rattle.napt_sequential.specs.Sequential as model;
 ghost use Rattle.napt_dispatch.specs.Dispatch.{first_fault, started, rows_after, IsFaultUnder, is_gate_fault};
 ghost use Rattle.napt_sequential.specs.Sound.{AreRowsApart};
 
 use crate::Worker;
-use crate::dispatcher::dispatch_owned;
+use crate::dispatcher::{Dispatched, dispatch_arrivals};
 use crate::inputs::copies;
 use napt_config::Config;
 use napt_pool::{Ended, Gate, Pool, PoolFault};
-use napt_sequential::{Input, Outcome, Run, RunFault, runs_are_sound};
+use napt_sequential::{Arrivals, Input, Run, RunFault, runs_are_sound};
 use napt_table::Row;
 use napt_translate::Translator;
 use std::alloc::{AllocError, Global};
@@ -46,17 +46,6 @@ fn bindings(alloc: Global, ended: &[Ended<Worker>], now: u64) -> Result<Vec<Row>
     Ok(made)
 }
 
-/// The greatest clock, in ns; 0 without an input.
-fn last_clock(inputs: &[Input]) -> u64
-    ensures { result ≡ model.last_clock 0 inputs.now }
-{
-    let mut clock = 0u64;
-    for input in inputs {
-        clock = clock.max(input.clock);
-    }
-    clock
-}
-
 /// Runs over the inputs with a worker on a thread of its own for each external address, and gives exactly what `run_plain`
 /// gives, whatever the gate, the size of the rings and the schedule are. The gate is asked by each worker before each leg.
 ///
@@ -78,42 +67,66 @@ pub fn run_workers<
     if inputs.len() > 4_294_967_295 {
         return Err(RunFault::TooMany);
     }
-    let inputs = copies(alloc, inputs)?;
-    run_on_pool(rt, alloc, config, inputs, gate)
+    let mut inputs = copies(alloc, inputs)?;
+    let done = run_on_pool(rt, alloc, config, &mut inputs, gate)?;
+    Ok(done.run)
 }
 
 /// What dispatching and closing come to: a fault of dispatching is told before one of the pool.
 fn first_fault(
-    dispatched: Result<(Vec<Outcome>, Vec<u64>), RunFault>,
+    dispatched: Result<Dispatched, RunFault>,
     closed: Result<Vec<Ended<Worker>>, PoolFault>,
-) -> Result<((Vec<Outcome>, Vec<u64>), Vec<Ended<Worker>>), RunFault>
+) -> Result<(Dispatched, Vec<Ended<Worker>>), RunFault>
     ensures { result ≡ first_fault dispatched closed }
 {
     let dispatched = dispatched?;
     Ok((dispatched, closed?))
 }
 
-/// The run of `run_workers` over at most 4,294,967,295 inputs, whose bytes move into it.
+/// A run, with the arrival time of each of its inputs, in ns.
+#[derive(Drop)]
+pub struct TimedRun {
+    pub run: Run,
+    pub times: Vec<u64>,
+}
+
+/// The run of `run_workers` over at most 4,294,967,295 inputs, which it takes as it needs them. All are taken where it ends
+/// well.
 ///
 /// A refusal is told as by `run_workers`; `RunFault::TooMany` never comes.
 pub fn run_on_pool<
     R: Threads + Wait + Copy + Send + 'static,
     G: Gate + Send + Sync + Drop + 'static,
->(rt: &R, alloc: Global, config: &Config, inputs: Vec<Input>, gate: Arc<G>) -> Result<Run, RunFault>
-    requires few { length inputs.items < 2 ^ 32 }
-    ensures run { IfOk result (λ run. run ≡ model.ran config.now inputs.items) }
+    I: Arrivals,
+>(
+    rt: &R,
+    alloc: Global,
+    config: &Config,
+    inputs: &mut I,
+    gate: Arc<G>,
+) -> Result<TimedRun, RunFault>
+    requires few { length (I.rest inputs.old) < 2 ^ 32 }
+    ensures run { IfOk result (λ done. done.run ≡ model.ran config.now (I.rest inputs.old)) }
+    ensures times { IfOk result (λ done. done.times.items ≡ map (λ i. i.time) (I.rest inputs.old)) }
     ensures fault { IfErr result (IsFaultUnder G.is_open) }
 {
     let machines = workers(alloc, config)?;
     let mut pool = Pool::start(rt, alloc, machines, config.ring(), gate)?;
-    let last = last_clock(&inputs);
-    let dispatched = dispatch_owned(rt, alloc, &mut pool, config, inputs);
+    let dispatched = dispatch_arrivals(rt, alloc, &mut pool, config, inputs);
     let closed = pool.close(rt, alloc);
-    let ((outcomes, legs), ended) = first_fault(dispatched, closed)?;
-    let bindings = bindings(alloc, &ended, last)?;
-    Ok(Run {
+    let (dispatched, ended) = first_fault(dispatched, closed)?;
+    let Dispatched {
         outcomes,
-        bindings,
         legs,
+        arrived,
+    } = dispatched;
+    let bindings = bindings(alloc, &ended, arrived.clock)?;
+    Ok(TimedRun {
+        run: Run {
+            outcomes,
+            bindings,
+            legs,
+        },
+        times: arrived.times,
     })
 }

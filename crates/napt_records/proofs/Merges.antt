@@ -10,7 +10,7 @@ use Rattle.std.proofs.lemmas.Bool.{ltb-false, ltb-true}
 use Rattle.napt_wire.specs.declared.Side.{Side}
 use Rattle.napt_wire.specs.declared.Side.TheVariants.{Inside, Outside}
 use Rattle.napt_capture.specs.Contents.{Entry}
-use Rattle.napt_sequential.specs.Inputs.{Arrival}
+use Rattle.napt_sequential.specs.Inputs.{Arrival, Hands}
 use Rattle.napt_capture.specs.Text.{IsWritable}
 use Rattle.napt_records.specs.Output.{IsTimely}
 use Rattle.napt_records.specs.Taking.{Takes, input_of, is_outside_next}
@@ -427,9 +427,8 @@ takes_timely inputs ins outs ins_left outs_left now Outside entry taken all =
 pub none_yet : All IsTimely []
 none_yet k d within = absurd (let none : k < 0 = within in omega (arith, none))
 
--- where nothing was taken, nothing is left
-pub none_left : (ins outs ins_left outs_left : List Entry) (taken : Option (Side × Entry)) →
-    ((x : Side × Entry) → taken ≡ Some x → ⊥) → Takes ins outs taken ins_left outs_left
-    → (ins ≡ []) × (outs ≡ [])
-none_left ins outs ins_left outs_left None never is = is
-none_left ins outs ins_left outs_left (Some x) never is = absurd (never x refl)
+-- where nothing was handed out, nothing is left
+pub none_left : (before after : List Arrival) (handed : Option Arrival) → ((x : Arrival) → handed ≡ Some x → ⊥) →
+    Hands before handed after → before ≡ []
+none_left before after None never is = is.0
+none_left before after (Some x) never is = absurd (never x refl)

@@ -13,7 +13,7 @@ mod report;
 
 pub use fault::{Fault, Which};
 pub use merge_laws::merge_is_one;
-pub use merging::merge;
+pub use merging::{Merged, merge};
 pub use names::{EndpointText, cause_name, protocol_name};
-pub use output::{times_of, write_packets};
+pub use output::write_packets;
 pub use report::report_text;

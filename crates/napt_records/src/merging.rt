@@ -1,15 +1,16 @@
 //! The inputs of a run: the records of both captures, merged by their arrival times.
-ghost use Rattle.std.specs.Prelude.{◌≡◌, ◌++◌, ◌∷◌, [], max, length, All, IfOk, OnOk};
+ghost use Rattle.std.specs.Prelude.{◌≡◌, All, IfOk};
 ghost use Rattle.napt_capture.specs.Text.{IsWritable};
 ghost use Rattle.napt_records.specs.Merge.{IsMerged};
 ghost use Rattle.napt_records.specs.Output.{IsTimely};
-ghost use Rattle.napt_records.specs.Taking.{Takes, input_of, is_outside_next};
+ghost use Rattle.napt_records.specs.Taking.{Takes, is_outside_next};
 
 use napt_capture::Record;
-use napt_sequential::Input;
+use napt_sequential::{Arrivals, Input};
 use napt_wire::Side;
 use std::alloc::{AllocError, Global};
 use std::collections::VecDeque;
+use std::marker::Model;
 
 /// Whether the next record is an outside one: the earlier of the two first ones, and the inside one at a tie.
 fn is_outside_next(inside: &VecDeque<Record>, outside: &VecDeque<Record>) -> bool
@@ -39,28 +40,62 @@ fn take_next(
     Some((Side::Inside, record))
 }
 
-/// Adds the input that a record becomes, at a clock, in ns. Its bytes move.
-fn push_input(
-    inputs: &mut Vec<Input>,
-    side: Side,
+/// The records of both captures, which become the inputs of a run as it asks for them. Neither list is sorted: a record
+/// that is earlier than one before it stands where that one does. At a tie the inside goes first.
+#[derive(Drop)]
+pub struct Merged {
+    inside: VecDeque<Record>,
+    outside: VecDeque<Record>,
+    /// The greatest arrival time so far, in ns.
     clock: u64,
-    record: Record,
-) -> Result<(), AllocError>
-    ensures { OnOk result (inputs.new.items ≡ inputs.old.items ++ input_of side clock «record»
-        ∷ []) }
-{
-    inputs.push(Input {
-        side,
-        time: record.time,
-        clock,
-        bytes: record.bytes,
-    })?;
-    Ok(())
 }
 
-/// Merges the records of both captures into the inputs of a run, by their arrival times. Neither list is sorted: a record
-/// that is earlier than one before it stands where that one does. At a tie the inside goes first. The bytes of the
-/// records move. Fails only where memory runs out.
+impl Model for Merged {
+    ghost use Rattle.std.specs.Prelude.{List};
+    ghost use Rattle.napt_sequential.specs.Inputs.{Arrival};
+    ghost use Rattle.napt_records.specs.Taking.{inputs_from};
+
+    ghost Value = { List Arrival };
+
+    ghost view = { λ merged. inputs_from merged.clock merged.inside.items merged.outside.items };
+}
+
+impl Merged {
+    /// Of the records of both captures. Their bytes move.
+    pub fn new(inside: Vec<Record>, outside: Vec<Record>) -> Merged
+        ensures merged { IsMerged inside.items outside.items result }
+        ensures timely { All IsWritable inside.items → All IsWritable outside.items →
+            All IsTimely result }
+    {
+        Merged {
+            inside: VecDeque::from(inside),
+            outside: VecDeque::from(outside),
+            clock: 0,
+        }
+    }
+}
+
+impl Arrivals for Merged {
+    ghost rest = { λ merged. merged };
+
+    fn count(&self) -> usize {
+        self.inside.len() + self.outside.len()
+    }
+
+    fn next(&mut self) -> Option<Input> {
+        let (side, record) = take_next(&mut self.inside, &mut self.outside)?;
+        self.clock = self.clock.max(record.time);
+        Some(Input {
+            side,
+            time: record.time,
+            clock: self.clock,
+            bytes: record.bytes,
+        })
+    }
+}
+
+/// Merges the records of both captures into the inputs of a run, by their arrival times, as `Merged` hands them out. The
+/// bytes of the records move. Fails only where memory runs out.
 pub fn merge(
     alloc: Global,
     inside: Vec<Record>,
@@ -70,13 +105,10 @@ pub fn merge(
     ensures timely { All IsWritable inside.items → All IsWritable outside.items →
         IfOk result (λ inputs. All IsTimely inputs.items) }
 {
-    let mut inputs = Vec::with_capacity(alloc, inside.len().saturating_add(outside.len()))?;
-    let mut inside = VecDeque::from(inside);
-    let mut outside = VecDeque::from(outside);
-    let mut clock = 0u64;
-    while let Some((side, record)) = take_next(&mut inside, &mut outside) {
-        clock = clock.max(record.time);
-        push_input(&mut inputs, side, clock, record)?;
+    let mut merged = Merged::new(inside, outside);
+    let mut inputs = Vec::with_capacity(alloc, merged.count())?;
+    while let Some(input) = merged.next() {
+        inputs.push(input)?;
     }
     Ok(inputs)
 }

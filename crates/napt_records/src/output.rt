@@ -7,20 +7,8 @@ ghost use Rattle.napt_capture.specs.Writing.{Puts};
 ghost use Rattle.napt_records.specs.Output.{IsTime, record_at, records_at, packet_to, text_of_record};
 
 use napt_capture::{Sink, WriteFault, Written};
-use napt_sequential::{Input, Outcome};
+use napt_sequential::Outcome;
 use napt_wire::Side;
-use std::alloc::{AllocError, Global};
-
-/// The arrival times of all inputs, in ns.
-pub fn times_of(alloc: Global, inputs: &[Input]) -> Result<Vec<u64>, AllocError>
-    ensures { IfOk result (λ times. times.items ≡ map (λ i. i.time) inputs.now) }
-{
-    let mut times = Vec::with_capacity(alloc, inputs.len())?;
-    for input in inputs {
-        times.push(input.time)?;
-    }
-    Ok(times)
-}
 
 /// The bytes of the packet that an outcome sends to a side.
 fn packet_to(side: Side, outcome: &Outcome) -> Option<&[u8]>

@@ -8,9 +8,9 @@ ghost use Rattle.napt_dispatch.specs.Dispatch.{is_gate_fault};
 
 use napt_capture::{Capture, Sink, Source, one_answer, read_capture, write_text};
 use napt_config::Config;
-use napt_dispatch::run_on_pool;
+use napt_dispatch::{TimedRun, run_on_pool};
 use napt_pool::Gate;
-use napt_records::{Fault, Which, merge, report_text, times_of, write_packets};
+use napt_records::{Fault, Merged, Which, report_text, write_packets};
 use napt_sequential::{Outcome, RunFault};
 use napt_wire::Side;
 use std::alloc::Global;
@@ -87,9 +87,8 @@ fn make_outputs<T: Threads + Wait + Copy + Send + 'static, G: Gate + Send + Sync
         return Err(RunFault::TooMany);
     }
     let Captures { inside, outside } = captures;
-    let inputs = merge(alloc, inside.records, outside.records)?;
-    let times = times_of(alloc, &inputs)?;
-    let run = run_on_pool(rt, alloc, config, inputs, gate)?;
+    let mut inputs = Merged::new(inside.records, outside.records);
+    let TimedRun { run, times } = run_on_pool(rt, alloc, config, &mut inputs, gate)?;
     let report = report_text(alloc, &run, inside.cut, outside.cut)?;
     Ok(Outputs {
         times,

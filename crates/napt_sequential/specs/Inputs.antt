@@ -1,5 +1,5 @@
 -- What contracts see of an input of a run: everything but where it lies in memory. Its number is its place, from 0.
-use Rattle.std.specs.Prelude.{ℕ, List}
+use Rattle.std.specs.Prelude.{◌≡◌, ℕ, List, [], ◌∷◌, Option, Some, None}
 use Rattle.napt_wire.specs.declared.Side.{Side}
 
 pub record Arrival : Type 0 where
@@ -9,3 +9,8 @@ pub record Arrival : Type 0 where
   -- the greatest arrival time so far
   pub clock : ℕ
   pub bytes : List ℕ
+
+-- the first of those that were still to come was handed out; at the end there was none
+abbrev pub Hands : List Arrival → Option Arrival → List Arrival → Type 0
+Hands before None after = (before ≡ []) × (after ≡ [])
+Hands before (Some input) after = before ≡ input ∷ after

@@ -4,6 +4,7 @@
 //! what holds of its bindings, and what whoever runs each address apart can rely on.
 #![tactic(auto)]
 
+mod arrivals;
 mod counted_translator;
 mod fault;
 mod input;
@@ -11,6 +12,7 @@ mod laws;
 mod outcome;
 mod run;
 
+pub use arrivals::Arrivals;
 pub use fault::RunFault;
 pub use input::Input;
 pub use laws::{

@@ -12,12 +12,13 @@ ghost use Rattle.napt_sequential.specs.declared.outcome.Outcome.TheVariants.{Dro
 ghost use Rattle.napt_sequential.specs.Admission.{admission_as};
 ghost use Rattle.napt_dispatch.specs.declared.dispatcher.held.Held.TheVariants.{Ready, Place};
 ghost use Rattle.napt_dispatch.specs.declared.dispatcher.progress.Progress.TheVariants.{EndedIn};
-ghost use Rattle.napt_dispatch.specs.Dispatch.{of_worker, IsDispatchFault};
+ghost use Rattle.napt_dispatch.specs.Dispatch.{of_worker, HaveArrived, IsDispatchFault};
 ghost use Rattle.napt_dispatch.specs.Offers.{with_offer, with_offered};
 ghost use Rattle.napt_dispatch.specs.Standing.{pushed, parts_of, state_of, IsSized, Stands, Keeps, IsSizedFor, with_held, with_progress, Admits};
 
 use crate::Worker;
 use crate::dispatcher::Dispatcher;
+use crate::dispatcher::arrived::Arrived;
 use crate::dispatcher::held::Held;
 use crate::dispatcher::impossible_answer::ImpossibleAnswer;
 use crate::dispatcher::offer::Offer;
@@ -25,11 +26,12 @@ use crate::dispatcher::progress::Progress;
 use crate::dispatcher::queues::{is_empty_at, len_at};
 use napt_config::Config;
 use napt_pool::{Gate, Pool};
-use napt_sequential::{Input, Outcome, RunFault, places_stand_for_legs, right_answers, way_from};
+use napt_sequential::{
+    Arrivals, Input, Outcome, RunFault, places_stand_for_legs, right_answers, way_from,
+};
 use napt_translate::{Leg, onward, route};
 use napt_wire::{Cause, Packet, Side};
 use std::alloc::{AllocError, Global};
-use std::collections::VecDeque;
 use std::sync::Wait;
 
 /// After so many inputs the answers of one worker are looked at, of each in its turn. Each look may fetch what another
@@ -101,6 +103,13 @@ impl Dispatcher {
         Ok(())
     }
 
+    /// Makes a place for what is known of the next input.
+    fn expect_input(&mut self) -> Result<(), AllocError>
+        ensures { OnOk result (parts_of self.new ≡ parts_of self.old) }
+    {
+        self.progress.expect_next()
+    }
+
     /// Reads an input of a number, at a time in ns, and gives its first leg where that may be offered at once.
     fn admit(
         &mut self,
@@ -163,39 +172,42 @@ impl Dispatcher {
         }
     }
 
-    /// Dispatches all inputs, in their order; their bytes move. Between them the answers of one worker after the other are taken.
-    pub(super) fn dispatch_all<R: Wait, G: Gate>(
+    /// Dispatches all inputs, in their order; their bytes move. Between them the answers of one worker after the other are
+    /// taken. Says when they arrived.
+    pub(super) fn dispatch_all<R: Wait, G: Gate, I: Arrivals>(
         &mut self,
         rt: &R,
         alloc: Global,
         pool: &mut Pool<Worker, G>,
         config: &Config,
-        inputs: Vec<Input>,
-    ) -> Result<(), RunFault>
+        inputs: &mut I,
+    ) -> Result<Arrived, RunFault>
         requires keeps { KeepsRules config.now }
         requires count { length (starts pool.old) ≡ length config.now.pool }
         requires sized { IsSizedFor pool.old self.old }
         ensures starts { starts pool.new ≡ starts pool.old }
         ensures sized { OnOk result (IsSizedFor pool.new self.new) }
-        ensures served { OnOk result (Stands config.now [] inputs.items
+        ensures served { OnOk result (Stands config.now [] (I.rest inputs.old)
             (state_of pool.old self.old) →
-            Stands config.now inputs.items inputs.items (state_of pool.new self.new)) }
+            Stands config.now (I.rest inputs.old) (I.rest inputs.old)
+            (state_of pool.new self.new)) }
+        ensures arrived { IfOk result (HaveArrived (I.rest inputs.old)) }
         ensures fault { IfErr result (IsDispatchFault G.is_open) }
     {
         let count = config.pool().len();
-        let mut clock = 0;
-        let many = inputs.len();
-        let mut inputs = VecDeque::from(inputs);
+        let many = inputs.count();
+        let mut arrived = Arrived::new(alloc, many)?;
         for number in 0..many {
-            let input = inputs.pop_front().ok_or(ImpossibleAnswer)?;
-            clock = input.clock.max(clock);
+            let input = inputs.next().ok_or(ImpossibleAnswer)?;
+            arrived.note(&input)?;
             self.make_room(rt, alloc, pool, count as u32)?;
-            let found = self.admit(config, number as u64, clock, input)?;
+            self.expect_input()?;
+            let found = self.admit(config, number as u64, arrived.clock, input)?;
             self.offer_admitted(alloc, pool, found)?;
             let turn = turn_after(number, count);
             self.look_at(rt, alloc, pool, turn, count as u32)?;
         }
-        Ok(())
+        Ok(arrived)
     }
 }
 

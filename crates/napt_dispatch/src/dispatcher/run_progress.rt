@@ -20,34 +20,25 @@ use std::mem;
 /// What is known of each input. Contracts see the list of it.
 #[derive(Drop)]
 pub(crate) struct RunProgress {
+    /// Of each input that was read how far it has come.
     stages: Vec<Stage>,
-    /// Of each input its outcome, or the packet that went onward as if it went to the inside. Where nothing is known, a
+    /// Of each of these its outcome, or the packet that went onward as if it went to the inside. Where nothing is known, a
     /// dropped outcome stands.
     outcomes: Vec<Outcome>,
+    /// How many inputs were not read yet.
+    unread: usize,
 }
 
 impl Model for RunProgress {
     ghost use Rattle.std.specs.Prelude.{◌≡◌, List, length};
     ghost use Rattle.napt_dispatch.specs.declared.dispatcher.progress.Progress.{Progress as KnownProgress};
-    ghost use Rattle.napt_pool.specs.Pools.{zip_with};
-    ghost use Rattle.napt_dispatch.specs.Stages.{progress_of};
+    ghost use Rattle.napt_dispatch.specs.Stages.{known};
 
     ghost Value = { List KnownProgress };
 
-    ghost view = { λ all. zip_with progress_of all.stages.items all.outcomes.items };
+    ghost view = { λ all. known all.stages.items all.outcomes.items all.unread };
 
     ghost invariant = { λ all. length all.stages.items ≡ length all.outcomes.items };
-}
-
-/// So many outcomes where nothing is known.
-fn unknown(alloc: Global, count: usize) -> Result<Vec<Outcome>, AllocError>
-    ensures { IfOk result (λ all. all.items ≡ replicate count (Dropped NoBinding)) }
-{
-    let mut all = Vec::with_capacity(alloc, count)?;
-    for _ in 0..count {
-        all.push(Outcome::Dropped(Cause::NoBinding))?;
-    }
-    Ok(all)
 }
 
 impl RunProgress {
@@ -56,12 +47,33 @@ impl RunProgress {
         ensures { IfOk result (λ all. all ≡ replicate inputs Awaited) }
     {
         Ok(RunProgress {
-            stages: vec![in alloc; Stage::Awaited; inputs]?,
-            outcomes: unknown(alloc, inputs)?,
+            stages: Vec::with_capacity(alloc, inputs)?,
+            outcomes: Vec::with_capacity(alloc, inputs)?,
+            unread: inputs,
         })
     }
 
-    /// Writes down what is known of an input. A number that no input has makes an impossible answer.
+    /// Makes a place for the next input, if there is one more: nothing is known of it yet.
+    pub(crate) fn expect_next(&mut self) -> Result<(), AllocError>
+        ensures { OnOk result (self.new ≡ self.old) }
+    {
+        if self.unread == 0 {
+            return Ok(());
+        }
+        self.stages.push(Stage::Awaited)?;
+        match self.outcomes.push(Outcome::Dropped(Cause::NoBinding)) {
+            Ok(()) => {
+                self.unread -= 1;
+                Ok(())
+            }
+            Err(_) => {
+                self.stages.pop();
+                Err(AllocError)
+            }
+        }
+    }
+
+    /// Writes down what is known of an input that was read. A number that none has makes an impossible answer.
     pub(crate) fn write(&mut self, number: u64, progress: Progress) -> Result<(), ImpossibleAnswer>
         ensures { OnOk result (self.new ≡ slice_set self.old number progress) }
     {
@@ -121,8 +133,12 @@ impl RunProgress {
         ensures known { IfSome result (λ outcomes. map outcome_in self ≡ map Some outcomes.items) }
         ensures many { IfSome result (λ outcomes. length self ≡ count) }
     {
-        let RunProgress { stages, outcomes } = self;
-        if stages.len() != count {
+        let RunProgress {
+            stages,
+            outcomes,
+            unread,
+        } = self;
+        if stages.len() != count || unread > 0 {
             return None;
         }
         for stage in &stages {

@@ -11,25 +11,22 @@ use Rattle.napt_run.proofs.captures.make_outputs.Goals as goal
 
 pub run_on_pool-requires-clause-few : goal.run_on_pool-requires-clause-few
 run_on_pool-requires-clause-few g c κs within =
-    merged_few _ _ _ (rw (← c.inside.view_is, ← c.outside.view_is) c.in_ok-inputs.ensures.merged)
+    merged_few _ _ _ (rw (← c.inside.view_is, ← c.outside.view_is) c.new-inputs.ensures.merged)
     (λ many. true≢false (sym (c.are_too_many.ensures.1 many) ∙ c.if-are_too_many.false))
 
 pub returns-clause-few : goal.returns-clause-few
 returns-clause-few g c =
-    let few : length c.in_ok-inputs.inputs.items < 2 ^ 32 =
-    merged_few _ _ _ (rw (← c.inside.view_is, ← c.outside.view_is) c.in_ok-inputs.ensures.merged)
+    let few : length c.new-inputs.result < 2 ^ 32 =
+    merged_few _ _ _ (rw (← c.inside.view_is, ← c.outside.view_is) c.new-inputs.ensures.merged)
     (λ many. true≢false (sym (c.are_too_many.ensures.1 many) ∙ c.if-are_too_many.false)) in
     let time : Arrival → ℕ = λ input. input.time in
-    let long : length c.in_ok-times.times.items ≡ length c.in_ok-inputs.inputs.items =
-    ap length (c.in_ok-times.ensures ∙ ap (map time) c.deref.ensures.value)
-    ∙ length-map c.in_ok-inputs.inputs.items time in
+    let long : length c.in_ok-run.field-0.times.items ≡ length c.new-inputs.result =
+    ap length c.in_ok-run.ensures.times ∙ length-map c.new-inputs.result time in
     subst (λ (n : ℕ). n < 2 ^ 32) (sym long) few
 
 pub returns-clause-timely : goal.returns-clause-timely
 returns-clause-timely g c =
-    let timely : All IsTimely c.in_ok-inputs.inputs.items = c.in_ok-inputs.ensures.timely
+    let timely : All IsTimely c.new-inputs.result = c.new-inputs.ensures.timely
     (subst (λ (capture : Contents). All IsWritable capture.records) (sym c.inside.view_is) c.requires.inside)
     (subst (λ (capture : Contents). All IsWritable capture.records) (sym c.outside.view_is) c.requires.outside) in
-    let time : Arrival → ℕ = λ input. input.time in
-    subst (All IsTime) (sym (c.in_ok-times.ensures ∙ ap (map time) c.deref.ensures.value))
-    (times_timely c.in_ok-inputs.inputs.items timely)
+    subst (All IsTime) (sym c.in_ok-run.ensures.times) (times_timely c.new-inputs.result timely)

@@ -5,7 +5,7 @@ use Rattle.napt_sequential.specs.declared.outcome.Outcome.{Outcome}
 use Rattle.napt_sequential.specs.declared.outcome.Outcome.TheVariants.{Dropped}
 use Rattle.napt_dispatch.specs.declared.dispatcher.stage.Stage.{Stage}
 use Rattle.napt_dispatch.specs.declared.dispatcher.stage.Stage.TheVariants as stages
-use Rattle.napt_dispatch.proofs.Stages.{zip_set, zip_get}
+use Rattle.napt_dispatch.proofs.Stages.{known_set, known_get}
 use Rattle.napt_dispatch.proofs.dispatcher.run_progress.RunProgress.second_leg.Goals as goal
 
 pub returns-in-EndedOut : goal.returns-in-EndedOut
@@ -17,7 +17,8 @@ returns-in-EndedOut c =
       get_or os c.args.number (Dropped NoBinding),
       rw (
         ← c.self.view_is,
-        zip_get ss os c.args.number c.index.result.now (Dropped NoBinding) c.self.invariant lt,
+        known_get ss os c.self.inside.unread c.args.number c.index.result.now (Dropped NoBinding) c.self.invariant
+            lt,
         ← c.index.ensures,
         c.in-EndedOut.is,
       ) refl,
@@ -28,10 +29,13 @@ returns-in-ToInside c =
     let ss : List Stage = c.self.inside.stages.items in
     let os : List Outcome = c.self.inside.outcomes.items in
     let lt : c.args.number < length ss = omega (arith, c.self.inside.stages.ok.0) in (
-      rw (zip_set ss os c.args.number stages.Awaited c.replace.new.dest, c.self.view_is) refl,
+      rw (
+        known_set ss os c.self.inside.unread c.args.number stages.Awaited c.replace.new.dest c.self.invariant lt,
+        c.self.view_is,
+      ) refl,
       rw (
         ← c.self.view_is,
-        zip_get ss os c.args.number c.index.result.now c.index_mut-kept.result.now
+        known_get ss os c.self.inside.unread c.args.number c.index.result.now c.index_mut-kept.result.now
             c.self.invariant lt,
         ← c.index.ensures,
         c.in-Onward.is,

@@ -1,6 +1,13 @@
-use Rattle.std.proofs.Common.{refl}
-use Rattle.napt_dispatch.proofs.Stages.{zip_set}
+use Rattle.std.proofs.Common.{◌<◌, length, refl, arith}
+use Rattle.napt_dispatch.proofs.Stages.{known_set}
 use Rattle.napt_dispatch.proofs.dispatcher.run_progress.RunProgress.write.Goals as goal
 
 pub returns : goal.returns
-returns c = rw (zip_set, c.self.view_is, c.into_parts-stage.ensures) refl
+returns c =
+    let lt : c.args.number < length c.self.inside.stages.items = omega (arith, c.self.inside.stages.ok.0) in
+    rw (
+      known_set c.self.inside.stages.items c.self.inside.outcomes.items c.self.inside.unread c.args.number _ _
+          c.self.invariant lt,
+      c.self.view_is,
+      c.into_parts-stage.ensures,
+    ) refl

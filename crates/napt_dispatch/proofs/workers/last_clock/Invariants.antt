@@ -1,6 +1,0 @@
-use Rattle.std.proofs.Common.{◌≡◌, take}
-use Rattle.napt_sequential.specs.Sequential.{last_clock}
-use Rattle.napt_dispatch.proofs.workers.last_clock.Given as goal
-
-abbrev pub invariant-loop-input : goal.invariant-loop-input
-invariant-loop-input l = last_clock 0 (take l.input-index l.inputs) ≡ l.clock
