@@ -8,8 +8,8 @@ use Rattle.napt_binding.specs.declared.Binding.{Binding}
 use Rattle.napt_table.specs.Opening.{opening}
 use Rattle.napt_sequential.specs.declared.outcome.Outcome.{Outcome}
 use Rattle.napt_sequential.specs.Inputs.{Arrival}
-use Rattle.napt_sequential.specs.Sequential.{Act, Stepped, Course, first_leg, step_as, step, run_from, run, last_clock}
-use Rattle.napt_sequential.specs.Dispatching.{IsFront, joined}
+use Rattle.napt_sequential.specs.Sequential.{Act, Course, ahead, first_leg, step_as, step, run_from, run, last_clock}
+use Rattle.napt_sequential.specs.Dispatching.{IsFront}
 use Rattle.napt_sequential.specs.Admission.{admission}
 use Rattle.napt_sequential.proofs.Grown.{clock_more}
 use Rattle.napt_sequential.proofs.Dispatched.{runs_grow}
@@ -20,7 +20,7 @@ pub acts_begin : (rules : Rules) (number clock : ℕ) (xs ys : List Arrival) (li
     IsFront (run_from rules number clock xs list).acts (run_from rules number clock (xs ++ ys) list).acts
 acts_begin rules number clock [] ys list = ((run_from rules number clock ys list).acts, refl)
 acts_begin rules number clock (i ∷ xs) ys list =
-    let first : Stepped = step rules number (max clock i.clock) i list in
+    let first : Course = step rules number (max clock i.clock) i list in
     let more : IsFront (run_from rules (number + 1) (max clock i.clock) xs first.list).acts
     (run_from rules (number + 1) (max clock i.clock) (xs ++ ys) first.list).acts =
     acts_begin rules (number + 1) (max clock i.clock) xs ys first.list in (
@@ -33,11 +33,14 @@ pub outcomes_begin : (rules : Rules) (number clock : ℕ) (xs ys : List Arrival)
     IsFront (run_from rules number clock xs list).outcomes (run_from rules number clock (xs ++ ys) list).outcomes
 outcomes_begin rules number clock [] ys list = ((run_from rules number clock ys list).outcomes, refl)
 outcomes_begin rules number clock (i ∷ xs) ys list =
-    let first : Stepped = step rules number (max clock i.clock) i list in
+    let first : Course = step rules number (max clock i.clock) i list in
     let more : IsFront (run_from rules (number + 1) (max clock i.clock) xs first.list).outcomes
     (run_from rules (number + 1) (max clock i.clock) (xs ++ ys) first.list).outcomes =
-    outcomes_begin rules (number + 1) (max clock i.clock) xs ys first.list in
-    (more.0, ap (λ (os : List Outcome). first.outcome ∷ os) more.1)
+    outcomes_begin rules (number + 1) (max clock i.clock) xs ys first.list in (
+      more.0,
+      append_assoc first.outcomes (run_from rules (number + 1) (max clock i.clock) xs first.list).outcomes more.0
+          ∙ ap (λ (os : List Outcome). first.outcomes ++ os) more.1,
+    )
 
 pub get_at : (xs : List Outcome) (o : Outcome) (rest : List Outcome) (n : ℕ) → length xs ≡ n →
     slice_get ((xs ++ o ∷ []) ++ rest) n ≡ Some o
@@ -50,14 +53,14 @@ module _ (rules : Rules) (done rest : List Arrival) (input : Arrival) (number no
     (clock : max (last_clock 0 done) input.clock ≡ now) where
   -- the run of one input more
   pub grown : (admitted_as : Result (List ℕ) Cause) → admission rules input ≡ admitted_as →
-      run rules (done ++ input ∷ []) (opening rules) ≡ joined (run rules done (opening rules))
+      run rules (done ++ input ∷ []) (opening rules) ≡ ahead (run rules done (opening rules))
       (step_as rules (first_leg number now input.side) admitted_as (run rules done (opening rules)).list)
   grown admitted_as is =
       let r : Course = run rules done (opening rules) in
       runs_grow rules done input (opening rules)
-      ∙ (ap (λ (n : ℕ). joined r (step rules n (max (last_clock 0 done) input.clock) input r.list)) long
-      ∙ (ap (λ (t : ℕ). joined r (step rules number t input r.list)) clock
-      ∙ ap (λ (a : Result (List ℕ) Cause). joined r (step_as rules (first_leg number now input.side) a r.list)) is))
+      ∙ (ap (λ (n : ℕ). ahead r (step rules n (max (last_clock 0 done) input.clock) input r.list)) long
+      ∙ (ap (λ (t : ℕ). ahead r (step rules number t input r.list)) clock
+      ∙ ap (λ (a : Result (List ℕ) Cause). ahead r (step_as rules (first_leg number now input.side) a r.list)) is))
 
 -- A STEP OF THE LOOP
 
