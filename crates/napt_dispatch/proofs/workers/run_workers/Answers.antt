@@ -1,7 +1,7 @@
 use Rattle.std.proofs.Common.{◌≡◌, length}
 use Rattle.std.specs.Prelude.{AllPairs}
 use Rattle.napt_sequential.specs.Sequential.{Ran, ran}
-use Rattle.napt_sequential.specs.Sound.{AreRowsApart}
+use Rattle.napt_table.specs.Endpoints.{AreRowsApart}
 use Rattle.napt_sequential.proofs.Results.{if_ok}
 use Rattle.napt_sequential.proofs.Rows.{rows_apart}
 use Rattle.napt_sequential.proofs.Shown.{ran_long}
