@@ -105,7 +105,7 @@ tells_from rules number clock (input ∷ inputs) list =
     let now : ℕ = max clock input.clock in
     let first : Course = step rules number now input list in
     let rest : Course = run_from rules (number + 1) now inputs first.list in
-    let one = step_one rules number now input list in
+    let one = (step_one rules number now input list).0 in
     let here : Each (TellsHere number first.outcomes) first.acts =
     of_step rules number now list (λ (s : Course). Each (TellsHere number s.outcomes) s.acts) (λ cause. tt)
     (λ address side packet. let leg : Leg = first_leg number now side packet in

@@ -1,5 +1,5 @@
 -- One input more.
-use Rattle.std.proofs.Common.{◌≡◌, ℕ, zero, suc, ◌+◌, ◌<◌, max, List, [], ◌∷◌, ◌++◌, length, Some, Result, refl, sym, ◌∙◌, ap, arith, append_assoc, get_or, take, drop, length-take}
+use Rattle.std.proofs.Common.{◌≡◌, ℕ, zero, suc, ◌+◌, ◌<◌, max, List, [], ◌∷◌, ◌++◌, length, Some, Result, refl, sym, ◌∙◌, ap, arith, get_or, take, drop, length-take}
 use Rattle.std.proofs.lemmas.List.{take_more, take-append-drop}
 use Rattle.std.specs.Prelude.{slice_get}
 use Rattle.napt_wire.specs.declared.Cause.{Cause}
@@ -8,39 +8,23 @@ use Rattle.napt_binding.specs.declared.Binding.{Binding}
 use Rattle.napt_table.specs.Opening.{opening}
 use Rattle.napt_sequential.specs.declared.outcome.Outcome.{Outcome}
 use Rattle.napt_sequential.specs.Inputs.{Arrival}
-use Rattle.napt_sequential.specs.Sequential.{Act, Course, ahead, first_leg, step_as, step, run_from, run, last_clock}
+use Rattle.napt_sequential.specs.Sequential.{Course, ahead, first_leg, step_as, step, run_from, run, last_clock}
 use Rattle.napt_sequential.specs.Dispatching.{IsFront}
 use Rattle.napt_sequential.specs.Admission.{admission}
-use Rattle.napt_sequential.proofs.Grown.{clock_more}
+use Rattle.napt_sequential.proofs.Grown.{run_append, clock_more}
 use Rattle.napt_sequential.proofs.Dispatched.{runs_grow}
 
 -- A RUN BEGINS AS THAT OF ITS FIRST INPUTS
 
 pub acts_begin : (rules : Rules) (number clock : ℕ) (xs ys : List Arrival) (list : List Binding) →
     IsFront (run_from rules number clock xs list).acts (run_from rules number clock (xs ++ ys) list).acts
-acts_begin rules number clock [] ys list = ((run_from rules number clock ys list).acts, refl)
-acts_begin rules number clock (i ∷ xs) ys list =
-    let first : Course = step rules number (max clock i.clock) i list in
-    let more : IsFront (run_from rules (number + 1) (max clock i.clock) xs first.list).acts
-    (run_from rules (number + 1) (max clock i.clock) (xs ++ ys) first.list).acts =
-    acts_begin rules (number + 1) (max clock i.clock) xs ys first.list in (
-      more.0,
-      append_assoc first.acts (run_from rules (number + 1) (max clock i.clock) xs first.list).acts more.0
-          ∙ ap (λ (xs : List Act). first.acts ++ xs) more.1,
-    )
+acts_begin rules number clock xs ys list =
+    (_, sym (ap (λ (r : Course). r.acts) (run_append rules number clock xs ys list _ refl)))
 
 pub outcomes_begin : (rules : Rules) (number clock : ℕ) (xs ys : List Arrival) (list : List Binding) →
     IsFront (run_from rules number clock xs list).outcomes (run_from rules number clock (xs ++ ys) list).outcomes
-outcomes_begin rules number clock [] ys list = ((run_from rules number clock ys list).outcomes, refl)
-outcomes_begin rules number clock (i ∷ xs) ys list =
-    let first : Course = step rules number (max clock i.clock) i list in
-    let more : IsFront (run_from rules (number + 1) (max clock i.clock) xs first.list).outcomes
-    (run_from rules (number + 1) (max clock i.clock) (xs ++ ys) first.list).outcomes =
-    outcomes_begin rules (number + 1) (max clock i.clock) xs ys first.list in (
-      more.0,
-      append_assoc first.outcomes (run_from rules (number + 1) (max clock i.clock) xs first.list).outcomes more.0
-          ∙ ap (λ (os : List Outcome). first.outcomes ++ os) more.1,
-    )
+outcomes_begin rules number clock xs ys list =
+    (_, sym (ap (λ (r : Course). r.outcomes) (run_append rules number clock xs ys list _ refl)))
 
 pub get_at : (xs : List Outcome) (o : Outcome) (rest : List Outcome) (n : ℕ) → length xs ≡ n →
     slice_get ((xs ++ o ∷ []) ++ rest) n ≡ Some o
