@@ -4,7 +4,7 @@ ghost use Rattle.std.specs.Prelude.{◌≡◌, ◌↔◌, ◌^◌, ◌≤◌, �
 ghost use Rattle.napt_config.specs.Rules.{KeepsRules};
 ghost use Rattle.napt_sequential.specs.Sequential as model;
 ghost use Rattle.napt_dispatch.specs.Dispatch.{first_fault, started, rows_after, IsFaultUnder, is_gate_fault};
-ghost use Rattle.napt_sequential.specs.Sound.{AreRowsApart};
+ghost use Rattle.napt_table.specs.Endpoints.{AreRowsApart};
 
 use crate::Worker;
 use crate::dispatcher::{Dispatched, dispatch_arrivals};

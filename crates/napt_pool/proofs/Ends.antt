@@ -1,5 +1,5 @@
 -- What the end of a worker's thread makes of the end of the worker.
-use Rattle.std.proofs.Common.{◌≡◌, refl, sym, ap, ◌∙◌, Bool, true, false, List, map, [], ◌∷◌, ◌++◌}
+use Rattle.std.proofs.Common.{◌≡◌, refl, ap, ◌∙◌, Bool, false, List, map, [], ◌∷◌, ◌++◌}
 use Rattle.std.specs.Prelude.{Result, Ok, Err, OnOk, IfErr, MatchResult}
 use Rattle.rtrb.specs.Ring.{sent, received}
 use Rattle.napt_pool.specs.declared.fault.Stop.{Stop}

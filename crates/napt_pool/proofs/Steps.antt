@@ -1,6 +1,7 @@
 -- How the histories of a worker grow.
 use Rattle.std.proofs.Common.{◌≡◌, refl, sym, ap, ◌∙◌, List, map, [], ◌∷◌, ◌++◌, append-nil, inr}
 use Rattle.std.proofs.lemmas.List.{map-append}
+use Rattle.std.proofs.lemmas.List.Sums.{fold_push}
 use Rattle.std.specs.Prelude.{Result, Ok, Err, IfErr}
 use Rattle.napt_pool.specs.declared.fault.Stop.{Stop}
 use Rattle.napt_pool.specs.declared.fault.Stop.TheVariants.{Ring}
@@ -15,10 +16,6 @@ pub map-snoc : {A B : Type 0} (f : A → B) (xs : List A) (x : A) → map f (xs 
 map-snoc f xs x = map-append f xs (x ∷ [])
 
 module _ {M I A : Type 0} (g : Ghosts M I A) where
-  pub after-snoc : (m : M) (xs : List I) (x : I) → after g m (xs ++ x ∷ []) ≡ g.stepped (after g m xs) x
-  after-snoc m [] x = refl
-  after-snoc m (y ∷ ys) x = after-snoc (g.stepped m y) ys x
-
   pub replies-snoc : (m : M) (xs : List I) (x : I) → replies g m (xs ++ x ∷ []) ≡ replies g m xs
       ++ g.reply (after g m xs) x ∷ []
   replies-snoc m [] x = refl
@@ -36,7 +33,7 @@ module _ {M I A : Type 0} (g : Ghosts M I A) where
     seen = was.seen ++ x ∷ [];
     received_is = eh ∙ (rw (map-snoc, was.received_is) refl);
     sent_is = es ∙ (rw (replies-snoc, map-snoc, was.sent_is, was.machine_is) refl);
-    machine_is = ek ∙ (rw (after-snoc, was.machine_is) refl);
+    machine_is = ek ∙ (rw (fold_push, was.machine_is) refl);
   }
 
   -- Close at last

@@ -1,5 +1,6 @@
 -- What the rings have carried, and the folds of a machine's step.
 use Rattle.std.specs.Prelude.{◌≡◌, ◌⊎◌, List, map, [], ◌∷◌, ◌++◌}
+use Rattle.std.specs.List.{fold, scan}
 use Rattle.napt_pool.specs.declared.fault.Stop.{Stop}
 use Rattle.napt_pool.specs.declared.fault.Stop.TheVariants.{Ring}
 use Rattle.napt_pool.specs.declared.machine.Machine.{Ghosts}
@@ -38,13 +39,11 @@ Told stop before after = (after ≡ before ++ Stopped stop ∷ []) ⊎ ((stop �
 module _ {M I A : Type 0} (g : Ghosts M I A) where
   -- the state after a step on each item
   abbrev pub after : M → List I → M
-  after m [] = m
-  after m (x ∷ xs) = after (g.stepped m x) xs
+  after m xs = fold g.stepped m xs
 
   -- the answer to each item
   abbrev pub replies : M → List I → List A
-  replies m [] = []
-  replies m (x ∷ xs) = g.reply m x ∷ replies (g.stepped m x) xs
+  replies m xs = scan g.stepped g.reply m xs
 
   -- A worker began with machine m, received messages, sent replies and has come to machine n:
   -- it stepped on each item that it received, in order, and sent the answer to each

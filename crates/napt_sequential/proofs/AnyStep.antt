@@ -7,9 +7,9 @@ use Rattle.napt_binding.specs.declared.Binding.{Binding}
 use Rattle.napt_translate.specs.Sides.{way_from, served_at}
 use Rattle.napt_sequential.specs.Inputs.{Arrival}
 use Rattle.napt_sequential.specs.Admission.{admission}
-use Rattle.napt_sequential.specs.Sequential.{Stepped, refused, admitted, first_leg, step_as, step}
+use Rattle.napt_sequential.specs.Sequential.{Course, refused, admitted, first_leg, step_as, step}
 
-module _ (rules : Rules) (number now : ℕ) (list : List Binding) (P : Stepped → Type 0)
+module _ (rules : Rules) (number now : ℕ) (list : List Binding) (P : Course → Type 0)
     (of_refused : (cause : Cause) → P (refused cause list))
     (of_admitted : (address : ℕ) (side : Side) (packet : List ℕ) →
     P (admitted rules address (first_leg number now side packet) list)) where

@@ -16,11 +16,11 @@ use Rattle.napt_translate.specs.declared.translator.End.TheVariants.{ToOutside, 
 use Rattle.napt_translate.specs.Legs.{Acted, act, Kept, kept_after, kept_answer, kept_replies}
 use Rattle.napt_sequential.specs.declared.outcome.Outcome.{Outcome}
 use Rattle.napt_sequential.specs.Inputs.{Arrival}
-use Rattle.napt_sequential.specs.Sequential.{Act, Stepped, outcome_of, follow_by, first_leg, step, Course, run_from, run}
+use Rattle.napt_sequential.specs.Sequential.{Act, Course, outcome_of, follow_by, first_leg, step, run_from, run}
 use Rattle.napt_sequential.specs.Laws.{answers_at}
 use Rattle.napt_sequential.specs.Dispatching.{IsFront, RightAnswersAreTheRuns, RunsGrow, told, IsTold, AnswersTellOutcomes, OnwardIsForetold}
 use Rattle.napt_sequential.proofs.AnyStep.{of_step}
-use Rattle.napt_sequential.proofs.Grown.{grows}
+use Rattle.napt_sequential.proofs.Grown.{grows, step_one}
 use Rattle.napt_sequential.proofs.Lists.{each_append}
 use Rattle.napt_sequential.proofs.RunsLocal.{translators_answer_alone}
 use Rattle.napt_sequential.proofs.Steps.{OnwardBy, onward}
@@ -56,10 +56,10 @@ runs_grow rules inputs input list = grows rules 0 0 inputs input list (length in
 -- OUTCOMES
 
 -- the acts of a step have its number, and one that does not go onward tells its outcome
-abbrev TellsHere : ℕ → Outcome → Act → Type 0
-TellsHere number outcome a = (a.leg.number ≡ number) × IfSome (told a.end) (λ o. o ≡ outcome)
+abbrev TellsHere : ℕ → List Outcome → Act → Type 0
+TellsHere number outcomes a = (a.leg.number ≡ number) × IfSome (told a.end) (λ o. outcomes ≡ o ∷ [])
 
-end_told : (e : End) → IfSome (told e) (λ o. o ≡ outcome_of e)
+end_told : (e : End) → IfSome (told e) (λ o. outcome_of e ∷ [] ≡ o ∷ [])
 end_told (ToOutside packet) = refl
 end_told (ToInside packet) = refl
 end_told (Onward place packet) = tt
@@ -67,7 +67,7 @@ end_told (Dropped cause) = refl
 
 follow_tells : (rules : Rules) (address : ℕ) (leg : Leg) (list : List Binding) (end : End) →
     (let first : Acted = record { end = end; list = list } in
-    Each (TellsHere leg.number (follow_by rules address leg first end).outcome)
+    Each (TellsHere leg.number (follow_by rules address leg first end).outcomes)
     (follow_by rules address leg first end).acts)
 follow_tells rules address leg list (ToOutside packet) = ((refl, refl), tt)
 follow_tells rules address leg list (ToInside packet) = ((refl, refl), tt)
@@ -81,20 +81,21 @@ abbrev TellsFrom : ℕ → List Outcome → Act → Type 0
 TellsFrom number all a = (number ≤ a.leg.number) × IfSome (told a.end) (λ o. slice_get all (a.leg.number - number)
     ≡ Some o)
 
-here_from : (number : ℕ) (outcome : Outcome) (all : List Outcome) (a : Act) (o : Option Outcome) → a.leg.number
-    ≡ number → IfSome o (λ x. x ≡ outcome) → IfSome o (λ x. slice_get (outcome ∷ all) (a.leg.number - number) ≡ Some x)
-here_from number outcome all a None e h = tt
-here_from number outcome all a (Some x) e h =
+here_from : (number : ℕ) (first all : List Outcome) (a : Act) (o : Option Outcome) → a.leg.number ≡ number →
+    IfSome o (λ x. first ≡ x ∷ []) → IfSome o (λ x. slice_get (first ++ all) (a.leg.number - number) ≡ Some x)
+here_from number first all a None e h = tt
+here_from number first all a (Some x) e h =
     let none : a.leg.number - number ≡ 0 = omega arith in
-    ap (slice_get (outcome ∷ all)) none ∙ ap Some (sym h)
+    rw (h, none) refl
 
-later_from : (number : ℕ) (outcome : Outcome) (all : List Outcome) (a : Act) (o : Option Outcome) →
-    number + 1 ≤ a.leg.number → IfSome o (λ x. slice_get all (a.leg.number - (number + 1)) ≡ Some x) →
-    IfSome o (λ x. slice_get (outcome ∷ all) (a.leg.number - number) ≡ Some x)
-later_from number outcome all a None le h = tt
-later_from number outcome all a (Some x) le h =
+later_from : (number : ℕ) (outcome : Outcome) (first all : List Outcome) (a : Act) (o : Option Outcome) →
+    first ≡ outcome ∷ [] → number + 1 ≤ a.leg.number →
+    IfSome o (λ x. slice_get all (a.leg.number - (number + 1)) ≡ Some x) →
+    IfSome o (λ x. slice_get (first ++ all) (a.leg.number - number) ≡ Some x)
+later_from number outcome first all a None one le h = tt
+later_from number outcome first all a (Some x) one le h =
     let more : a.leg.number - number ≡ suc (a.leg.number - (number + 1)) = omega arith in
-    ap (slice_get (outcome ∷ all)) more ∙ h
+    rw (one, more) h
 
 tells_from : (rules : Rules) (number clock : ℕ) (inputs : List Arrival) (list : List Binding) →
     Each (TellsFrom number (run_from rules number clock inputs list).outcomes)
@@ -102,19 +103,21 @@ tells_from : (rules : Rules) (number clock : ℕ) (inputs : List Arrival) (list 
 tells_from rules number clock [] list = tt
 tells_from rules number clock (input ∷ inputs) list =
     let now : ℕ = max clock input.clock in
-    let first : Stepped = step rules number now input list in
+    let first : Course = step rules number now input list in
     let rest : Course = run_from rules (number + 1) now inputs first.list in
-    let here : Each (TellsHere number first.outcome) first.acts =
-    of_step rules number now list (λ (s : Stepped). Each (TellsHere number s.outcome) s.acts) (λ cause. tt)
+    let one = (step_one rules number now input list).0 in
+    let here : Each (TellsHere number first.outcomes) first.acts =
+    of_step rules number now list (λ (s : Course). Each (TellsHere number s.outcomes) s.acts) (λ cause. tt)
     (λ address side packet. let leg : Leg = first_leg number now side packet in
     let acted : Acted = act rules address leg list in follow_tells rules address leg acted.list acted.end) input in
-    each_append (TellsFrom number (first.outcome ∷ rest.outcomes)) first.acts rest.acts
-    (each_weaker (TellsHere number first.outcome) (TellsFrom number (first.outcome ∷ rest.outcomes)) (λ a h.
+    let all : List Outcome = first.outcomes ++ rest.outcomes in
+    each_append (TellsFrom number all) first.acts rest.acts
+    (each_weaker (TellsHere number first.outcomes) (TellsFrom number all) (λ a h.
     let e : a.leg.number ≡ number = h.0 in
-    (omega arith, here_from number first.outcome rest.outcomes a (told a.end) h.0 h.1)) first.acts here)
-    (each_weaker (TellsFrom (number + 1) rest.outcomes) (TellsFrom number (first.outcome ∷ rest.outcomes)) (λ a h.
+    (omega arith, here_from number first.outcomes rest.outcomes a (told a.end) h.0 h.1)) first.acts here)
+    (each_weaker (TellsFrom (number + 1) rest.outcomes) (TellsFrom number all) (λ a h.
     let e : number + 1 ≤ a.leg.number = h.0 in
-    (omega arith, later_from number first.outcome rest.outcomes a (told a.end) h.0 h.1)) rest.acts
+    (omega arith, later_from number one.0 first.outcomes rest.outcomes a (told a.end) one.1 h.0 h.1)) rest.acts
     (tells_from rules (number + 1) now inputs first.list))
 
 told_from : (all : List Outcome) (a : Act) (o : Option Outcome) →

@@ -11,45 +11,42 @@ use Rattle.napt_translate.specs.Legs.{Acted, act}
 use Rattle.napt_sequential.specs.Inputs.{Arrival}
 use Rattle.napt_sequential.specs.declared.outcome.Outcome.{Outcome}
 use Rattle.napt_sequential.specs.declared.counted_translator.CountedTranslator.{CountedTranslator}
-use Rattle.napt_sequential.specs.Sequential.{Act, Stepped, follow_by, first_leg, step, Course, ahead, run_from, run, last_clock}
+use Rattle.napt_sequential.specs.Sequential.{Course, ahead, follow_by, first_leg, step, run_from, run, last_clock}
 use Rattle.napt_sequential.specs.CountedTranslators.{AreCountedTranslators, CanTake, Follows, state_of}
-use Rattle.napt_sequential.specs.Dispatching.{joined}
 use Rattle.napt_sequential.proofs.AnyStep.{of_step}
 
-ahead_joined : (first : Stepped) (course : Course) (next : Stepped) → ahead first (joined course next)
-    ≡ joined (ahead first course) next
-ahead_joined first course next =
-    ap (λ (acts : List Act). record {
-      outcomes = first.outcome ∷ (course.outcomes ++ next.outcome ∷ []);
-      acts = acts;
-      list = next.list;
-    }) (sym (append_assoc first.acts course.acts next.acts))
+ahead_none : (course : Course) → ahead course (record { outcomes = []; acts = []; list = course.list }) ≡ course
+ahead_none course = rw (append-nil course.outcomes, append-nil course.acts) refl
+
+ahead_all : (first course next : Course) → ahead first (ahead course next) ≡ ahead (ahead first course) next
+ahead_all first course next = rw (
+  append_assoc first.outcomes course.outcomes next.outcomes,
+  append_assoc first.acts course.acts next.acts,
+) refl
+
+-- a run is that of its first inputs, ahead of that of the others
+pub run_append : (rules : Rules) (number clock : ℕ) (xs ys : List Arrival) (list : List Binding) (at : ℕ) →
+    number + length xs ≡ at → run_from rules number clock (xs ++ ys) list
+    ≡ ahead (run_from rules number clock xs list)
+    (run_from rules at (last_clock clock xs) ys (run_from rules number clock xs list).list)
+run_append rules number clock [] ys list at e =
+    let here : number ≡ at = omega arith in ap (λ (n : ℕ). run_from rules n clock ys list) here
+run_append rules number clock (i ∷ xs) ys list at e =
+    let now : ℕ = max clock i.clock in
+    let first : Course = step rules number now i list in
+    let rest : Course = run_from rules (number + 1) now xs first.list in
+    ap (ahead first) (run_append rules (number + 1) now xs ys first.list at (omega arith))
+    ∙ ahead_all first rest (run_from rules at (last_clock now xs) ys rest.list)
 
 pub grows : (rules : Rules) (number clock : ℕ) (inputs : List Arrival) (input : Arrival) (list : List Binding)
     (at : ℕ) → number + length inputs ≡ at →
     run_from rules number clock (inputs ++ input ∷ []) list
-    ≡ joined (run_from rules number clock inputs list) (step rules at (max (last_clock clock inputs) input.clock) input
+    ≡ ahead (run_from rules number clock inputs list) (step rules at (max (last_clock clock inputs) input.clock) input
     (run_from rules number clock inputs list).list)
-grows rules number clock [] input list at e =
-    let here : number ≡ at = omega arith in
-    ap (λ (n : ℕ). ahead (step rules n (max clock input.clock) input list) (record {
-      outcomes = [];
-      acts = [];
-      list =
-          (step rules n (max clock input.clock) input list).list;
-    })) here
-    ∙ ap (λ (acts : List Act). record {
-      outcomes = (step rules at (max clock input.clock) input list).outcome ∷ [];
-      acts = acts;
-      list = (step rules at (max clock input.clock) input list).list;
-    })
-    (append-nil (step rules at (max clock input.clock) input list).acts)
-grows rules number clock (i ∷ inputs) input list at e =
-    let now : ℕ = max clock i.clock in
-    let first : Stepped = step rules number now i list in
-    let rest : Course = run_from rules (number + 1) now inputs first.list in
-    ap (ahead first) (grows rules (number + 1) now inputs input first.list at (omega arith))
-    ∙ ahead_joined first rest (step rules at (max (last_clock now inputs) input.clock) input rest.list)
+grows rules number clock inputs input list at e =
+    run_append rules number clock inputs (input ∷ []) list at e
+    ∙ ap (ahead (run_from rules number clock inputs list)) (ahead_none
+    (step rules at (max (last_clock clock inputs) input.clock) input (run_from rules number clock inputs list).list))
 
 pub clock_more : (clock : ℕ) (inputs : List Arrival) (input : Arrival) → last_clock clock (inputs ++ input ∷ [])
     ≡ max (last_clock clock inputs) input.clock
@@ -58,35 +55,41 @@ clock_more clock (i ∷ inputs) input = clock_more (max clock i.clock) inputs in
 
 -- HOW MANY OUTCOMES, AND LEGS
 
+-- one outcome, and two legs at most
+abbrev IsOfOne : Course → Type 0
+IsOfOne course = ((outcome : Outcome) × (course.outcomes ≡ outcome ∷ [])) × (length course.acts ≤ 2)
+
+follow_one : (rules : Rules) (address : ℕ) (leg : Leg) (first : Acted) (end : End) →
+    IsOfOne (follow_by rules address leg first end)
+follow_one rules address leg first (ToOutside packet) = ((_, refl), omega arith)
+follow_one rules address leg first (ToInside packet) = ((_, refl), omega arith)
+follow_one rules address leg first (Dropped cause) = ((_, refl), omega arith)
+follow_one rules address leg first (Onward place packet) = ((_, refl), omega arith)
+
+pub step_one : (rules : Rules) (number now : ℕ) (input : Arrival) (list : List Binding) →
+    IsOfOne (step rules number now input list)
+step_one rules number now input list =
+    of_step rules number now list IsOfOne (λ cause. ((_, refl), omega arith))
+    (λ address side packet. let leg : Leg = first_leg number now side packet in
+    let first : Acted = act rules address leg list in follow_one rules address leg first first.end) input
+
 pub outcomes_long : (rules : Rules) (number clock : ℕ) (inputs : List Arrival) (list : List Binding) →
     length (run_from rules number clock inputs list).outcomes ≡ length inputs
 outcomes_long rules number clock [] list = refl
 outcomes_long rules number clock (i ∷ inputs) list =
-    ap suc (outcomes_long rules (number + 1) (max clock i.clock) inputs
-    (step rules number (max clock i.clock) i list).list)
-
-follow_few : (rules : Rules) (address : ℕ) (leg : Leg) (first : Acted) (end : End) →
-    length (follow_by rules address leg first end).acts ≤ 2
-follow_few rules address leg first (ToOutside packet) = omega arith
-follow_few rules address leg first (ToInside packet) = omega arith
-follow_few rules address leg first (Dropped cause) = omega arith
-follow_few rules address leg first (Onward place packet) = omega arith
-
-step_few : (rules : Rules) (number now : ℕ) (input : Arrival) (list : List Binding) →
-    length (step rules number now input list).acts ≤ 2
-step_few rules number now input list =
-    of_step rules number now list (λ (s : Stepped). length s.acts ≤ 2) (λ cause. omega arith)
-    (λ address side packet. let leg : Leg = first_leg number now side packet in
-    let first : Acted = act rules address leg list in follow_few rules address leg first first.end) input
+    let now : ℕ = max clock i.clock in
+    let first : Course = step rules number now i list in
+    rw (step_one rules number now i list).0.1
+    (ap suc (outcomes_long rules (number + 1) now inputs first.list))
 
 pub acts_few : (rules : Rules) (number clock : ℕ) (inputs : List Arrival) (list : List Binding) →
     length (run_from rules number clock inputs list).acts ≤ 2 * length inputs
 acts_few rules number clock [] list = omega arith
 acts_few rules number clock (i ∷ inputs) list =
     let now : ℕ = max clock i.clock in
-    let first : Stepped = step rules number now i list in
+    let first : Course = step rules number now i list in
     let rest : Course = run_from rules (number + 1) now inputs first.list in
-    let one : length first.acts ≤ 2 = step_few rules number now i list in
+    let one : length first.acts ≤ 2 = (step_one rules number now i list).1 in
     let more : length rest.acts ≤ 2 * length inputs = acts_few rules (number + 1) now inputs first.list in
     let all : length (first.acts ++ rest.acts) ≡ length first.acts + length rest.acts =
     length-append first.acts rest.acts in
@@ -109,23 +112,24 @@ after_one : (rules : Rules) (done : List Arrival) (input : Arrival) (number now 
     RunSoFar rules (done ++ input ∷ []) now (outcomes ++ outcome ∷ []) translators
 after_one rules done input number now many clock outcomes translators outcome told follows =
     let course : Course = run rules done (opening rules) in
-    let stepped : Stepped = step rules number now input course.list in
+    let stepped : Course = step rules number now input course.list in
     let here : step rules (length done) (max (last_clock 0 done) input.clock) input course.list ≡ stepped =
     ap (λ (n : ℕ). step rules n (max (last_clock 0 done) input.clock) input course.list) (sym many)
     ∙ ap (λ (t : ℕ). step rules number t input course.list) (sym clock) in
-    let more : run rules (done ++ input ∷ []) (opening rules) ≡ joined course stepped =
-    grows rules 0 0 done input (opening rules) (length done) (omega arith) ∙ ap (joined course) here in
+    let more : run rules (done ++ input ∷ []) (opening rules) ≡ ahead course stepped =
+    grows rules 0 0 done input (opening rules) (length done) (omega arith) ∙ ap (ahead course) here in
     let last : now ≡ last_clock 0 (done ++ input ∷ []) = clock ∙ sym (clock_more 0 done input) in
     record {
       clock = last;
       outcomes = ap (λ (os : List Outcome). os ++ outcome ∷ []) told
-          ∙ (ap (λ (o : Outcome). course.outcomes ++ o ∷ []) follows.0 ∙ ap (λ (k : Course). k.outcomes) (sym more));
+          ∙ (ap (λ (os : List Outcome). course.outcomes ++ os) (sym follows.0)
+          ∙ ap (λ (k : Course). k.outcomes) (sym more));
       translators =
           let held : AreCountedTranslators rules (record {
             clock = now;
-            acts = (joined course stepped).acts;
+            acts = (ahead course stepped).acts;
             list =
-                (joined course stepped).list;
+                (ahead course stepped).list;
           }) translators = follows.1 in
           subst (λ (t : ℕ). AreCountedTranslators rules
           (record {

@@ -1,5 +1,5 @@
 -- One input more.
-use Rattle.std.proofs.Common.{◌≡◌, ℕ, zero, suc, ◌+◌, ◌<◌, max, List, [], ◌∷◌, ◌++◌, length, Some, Result, refl, sym, ◌∙◌, ap, arith, append_assoc, get_or, take, drop, length-take}
+use Rattle.std.proofs.Common.{◌≡◌, ℕ, zero, suc, ◌+◌, ◌<◌, max, List, [], ◌∷◌, ◌++◌, length, Some, Result, refl, sym, ◌∙◌, ap, arith, get_or, take, drop, length-take}
 use Rattle.std.proofs.lemmas.List.{take_more, take-append-drop}
 use Rattle.std.specs.Prelude.{slice_get}
 use Rattle.napt_wire.specs.declared.Cause.{Cause}
@@ -8,36 +8,23 @@ use Rattle.napt_binding.specs.declared.Binding.{Binding}
 use Rattle.napt_table.specs.Opening.{opening}
 use Rattle.napt_sequential.specs.declared.outcome.Outcome.{Outcome}
 use Rattle.napt_sequential.specs.Inputs.{Arrival}
-use Rattle.napt_sequential.specs.Sequential.{Act, Stepped, Course, first_leg, step_as, step, run_from, run, last_clock}
-use Rattle.napt_sequential.specs.Dispatching.{IsFront, joined}
+use Rattle.napt_sequential.specs.Sequential.{Course, ahead, first_leg, step_as, step, run_from, run, last_clock}
+use Rattle.napt_sequential.specs.Dispatching.{IsFront}
 use Rattle.napt_sequential.specs.Admission.{admission}
-use Rattle.napt_sequential.proofs.Grown.{clock_more}
+use Rattle.napt_sequential.proofs.Grown.{run_append, clock_more}
 use Rattle.napt_sequential.proofs.Dispatched.{runs_grow}
 
 -- A RUN BEGINS AS THAT OF ITS FIRST INPUTS
 
 pub acts_begin : (rules : Rules) (number clock : ℕ) (xs ys : List Arrival) (list : List Binding) →
     IsFront (run_from rules number clock xs list).acts (run_from rules number clock (xs ++ ys) list).acts
-acts_begin rules number clock [] ys list = ((run_from rules number clock ys list).acts, refl)
-acts_begin rules number clock (i ∷ xs) ys list =
-    let first : Stepped = step rules number (max clock i.clock) i list in
-    let more : IsFront (run_from rules (number + 1) (max clock i.clock) xs first.list).acts
-    (run_from rules (number + 1) (max clock i.clock) (xs ++ ys) first.list).acts =
-    acts_begin rules (number + 1) (max clock i.clock) xs ys first.list in (
-      more.0,
-      append_assoc first.acts (run_from rules (number + 1) (max clock i.clock) xs first.list).acts more.0
-          ∙ ap (λ (xs : List Act). first.acts ++ xs) more.1,
-    )
+acts_begin rules number clock xs ys list =
+    (_, sym (ap (λ (r : Course). r.acts) (run_append rules number clock xs ys list _ refl)))
 
 pub outcomes_begin : (rules : Rules) (number clock : ℕ) (xs ys : List Arrival) (list : List Binding) →
     IsFront (run_from rules number clock xs list).outcomes (run_from rules number clock (xs ++ ys) list).outcomes
-outcomes_begin rules number clock [] ys list = ((run_from rules number clock ys list).outcomes, refl)
-outcomes_begin rules number clock (i ∷ xs) ys list =
-    let first : Stepped = step rules number (max clock i.clock) i list in
-    let more : IsFront (run_from rules (number + 1) (max clock i.clock) xs first.list).outcomes
-    (run_from rules (number + 1) (max clock i.clock) (xs ++ ys) first.list).outcomes =
-    outcomes_begin rules (number + 1) (max clock i.clock) xs ys first.list in
-    (more.0, ap (λ (os : List Outcome). first.outcome ∷ os) more.1)
+outcomes_begin rules number clock xs ys list =
+    (_, sym (ap (λ (r : Course). r.outcomes) (run_append rules number clock xs ys list _ refl)))
 
 pub get_at : (xs : List Outcome) (o : Outcome) (rest : List Outcome) (n : ℕ) → length xs ≡ n →
     slice_get ((xs ++ o ∷ []) ++ rest) n ≡ Some o
@@ -50,14 +37,14 @@ module _ (rules : Rules) (done rest : List Arrival) (input : Arrival) (number no
     (clock : max (last_clock 0 done) input.clock ≡ now) where
   -- the run of one input more
   pub grown : (admitted_as : Result (List ℕ) Cause) → admission rules input ≡ admitted_as →
-      run rules (done ++ input ∷ []) (opening rules) ≡ joined (run rules done (opening rules))
+      run rules (done ++ input ∷ []) (opening rules) ≡ ahead (run rules done (opening rules))
       (step_as rules (first_leg number now input.side) admitted_as (run rules done (opening rules)).list)
   grown admitted_as is =
       let r : Course = run rules done (opening rules) in
       runs_grow rules done input (opening rules)
-      ∙ (ap (λ (n : ℕ). joined r (step rules n (max (last_clock 0 done) input.clock) input r.list)) long
-      ∙ (ap (λ (t : ℕ). joined r (step rules number t input r.list)) clock
-      ∙ ap (λ (a : Result (List ℕ) Cause). joined r (step_as rules (first_leg number now input.side) a r.list)) is))
+      ∙ (ap (λ (n : ℕ). ahead r (step rules n (max (last_clock 0 done) input.clock) input r.list)) long
+      ∙ (ap (λ (t : ℕ). ahead r (step rules number t input r.list)) clock
+      ∙ ap (λ (a : Result (List ℕ) Cause). ahead r (step_as rules (first_leg number now input.side) a r.list)) is))
 
 -- A STEP OF THE LOOP
 

@@ -18,7 +18,7 @@ use Rattle.napt_translate.specs.declared.translator.End.TheVariants.{ToOutside, 
 use Rattle.napt_translate.specs.Sides.{way_from, served_at}
 use Rattle.napt_translate.specs.Legs.{Acted, act}
 use Rattle.napt_sequential.specs.Inputs.{Arrival}
-use Rattle.napt_sequential.specs.Sequential.{Act, Stepped, follow_by, first_leg, step, Course, run_from, run, last_clock, acts_at, legs_at}
+use Rattle.napt_sequential.specs.Sequential.{Act, Course, follow_by, first_leg, step, run_from, run, last_clock, acts_at, legs_at}
 use Rattle.napt_sequential.specs.Dispatching.{IsFront, OnwardIsForetold}
 use Rattle.napt_sequential.specs.Admission.{admission}
 use Rattle.napt_sequential.specs.Places.{first_act, acts_of, numbered, all_but_first, second_legs, second_of, IsSeconded, AnswersFillPlaces, PlacesStandForLegs}
@@ -111,10 +111,10 @@ seconds_from : (rules : Rules) (number clock : ℕ) (inputs : List Arrival) (lis
 seconds_from rules number clock [] list = tt
 seconds_from rules number clock (input ∷ inputs) list =
     let now : ℕ = max clock input.clock in
-    let first : Stepped = step rules number now input list in
+    let first : Course = step rules number now input list in
     let rest : Course = run_from rules (number + 1) now inputs first.list in
     seconds_more number first.acts rest.acts
-    (of_step rules number now list (λ (s : Stepped). Each (SecondsHere number s.acts) s.acts) (λ cause. tt)
+    (of_step rules number now list (λ (s : Course). Each (SecondsHere number s.acts) s.acts) (λ cause. tt)
     (λ address side packet. let leg : Leg = first_leg number now side packet in
     let acted : Acted = act rules address leg list in follow_seconds rules address leg acted.list acted.end) input)
     (seconds_from rules (number + 1) now inputs first.list)

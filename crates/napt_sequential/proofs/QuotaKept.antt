@@ -21,7 +21,7 @@ use Rattle.napt_translate.specs.declared.translator.End.TheVariants.{ToOutside, 
 use Rattle.napt_translate.specs.Legs.{Acted, sent_of, received_of, act_out, act_in, act_by, act}
 use Rattle.napt_translate.proofs.Acts.{of_act}
 use Rattle.napt_sequential.specs.Inputs.{Arrival}
-use Rattle.napt_sequential.specs.Sequential.{Stepped, follow_by, first_leg, step, run_from}
+use Rattle.napt_sequential.specs.Sequential.{Course, follow_by, first_leg, step, run_from}
 use Rattle.napt_sequential.specs.QuotaKept.{RunsKeepQuota}
 use Rattle.napt_sequential.proofs.AnyStep.{of_step}
 
@@ -67,7 +67,7 @@ module _ (out_keeps : OutKeepsQuota) (in_keeps : InKeepsQuota) (rules : Rules) (
   within_step : (number now : ℕ) (list : List Binding) → IsWithin list → (input : Arrival) →
       IsWithin (step rules number now input list).list
   within_step number now list le =
-      of_step rules number now list (λ (s : Stepped). IsWithin s.list) (λ cause. le)
+      of_step rules number now list (λ (s : Course). IsWithin s.list) (λ cause. le)
       (λ address side packet. let leg : Leg = first_leg number now side packet in
       let first : Acted = act rules address leg list in
       within_follow address leg first.list first.end (within_leg address leg list le leg.way (kind packet)))

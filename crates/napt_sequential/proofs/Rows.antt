@@ -10,12 +10,12 @@ use Rattle.napt_binding.specs.Lists.{Each}
 use Rattle.napt_binding.proofs.Lists.{each_true, each_weaker}
 use Rattle.napt_binding.specs.Bindings.{is_at, of}
 use Rattle.napt_binding.specs.Life.{is_live, with_live_flows, purge}
-use Rattle.napt_table.specs.Endpoints.{AreApart}
+use Rattle.napt_table.specs.Endpoints.{AreRowsApart, AreApart}
 use Rattle.napt_table.specs.Rows.{row, rank, put, in_order, rows}
 use Rattle.napt_table.specs.Opening.{opening}
 use Rattle.napt_sequential.specs.Inputs.{Arrival}
 use Rattle.napt_sequential.specs.Sequential.{Course, run, last_clock, ran}
-use Rattle.napt_sequential.specs.Sound.{RunsStayApart, AreRowsApart}
+use Rattle.napt_sequential.specs.Sound.{RunsStayApart}
 use Rattle.napt_sequential.proofs.Lists.{each_append}
 
 -- each stands in the relation to all that come after it
@@ -145,13 +145,10 @@ across a b differ (z ∷ list) h =
           ]
     ] refl
   where
-    flipped : (x y : Binding) → AreApart x y → AreApart y x
-    flipped x y p = λ same. let q = p (sym same) in ((λ e. q.0 (sym e)), (λ e. q.1 (sym e)))
-
     pairs : (z : Binding) (ys xs : List Binding) → Each (AreApart z) xs → Each (λ x. Each (AreApart x) ys) xs →
         Each (λ x. Each (AreApart x) (z ∷ ys)) xs
     pairs z ys [] p q = tt
-    pairs z ys (x ∷ xs) p q = ((flipped z x p.0, q.0), pairs z ys xs p.1 q.1)
+    pairs z ys (x ∷ xs) p q = ((turned (row z) (row x) p.0, q.0), pairs z ys xs p.1 q.1)
 
     both : (a b : ℕ) (z : Binding) (list : List Binding) → Each (AreApart z) (of a list) →
         Each (λ x. Each (AreApart x) (of b list)) (of a list) → Each (λ x. Each (AreApart x) (z ∷ of b list))

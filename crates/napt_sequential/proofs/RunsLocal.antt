@@ -13,7 +13,7 @@ use Rattle.napt_translate.specs.declared.translator.End.{End}
 use Rattle.napt_translate.specs.declared.translator.End.TheVariants.{ToOutside, ToInside, Onward, Dropped}
 use Rattle.napt_translate.specs.Legs.{Acted, act, Kept, time_after, kept_act, kept_after, kept_replies, kept_after_all}
 use Rattle.napt_sequential.specs.Inputs.{Arrival}
-use Rattle.napt_sequential.specs.Sequential.{Act, Stepped, follow_by, first_leg, step, Course, run_from, run, last_clock, acts_at, legs_at}
+use Rattle.napt_sequential.specs.Sequential.{Act, Course, follow_by, first_leg, step, run_from, run, last_clock, acts_at, legs_at}
 use Rattle.napt_sequential.specs.Laws.{answer_of, TranslatorsAnswerAlone, TranslatorsKeepTheirOwn}
 use Rattle.napt_sequential.specs.CountedTranslators.{IsAtOnce, Agrees}
 use Rattle.napt_sequential.proofs.AnyStep.{of_step}
@@ -50,7 +50,7 @@ step_turn : (rules : Rules) (number clock now : ℕ) → clock ≤ now → (inpu
     InTurn rules clock list ((step rules number now input list).acts ++ rest) last new
 step_turn rules number clock now le input list rest last new =
     of_step rules number now list
-    (λ (s : Stepped). InTurn rules now s.list rest last new → InTurn rules clock list (s.acts ++ rest) last new)
+    (λ (s : Course). InTurn rules now s.list rest last new → InTurn rules clock list (s.acts ++ rest) last new)
     (λ cause. turn_earlier rules clock now le list rest last new)
     (λ address side packet. let leg : Leg = first_leg number now side packet in
     follow_turn rules clock address leg le list (act rules address leg list).end refl rest last new) input
@@ -61,7 +61,7 @@ pub run_turn : (rules : Rules) (number clock : ℕ) (inputs : List Arrival) (lis
 run_turn rules number clock [] list = (omega arith, refl)
 run_turn rules number clock (input ∷ inputs) list =
     let now : ℕ = max clock input.clock in
-    let first : Stepped = step rules number now input list in
+    let first : Course = step rules number now input list in
     let rest : Course = run_from rules (number + 1) now inputs first.list in
     step_turn rules number clock now (omega arith) input list rest.acts (last_clock now inputs) rest.list
     (run_turn rules (number + 1) now inputs first.list)

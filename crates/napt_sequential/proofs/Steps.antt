@@ -25,8 +25,9 @@ use Rattle.napt_translate.specs.declared.translator.End.TheVariants.{Onward}
 use Rattle.napt_translate.specs.Sides.{is_spoofed, is_not_ours, is_unsupported, refusal, way_from, served_at, routed, route}
 use Rattle.napt_translate.specs.Legs.{Acted, onward_by, end_out, end_in, error_out, error_in, act_by, act}
 use Rattle.napt_sequential.specs.declared.outcome.Outcome.{Outcome}
+use Rattle.napt_sequential.specs.declared.outcome.Outcome.TheVariants.{Dropped}
 use Rattle.napt_sequential.specs.declared.counted_translator.CountedTranslator.{CountedTranslator}
-use Rattle.napt_sequential.specs.Sequential.{Act, legs_at, Stepped, outcome_of, once, then_in, follow_by, refused, admitted, first_leg, step_as, step}
+use Rattle.napt_sequential.specs.Sequential.{Act, Course, ahead, legs_at, outcome_of, once, follow_by, refused, admitted, first_leg, step_as, step}
 use Rattle.napt_sequential.specs.declared.input.Input.TheInside as fields
 use Rattle.napt_sequential.specs.Inputs.{Arrival}
 use Rattle.napt_sequential.specs.Admission.{judged_by, admission_as}
@@ -121,8 +122,8 @@ follows_once rules address leg state translators end is alone are outcome told =
     let e : admitted rules address leg state.list ≡ once address leg first = ap (follow_by rules address leg first) is
     ∙ alone in
     let held : Follows rules leg.now (once address leg first) state translators outcome =
-    (told ∙ ap outcome_of (sym is), are) in
-    subst (λ (s : Stepped). Follows rules leg.now s state translators outcome) (sym e) held
+    (ap (λ (o : Outcome). o ∷ []) (ap outcome_of is ∙ sym told), are) in
+    subst (λ (s : Course). Follows rules leg.now s state translators outcome) (sym e) held
 
 pub follows_twice : (rules : Rules) (address : ℕ) (leg : Leg) (state : RunState) (translators : List CountedTranslator)
     (place : ℕ) (packet : List ℕ) → (act rules address leg state.list).end ≡ Onward place packet →
@@ -137,7 +138,8 @@ follows_twice rules address leg state translators place packet is are outcome to
     let next : Leg = record leg { way = Incoming; packet = packet } in
     let to : ℕ = (destination packet).address in
     let second : Acted = act rules to next first.list in
-    let e : admitted rules address leg state.list ≡ then_in address leg first (once to next second) =
+    let both : Course = ahead (record (once address leg first) { outcomes = [] }) (once to next second) in
+    let e : admitted rules address leg state.list ≡ both =
     ap (follow_by rules address leg first) is in
     let acts : (state.acts ++ record { address = address; leg = leg; end = first.end } ∷ []) ++ record {
       address = to;
@@ -145,19 +147,18 @@ follows_twice rules address leg state translators place packet is are outcome to
       end = second.end;
     } ∷ [] ≡ state.acts ++ (record { address = address; leg = leg; end = first.end }
     ∷ record { address = to; leg = next; end = second.end } ∷ []) = append_assoc state.acts _ _ in
-    let held : Follows rules leg.now (then_in address leg first (once to next second)) state translators outcome = (
-      told,
+    let held : Follows rules leg.now both state translators outcome = (
+      ap (λ (o : Outcome). o ∷ []) (sym told),
       subst (λ (xs : List Act). AreCountedTranslators rules (record { clock = leg.now; acts = xs; list = second.list })
           translators) acts are,
     ) in
-    subst (λ (s : Stepped). Follows rules leg.now s state translators outcome) (sym e) held
+    subst (λ (s : Course). Follows rules leg.now s state translators outcome) (sym e) held
 
 -- NO LEG
 
 pub follows_none : (rules : Rules) (now : ℕ) (state : RunState) (translators : List CountedTranslator) →
     state.clock ≤ now → AreCountedTranslators rules state translators → (cause : Cause) →
-    Follows rules now (refused cause state.list) state translators
-    (let s : Stepped = refused cause state.list in s.outcome)
+    Follows rules now (refused cause state.list) state translators (Dropped cause)
 follows_none rules now state translators later are cause = (
   refl,
   record {

@@ -16,7 +16,7 @@ use Rattle.napt_translate.specs.Translators.{begun, kept_of, with_kept, left_by}
 use Rattle.napt_sequential.specs.declared.outcome.Outcome.{Outcome}
 use Rattle.napt_sequential.specs.declared.counted_translator.CountedTranslator.{CountedTranslator}
 use Rattle.napt_sequential.specs.Inputs.{Arrival}
-use Rattle.napt_sequential.specs.Sequential.{Act, Stepped, Course, run, last_clock, legs_at}
+use Rattle.napt_sequential.specs.Sequential.{Act, Course, run, last_clock, legs_at}
 
 -- a run at some time: the time of the last leg, the legs that acted, and the bindings
 pub record RunState : Type 0 where
@@ -58,8 +58,8 @@ state_after rules address leg state =
     }
 
 -- after an input at a time
-abbrev pub state_then : ℕ → Stepped → RunState → RunState
-state_then now stepped state = record { clock = now; acts = state.acts ++ stepped.acts; list = stepped.list }
+abbrev pub state_then : ℕ → Course → RunState → RunState
+state_then now course state = record { clock = now; acts = state.acts ++ course.acts; list = course.list }
 
 -- how a leg ends at a counted translator, and the translator after it
 abbrev pub end_at : Leg → CountedTranslator → End
@@ -79,10 +79,10 @@ abbrev pub CanTake : Rules → ℕ → ℕ → List CountedTranslator → Type 0
 CanTake rules now more translators = (state : RunState) × AreCountedTranslators rules state translators
     × (state.clock ≤ now) × (length state.acts + more < 2 ^ 64)
 
--- the outcome is that of a step, and the translators are those of the state after it
-abbrev pub Follows : Rules → ℕ → Stepped → RunState → List CountedTranslator → Outcome → Type 0
-Follows rules now stepped state translators outcome = (outcome ≡ stepped.outcome)
-    × AreCountedTranslators rules (state_then now stepped state) translators
+-- the outcome is the one of a step, and the translators are those of the state after it
+abbrev pub Follows : Rules → ℕ → Course → RunState → List CountedTranslator → Outcome → Type 0
+Follows rules now course state translators outcome = (course.outcomes ≡ outcome ∷ [])
+    × AreCountedTranslators rules (state_then now course state) translators
 
 -- after these inputs, and before any
 abbrev pub state_of : Rules → List Arrival → RunState

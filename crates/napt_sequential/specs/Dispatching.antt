@@ -18,7 +18,7 @@ use Rattle.napt_translate.specs.Legs.{act, kept_replies}
 use Rattle.napt_sequential.specs.declared.outcome.Outcome.{Outcome}
 use Rattle.napt_sequential.specs.declared.outcome.Outcome.TheVariants as outcomes
 use Rattle.napt_sequential.specs.Inputs.{Arrival}
-use Rattle.napt_sequential.specs.Sequential.{Act, Stepped, step, Course, run, last_clock, legs_at}
+use Rattle.napt_sequential.specs.Sequential.{Act, Course, ahead, step, run, last_clock, legs_at}
 use Rattle.napt_sequential.specs.Laws.{answers_at}
 
 -- xs begins ys
@@ -35,21 +35,12 @@ RightAnswersAreTheRuns = (rules : Rules) (inputs : List Arrival) (list : List Bi
     IsFront taken (kept_replies rules address given (record { list = of address list; at = 0 })) →
     IsFront taken (answers_at address course.acts)
 
--- a course, and the step of one input more
-abbrev pub joined : Course → Stepped → Course
-joined course next = record {
-  outcomes = course.outcomes ++ next.outcome ∷ [];
-  acts = course.acts ++ next.acts;
-  list =
-      next.list;
-}
-
 -- a run over one input more is the run, and the step of that input
 abbrev pub RunsGrow : Type 0
 RunsGrow = (rules : Rules) (inputs : List Arrival) (input : Arrival) (list : List Binding) →
     let course : Course = run rules inputs list in
     run rules (inputs ++ input ∷ []) list
-    ≡ joined course (step rules (length inputs) (max (last_clock 0 inputs) input.clock) input course.list)
+    ≡ ahead course (step rules (length inputs) (max (last_clock 0 inputs) input.clock) input course.list)
 
 -- the outcome that the end of a leg tells, where it is the last
 abbrev pub told : End → Option Outcome

@@ -1,13 +1,14 @@
 -- The legs of one external address, on that address's bindings alone, are answered as in the whole run, and leave
 -- what the run leaves there: so each address can have a translator of its own.
-use Rattle.std.specs.Prelude.{◌≡◌, ℕ, ◌≤◌, List, [], ◌∷◌, map}
+use Rattle.std.specs.Prelude.{◌≡◌, ℕ, ◌≤◌, List, map}
+use Rattle.std.specs.List.{fold, scan}
 use Rattle.napt_config.specs.Rules.{Rules}
 use Rattle.napt_binding.specs.declared.Binding.{Binding}
 use Rattle.napt_binding.specs.Bindings.{of}
 use Rattle.napt_binding.specs.Life.{purge}
 use Rattle.napt_translate.specs.declared.translator.Answer.{Answer}
 use Rattle.napt_translate.specs.declared.translator.Leg.{Leg}
-use Rattle.napt_translate.specs.Legs.{Acted, act, kept_replies, kept_after_all}
+use Rattle.napt_translate.specs.Legs.{act, kept_replies, kept_after_all}
 use Rattle.napt_sequential.specs.Inputs.{Arrival}
 use Rattle.napt_sequential.specs.Sequential.{Act, Course, run, last_clock, acts_at, legs_at}
 
@@ -20,14 +21,12 @@ answers_at address acts = map answer_of (acts_at address acts)
 
 -- the answers to legs that act at an address one after another on a list, and the list that they leave
 abbrev pub replies : Rules → ℕ → List Leg → List Binding → List Answer
-replies rules address [] list = []
-replies rules address (leg ∷ legs) list =
-    let acted : Acted = act rules address leg list in
-    record { number = leg.number; end = acted.end } ∷ replies rules address legs acted.list
+replies rules address legs list =
+    scan (λ own leg. (act rules address leg own).list)
+    (λ own leg. record { number = leg.number; end = (act rules address leg own).end }) list legs
 
 abbrev pub after : Rules → ℕ → List Leg → List Binding → List Binding
-after rules address [] list = list
-after rules address (leg ∷ legs) list = after rules address legs (act rules address leg list).list
+after rules address legs list = fold (λ own leg. (act rules address leg own).list) list legs
 
 abbrev pub LegsAnswerAlone : Type 0
 LegsAnswerAlone = (rules : Rules) (inputs : List Arrival) (list : List Binding) (address : ℕ) →

@@ -15,7 +15,7 @@ use Rattle.napt_translate.specs.declared.translator.End.TheVariants.{ToOutside, 
 use Rattle.napt_translate.specs.Sides.{served_at}
 use Rattle.napt_translate.specs.Legs.{act}
 use Rattle.napt_sequential.specs.Inputs.{Arrival}
-use Rattle.napt_sequential.specs.Sequential.{Act, follow, Course, run, last_clock, legs_at}
+use Rattle.napt_sequential.specs.Sequential.{Act, Course, admitted, run, last_clock, legs_at}
 use Rattle.napt_sequential.specs.Admission.{admission}
 
 -- a first leg
@@ -24,7 +24,7 @@ first_act rules address leg list = record { address = address; leg = leg; end = 
 
 -- a first leg, and the second where there is one
 abbrev pub acts_of : Rules → ℕ → Leg → List Binding → List Act
-acts_of rules address leg list = (follow rules address leg (act rules address leg list)).acts
+acts_of rules address leg list = (admitted rules address leg list).acts
 
 -- the acts of the input of a number
 abbrev pub numbered : ℕ → List Act → List Act

@@ -32,11 +32,19 @@ pub record Act : Type 0 where
   pub leg : Leg
   pub end : End
 
--- what an input gives: its outcome, the legs that acted, and the list of bindings
-pub record Stepped : Type 0 where
-  pub outcome : Outcome
+-- what inputs give: their outcomes, the legs that acted, and the list of bindings that is left
+pub record Course : Type 0 where
+  pub outcomes : List Outcome
   pub acts : List Act
   pub list : List Binding
+
+-- a course, and another behind it
+abbrev pub ahead : Course → Course → Course
+ahead first rest = record {
+  outcomes = first.outcomes ++ rest.outcomes;
+  acts = first.acts ++ rest.acts;
+  list = rest.list;
+}
 
 -- the outcome is that of the last leg
 abbrev pub outcome_of : End → Outcome
@@ -45,72 +53,55 @@ outcome_of (ends.ToInside packet) = ToInside packet
 outcome_of (ends.Onward place packet) = ToOutside packet
 outcome_of (ends.Dropped cause) = Dropped cause
 
-abbrev pub once : ℕ → Leg → Acted → Stepped
+abbrev pub once : ℕ → Leg → Acted → Course
 once address leg acted = record {
-  outcome = outcome_of acted.end;
+  outcomes = outcome_of acted.end ∷ [];
   acts = record { address = address; leg = leg; end = acted.end } ∷ [];
   list = acted.list;
 }
 
 -- a first leg, and the second that follows at once where the packet goes onward: in, at the address that it was sent to
-abbrev pub then_in : ℕ → Leg → Acted → Stepped → Stepped
-then_in address leg first second = record {
-  outcome = second.outcome;
-  acts = record { address = address; leg = leg; end = first.end } ∷ second.acts;
-  list = second.list;
-}
-
-abbrev pub follow_by : Rules → ℕ → Leg → Acted → End → Stepped
+abbrev pub follow_by : Rules → ℕ → Leg → Acted → End → Course
 follow_by rules address leg first (ends.Onward place packet) =
     let next : Leg = record leg { way = Incoming; packet = packet } in
     let to : ℕ = (destination packet).address in
-    then_in address leg first (once to next (act rules to next first.list))
+    ahead (record (once address leg first) { outcomes = [] }) (once to next (act rules to next first.list))
 follow_by rules address leg first (ends.ToOutside packet) = once address leg first
 follow_by rules address leg first (ends.ToInside packet) = once address leg first
 follow_by rules address leg first (ends.Dropped cause) = once address leg first
 
-abbrev pub follow : Rules → ℕ → Leg → Acted → Stepped
-follow rules address leg first = follow_by rules address leg first first.end
-
 -- a cause drops the input, and no leg acts
-abbrev pub refused : Cause → List Binding → Stepped
-refused cause list = record { outcome = Dropped cause; acts = []; list = list }
+abbrev pub refused : Cause → List Binding → Course
+refused cause list = record { outcomes = Dropped cause ∷ []; acts = []; list = list }
 
-abbrev pub admitted : Rules → ℕ → Leg → List Binding → Stepped
-admitted rules address leg list = follow rules address leg (act rules address leg list)
+abbrev pub admitted : Rules → ℕ → Leg → List Binding → Course
+admitted rules address leg list =
+    let first : Acted = act rules address leg list in
+    follow_by rules address leg first first.end
 
 -- the first leg of an input by its number, its time and its side, as a packet
 abbrev pub first_leg : ℕ → ℕ → Side → List ℕ → Leg
 first_leg number now side packet = record { number = number; now = now; way = way_from side; packet = packet }
 
 -- by what an input comes to: the packet's first leg acts at the address that serves it
-abbrev pub step_as : Rules → (List ℕ → Leg) → Result (List ℕ) Cause → List Binding → Stepped
+abbrev pub step_as : Rules → (List ℕ → Leg) → Result (List ℕ) Cause → List Binding → Course
 step_as rules leg_of (Err cause) list = refused cause list
 step_as rules leg_of (Ok packet) list =
     let leg : Leg = leg_of packet in
     admitted rules (served_at rules leg.way packet) leg list
 
 -- the input of a number, at a time
-abbrev pub step : Rules → ℕ → ℕ → Arrival → List Binding → Stepped
+abbrev pub step : Rules → ℕ → ℕ → Arrival → List Binding → Course
 step rules number now input list = step_as rules (first_leg number now input.side) (admission rules input) list
 
 -- ALL INPUTS
-
-pub record Course : Type 0 where
-  pub outcomes : List Outcome
-  pub acts : List Act
-  pub list : List Binding
-
--- a step, and the course of what comes after it
-abbrev pub ahead : Stepped → Course → Course
-ahead first rest = record { outcomes = first.outcome ∷ rest.outcomes; acts = first.acts ++ rest.acts; list = rest.list }
 
 -- from a number, a clock and a list on
 abbrev pub run_from : Rules → ℕ → ℕ → List Arrival → List Binding → Course
 run_from rules number clock [] list = record { outcomes = []; acts = []; list = list }
 run_from rules number clock (input ∷ inputs) list =
     let now : ℕ = max clock input.clock in
-    let first : Stepped = step rules number now input list in
+    let first : Course = step rules number now input list in
     ahead first (run_from rules (number + 1) now inputs first.list)
 
 abbrev pub run : Rules → List Arrival → List Binding → Course

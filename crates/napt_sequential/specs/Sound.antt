@@ -1,7 +1,6 @@
 -- No two bindings share an endpoint, after any inputs.
-use Rattle.std.specs.Prelude.{◌≡◌, ◌≢◌, AllPairs, List}
+use Rattle.std.specs.Prelude.{AllPairs, List}
 use Rattle.napt_config.specs.Rules.{Rules, KeepsRules, pair_of}
-use Rattle.napt_table.specs.declared.Row.{Row}
 use Rattle.napt_table.specs.Endpoints.{IsSound, AreApart}
 use Rattle.napt_table.specs.Opening.{opening}
 use Rattle.napt_sequential.specs.Inputs.{Arrival}
@@ -16,7 +15,3 @@ RunsAreSound = (rules : Rules) → KeepsRules rules → (inputs : List Arrival) 
 abbrev pub RunsStayApart : Type 0
 RunsStayApart = (rules : Rules) → KeepsRules rules → (inputs : List Arrival) →
     AllPairs AreApart (run rules inputs (opening rules)).list
-
--- two rows of one protocol have neither one external nor one inside endpoint
-abbrev pub AreRowsApart : Row → Row → Type 0
-AreRowsApart a b = a.protocol ≡ b.protocol → (a.external ≢ b.external) × (a.inside ≢ b.inside)

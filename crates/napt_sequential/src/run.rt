@@ -7,7 +7,7 @@ ghost use Rattle.napt_table.specs.Opening.{opening};
 ghost use Rattle.napt_translate.specs.Legs.{act};
 ghost use Rattle.napt_sequential.specs.Sequential as model;
 ghost use Rattle.napt_sequential.specs.CountedTranslators.{RunState, AreCountedTranslators, CanTake, Follows, state_after, state_of, rows_at};
-ghost use Rattle.napt_sequential.specs.Sound.{AreRowsApart};
+ghost use Rattle.napt_table.specs.Endpoints.{AreRowsApart};
 ghost use Rattle.napt_sequential.specs.Faults.{IsOneThreadFault};
 
 use crate::counted_translator::CountedTranslator;

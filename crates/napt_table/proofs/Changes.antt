@@ -15,7 +15,8 @@ use Rattle.napt_binding.proofs.Purges.{lived}
 use Rattle.napt_table.specs.declared.part.Part.{Part}
 use Rattle.napt_table.specs.declared.host_counts.HostCounts.{HostCounts}
 use Rattle.napt_table.specs.Counts.{are_counted, count_in}
-use Rattle.napt_table.specs.Endpoints.{Key, key}
+use Rattle.napt_table.specs.declared.Row.{Row}
+use Rattle.napt_table.specs.Rows.{row}
 use Rattle.napt_table.specs.Hosts.{held_for}
 use Rattle.napt_table.specs.Part.{held, number_at, IsDue, IsPart, AreDue, IsSamePlace, HoldsSame, ChangesOne, StaysPart}
 use Rattle.napt_numbers.specs.Places.{is_used}
@@ -45,16 +46,16 @@ same_then a b c p q = record {
 -- A BINDING THAT CHANGES
 
 -- bindings of one host count alike
-for_alike : (host : ℕ) (x y : Binding) → key x ≡ key y → x.fixed ≡ y.fixed → held_for host (Some x)
+for_alike : (host : ℕ) (x y : Binding) → row x ≡ row y → x.fixed ≡ y.fixed → held_for host (Some x)
     ≡ held_for host (Some y)
-for_alike host x y keys fixed =
-    ap (λ (k : Key). eqb k.inside.address host && not x.fixed) keys ∙ ap (λ v. eqb y.inside.address host && not v) fixed
+for_alike host x y rows fixed =
+    ap (λ (r : Row). eqb r.inside.address host && not x.fixed) rows ∙ ap (λ v. eqb y.inside.address host && not v) fixed
 
 pub inside_same : (old new : Part) → new.by_inside ≡ old.by_inside → (e : Endpoint) → number_at new e ≡ number_at old e
 inside_same old new insides e = ap (λ (m : _). Rattle.std.specs.HashMap.get pair_eq m (e.address, e.number)) insides
 
 module _ (old new : Part) (number : ℕ) (is : IsPart old) (one : ChangesOne number old new) (b c : Binding)
-    (here : held old number ≡ Some b) (there : held new number ≡ Some c) (keys : key c ≡ key b)
+    (here : held old number ≡ Some b) (there : held new number ≡ Some c) (rows : row c ≡ row b)
     (fixed : c.fixed ≡ b.fixed) where
   cases : (n : ℕ) (x : Binding) → held new n ≡ Some x →
       ((n ≡ number) × (c ≡ x)) ⊎ ((n ≢ number) × (held old n ≡ Some x))
@@ -70,12 +71,12 @@ module _ (old new : Part) (number : ℕ) (is : IsPart old) (one : ChangesOne num
   changed_part = record {
     timers_are = subst AreTimers (sym one.place.timers_is) is.timers_are;
     protocol_is = λ n x h. elim (cases n x h) [
-      | inl p ↦ sym (ap (λ (y : Binding). y.protocol) p.1) ∙ (ap (λ (k : Key). k.protocol) keys
+      | inl p ↦ sym (ap (λ (y : Binding). y.protocol) p.1) ∙ (ap (λ (r : Row). r.protocol) rows
           ∙ (is.protocol_is number b here ∙ sym one.place.protocol_same))
       | inr o ↦ is.protocol_is n x o.1 ∙ sym one.place.protocol_same
     ];
     external_is = λ n x h. elim (cases n x h) [
-      | inl p ↦ sym (ap (λ (y : Binding). y.external) p.1) ∙ (ap (λ (k : Key). k.external) keys
+      | inl p ↦ sym (ap (λ (y : Binding). y.external) p.1) ∙ (ap (λ (r : Row). r.external) rows
           ∙ (is.external_is number b here
           ∙ (ap (λ (m : ℕ). let y : Endpoint = record { address = old.address; number = m } in y) (sym p.0)
           ∙ ap (λ (a : ℕ). let y : Endpoint = record { address = a; number = n } in y) (sym one.place.address_is))))
@@ -84,7 +85,7 @@ module _ (old new : Part) (number : ℕ) (is : IsPart old) (one : ChangesOne num
     ];
     inside_is = λ n x h. elim (cases n x h) [
       | inl p ↦ inside_same old new one.insides_same x.inside
-          ∙ (ap (number_at old) (sym (ap (λ (y : Binding). y.inside) p.1) ∙ ap (λ (k : Key). k.inside) keys)
+          ∙ (ap (number_at old) (sym (ap (λ (y : Binding). y.inside) p.1) ∙ ap (λ (r : Row). r.inside) rows)
           ∙ (is.inside_is number b here ∙ ap (λ (m : ℕ). Some m) (sym p.0)))
       | inr o ↦ inside_same old new one.insides_same x.inside ∙ is.inside_is n x o.1
     ];
@@ -94,7 +95,7 @@ module _ (old new : Part) (number : ℕ) (is : IsPart old) (one : ChangesOne num
           | true ↦ λ t.
               let q : n ≡ number = eqb-true n number t in
               let s : b ≡ o.0 = same_Some b o.0 (sym here ∙ (ap (held old) (sym q) ∙ o.1)) in
-              (c, ap (held new) q ∙ there, ap (λ (k : Key). k.inside) keys ∙ (ap (λ (y : Binding). y.inside) s ∙ o.2))
+              (c, ap (held new) q ∙ there, ap (λ (r : Row). r.inside) rows ∙ (ap (λ (y : Binding). y.inside) s ∙ o.2))
           | false ↦ λ t. (o.0, one.others n (λ q. true≢false (sym (eq-eqb n number q) ∙ t)) ∙ o.1, o.2)
         ] refl;
     used_is = λ n lt.
@@ -115,7 +116,7 @@ module _ (old new : Part) (number : ℕ) (is : IsPart old) (one : ChangesOne num
         ∙ sym (count_same (held old) (held new) host (λ n lt. elim (eqb n number) as (λ v. eqb n number ≡ v →
         held_for host (held new n) ≡ held_for host (held old n)) [
           | true ↦ λ t. let q : n ≡ number = eqb-true n number t in ap (held_for host) (ap (held new) q ∙ there)
-              ∙ (for_alike host c b keys fixed ∙ sym (ap (held_for host) (ap (held old) q ∙ here)))
+              ∙ (for_alike host c b rows fixed ∙ sym (ap (held_for host) (ap (held old) q ∙ here)))
           | false ↦ λ t. ap (held_for host) (one.others n (λ q. true≢false (sym (eq-eqb n number q) ∙ t)))
         ] refl)));
   }

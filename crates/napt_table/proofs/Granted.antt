@@ -14,7 +14,8 @@ use Rattle.napt_table.specs.declared.part.Part.{Part}
 use Rattle.napt_table.specs.declared.parts.Parts.{Parts as AllParts}
 use Rattle.napt_table.specs.Choice.{choice}
 use Rattle.napt_table.specs.Counts.{count_in}
-use Rattle.napt_table.specs.Endpoints.{key, Apart}
+use Rattle.napt_table.specs.Endpoints.{Apart}
+use Rattle.napt_table.specs.Rows.{row}
 use Rattle.napt_table.specs.Held.{seen, Shows}
 use Rattle.napt_table.specs.Hosts.{count_held}
 use Rattle.napt_binding.specs.Life.{is_live, with_live_flows}
@@ -145,7 +146,7 @@ module _ (address : ℕ) (timers : Timers) (now : ℕ) (old gone : AllParts) (al
       ] refl
 
   -- THE QUOTA
-  pub gone_reaches : (quota : Option ℕ) (host : ℕ) (list : List Binding) → Apart (map key list) →
+  pub gone_reaches : (quota : Option ℕ) (host : ℕ) (list : List Binding) → Apart (map row list) →
       AllShow address timers now gone list → AreCounted (is_some quota) gone →
       reaches quota (count_for address host list)
       ≡ reaches quota ((count_in gone.icmp.hosts host + count_in gone.tcp.hosts host)
@@ -207,7 +208,7 @@ module _ (timers : Timers) (address : ℕ) (packet : Sent) (old new : Part) (num
       sent_stays old new packet.now number packet.remote packet.flags of.is went.one s.0 s.1
       (went.left ∙ ap (λ (b : Binding). Some (sent_by packet b)) (sym s.3)) of.before of.due
 
-  module _ (quota : Option ℕ) (list : List Binding) (apart : Apart (map key list))
+  module _ (quota : Option ℕ) (list : List Binding) (apart : Apart (map row list))
       (shows : Shows timers packet.now address packet.protocol (held old) list) where
     is : seen timers packet.now (held old number) ≡ Some went.binding
     is = subst (λ (t : Timers). seen t packet.now (held old number) ≡ Some went.binding) of.timers_is went.found
@@ -246,7 +247,7 @@ module _ (quota : Option ℕ) (timers : Timers) (address : ℕ) (packet : Sent) 
   pub ready : AreOf address timers packet.now old → AreCounted (is_some quota) old →
       ((n : ℕ) → number_at (part_of old packet.protocol) packet.inside ≡ Some n →
       seen (part_of old packet.protocol).timers packet.now (held (part_of old packet.protocol) n) ≡ None) →
-      (list : List Binding) → Apart (map key list) → AllShow address timers packet.now old list →
+      (list : List Binding) → Apart (map row list) → AllShow address timers packet.now old list →
       IsReady quota timers address packet old gone list
   ready all counted absent list apart shows =
       let part = part_of old packet.protocol in

@@ -7,7 +7,8 @@ use Rattle.napt_wire.specs.declared.Protocol.TheVariants.{Icmp, Tcp, Udp}
 use Rattle.napt_config.specs.declared.settings.Timers.{Timers}
 use Rattle.napt_binding.specs.declared.Binding.{Binding}
 use Rattle.napt_binding.specs.Bindings.{same_protocol, is_at, has_number}
-use Rattle.napt_table.specs.Endpoints.{key, Apart}
+use Rattle.napt_table.specs.Endpoints.{Apart}
+use Rattle.napt_table.specs.Rows.{row}
 use Rattle.napt_table.specs.Held.{seen, Shows}
 use Rattle.napt_binding.specs.Life.{is_live, with_live_flows}
 use Rattle.napt_table.specs.Quota.{counts_for, count_for}
@@ -136,7 +137,7 @@ module _ (many address host : ℕ) where
         below_same (found_for (x ∷ xs) q) (found_for xs q) many
         (λ n less. elsewhere q n (not_has address q n x differs))
 
-    of_own : Apart (map key (x ∷ xs)) → AreBelow (x ∷ xs) → (q : Protocol) → q ≡ x.protocol →
+    of_own : Apart (map row (x ∷ xs)) → AreBelow (x ∷ xs) → (q : Protocol) → q ≡ x.protocol →
         found (x ∷ xs) q ≡ found xs q + one counted
     of_own apart below q p =
         let number : ℕ = x.external.number in
@@ -152,7 +153,7 @@ module _ (many address host : ℕ) where
         (λ n differs. elsewhere q n (not_number q n differs)) in
         omega (arith, changed, before, after)
 
-    of_each : Apart (map key (x ∷ xs)) → AreBelow (x ∷ xs) → (q : Protocol) →
+    of_each : Apart (map row (x ∷ xs)) → AreBelow (x ∷ xs) → (q : Protocol) →
         found (x ∷ xs) q ≡ found xs q + one (same_protocol q x.protocol && counted)
     of_each apart below q =
         elim (same_protocol q x.protocol) as
@@ -183,7 +184,7 @@ module _ (many address host : ℕ) where
   one_protocol Tcp v = omega arith
   one_protocol Udp v = omega arith
 
-  count_found : (list : List Binding) → Apart (map key list) → AreBelow list →
+  count_found : (list : List Binding) → Apart (map row list) → AreBelow list →
       count_for address host list ≡ found_in_all list
   count_found [] apart below =
       let none : (q : Protocol) → found [] q ≡ 0 = λ q. below_none (found_for [] q) many (λ n. refl) in
@@ -228,7 +229,7 @@ module _ (timers : Timers) (now : ℕ) where
     abbrev held_in : Protocol → ℕ
     held_in q = count_below (λ n. held_for host (held q n)) many
 
-    count_within : (list : List Binding) → Apart (map key list) →
+    count_within : (list : List Binding) → Apart (map row list) →
         ((q : Protocol) → Shows timers now address q (held q) list) →
         ((q : Protocol) (n : ℕ) (b : Binding) → held q n ≡ Some b → n < many) →
         ((q : Protocol) (n : ℕ) (b : Binding) → held q n ≡ Some b → is_live timers now b ≡ true) →

@@ -21,7 +21,7 @@ use Rattle.napt_table.specs.declared.Row.{Row}
 use Rattle.napt_table.specs.declared.part.Part.{Part}
 use Rattle.napt_binding.specs.Lists.{Each}
 use Rattle.napt_binding.specs.Bindings.{same_protocol, has_number}
-use Rattle.napt_table.specs.Endpoints.{key, IsPaired}
+use Rattle.napt_table.specs.Endpoints.{IsPaired}
 use Rattle.napt_table.specs.Held.{seen}
 use Rattle.napt_binding.specs.Life.{is_live, with_live_flows}
 use Rattle.napt_table.specs.Listing.{part_rows, IsSmall, AreRead}
@@ -187,7 +187,7 @@ module _ (xs ys : List Row) (alike : (p : Protocol) (n : ℕ) → filter (is_row
 -- THE LIST
 
 module _ (timers : Timers) (now address : ℕ) (p : Protocol) (n : ℕ) where
-  list_rows : (list : List Binding) → Each (IsPaired (λ host. address)) (map key list) →
+  list_rows : (list : List Binding) → Each (IsPaired (λ host. address)) (map row list) →
       Once (has_number address p n) list →
       filter (is_row p n) (map row list) ≡ few (option_map row (find (has_number address p n) list))
   list_rows [] each once = refl

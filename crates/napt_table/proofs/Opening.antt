@@ -17,7 +17,8 @@ use Rattle.napt_binding.specs.declared.Binding.{Binding}
 use Rattle.napt_table.specs.declared.part.Part.{Part}
 use Rattle.napt_table.specs.declared.parts.Parts.{Parts as AllParts}
 use Rattle.napt_binding.specs.Bindings.{same_protocol, is_at, of, has_number, is_of_inside}
-use Rattle.napt_table.specs.Endpoints.{key, Apart}
+use Rattle.napt_table.specs.Endpoints.{Apart}
+use Rattle.napt_table.specs.Rows.{row}
 use Rattle.napt_table.specs.Held.{redirect_of, seen}
 use Rattle.napt_table.specs.Parts.{part_of, IsOf, AreOf, AreCounted, AllShow}
 use Rattle.std.specs.Option.{is_some}
@@ -58,7 +59,7 @@ abbrev pub begun : Rules → ℕ → ℕ → List Binding
 begun rules address k = of address (map (redirected (pair_of rules)) (take k rules.redirects))
 
 module _ (rules : Rules) (address k : ℕ) where
-  pub begun_apart : KeepsRules rules → Apart (map key (begun rules address k))
+  pub begun_apart : KeepsRules rules → Apart (map row (begun rules address k))
   begun_apart keeps =
       apart_kept (is_at address) (map (redirected (pair_of rules)) (take k rules.redirects))
       (apart_redirects (pair_of rules) (take k rules.redirects)
@@ -123,7 +124,7 @@ module _ (address : ℕ) (protocol : Protocol) (inside : Endpoint) (number : ℕ
     | false ↦ λ h. refl
   ] refl
 
-  module _ (apart : Apart (map key (list ++ fresh ∷ []))) where
+  module _ (apart : Apart (map row (list ++ fresh ∷ []))) where
     free_number : find (has_number address protocol number) list ≡ None
     free_number = none_earlier (has_number address protocol number) fresh
         (has_it address protocol number fresh refl refl refl) list (once_number address protocol number (list ++ fresh
@@ -250,8 +251,8 @@ module _ (rules : Rules) (keeps : KeepsRules rules) (address k : ℕ) (redirect 
       ∷ []
   pushed = begun_pushed rules address k redirect other below is here
 
-  apart : Apart (map key (begun rules address k ++ redirect_of protocol address inside redirect.external ∷ []))
-  apart = subst (λ (list : List Binding). Apart (map key list)) pushed (begun_apart rules address (k + 1) keeps)
+  apart : Apart (map row (begun rules address k ++ redirect_of protocol address inside redirect.external ∷ []))
+  apart = subst (λ (list : List Binding). Apart (map row list)) pushed (begun_apart rules address (k + 1) keeps)
 
   pub step_free : held (part_of parts protocol) redirect.external ≡ None
   step_free = free address protocol inside redirect.external (begun rules address k) apart parts rules.timers all are

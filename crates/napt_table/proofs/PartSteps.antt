@@ -17,10 +17,10 @@ use Rattle.napt_table.specs.Steps.{fresh, in_found, in_purged, out_made, out_fou
 use Rattle.napt_table.specs.Quota.{granted}
 use Rattle.napt_table.specs.Counts.{are_counted}
 use Rattle.napt_table.specs.declared.parts.Parts.{Parts as AllParts}
-use Rattle.napt_table.specs.Endpoints.{Key}
+use Rattle.napt_table.specs.declared.Row.{Row}
 use Rattle.napt_binding.proofs.Finds.{find_other, find_passed_over}
 use Rattle.napt_table.proofs.Passes.{in_passed}
-use Rattle.napt_table.proofs.Sound.{sent_key, received_key}
+use Rattle.napt_table.proofs.Sound.{sent_row, received_row}
 use Rattle.napt_table.specs.Part.{held, IsSamePlace, StaysPart}
 use Rattle.napt_table.specs.Parts.{part_of, IsOf, AreOf, AreCounted}
 use Rattle.napt_table.specs.Events.{played, played_all}
@@ -92,7 +92,7 @@ in_others inbound timers address packet list q differs n =
           find (has_number address q n) (in_passed inbound list address packet b v).list
           ≡ find (has_number address q n) list) [
             | true ↦ changed_other timers packet.now address packet.protocol packet.number (received_by inbound packet)
-                (received_key inbound packet.remote packet.flags packet.now) list q n (λ p. absurd (differs p))
+                (received_row inbound packet.remote packet.flags packet.now) list q n (λ p. absurd (differs p))
             | false ↦ refl
           ]
     ]
@@ -110,9 +110,9 @@ out_others quota timers address packet list q differs n =
                 (not_has address q n (sent_by packet (fresh address packet m)) differs)
           ]
       | Some b ↦ find_other (of_source address packet) (sent_by packet) (has_number address q n)
-          (λ x. ap (λ (k : Key). eqb k.external.address address
+          (λ x. ap (λ (k : Row). eqb k.external.address address
           && (same_protocol q k.protocol && eqb k.external.number n))
-          (sent_key packet.remote packet.flags packet.now x)) (λ x h. not_has address q n x (λ p. differs (p ∙ sym
+          (sent_row packet.remote packet.flags packet.now x)) (λ x h. not_has address q n x (λ p. differs (p ∙ sym
           (inside_protocol address packet.protocol packet.inside x h)))) list
     ]
 

@@ -4,7 +4,8 @@ use Rattle.napt_wire.specs.declared.Protocol.{Protocol}
 use Rattle.napt_wire.specs.declared.Protocol.TheVariants.{Icmp, Tcp, Udp}
 use Rattle.napt_config.specs.declared.settings.Timers.{Timers}
 use Rattle.napt_binding.specs.declared.Binding.{Binding}
-use Rattle.napt_table.specs.Endpoints.{key, Apart}
+use Rattle.napt_table.specs.Endpoints.{Apart}
+use Rattle.napt_table.specs.Rows.{row}
 use Rattle.napt_table.specs.Held.{Shows}
 use Rattle.napt_binding.specs.Life.{is_live}
 use Rattle.napt_table.specs.Quota.{count_for}
@@ -27,7 +28,7 @@ count_held held host = count_below (λ n. held_for host (held n)) (2 ^ 16)
 
 abbrev pub CountIsHeld : Type 0
 CountIsHeld = (timers : Timers) (now address host : ℕ) (held : Protocol → ℕ → Option Binding) (list : List Binding) →
-    Apart (map key list) →
+    Apart (map row list) →
     ((q : Protocol) → Shows timers now address q (held q) list) →
     ((q : Protocol) (n : ℕ) (binding : Binding) → held q n ≡ Some binding → n < 2 ^ 16) →
     ((q : Protocol) (n : ℕ) (binding : Binding) → held q n ≡ Some binding → is_live timers now binding ≡ true) →

@@ -4,7 +4,8 @@
 -- destination becomes the inside endpoint. RFC 5508, REQ-3 to REQ-6: an ICMP error is translated by the datagram that
 -- it quotes and changes no binding. RFC 4787, REQ-9: a packet that goes out to an external address of the pool goes
 -- back in at that address.
-use Rattle.std.specs.Prelude.{ℕ, max, false, List, [], ◌∷◌, Option, Some, None, Result, Ok, Err}
+use Rattle.std.specs.Prelude.{ℕ, max, false, List, Option, Some, None, Result, Ok, Err}
+use Rattle.std.specs.List.{fold, scan}
 use Rattle.napt_wire.specs.declared.Protocol.{Protocol}
 use Rattle.napt_wire.specs.declared.Protocol.TheVariants as protocols
 use Rattle.napt_wire.specs.declared.Way.{Way}
@@ -134,10 +135,8 @@ abbrev pub kept_answer : Rules → ℕ → Leg → Kept → Answer
 kept_answer rules address leg kept = record { number = leg.number; end = (kept_act rules address leg kept).end }
 
 abbrev pub kept_replies : Rules → ℕ → List Leg → Kept → List Answer
-kept_replies rules address [] kept = []
-kept_replies rules address (leg ∷ legs) kept = kept_answer rules address leg kept ∷ kept_replies rules address legs
-    (kept_after rules address leg kept)
+kept_replies rules address legs kept =
+    scan (λ own leg. kept_after rules address leg own) (λ own leg. kept_answer rules address leg own) kept legs
 
 abbrev pub kept_after_all : Rules → ℕ → List Leg → Kept → Kept
-kept_after_all rules address [] kept = kept
-kept_after_all rules address (leg ∷ legs) kept = kept_after_all rules address legs (kept_after rules address leg kept)
+kept_after_all rules address legs kept = fold (λ own leg. kept_after rules address leg own) kept legs

@@ -7,7 +7,7 @@ use Rattle.napt_wire.specs.declared.Way.{Way}
 use Rattle.napt_translate.specs.Sides.{way_from, served_at, refusal, route}
 use Rattle.napt_sequential.specs.Inputs.{Arrival}
 use Rattle.napt_sequential.specs.declared.outcome.Outcome.TheVariants.{Dropped}
-use Rattle.napt_sequential.specs.Sequential.{Stepped, refused, admitted, step}
+use Rattle.napt_sequential.specs.Sequential.{Course, refused, admitted, step}
 use Rattle.napt_sequential.specs.CountedTranslators.{Follows}
 use Rattle.napt_sequential.proofs.Steps.{arrival_of, route_ok, route_err, follows_none, step_unread, step_refused, step_admitted, reads_as, side_as}
 use Rattle.napt_sequential.proofs.run.step.Goals as goal
@@ -21,7 +21,7 @@ returns-in-Err c = λ state are later.
     c.in-Err.ensures.cause in
     let is : step c.args.config.now c.args.number c.args.now input state.list ≡ refused c.in-Err.cause state.list =
     step_unread c.args.config.now c.args.number c.args.now input state.list c.in-Err.cause reads in
-    subst (λ (s : Stepped). Follows c.args.config.now c.args.now s state c.args.translators.now
+    subst (λ (s : Course). Follows c.args.config.now c.args.now s state c.args.translators.now
     (Dropped c.in-Err.cause))
     (sym is)
     (follows_none c.args.config.now c.args.now state c.args.translators.now later are c.in-Err.cause)
@@ -41,7 +41,7 @@ returns-in-Err-route c = λ state are later.
     ≡ refused c.in-Err-route.cause state.list =
     step_refused c.args.config.now c.args.number c.args.now input state.list packet reads c.in-Err-route.cause
     against in
-    subst (λ (s : Stepped). Follows c.args.config.now c.args.now s state c.args.translators.now
+    subst (λ (s : Course). Follows c.args.config.now c.args.now s state c.args.translators.now
     (Dropped c.in-Err-route.cause)) (sym is)
     (follows_none c.args.config.now c.args.now state c.args.translators.now later are c.in-Err-route.cause)
 
@@ -69,14 +69,14 @@ returns c = λ state are later.
       packet = packet;
     }) state.list
     = step_admitted c.args.config.now c.args.number c.args.now input state.list packet reads free in
-    let admitted_at : Side → Way → Stepped = λ side way.
+    let admitted_at : Side → Way → Course = λ side way.
     admitted c.args.config.now (served_at c.args.config.now (way_from side) packet)
     (record { number = c.args.number; now = c.args.now; way = way; packet = packet }) state.list in
     let same : admitted_at c.input.inside.side c.way_from.result ≡ step c.args.config.now c.args.number c.args.now input
     state.list =
     ap (admitted_at c.input.inside.side) c.way_from.ensures
     ∙ (ap (λ (s : Side). admitted_at s (way_from s)) (side_as input copy c.input.view_is) ∙ sym is) in
-    subst (λ (s : Stepped). IfOk c.follow.result
+    subst (λ (s : Course). IfOk c.follow.result
     (Follows c.args.config.now c.args.now s state c.follow.new.translators))
     same
     (c.follow.ensures state (served_at c.args.config.now (way_from c.input.inside.side) packet) are later
