@@ -1,14 +1,12 @@
 -- From what was read and what was made to what the devices show.
-use Rattle.std.proofs.Common.{◌≡◌, ◌⊎◌, ℕ, ◌+◌, ◌≤◌, inl, inr, refl, ap, ap₂, ◌∙◌, subst, List, length, take, string_bytes, Option, Some, None, IfSome, option_map, Result, Err}
+use Rattle.std.proofs.Common.{◌≡◌, ℕ, ◌+◌, refl, ap, ap₂, ◌∙◌, subst, List, string_bytes, Option, Some, None, IfSome, option_map, Result, Err}
 use Rattle.std.specs.Borrow.{MutBor}
-use Rattle.std.specs.Io.KnownBytes.{Appends}
 use Rattle.napt_wire.specs.declared.Side.{Side}
 use Rattle.napt_wire.specs.declared.Side.TheVariants as sides
 use Rattle.napt_capture.specs.Contents.{Contents}
 use Rattle.napt_capture.specs.Capture.{Answers, failed_reads}
 use Rattle.napt_capture.specs.Text.{text}
 use Rattle.napt_capture.specs.declared.fault.CaptureFault.{CaptureFault}
-use Rattle.napt_capture.specs.declared.fault.WriteFault.{WriteFault}
 use Rattle.napt_config.specs.Rules.{Rules}
 use Rattle.napt_records.specs.declared.Fault.{Fault}
 use Rattle.napt_records.specs.declared.Fault.TheVariants.{Capture, Run, Write}
@@ -23,7 +21,7 @@ use Rattle.napt_records.specs.declared.Which.TheVariants.{Outside, Inside, Repor
 use Rattle.napt_run.specs.declared.captures.Captures.{Captures}
 use Rattle.napt_run.specs.declared.captures.Outputs.{Outputs}
 use Rattle.napt_run.specs.Devices.{bytes_in, some_bytes}
-use Rattle.napt_run.specs.Captures.{AreOutputs, AreRead, Explains, Gets, GetsOf, IfKnown, IsReadAsOutside, IsReadFrom, AreTooMany, IsUnread, IsWriteFaultOf, Receives, Share, whole, front, nothing, WasRead, failed_readings, failed_writings, no_contents, share_of, text_of}
+use Rattle.napt_run.specs.Captures.{AreOutputs, AreRead, Explains, Gets, GetsOf, IfKnown, IsReadAsOutside, IsReadFrom, AreTooMany, IsUnread, IsWriteFaultOf, Receives, Share, whole, front, nothing, failed_readings, no_contents, share_of, text_of}
 
 IfKnown-more : {P Q : List ℕ → Option (List ℕ) → Type 0} (inside : Option (List ℕ)) (outside : Option (Option (List ℕ)))
     → ((bytes : List ℕ) (others : Option (List ℕ)) → P bytes others → Q bytes others) → IfKnown inside outside P →
@@ -56,14 +54,6 @@ pub read_none : {D : Type 0} (remaining : D → Option (List ℕ)) {outside : Op
     {contents read : Contents} → outside ≡ None → contents ≡ read → read ≡ no_contents →
     IsReadAsOutside (bytes_in remaining outside) contents
 read_none remaining is same none = rw (is, same) none
-
-pub outside_unread : (known : Option (List ℕ)) (fault : Fault) (inside : Option (List ℕ))
-    → WasRead inside → IsUnread sides.Outside known fault → Explains inside (option_map some_bytes known) fault
-outside_unread None (Capture sides.Outside fault) inside first is = (first, tt)
-outside_unread (Some bytes) (Capture sides.Outside fault) inside first is = (first, is)
-outside_unread known (Capture sides.Inside fault) inside first is = absurd is
-outside_unread known (Run fault) inside first is = absurd is
-outside_unread known (Write which fault) inside first is = absurd is
 
 -- READING
 
@@ -174,22 +164,8 @@ received which share rules inside outside captures outputs told old new first se
 
 -- DEVICES THAT ARE HANDED IN OR NOT
 
-pub none_or_some : {D : Type 0} (device : Option (MutBor D)) →
-    (device ≡ None) ⊎ ((given : MutBor D) × (device ≡ Some given))
-none_or_some None = inl refl
-none_or_some (Some given) = inr (given, refl)
-
--- WRITING
-
-pub own_share : (which : Which) (fault : WriteFault) (text : List ℕ) (old new : Option (List ℕ))
-    → (fault.written ≤ length text) × Appends old new (take fault.written text)
-    → Receives (share_of which (Err (Write which fault))) text old new
-own_share Outside fault text old new got = got
-own_share Inside fault text old new got = got
-own_share Report fault text old new got = got
-
-pub own_writings : (which : Which) (fault : WriteFault) (old new : ℕ) → new ≡ old + 1 →
-    new ≡ old + failed_writings which (Err (Write which fault))
-own_writings Outside fault old new more = more
-own_writings Inside fault old new more = more
-own_writings Report fault old new more = more
+-- by whether it is
+pub at_device : {D : Type 0} {P : Type 0} (device : Option (MutBor D)) → (device ≡ None → P) →
+    ((given : MutBor D) → device ≡ Some given → P) → P
+at_device None none some = none refl
+at_device (Some given) none some = some given refl

@@ -58,13 +58,6 @@ too_many_told unique (Some bytes) (Some others) captures result first second tol
     told (subst AreTooMany (captures-one unique bytes others read captures are
     (record { inside_capture = first; outside_capture = second })) many)
 
--- whatever the captures are
-pub always_told : (inside : Option (List ℕ)) (outside : Option (Option (List ℕ))) (result : Result (Unit {0}) Fault) →
-    TellsTooMany result → TooManyAreTold inside outside result
-always_told None outside result told = tt
-always_told (Some bytes) None result told = tt
-always_told (Some bytes) (Some others) result told = λ read are many. told
-
 -- the run's fault
 abbrev is_ok : {X : Type 0} → Result X RunFault → Type 0
 is_ok (Ok x) = Unit {0}
