@@ -1,4 +1,4 @@
-//! Tests of the public calls at the edges: of what is read and of the runs. There is nothing here but tests.
+//! Tests of the public calls at the edges: of devices and gates in runs, and of runs with many workers. There is nothing here but tests.
 #![tactic(auto)]
 
 #[cfg(test)]
@@ -8,8 +8,4 @@ mod devices;
 #[cfg(test)]
 mod gates;
 #[cfg(test)]
-mod reading;
-#[cfg(test)]
 mod runs;
-#[cfg(test)]
-mod settings;

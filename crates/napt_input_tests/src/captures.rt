@@ -1,4 +1,4 @@
-ghost use Rattle.std.specs.Prelude.{◌<◌, ◌*◌, ◌^◌, IfOk};
+ghost use Rattle.std.specs.Prelude.{◌<◌, ◌*◌, ◌^◌, length, All, IfOk};
 ghost use Rattle.napt_capture.specs.Text.{IsWritable};
 
 use napt_capture::{
@@ -52,6 +52,39 @@ fn changed(alloc: Global, changes: &[Change<'_>]) -> Result<Vec<u8>, AllocError>
 
 fn read(alloc: Global, bytes: &[u8]) -> Result<Capture, CaptureFault> {
     read_capture(alloc, &mut Watched::new(bytes))
+}
+
+fn assert_record(rt: &impl Abort, record: &Record, time: u64, bytes: &[u8]) {
+    assert_eq!(rt; record.time, time);
+    assert_eq!(rt; record.bytes.as_slice(), bytes);
+    assert_eq!(rt; record.original, 30);
+}
+
+/// A capture of the one packet at a time, or one whose only record is cut.
+fn assert_one(rt: &impl Abort, capture: &Capture, time: Option<u64>) {
+    match time {
+        Some(time) => {
+            assert_eq!(rt; (capture.records.len(), capture.cut), (1, false));
+            for record in &capture.records {
+                assert_record(rt, record, time, &ONE_PACKET[40..]);
+            }
+        }
+        None => assert_eq!(rt; (capture.records.len(), capture.cut), (0, true)),
+    }
+}
+
+/// What reading comes to, where it is of one packet at a time, of none, or a fault.
+fn assert_read(
+    rt: &impl Abort,
+    found: &Result<Capture, CaptureFault>,
+    want: Result<Option<u64>, CaptureFault>,
+) {
+    match (found, want) {
+        (Ok(capture), Ok(time)) => assert_one(rt, capture, time),
+        (Err(fault), Err(wanted)) => assert_eq!(rt; *fault, wanted),
+        (Ok(_), Err(wanted)) => assert!(rt; false, "read in spite of {wanted}"),
+        (Err(fault), Ok(_)) => assert!(rt; false, "refused: {fault}"),
+    }
 }
 
 #[test]
@@ -110,46 +143,31 @@ fn spellings_and_faults(rt: HostRuntime) -> Result<(), Fail> {
     for (changes, length, want) in rows {
         let mut bytes = changed(rt.alloc(), changes)?;
         bytes.truncate(*length);
-        match (read(rt.alloc(), &bytes), want) {
-            (Ok(capture), Ok(Some(time))) => {
-                assert_eq!(rt; capture.records.len(), 1);
-                assert!(rt; !capture.cut);
-                for record in &capture.records {
-                    assert_eq!(rt; record.time, *time);
-                    assert_eq!(rt; record.bytes.as_slice(), &ONE_PACKET[40..]);
-                    assert_eq!(rt; record.original, 30);
-                }
-            }
-            (Ok(capture), Ok(None)) => {
-                assert!(rt; capture.records.is_empty());
-                assert!(rt; capture.cut);
-            }
-            (Err(fault), Err(expected)) => assert_eq!(rt; fault, *expected),
-            (Ok(_), Err(expected)) => assert!(rt; false, "read in spite of {expected}"),
-            (Err(fault), Ok(_)) => assert!(rt; false, "refused: {fault}"),
-        }
+        assert_read(&rt, &read(rt.alloc(), &bytes), *want);
     }
     Ok(())
 }
 
+/// Three records, of which the last ends early, inside its bytes or inside its header; two, and none.
 #[test]
 fn short_and_cut_captures(rt: HostRuntime) -> Result<(), Fail> {
-    let empty = read(rt.alloc(), &ONE_PACKET[..24])?;
-    assert!(rt; empty.records.is_empty());
-    assert!(rt; !empty.cut);
-
-    // Three records, of which the last ends early: inside its bytes, or inside its header.
     let mut bytes = ONE_PACKET.to_vec(rt.alloc())?;
     bytes.extend_from_slice(&ONE_PACKET[24..])?;
     bytes.extend_from_slice(&ONE_PACKET[24..])?;
-    for length in [161, 133, 132, 131, 117] {
-        bytes.truncate(length);
-        let cut = read(rt.alloc(), &bytes)?;
-        assert_eq!(rt; cut.records.len(), 2, "{length} bytes");
-        assert!(rt; cut.cut, "{length} bytes");
+    let rows: &[(usize, (usize, bool))] = &[
+        (161, (2, true)),
+        (133, (2, true)),
+        (132, (2, true)),
+        (131, (2, true)),
+        (117, (2, true)),
+        (116, (2, false)),
+        (24, (0, false)),
+    ];
+    for (length, want) in rows {
+        bytes.truncate(*length);
+        let found = read(rt.alloc(), &bytes)?;
+        assert_eq!(rt; (found.records.len(), found.cut), *want, "{length} bytes");
     }
-    bytes.truncate(116);
-    assert!(rt; !read(rt.alloc(), &bytes)?.cut);
     Ok(())
 }
 
@@ -178,34 +196,41 @@ impl<'a> Read for Flaky<'a> {
     }
 }
 
+/// A capture of one packet through reads of at most so many bytes, where the read behind the good ones fails.
+fn read_flaky(
+    alloc: Global,
+    most: usize,
+    good_reads: usize,
+    kind: io::ErrorKind,
+) -> Result<(usize, bool), CaptureFault> {
+    let rest = ONE_PACKET.as_slice();
+    let mut reader = Watched::new(Flaky {
+        rest,
+        most,
+        good_reads,
+        kind,
+    });
+    let capture = read_capture(alloc, &mut reader)?;
+    Ok((capture.records.len(), capture.cut))
+}
+
 #[test]
-fn each_read_fails_in_turn(rt: HostRuntime) -> Result<(), Fail> {
+fn each_read_fails_in_turn(rt: HostRuntime) {
     // How many bytes a read gives, and how many reads the capture takes: the last finds the end.
-    for (most, reads) in [(100, 4), (16, 6), (1, 71)] {
-        for good_reads in 0..=reads {
-            for kind in [io::ErrorKind::BrokenPipe, io::ErrorKind::Interrupted] {
-                let rest = ONE_PACKET.as_slice();
-                let mut reader = Watched::new(Flaky {
-                    rest,
-                    most,
-                    good_reads,
-                    kind,
-                });
-                match read_capture(rt.alloc(), &mut reader) {
-                    Ok(capture) => {
-                        assert_eq!(rt; good_reads, reads);
-                        assert_eq!(rt; capture.records.len(), 1);
-                        assert!(rt; !capture.cut);
-                    }
-                    Err(fault) => {
-                        assert!(rt; good_reads < reads);
-                        assert_eq!(rt; fault, CaptureFault::Read);
-                    }
-                }
-            }
+    let rows: &[(usize, usize)] = &[(100, 4), (16, 6), (1, 71)];
+    for (most, reads) in rows {
+        for good_reads in 0..=*reads {
+            let wanted = if good_reads == *reads {
+                Ok((1, false))
+            } else {
+                Err(CaptureFault::Read)
+            };
+            let broken = read_flaky(rt.alloc(), *most, good_reads, io::ErrorKind::BrokenPipe);
+            assert_eq!(rt; broken, wanted);
+            let stopped = read_flaky(rt.alloc(), *most, good_reads, io::ErrorKind::Interrupted);
+            assert_eq!(rt; stopped, wanted);
         }
     }
-    Ok(())
 }
 
 /// What a disk does once so many calls were good.
@@ -259,18 +284,28 @@ fn make_disk(alloc: Global, most: usize, good_writes: usize, trouble: DiskTroubl
     }
 }
 
-/// The packet that is written.
-fn packet(alloc: Global, time: u64) -> Result<Record, AllocError>
+/// A record whose length on the link, which is not written, is another.
+fn record_of(alloc: Global, time: u64, bytes: &[u8]) -> Result<Record, Fail>
     requires { time < 2 ^ 32 * 1000000000 }
     ensures { IfOk result IsWritable }
 {
-    let bytes = Vec::from_slice(alloc, &WRITTEN[40..])?;
-    // The length on the link is not written.
+    if bytes.len() > 30 {
+        return Err("at most 30 bytes".into());
+    }
+    let bytes = Vec::from_slice(alloc, bytes)?;
     Ok(Record {
         time,
         bytes,
         original: 1500,
     })
+}
+
+/// The packet that is written.
+fn packet(alloc: Global, time: u64) -> Result<Record, Fail>
+    requires { time < 2 ^ 32 * 1000000000 }
+    ensures { IfOk result IsWritable }
+{
+    record_of(alloc, time, &WRITTEN[40..])
 }
 
 #[test]
@@ -356,6 +391,15 @@ impl Write for Counted {
     }
 }
 
+fn make_counted(is_good: bool) -> Counted {
+    Counted {
+        is_good,
+        reads: 0,
+        writes: 0,
+        flushes: 0,
+    }
+}
+
 /// Which calls have reached the device, and no more of them.
 fn assert_calls(rt: &impl Abort, watched: Watched<Counted>, calls: (u8, u8, u8)) {
     let device = watched.into_inner();
@@ -366,46 +410,47 @@ fn assert_calls(rt: &impl Abort, watched: Watched<Counted>, calls: (u8, u8, u8))
 #[test]
 fn calls_are_handed_on_once(rt: HostRuntime) {
     for is_good in [true, false] {
-        let counted = || Counted {
-            is_good,
-            reads: 0,
-            writes: 0,
-            flushes: 0,
-        };
-        let mut read = Watched::new(counted());
+        let mut read = Watched::new(make_counted(is_good));
         assert_eq!(rt; read.read(&mut [0; 2]).is_ok(), is_good);
         assert_calls(&rt, read, (1, 0, 0));
 
-        let mut written = Watched::new(counted());
+        let mut written = Watched::new(make_counted(is_good));
         assert_eq!(rt; written.write(&[7; 2]).is_ok(), is_good);
         assert_calls(&rt, written, (0, 1, 0));
 
-        let mut flushed = Watched::new(counted());
+        let mut flushed = Watched::new(make_counted(is_good));
         assert_eq!(rt; flushed.flush().is_ok(), is_good);
         assert_calls(&rt, flushed, (0, 0, 1));
     }
 }
 
+/// Records as they are written, and read back.
+fn read_back(alloc: Global, records: &[Record]) -> Result<Capture, Fail>
+    requires few { length records.now < 2 ^ 32 }
+    requires writable { All IsWritable records.now }
+{
+    let mut text = Vec::new(alloc);
+    write_capture(&mut Watched::new(&mut text), records)?;
+    Ok(read(alloc, &text)?)
+}
+
 #[test]
 fn what_is_written_reads_back(rt: HostRuntime) -> Result<(), Fail> {
+    let times = [4_294_967_295_999_999_999, 0];
     let records = [
         packet(rt.alloc(), 4_294_967_295_999_999_999)?,
         packet(rt.alloc(), 0)?,
     ];
-    let mut text = Vec::new(rt.alloc());
-    assert_eq!(rt;
-        write_capture(&mut Watched::new(&mut text), &records),
-        Ok(())
-    );
-    let capture = read(rt.alloc(), &text)?;
-    assert!(rt; !capture.cut);
-    assert_eq!(rt; capture.records.len(), 2);
-    for (record, time) in capture.records.iter().zip([4_294_967_295_999_999_999, 0]) {
-        assert_eq!(rt; record.time, time);
-        assert_eq!(rt; record.bytes.as_slice(), &WRITTEN[40..]);
-        assert_eq!(rt; record.original, 30);
+    let capture = read_back(rt.alloc(), &records)?;
+    assert_eq!(rt; (capture.records.len(), capture.cut), (2, false));
+    for (record, time) in capture.records.iter().zip(&times) {
+        assert_record(&rt, record, *time, &WRITTEN[40..]);
     }
+    Ok(())
+}
 
+#[test]
+fn no_packet_is_written(rt: HostRuntime) -> Result<(), Fail> {
     let mut text = Vec::new(rt.alloc());
     assert_eq!(rt; write_capture(&mut Watched::new(&mut text), &[]), Ok(()));
     assert_eq!(rt; text.as_slice(), &WRITTEN[..24]);
@@ -432,8 +477,8 @@ fn faults_say_where_they_are(rt: HostRuntime) -> Result<(), Fail> {
             "the capture's link type is neither 101 (raw IP) nor 228 (raw IPv4)",
         ),
     ];
-    for (fault, text) in texts {
-        assert_eq!(rt; fault.to_string(rt.alloc())?.as_str(), text);
+    for (fault, text) in &texts {
+        assert_eq!(rt; fault.to_string(rt.alloc())?.as_str(), *text);
     }
     let fault = WriteFault { written: 24 };
     assert_eq!(rt;

@@ -21,6 +21,35 @@ fn assert_faults(rt: &impl Abort, alloc: Global, head: &str, cases: &str) -> Res
     Ok(())
 }
 
+/// What a configuration is to answer.
+#[derive(Clone, Copy)]
+struct Settings<'a> {
+    pool: &'a [u32],
+    filter: Filter,
+    refresh: Refresh,
+    timers: Timers,
+    ring: usize,
+    quota: Option<u16>,
+    redirects: &'a [Redirect],
+}
+
+fn assert_settings(rt: &impl Abort, config: &Config, wanted: Settings) {
+    assert!(rt; config.pool() == wanted.pool, "pool");
+    assert!(rt; config.filter() == wanted.filter, "filter");
+    assert!(rt; config.refresh() == wanted.refresh, "refresh");
+    assert!(rt; config.timers() == wanted.timers, "timers");
+    assert!(rt; config.ring() == wanted.ring, "ring");
+    assert!(rt; config.quota() == wanted.quota, "quota");
+    assert!(rt; config.redirects() == wanted.redirects, "redirects");
+}
+
+/// Whether each host is inside.
+fn assert_inside(rt: &impl Abort, config: &Config, hosts: &[(u32, bool)]) {
+    for (host, inside) in hosts {
+        assert_eq!(rt; config.is_inside(*host), *inside, "{host:x}");
+    }
+}
+
 #[test]
 fn example(rt: HostRuntime) -> Result<(), Fail> {
     let text = r#"
@@ -44,30 +73,30 @@ inside = "10.0.0.3:7000"
 external = 7000
 "#;
     let config = Config::read(rt.alloc(), text.as_bytes())?;
-    assert_eq!(rt; config.pool(), [0xCB00_7101, 0xCB00_7102].as_slice());
-    assert!(rt; config.is_inside(0x0A00_0000));
-    assert!(rt; config.is_inside(0x0AFF_FFFF));
-    assert!(rt; !config.is_inside(0x09FF_FFFF));
-    assert!(rt; !config.is_inside(0x0B00_0000));
-    assert_eq!(rt; config.filter(), Filter::Independent);
-    assert_eq!(rt; config.refresh(), Refresh::Outbound);
+    let hosts = [
+        (0x0A00_0000, true),
+        (0x0AFF_FFFF, true),
+        (0x09FF_FFFF, false),
+        (0x0B00_0000, false),
+    ];
+    assert_inside(&rt, &config, &hosts);
+    assert_eq!(rt; config.pair(0x0A00_0005), 0xCB00_7102);
     let timers = Timers {
         udp: 300,
         established: 7440,
         transitory: 240,
         icmp: 60,
     };
-    assert_eq!(rt; config.timers(), timers);
-    assert_eq!(rt; config.ring(), 64);
-    assert_eq!(rt; config.quota(), Some(512));
-    assert_eq!(rt; config.pair(0x0A00_0005), 0xCB00_7102);
-    let redirect = Redirect {
-        tcp: false,
-        address: 0x0A00_0003,
-        port: 7000,
-        external: 7000,
+    let wanted = Settings {
+        pool: &[0xCB00_7101, 0xCB00_7102],
+        filter: Filter::Independent,
+        refresh: Refresh::Outbound,
+        timers,
+        ring: 64,
+        quota: Some(512),
+        redirects: &[redirect(false, 0x0A00_0003, 7000, 7000)],
     };
-    assert_eq!(rt; config.redirects(), [redirect].as_slice());
+    assert_settings(&rt, &config, wanted);
     Ok(())
 }
 
@@ -82,22 +111,23 @@ pool = ["11.0.0.1"]
 timers = { icmp = 61, tcp-transitory = 241, tcp-established = 7441, udp = 1000000000 }
 "#;
     let config = Config::read(rt.alloc(), text.as_bytes())?;
-    assert_eq!(rt; config.pool(), [0x0B00_0001].as_slice());
-    assert!(rt; config.is_inside(0));
-    assert!(rt; !config.is_inside(1));
-    assert!(rt; config.is_inside(0xFFFF_FFFF));
-    assert_eq!(rt; config.filter(), Filter::AddressPort);
-    assert_eq!(rt; config.refresh(), Refresh::Both);
+    assert_inside(&rt, &config, &[(0, true), (1, false), (0xFFFF_FFFF, true)]);
     let timers = Timers {
         udp: 1_000_000_000,
         established: 7441,
         transitory: 241,
         icmp: 61,
     };
-    assert_eq!(rt; config.timers(), timers);
-    assert_eq!(rt; config.ring(), 4096);
-    assert_eq!(rt; config.quota(), None);
-    assert!(rt; config.redirects().is_empty());
+    let wanted = Settings {
+        pool: &[0x0B00_0001],
+        filter: Filter::AddressPort,
+        refresh: Refresh::Both,
+        timers,
+        ring: 4096,
+        quota: None,
+        redirects: &[],
+    };
+    assert_settings(&rt, &config, wanted);
     Ok(())
 }
 
@@ -504,6 +534,15 @@ fn most_pairs(rt: HostRuntime) -> Result<(), Fail> {
     assert_faults(&rt, alloc, text.as_str(), "TooMany\n[[pair]]\n")
 }
 
+fn redirect(tcp: bool, address: u32, port: u16, external: u16) -> Redirect {
+    Redirect {
+        tcp,
+        address,
+        port,
+        external,
+    }
+}
+
 #[test]
 fn redirects(rt: HostRuntime) -> Result<(), Fail> {
     let alloc = rt.alloc();
@@ -528,22 +567,13 @@ external = 1
 "#
     )?;
     let config = Config::read(alloc, text.as_bytes())?.copy(alloc)?;
-    let found = config.redirects();
-    assert_eq!(rt; found.len(), 4);
-    for (redirect, (tcp, address, port, external)) in found.iter().zip([
-        (true, 0x0A00_0003, 7000, 65535),
-        (false, 0x0A00_0003, 7000, 65535),
-        (false, 0x0A00_0004, 65535, 65535),
-        (false, 0x0A00_0003, 1, 1),
-    ]) {
-        let wanted = Redirect {
-            tcp,
-            address,
-            port,
-            external,
-        };
-        assert_eq!(rt; *redirect, wanted);
-    }
+    let wanted = [
+        redirect(true, 0x0A00_0003, 7000, 65535),
+        redirect(false, 0x0A00_0003, 7000, 65535),
+        redirect(false, 0x0A00_0004, 65535, 65535),
+        redirect(false, 0x0A00_0003, 1, 1),
+    ];
+    assert!(rt; config.redirects() == wanted.as_slice());
     Ok(())
 }
 
@@ -761,8 +791,7 @@ fn most_redirects(rt: HostRuntime) -> Result<(), Fail> {
 fn built_in_and_copy(rt: HostRuntime) -> Result<(), Fail> {
     let alloc = rt.alloc();
     let config = Config::built_in(alloc)?.copy(alloc)?;
-    assert_eq!(rt; config.pool(), [0xCB00_7101].as_slice());
-    for (host, inside) in [
+    let hosts = [
         (0x0A00_0001, true),
         (0xAC0F_FFFF, false),
         (0xAC10_0000, true),
@@ -770,48 +799,57 @@ fn built_in_and_copy(rt: HostRuntime) -> Result<(), Fail> {
         (0xAC20_0000, false),
         (0xC0A8_FFFF, true),
         (0xC0A9_0000, false),
-    ] {
-        assert_eq!(rt; config.is_inside(host), inside, "{host:x}");
-    }
-    assert_eq!(rt; config.timers(), Timers::DEFAULT);
-    assert_eq!(rt; config.ring(), 64);
-    assert_eq!(rt; config.quota(), None);
-    assert_eq!(rt; config.filter(), Filter::Independent);
-    assert_eq!(rt; config.refresh(), Refresh::Outbound);
+    ];
+    assert_inside(&rt, &config, &hosts);
     assert_eq!(rt; config.pair(7), 0xCB00_7101);
-    assert!(rt; config.redirects().is_empty());
+    let wanted = Settings {
+        pool: &[0xCB00_7101],
+        filter: Filter::Independent,
+        refresh: Refresh::Outbound,
+        timers: Timers::DEFAULT,
+        ring: 64,
+        quota: None,
+        redirects: &[],
+    };
+    assert_settings(&rt, &config, wanted);
     Ok(())
 }
 
 #[test]
-fn texts(rt: HostRuntime) -> Result<(), Fail> {
-    let alloc = rt.alloc();
+fn texts_of_addresses(rt: HostRuntime) -> Result<(), Fail> {
     let address = "203.0.113.1".parse::<Address>()?;
     assert_eq!(rt; address.0, 0xCB00_7101);
-    assert_eq!(rt; address.to_string(alloc)?.as_str(), "203.0.113.1");
+    assert_eq!(rt; address.to_string(rt.alloc())?.as_str(), "203.0.113.1");
+    assert_eq!(rt; "10.0.0".parse::<Address>(), Err(ConfigFault::BadAddress));
+    Ok(())
+}
+
+#[test]
+fn texts_of_prefixes(rt: HostRuntime) -> Result<(), Fail> {
     let prefix = "172.16.0.0/12".parse::<Prefix>()?;
     assert!(rt; prefix.contains(0xAC1F_FFFF));
-    assert_eq!(rt; prefix.to_string(alloc)?.as_str(), "172.16.0.0/12");
+    assert_eq!(rt; prefix.to_string(rt.alloc())?.as_str(), "172.16.0.0/12");
+    assert_eq!(rt; "10.0.0.0/".parse::<Prefix>(), Err(ConfigFault::BadPrefix));
+    Ok(())
+}
+
+#[test]
+fn texts_of_transport_addresses(rt: HostRuntime) -> Result<(), Fail> {
     let inside = "10.0.0.3:7000".parse::<TransportAddress>()?;
-    assert_eq!(rt; inside.address(), 0x0A00_0003);
-    assert_eq!(rt; inside.port(), 7000);
-    assert_eq!(rt; inside.to_string(alloc)?.as_str(), "10.0.0.3:7000");
-    for text in [
+    assert_eq!(rt; (inside.address(), inside.port()), (0x0A00_0003, 7000));
+    assert_eq!(rt; inside.to_string(rt.alloc())?.as_str(), "10.0.0.3:7000");
+    let refused: &[&str] = &[
         "10.0.0.3",
         "10.0.0.3:0",
         "10.0.0.3:065",
         "10.0.0.3:65536",
         "10.0.0.3:+1",
         ":1",
-    ] {
-        assert_eq!(rt;
-            text.parse::<TransportAddress>(),
-            Err(ConfigFault::BadAddress),
-            "{text}"
-        );
+    ];
+    for text in refused {
+        let found = text.parse::<TransportAddress>();
+        assert_eq!(rt; found, Err(ConfigFault::BadAddress), "{text}");
     }
-    assert_eq!(rt; "10.0.0.0/".parse::<Prefix>(), Err(ConfigFault::BadPrefix));
-    assert_eq!(rt; "10.0.0".parse::<Address>(), Err(ConfigFault::BadAddress));
     Ok(())
 }
 

@@ -1,6 +1,0 @@
-//! The tests of the crate napt_config, over what it makes public. They stand in a crate of their own, so that the gate does not
-//! prove napt_config again for them.
-#![tactic(auto)]
-
-#[cfg(test)]
-mod tests;
