@@ -8,6 +8,7 @@ use Rattle.napt_translate.specs.declared.translator.Answer.{Answer}
 use Rattle.napt_translate.specs.Translators.{TranslatorState}
 use Rattle.napt_pool.specs.declared.closing.Ended.{Ended}
 use Rattle.napt_pool.specs.Pools.{starts, accepts}
+use Rattle.napt_sequential.specs.Inputs.{Arrival}
 use Rattle.napt_dispatch.specs.Dispatch.{started, rows_after, IsDispatched}
 use Rattle.napt_dispatch.specs.contracts.worker.WorkerMachine.TheImpl.{ghosts}
 use Rattle.napt_dispatch.proofs.Closed.{both_ended, on_ok_at, workers_shown}
@@ -24,14 +25,15 @@ returns-clause-run g c =
     c.dispatch_arrivals-dispatched.ensures.starts ∙ (c.in_ok-pool.ensures.starts ∙ c.in_ok-machines.ensures.made) in
     let settled = on_ok_at _ _ both.0 c.dispatch_arrivals-dispatched.ensures.settled in
     let answered = on_ok_at _ _ both.1 (c.close-closed.ensures.settled settled) in
-    let done : IsDispatched config (g.I.Arrivals.rest c.args.inputs.now) (accepts c.dispatch_arrivals-dispatched.new.pool)
+    let inputs : List Arrival = g.I.Arrivals.rest c.args.inputs.now in
+    let done : IsDispatched config inputs (accepts c.dispatch_arrivals-dispatched.new.pool)
     c.in_ok-dispatched.dispatched.outcomes.items c.in_ok-dispatched.dispatched.legs.items =
     IfOk-at_ok _ both.0 c.dispatch_arrivals-dispatched.ensures.run answered in
     let shown : c.in_ok-bindings.bindings.items ≡ flat_map (rows_after last) machines =
     c.in_ok-bindings.ensures
     ∙ (ap (flat_map (λ (e : Ended TranslatorState Leg Answer). rows_after last e.machine)) c.deref.ensures.value
     ∙ sym (flat_map-map (rows_after last) machine c.in_ok-dispatched.ended.items)) in
-    workers_shown ghosts (λ s leg. refl) config (g.I.Arrivals.rest c.args.inputs.now) (starts c.dispatch_arrivals-dispatched.new.pool)
+    workers_shown ghosts (λ s leg. refl) config inputs (starts c.dispatch_arrivals-dispatched.new.pool)
     (accepts c.dispatch_arrivals-dispatched.new.pool) machines c.in_ok-dispatched.dispatched.outcomes.items
     c.in_ok-dispatched.dispatched.legs.items last c.in_ok-bindings.bindings.items
     began (IfOk-at_ok _ both.1 c.close-closed.ensures.machines) done
