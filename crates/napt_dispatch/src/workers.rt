@@ -90,8 +90,7 @@ pub struct TimedRun {
     pub times: Vec<u64>,
 }
 
-/// The run of `run_workers` over at most 4,294,967,295 inputs, which it takes as it needs them. All are taken where it ends
-/// well.
+/// The run of `run_workers` over at most 4,294,967,295 inputs, which it takes as it needs them.
 ///
 /// A refusal is told as by `run_workers`; `RunFault::TooMany` never comes.
 pub fn run_on_pool<
