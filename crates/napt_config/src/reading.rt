@@ -70,16 +70,24 @@ fn add_address(pool: &mut Vec<u32>, entry: &Value) -> Result<(), ConfigFault>
     Ok(())
 }
 
+/// The addresses of some entries.
+fn pool_of(alloc: Global, entries: &[Value]) -> Result<Vec<u32>, ConfigFault>
+    ensures { Gives (λ pool. pool.items) result (each_in_order with_address []
+        (items_view entries.now)) }
+{
+    let mut pool = Vec::new(alloc);
+    for entry in entries {
+        add_address(&mut pool, entry)?;
+    }
+    Ok(pool)
+}
+
 /// The pool of the table: 1 to 16 addresses, none of which stands twice.
 #[tactic(auto, unfolding(crate::specs::Configured::pool_in))]
 pub(crate) fn pool(alloc: Global, table: &Table) -> Result<Vec<u32>, ConfigFault>
     ensures { Gives (λ pool. pool.items) result (pool_in (table_view table.now)) }
 {
-    let mut pool = Vec::new(alloc);
-    for entry in short_list(table, "pool")? {
-        add_address(&mut pool, entry)?;
-    }
-    Ok(pool)
+    pool_of(alloc, short_list(table, "pool")?)
 }
 
 // ---- inside
@@ -93,16 +101,24 @@ fn add_prefix(inside: &mut Vec<Prefix>, entry: &Value) -> Result<(), ConfigFault
     Ok(())
 }
 
+/// The prefixes of some entries.
+fn prefixes_of(alloc: Global, entries: &[Value]) -> Result<Vec<Prefix>, ConfigFault>
+    ensures { Gives (λ inside. inside.items) result (each_in_order with_prefix []
+        (items_view entries.now)) }
+{
+    let mut inside = Vec::new(alloc);
+    for entry in entries {
+        add_prefix(&mut inside, entry)?;
+    }
+    Ok(inside)
+}
+
 /// The prefixes at a key.
 #[tactic(auto, unfolding(crate::specs::Configured::prefixes_in))]
 fn prefixes(alloc: Global, table: &Table) -> Result<Vec<Prefix>, ConfigFault>
     ensures { Gives (λ inside. inside.items) result (prefixes_in (table_view table.now)) }
 {
-    let mut inside = Vec::new(alloc);
-    for entry in short_list(table, "inside")? {
-        add_prefix(&mut inside, entry)?;
-    }
-    Ok(inside)
+    prefixes_of(alloc, short_list(table, "inside")?)
 }
 
 /// Whether the address is in one of the prefixes.

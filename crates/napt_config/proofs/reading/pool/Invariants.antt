@@ -1,8 +1,0 @@
-use Rattle.std.proofs.Common.{◌≡◌, [], drop}
-use Rattle.toml.specs.View.{items_view}
-use Rattle.napt_config.specs.Configured.{each_in_order, with_address}
-use Rattle.napt_config.proofs.reading.pool.Given as goal
-
-abbrev pub invariant-loop-entry : goal.invariant-loop-entry
-invariant-loop-entry l = each_in_order with_address l.pool.items (items_view (drop l.entry-index l.entry-items))
-    ≡ each_in_order with_address [] (items_view l.entry-items)
