@@ -44,12 +44,10 @@ fn assert_one(rt: &impl Abort, capture: &Capture, time: Option<u64>) {
     }
 }
 
-/// What reading comes to, where it is of one packet at a time, of none, or a fault.
-fn assert_read(
-    rt: &impl Abort,
-    found: &Result<Capture, CaptureFault>,
-    want: Result<Option<u64>, CaptureFault>,
-) {
+/// What reading comes to: one packet at a time, none, or a fault.
+type Reading = Result<Option<u64>, CaptureFault>;
+
+fn assert_read(rt: &impl Abort, found: &Result<Capture, CaptureFault>, want: Reading) {
     match (found, want) {
         (Ok(capture), Ok(time)) => assert_one(rt, capture, time),
         (Err(fault), Err(wanted)) => assert_eq!(rt; *fault, wanted),
@@ -58,65 +56,80 @@ fn assert_read(
     }
 }
 
+const SAME: Reading = Ok(Some(HALF_PAST_ONE));
+
+/// How a capture in nanoseconds begins.
+const NANOSECONDS: &[u8] = &[0x4d, 0x3c, 0xb2, 0xa1, 2, 0, 4, 0];
+
+/// One more byte than a record may have.
+const TOO_LONG: &[u8] = &[1, 0, 4, 0];
+
+/// A million microseconds.
+const A_SECOND: &[u8] = &[0x40, 0x42, 0x0f, 0];
+
+/// What stands in place of bytes of the capture of one packet, how many bytes of it are left, and what reading it comes to.
+const SPELLINGS: &[(&[Change<'static>], usize, Reading)] = &[
+    (&[], 70, SAME),
+    (&[(0, NANOSECONDS), (28, &[0, 0x65, 0xcd, 0x1d])], 70, SAME),
+    (&[(0, &BIG_HEADERS)], 70, SAME),
+    (
+        &[
+            (0, &BIG_HEADERS),
+            (0, &[0xa1, 0xb2, 0x3c, 0x4d]),
+            (28, &[0x1d, 0xcd, 0x65, 0]),
+        ],
+        70,
+        SAME,
+    ),
+    (&[(20, &[0xe4, 0, 0, 0])], 70, SAME),
+    (&[(20, &[1, 0, 0, 0])], 70, Err(CaptureFault::BadLink)),
+    (&[(6, &[3, 0])], 70, Err(CaptureFault::BadVersion)),
+    (&[(28, &[0x3f, 0x42, 0x0f, 0])], 70, Ok(Some(1_999_999_000))),
+    (&[(28, A_SECOND)], 70, Err(CaptureFault::BadFraction(1))),
+    (
+        &[(28, A_SECOND), (32, TOO_LONG)],
+        70,
+        Err(CaptureFault::BadFraction(1)),
+    ),
+    // A cut record has the faults of its header too.
+    (
+        &[(28, A_SECOND), (32, TOO_LONG)],
+        41,
+        Err(CaptureFault::BadFraction(1)),
+    ),
+    (&[(32, TOO_LONG)], 70, Err(CaptureFault::TooLong(1))),
+    (&[(32, &[0, 0, 4, 0])], 70, Ok(None)),
+    (&[], 23, Err(CaptureFault::NoHeader)),
+    (&[(0, &[0])], 23, Err(CaptureFault::NoHeader)),
+    (&[], 0, Err(CaptureFault::NoHeader)),
+    (&[(0, &[0])], 70, Err(CaptureFault::BadMagic)),
+    // Each header goes before what stands behind it.
+    (
+        &[(6, &[3, 0]), (20, &[1, 0, 0, 0])],
+        70,
+        Err(CaptureFault::BadVersion),
+    ),
+    (
+        &[(20, &[1, 0, 0, 0]), (28, A_SECOND)],
+        70,
+        Err(CaptureFault::BadLink),
+    ),
+];
+
 #[test]
 fn spellings_and_faults(rt: HostRuntime) -> Result<(), Fail> {
-    let same = Ok(Some(HALF_PAST_ONE));
-    let nanoseconds: &[u8] = &[0x4d, 0x3c, 0xb2, 0xa1, 2, 0, 4, 0];
-    let too_long: &[u8] = &[1, 0, 4, 0];
-    let a_second: &[u8] = &[0x40, 0x42, 0x0f, 0];
-    let rows: &[(&[Change<'_>], usize, Result<Option<u64>, CaptureFault>)] = &[
-        (&[], 70, same),
-        (&[(0, nanoseconds), (28, &[0, 0x65, 0xcd, 0x1d])], 70, same),
-        (&[(0, &BIG_HEADERS)], 70, same),
-        (
-            &[
-                (0, &BIG_HEADERS),
-                (0, &[0xa1, 0xb2, 0x3c, 0x4d]),
-                (28, &[0x1d, 0xcd, 0x65, 0]),
-            ],
-            70,
-            same,
-        ),
-        (&[(20, &[0xe4, 0, 0, 0])], 70, same),
-        (&[(20, &[1, 0, 0, 0])], 70, Err(CaptureFault::BadLink)),
-        (&[(6, &[3, 0])], 70, Err(CaptureFault::BadVersion)),
-        (&[(28, &[0x3f, 0x42, 0x0f, 0])], 70, Ok(Some(1_999_999_000))),
-        (&[(28, a_second)], 70, Err(CaptureFault::BadFraction(1))),
-        (
-            &[(28, a_second), (32, too_long)],
-            70,
-            Err(CaptureFault::BadFraction(1)),
-        ),
-        // A cut record has the faults of its header too.
-        (
-            &[(28, a_second), (32, too_long)],
-            41,
-            Err(CaptureFault::BadFraction(1)),
-        ),
-        (&[(32, too_long)], 70, Err(CaptureFault::TooLong(1))),
-        (&[(32, &[0, 0, 4, 0])], 70, Ok(None)),
-        (&[], 23, Err(CaptureFault::NoHeader)),
-        (&[(0, &[0])], 23, Err(CaptureFault::NoHeader)),
-        (&[], 0, Err(CaptureFault::NoHeader)),
-        (&[(0, &[0])], 70, Err(CaptureFault::BadMagic)),
-        // Each header goes before what stands behind it.
-        (
-            &[(6, &[3, 0]), (20, &[1, 0, 0, 0])],
-            70,
-            Err(CaptureFault::BadVersion),
-        ),
-        (
-            &[(20, &[1, 0, 0, 0]), (28, a_second)],
-            70,
-            Err(CaptureFault::BadLink),
-        ),
-    ];
-    for (changes, length, want) in rows {
+    for (changes, length, want) in SPELLINGS {
         let mut bytes = changed(rt.alloc(), &ONE_PACKET, changes)?;
         bytes.truncate(*length);
         assert_read(&rt, &read(rt.alloc(), &bytes), *want);
     }
     Ok(())
+}
+
+/// How many records a capture has, and whether its last is cut.
+fn shape_of(alloc: Global, bytes: &[u8]) -> Result<(usize, bool), CaptureFault> {
+    let capture = read(alloc, bytes)?;
+    Ok((capture.records.len(), capture.cut))
 }
 
 /// Three records, of which the last ends early, inside its bytes or inside its header; two, and none.
@@ -136,8 +149,8 @@ fn short_and_cut_captures(rt: HostRuntime) -> Result<(), Fail> {
     ];
     for (length, want) in rows {
         bytes.truncate(*length);
-        let found = read(rt.alloc(), &bytes)?;
-        assert_eq!(rt; (found.records.len(), found.cut), *want, "{length} bytes");
+        let found = shape_of(rt.alloc(), &bytes)?;
+        assert_eq!(rt; found, *want, "{length} bytes");
     }
     Ok(())
 }
@@ -205,7 +218,7 @@ fn each_read_fails_in_turn(rt: HostRuntime) {
 }
 
 /// What a disk does once so many calls were good.
-#[derive(Clone, Copy, PartialEq, Eq, Debug)]
+#[derive(Clone, Copy, PartialEq)]
 enum DiskTrouble {
     WriteFails,
     WriteTakesNone,
@@ -279,15 +292,49 @@ fn packet(alloc: Global, time: u64) -> Result<Record, Fail>
     record_of(alloc, time, &WRITTEN[40..])
 }
 
+/// Writes a capture to a disk.
+fn write_to(disk: Disk, records: &[Record]) -> (Result<(), WriteFault>, Disk)
+    requires few { length records.now < 2 ^ 32 }
+    requires writable { All IsWritable records.now }
+{
+    let mut writer = Watched::new(disk);
+    let result = write_capture(&mut writer, records);
+    (result, writer.into_inner())
+}
+
+/// Writes the text of the one packet to a disk.
+fn write_text_to(disk: Disk) -> (Result<(), WriteFault>, Disk) {
+    let mut writer = Watched::new(disk);
+    let result = write_text(&mut writer, &WRITTEN);
+    (result, writer.into_inner())
+}
+
+/// What a disk is to hold once it was written to, and how that is to have ended.
+fn assert_written(
+    rt: &impl Abort,
+    written: (Result<(), WriteFault>, Disk),
+    wanted: Result<(), WriteFault>,
+    front: usize,
+) {
+    let (result, disk) = written;
+    assert_eq!(rt; result, wanted);
+    assert_eq!(rt; Some(disk.held.as_slice()), WRITTEN.get(..front));
+}
+
 #[test]
 fn one_packet_is_written(rt: HostRuntime) -> Result<(), Fail> {
     let records = [packet(rt.alloc(), HALF_PAST_ONE)?];
-    let mut writer = Watched::new(make_disk(rt.alloc(), 100, 100, DiskTrouble::WriteFails));
-    assert_eq!(rt; write_capture(&mut writer, &records), Ok(()));
-    let disk = writer.into_inner();
-    assert_eq!(rt; disk.held.as_slice(), WRITTEN.as_slice());
-    assert_eq!(rt; disk.flushes, 1);
+    let disk = make_disk(rt.alloc(), 100, 100, DiskTrouble::WriteFails);
+    let written = write_to(disk, &records);
+    assert_eq!(rt; written.1.flushes, 1);
+    assert_written(&rt, written, Ok(()), 70);
     Ok(())
+}
+
+#[test]
+fn no_packet_is_written(rt: HostRuntime) {
+    let disk = make_disk(rt.alloc(), 100, 100, DiskTrouble::WriteFails);
+    assert_written(&rt, write_to(disk, &[]), Ok(()), 24);
 }
 
 #[test]
@@ -299,24 +346,18 @@ fn each_write_fails_in_turn(rt: HostRuntime) -> Result<(), Fail> {
         DiskTrouble::FlushFails,
     ] {
         for good_writes in 0..=70u8 {
-            let mut writer = Watched::new(make_disk(rt.alloc(), 1, good_writes as usize, trouble));
-            let result = write_capture(&mut writer, &records);
-            let disk = writer.into_inner();
-            let written = good_writes as u64;
-            if good_writes == 70 && trouble != DiskTrouble::FlushFails {
-                assert_eq!(rt; result, Ok(()));
+            let front = good_writes as usize;
+            let wanted = if good_writes == 70 && trouble != DiskTrouble::FlushFails {
+                Ok(())
             } else {
-                assert_eq!(rt; result, Err(WriteFault { written }));
-            }
-            assert_eq!(rt; disk.held.as_slice(), &WRITTEN[..good_writes as usize]);
-
-            let mut writer = Watched::new(make_disk(rt.alloc(), 1, good_writes as usize, trouble));
-            let again = write_text(&mut writer, &WRITTEN);
-            assert_eq!(rt; again, result);
-            assert_eq!(rt;
-                writer.into_inner().held.as_slice(),
-                &WRITTEN[..good_writes as usize]
-            );
+                Err(WriteFault {
+                    written: good_writes as u64,
+                })
+            };
+            let disk = make_disk(rt.alloc(), 1, front, trouble);
+            assert_written(&rt, write_to(disk, &records), wanted, front);
+            let disk = make_disk(rt.alloc(), 1, front, trouble);
+            assert_written(&rt, write_text_to(disk), wanted, front);
         }
     }
     Ok(())
@@ -417,14 +458,6 @@ fn what_is_written_reads_back(rt: HostRuntime) -> Result<(), Fail> {
     for (record, time) in capture.records.iter().zip(&times) {
         assert_record(&rt, record, *time, &WRITTEN[40..]);
     }
-    Ok(())
-}
-
-#[test]
-fn no_packet_is_written(rt: HostRuntime) -> Result<(), Fail> {
-    let mut text = Vec::new(rt.alloc());
-    assert_eq!(rt; write_capture(&mut Watched::new(&mut text), &[]), Ok(()));
-    assert_eq!(rt; text.as_slice(), &WRITTEN[..24]);
     Ok(())
 }
 
