@@ -16,20 +16,5 @@ pub const SYN: Flags = Flags {
     ..NO_FLAGS
 };
 
-/// Acknowledges, in an open session.
-pub const ACK: Flags = Flags {
-    ack: true,
-    ..NO_FLAGS
-};
-
-/// Resets a session.
-pub const RST: Flags = Flags {
-    rst: true,
-    ..NO_FLAGS
-};
-
 /// Answers a SYN.
 pub const SYN_ACK: Flags = Flags { ack: true, ..SYN };
-
-/// Ends one way of a session.
-pub const FIN_ACK: Flags = Flags { fin: true, ..ACK };

@@ -34,12 +34,6 @@ pub const SERVER: Endpoint = Endpoint {
     number: 80,
 };
 
-/// 198.51.100.9:53, outside.
-pub const SECOND_RESOLVER: Endpoint = Endpoint {
-    address: 0xC633_6409,
-    number: 53,
-};
-
 /// 10.0.0.0 and so many more, with a port or an identifier: an inside host.
 pub fn host(many: u16, number: u16) -> Endpoint
     ensures address { result.address ≡ 0x0A00_0000 + many }

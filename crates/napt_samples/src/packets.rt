@@ -8,34 +8,6 @@ pub const UDP_QUERY: [u8; 30] = [
     0x13, 0x88, 0, 53, 0, 10, 0x4f, 0x77, 0x68, 0x69, // ports, length, checksum, payload
 ];
 
-/// The same from 203.0.113.1:5000.
-pub const UDP_QUERY_OUT: [u8; 30] = [
-    0x45, 0, 0, 30, 0, 1, 0, 0, 64, 17, 0x14, 0x92, // IPv4, length, identification, UDP, checksum
-    203, 0, 113, 1, 198, 51, 100, 7, // source, destination
-    0x13, 0x88, 0, 53, 0, 10, 0x1d, 0x77, 0x68, 0x69, // ports, length, checksum, payload
-];
-
-/// From outside, the answer to it.
-pub const UDP_ANSWER: [u8; 30] = [
-    0x45, 0, 0, 30, 0, 4, 0, 0, 64, 17, 0x14, 0x8f, // IPv4, length, identification, UDP, checksum
-    198, 51, 100, 7, 203, 0, 113, 1, // source, destination
-    0, 53, 0x13, 0x88, 0, 10, 0x16, 0x75, 0x6f, 0x6b, // ports, length, checksum, payload
-];
-
-/// The same to 10.0.0.2:5000.
-pub const UDP_ANSWER_INSIDE: [u8; 30] = [
-    0x45, 0, 0, 30, 0, 4, 0, 0, 64, 17, 0x46, 0x8f, // IPv4, length, identification, UDP, checksum
-    198, 51, 100, 7, 10, 0, 0, 2, // source, destination
-    0, 53, 0x13, 0x88, 0, 10, 0x48, 0x75, 0x6f, 0x6b, // ports, length, checksum, payload
-];
-
-/// From outside, UDP 198.51.100.9:53 > 203.0.113.1:5000.
-pub const OTHER_ANSWER: [u8; 28] = [
-    0x45, 0, 0, 28, 0, 1, 0, 0, 64, 17, 0x14, 0x92, // IPv4, length, identification, UDP, checksum
-    198, 51, 100, 9, 203, 0, 113, 1, // source, destination
-    0, 53, 0x13, 0x88, 0, 8, 0x85, 0xe2, // ports, length, checksum
-];
-
 /// From outside, port unreachable about the query as it left.
 pub const PORT_UNREACHABLE: [u8; 56] = [
     0x45, 0, 0, 56, 0, 2, 0, 0, 64, 1, 0x14, 0x87, // IPv4, length, identification, ICMP, checksum
@@ -63,15 +35,6 @@ pub const TCP_SYN: [u8; 40] = [
     0x13, 0x88, 0, 80, 0, 0, 0, 1, // ports, sequence number
     0, 0, 0, 0, 0x50, 0x02, 0x20, 0, // acknowledgment number, data offset and SYN, window
     0x47, 0xcd, 0, 0, // checksum, urgent pointer
-];
-
-/// The same from 203.0.113.1:5000.
-pub const TCP_SYN_OUT: [u8; 40] = [
-    0x45, 0, 0, 40, 0, 1, 0, 0, 64, 6, 0x14, 0x93, // IPv4, length, identification, TCP, checksum
-    203, 0, 113, 1, 198, 51, 100, 7, // source, destination
-    0x13, 0x88, 0, 80, 0, 0, 0, 1, // ports, sequence number
-    0, 0, 0, 0, 0x50, 0x02, 0x20, 0, // acknowledgment number, data offset and SYN, window
-    0x15, 0xcd, 0, 0, // checksum, urgent pointer
 ];
 
 /// From outside, port unreachable about the SYN as it left, with 18 bytes of its TCP header.
@@ -125,58 +88,6 @@ pub const ECHO_REQUEST: [u8; 28] = [
     8, 0, 0xf7, 0xf7, 0, 7, 0, 1, // echo request, checksum, identifier, sequence number
 ];
 
-/// The same from 203.0.113.1, with identifier 7.
-pub const ECHO_REQUEST_OUT: [u8; 28] = [
-    0x45, 0, 0, 28, 0, 3, 0, 0, 64, 1, 0x14, 0xa2, // IPv4, length, identification, ICMP, checksum
-    203, 0, 113, 1, 198, 51, 100, 7, // source, destination
-    8, 0, 0xf7, 0xf7, 0, 7, 0, 1, // echo request, checksum, identifier, sequence number
-];
-
-/// From inside, an echo request of 10.0.0.3 with identifier 7.
-pub const SECOND_ECHO_REQUEST: [u8; 28] = [
-    0x45, 0, 0, 28, 0, 3, 0, 0, 64, 1, 0x46, 0xa1, // IPv4, length, identification, ICMP, checksum
-    10, 0, 0, 3, 198, 51, 100, 7, // source, destination
-    8, 0, 0xf7, 0xf7, 0, 7, 0, 1, // echo request, checksum, identifier, sequence number
-];
-
-/// The same from 203.0.113.1, with identifier 8.
-pub const SECOND_ECHO_REQUEST_OUT: [u8; 28] = [
-    0x45, 0, 0, 28, 0, 3, 0, 0, 64, 1, 0x14, 0xa2, // IPv4, length, identification, ICMP, checksum
-    203, 0, 113, 1, 198, 51, 100, 7, // source, destination
-    8, 0, 0xf7, 0xf6, 0, 8, 0, 1, // echo request, checksum, identifier, sequence number
-];
-
-/// From outside, the reply to it.
-pub const SECOND_ECHO_REPLY: [u8; 28] = [
-    0x45, 0, 0, 28, 0, 3, 0, 0, 64, 1, 0x14, 0xa2, // IPv4, length, identification, ICMP, checksum
-    198, 51, 100, 7, 203, 0, 113, 1, // source, destination
-    0, 0, 0xff, 0xf6, 0, 8, 0, 1, // echo reply, checksum, identifier, sequence number
-];
-
-/// The same to 10.0.0.3, with identifier 7.
-pub const SECOND_ECHO_REPLY_INSIDE: [u8; 28] = [
-    0x45, 0, 0, 28, 0, 3, 0, 0, 64, 1, 0x46, 0xa1, // IPv4, length, identification, ICMP, checksum
-    198, 51, 100, 7, 10, 0, 0, 3, // source, destination
-    0, 0, 0xff, 0xf7, 0, 7, 0, 1, // echo reply, checksum, identifier, sequence number
-];
-
-/// From inside, an echo request of 10.0.0.2 to 203.0.113.1.
-pub const ECHO_TO_POOL: [u8; 28] = [
-    0x45, 0, 0, 28, 0, 3, 0, 0, 64, 1, 0x34, 0xdb, // IPv4, length, identification, ICMP, checksum
-    10, 0, 0, 2, 203, 0, 113, 1, // source, destination
-    8, 0, 0xf7, 0xf7, 0, 7, 0, 1, // echo request, checksum, identifier, sequence number
-];
-
-/// From inside, to 203.0.113.1, an error of 10.0.0.2 about an echo reply from there.
-pub const ABOUT_REPLY_TO_POOL: [u8; 56] = [
-    0x45, 0, 0, 56, 0, 2, 0, 0, 64, 1, 0x34, 0xc0, // IPv4, length, identification, ICMP, checksum
-    10, 0, 0, 2, 203, 0, 113, 1, // source, destination
-    3, 3, 0xfc, 0xfc, 0, 0, 0, 0, // port unreachable, checksum, unused
-    0x45, 0, 0, 28, 0, 3, 0, 0, 64, 1, 0x34, 0xdb, // quoted: length, identification, ICMP, checksum
-    203, 0, 113, 1, 10, 0, 0, 2, // source, destination
-    0, 0, 0xff, 0xf7, 0, 7, 0, 1, // echo reply, checksum, identifier, sequence number
-];
-
 /// From inside, UDP 10.0.0.3:7000 > 198.51.100.7:53.
 pub const SERVER_QUERY: [u8; 28] = [
     0x45, 0, 0, 28, 0, 1, 0, 0, 64, 17, 0x46, 0x93, // IPv4, length, identification, UDP, checksum
@@ -226,13 +137,6 @@ pub const OWN_HAIRPIN_ONWARD: [u8; 28] = [
     0x13, 0x88, 0x1b, 0x58, 0, 8, 0x58, 0xfa, // ports, length, checksum
 ];
 
-/// Both to 10.0.0.3:7000.
-pub const HAIRPIN_INSIDE: [u8; 28] = [
-    0x45, 0, 0, 28, 0, 1, 0, 0, 64, 17, 0x34, 0xcc, // IPv4, length, identification, UDP, checksum
-    203, 0, 113, 1, 10, 0, 0, 3, // source, destination
-    0x13, 0x88, 0x1b, 0x58, 0, 8, 0x8a, 0xf9, // ports, length, checksum
-];
-
 /// From inside, port unreachable of 10.0.0.3 to 203.0.113.1 about what came to it.
 pub const HAIRPIN_ERROR: [u8; 56] = [
     0x45, 0, 0, 56, 0, 2, 0, 0, 64, 1, 0x34, 0xbf, // IPv4, length, identification, ICMP, checksum
@@ -251,39 +155,4 @@ pub const HAIRPIN_ERROR_ONWARD: [u8; 56] = [
     0x45, 0, 0, 28, 0, 1, 0, 0, 64, 17, 0x02, 0xcc, // quoted: length, identification, UDP, checksum
     203, 0, 113, 1, 203, 0, 113, 2, // source, destination
     0x13, 0x88, 0x1b, 0x58, 0, 8, 0x58, 0xf9, // ports, length, checksum
-];
-
-/// The same to 10.0.0.2, about UDP 10.0.0.2:5000 > 203.0.113.2:7000.
-pub const HAIRPIN_ERROR_INSIDE: [u8; 56] = [
-    0x45, 0, 0, 56, 0, 2, 0, 0, 64, 1, 0x34, 0xbf, // IPv4, length, identification, ICMP, checksum
-    203, 0, 113, 2, 10, 0, 0, 2, // source, destination
-    3, 3, 0x43, 0x1b, 0, 0, 0, 0, // port unreachable, checksum, unused
-    0x45, 0, 0, 28, 0, 1, 0, 0, 64, 17, 0x34, 0xcc, // quoted: length, identification, UDP, checksum
-    10, 0, 0, 2, 203, 0, 113, 2, // source, destination
-    0x13, 0x88, 0x1b, 0x58, 0, 8, 0x8a, 0xf9, // ports, length, checksum
-];
-
-/// From outside, a SYN of 198.51.100.7:4000 > 203.0.113.1:8080.
-pub const SERVER_SYN: [u8; 40] = [
-    0x45, 0, 0, 40, 0, 1, 0, 0, 64, 6, 0x14, 0x93, // IPv4, length, identification, TCP, checksum
-    198, 51, 100, 7, 203, 0, 113, 1, // source, destination
-    0x0f, 0xa0, 0x1f, 0x90, 0, 0, 0, 1, // ports, sequence number
-    0, 0, 0, 0, 0x50, 0x02, 0x20, 0, // acknowledgment number, data offset and SYN, window
-    0xfa, 0x74, 0, 0, // checksum, urgent pointer
-];
-
-/// The same to 10.0.0.3:80.
-pub const SERVER_SYN_INSIDE: [u8; 40] = [
-    0x45, 0, 0, 40, 0, 1, 0, 0, 64, 6, 0x46, 0x92, // IPv4, length, identification, TCP, checksum
-    198, 51, 100, 7, 10, 0, 0, 3, // source, destination
-    0x0f, 0xa0, 0, 80, 0, 0, 0, 1, // ports, sequence number
-    0, 0, 0, 0, 0x50, 0x02, 0x20, 0, // acknowledgment number, data offset and SYN, window
-    0x4b, 0xb4, 0, 0, // checksum, urgent pointer
-];
-
-/// From outside, UDP 198.51.100.7:53 > 203.0.113.2:5000.
-pub const SECOND_UDP_ANSWER: [u8; 28] = [
-    0x45, 0, 0, 28, 0, 1, 0, 0, 64, 17, 0x14, 0x93, // IPv4, length, identification, UDP, checksum
-    198, 51, 100, 7, 203, 0, 113, 2, // source, destination
-    0, 53, 0x13, 0x88, 0, 8, 0x85, 0xe3, // ports, length, checksum
 ];

@@ -6,7 +6,3 @@ pub const ONE_ADDRESS: &str = "pool = [\"203.0.113.1\"]\ninside = [\"10.0.0.0/8\
 /// The pool is 203.0.113.1 and 203.0.113.2, and 10.0.0.0/8 is inside.
 pub const TWO_ADDRESSES: &str =
     "pool = [\"203.0.113.1\", \"203.0.113.2\"]\ninside = [\"10.0.0.0/8\"]\n";
-
-/// TCP that comes to port 8080 goes to 10.0.0.3:80.
-pub const WEB_REDIRECT: &str =
-    "[[redirect]]\nprotocol = \"tcp\"\ninside = \"10.0.0.3:80\"\nexternal = 8080\n";

@@ -1,0 +1,346 @@
+//! Texts that are read as configurations, each setting by what it answers. Texts that are refused are those of
+//! `tests/configurations`.
+
+use napt_config::{
+    Address, Config, ConfigFault, Filter, Prefix, Redirect, Refresh, Timers, TransportAddress,
+};
+use napt_samples::settings::TWO_ADDRESSES;
+use std::alloc::{AllocError, Global};
+use std::process::Abort;
+use std::test::Fail;
+
+/// The configuration of a text behind a head.
+fn read(alloc: Global, head: &str, text: &str) -> Result<Config, Fail> {
+    let text = format!(in alloc; "{head}{text}")?;
+    Ok(Config::read(alloc, text.as_bytes())?)
+}
+
+/// What a configuration is to answer.
+#[derive(Clone, Copy)]
+struct Settings<'a> {
+    pool: &'a [u32],
+    filter: Filter,
+    refresh: Refresh,
+    timers: Timers,
+    ring: usize,
+    quota: Option<u16>,
+    redirects: &'a [Redirect],
+}
+
+fn assert_settings(rt: &impl Abort, config: &Config, wanted: Settings) {
+    assert!(rt; config.pool() == wanted.pool, "pool");
+    assert!(rt; config.filter() == wanted.filter, "filter");
+    assert!(rt; config.refresh() == wanted.refresh, "refresh");
+    assert!(rt; config.timers() == wanted.timers, "timers");
+    assert!(rt; config.ring() == wanted.ring, "ring");
+    assert!(rt; config.quota() == wanted.quota, "quota");
+    assert!(rt; config.redirects() == wanted.redirects, "redirects");
+}
+
+/// Whether each host is inside.
+fn assert_inside(rt: &impl Abort, config: &Config, hosts: &[(u32, bool)]) {
+    for (host, inside) in hosts {
+        assert_eq!(rt; config.is_inside(*host), *inside, "{host:x}");
+    }
+}
+
+#[test]
+fn example(rt: HostRuntime) -> Result<(), Fail> {
+    let text = r#"
+pool = ["203.0.113.1", "203.0.113.2"]
+inside = ["10.0.0.0/8"]
+filter = "independent"
+refresh = "outbound"
+ring = 64
+quota = 512
+[timers]
+udp = 300
+tcp-established = 7440
+tcp-transitory = 240
+icmp = 60
+[[pair]]
+host = "10.0.0.5"
+external = "203.0.113.2"
+[[redirect]]
+protocol = "udp"
+inside = "10.0.0.3:7000"
+external = 7000
+"#;
+    let config = read(rt.alloc(), "", text)?;
+    let hosts = [
+        (0x0A00_0000, true),
+        (0x0AFF_FFFF, true),
+        (0x09FF_FFFF, false),
+        (0x0B00_0000, false),
+    ];
+    assert_inside(&rt, &config, &hosts);
+    assert_eq!(rt; config.pair(0x0A00_0005), 0xCB00_7102);
+    let timers = Timers {
+        udp: 300,
+        established: 7440,
+        transitory: 240,
+        icmp: 60,
+    };
+    let wanted = Settings {
+        pool: &[0xCB00_7101, 0xCB00_7102],
+        filter: Filter::Independent,
+        refresh: Refresh::Outbound,
+        timers,
+        ring: 64,
+        quota: Some(512),
+        redirects: &[redirect(false, 0x0A00_0003, 7000, 7000)],
+    };
+    assert_settings(&rt, &config, wanted);
+    Ok(())
+}
+
+#[test]
+fn other_settings(rt: HostRuntime) -> Result<(), Fail> {
+    let text = r#"
+ring = 4096
+filter = "address-port"
+refresh = "both"
+inside = ["10.0.0.0/8", "0.0.0.0/32", "128.0.0.0/1"]
+pool = ["11.0.0.1"]
+timers = { icmp = 61, tcp-transitory = 241, tcp-established = 7441, udp = 1000000000 }
+"#;
+    let config = read(rt.alloc(), "", text)?;
+    assert_inside(&rt, &config, &[(0, true), (1, false), (0xFFFF_FFFF, true)]);
+    let timers = Timers {
+        udp: 1_000_000_000,
+        established: 7441,
+        transitory: 241,
+        icmp: 61,
+    };
+    let wanted = Settings {
+        pool: &[0x0B00_0001],
+        filter: Filter::AddressPort,
+        refresh: Refresh::Both,
+        timers,
+        ring: 4096,
+        quota: None,
+        redirects: &[],
+    };
+    assert_settings(&rt, &config, wanted);
+    Ok(())
+}
+
+#[test]
+fn quotas(rt: HostRuntime) -> Result<(), Fail> {
+    let alloc = rt.alloc();
+    for (text, quota) in [
+        ("", None),
+        ("quota = 1\n", Some(1)),
+        ("quota = 2\n", Some(2)),
+        ("quota = 65535\n", Some(65535)),
+    ] {
+        let config = read(alloc, TWO_ADDRESSES, text)?;
+        assert_eq!(rt; config.quota(), quota, "{text}");
+        assert_eq!(rt; config.copy(alloc)?.quota(), quota, "{text}");
+    }
+    Ok(())
+}
+
+#[test]
+fn shortest_timer_and_other_bytes(rt: HostRuntime) -> Result<(), Fail> {
+    let config = read(rt.alloc(), TWO_ADDRESSES, "[timers]\nudp = 120\n")?;
+    assert_eq!(rt; config.timers().udp, 120);
+    let fault = Config::read(rt.alloc(), b"pool = [\"\xFF\"]\n").err();
+    assert_eq!(rt; fault, Some(ConfigFault::NotToml));
+    Ok(())
+}
+
+#[test]
+fn pairs(rt: HostRuntime) -> Result<(), Fail> {
+    let without = read(rt.alloc(), TWO_ADDRESSES, "")?;
+    assert_eq!(rt; without.pair(0x0A00_0005), 0xCB00_7102);
+    assert_eq!(rt; without.pair(0x0A00_0006), 0xCB00_7101);
+    let pair = "[[pair]]\nhost = \"10.0.0.5\"\nexternal = \"203.0.113.1\"\n";
+    let with = read(rt.alloc(), TWO_ADDRESSES, pair)?;
+    assert_eq!(rt; with.pair(0x0A00_0005), 0xCB00_7101);
+    assert_eq!(rt; with.pair(0x0A00_0007), 0xCB00_7102);
+    assert_eq!(rt; with.pool_index(with.pair(0x0A00_0007)), Some(1));
+    assert_eq!(rt; with.pool_index(0x0A00_0007), None);
+    Ok(())
+}
+
+fn redirect(tcp: bool, address: u32, port: u16, external: u16) -> Redirect {
+    Redirect {
+        tcp,
+        address,
+        port,
+        external,
+    }
+}
+
+#[test]
+fn redirects(rt: HostRuntime) -> Result<(), Fail> {
+    let alloc = rt.alloc();
+    let text = r#"
+[[redirect]]
+protocol = "tcp"
+inside = "10.0.0.3:7000"
+external = 65535
+[[redirect]]
+protocol = "udp"
+inside = "10.0.0.3:7000"
+external = 65535
+[[redirect]]
+protocol = "udp"
+inside = "10.0.0.4:65535"
+external = 65535
+[[redirect]]
+protocol = "udp"
+inside = "10.0.0.3:1"
+external = 1
+"#;
+    let config = read(alloc, TWO_ADDRESSES, text)?.copy(alloc)?;
+    let wanted = [
+        redirect(true, 0x0A00_0003, 7000, 65535),
+        redirect(false, 0x0A00_0003, 7000, 65535),
+        redirect(false, 0x0A00_0004, 65535, 65535),
+        redirect(false, 0x0A00_0003, 1, 1),
+    ];
+    assert!(rt; config.redirects() == wanted.as_slice());
+    Ok(())
+}
+
+/// 256 pairs, the greatest host first.
+fn most_pairs(alloc: Global) -> Result<String, AllocError> {
+    let mut text = String::new(alloc);
+    for host in 0..256u32 {
+        let address = Address(0x0A00_0100 + 255 - host);
+        let pair = format!(in alloc;
+            "[[pair]]\nhost = \"{address}\"\nexternal = \"203.0.113.1\"\n"
+        )?;
+        text.push_str(pair.as_str())?;
+    }
+    Ok(text)
+}
+
+/// 256 redirects.
+fn most_redirects(alloc: Global) -> Result<String, AllocError> {
+    let mut text = String::new(alloc);
+    for port in 1..257u32 {
+        let entry = format!(in alloc;
+            "[[redirect]]\nprotocol = \"udp\"\ninside = \"10.0.0.3:{port}\"\nexternal = {port}\n"
+        )?;
+        text.push_str(entry.as_str())?;
+    }
+    Ok(text)
+}
+
+#[test]
+fn most_entries(rt: HostRuntime) -> Result<(), Fail> {
+    let alloc = rt.alloc();
+    let pairs = most_pairs(alloc)?;
+    let config = read(alloc, TWO_ADDRESSES, &pairs)?;
+    for host in 0..256u32 {
+        assert_eq!(rt; config.pair(0x0A00_0100 + host), 0xCB00_7101);
+    }
+    assert_eq!(rt; config.pair(0x0A00_0201), 0xCB00_7102);
+    let redirects = most_redirects(alloc)?;
+    assert_eq!(rt;
+        read(alloc, TWO_ADDRESSES, &redirects)?.redirects().len(),
+        256
+    );
+    let rows = [(&pairs, "[[pair]]\n"), (&redirects, "[[redirect]]\n")];
+    for (most, one_more) in rows {
+        let text = format!(in alloc; "{TWO_ADDRESSES}{most}{one_more}")?;
+        let fault = Config::read(alloc, text.as_bytes()).err();
+        assert_eq!(rt; fault, Some(ConfigFault::TooMany));
+    }
+    Ok(())
+}
+
+#[test]
+fn built_in_and_copy(rt: HostRuntime) -> Result<(), Fail> {
+    let alloc = rt.alloc();
+    let config = Config::built_in(alloc)?.copy(alloc)?;
+    let hosts = [
+        (0x0A00_0001, true),
+        (0xAC0F_FFFF, false),
+        (0xAC10_0000, true),
+        (0xAC1F_FFFF, true),
+        (0xAC20_0000, false),
+        (0xC0A8_FFFF, true),
+        (0xC0A9_0000, false),
+    ];
+    assert_inside(&rt, &config, &hosts);
+    assert_eq!(rt; config.pair(7), 0xCB00_7101);
+    let wanted = Settings {
+        pool: &[0xCB00_7101],
+        filter: Filter::Independent,
+        refresh: Refresh::Outbound,
+        timers: Timers::DEFAULT,
+        ring: 64,
+        quota: None,
+        redirects: &[],
+    };
+    assert_settings(&rt, &config, wanted);
+    Ok(())
+}
+
+#[test]
+fn texts_of_addresses(rt: HostRuntime) -> Result<(), Fail> {
+    let address = "203.0.113.1".parse::<Address>()?;
+    assert_eq!(rt; address.0, 0xCB00_7101);
+    assert_eq!(rt; address.to_string(rt.alloc())?.as_str(), "203.0.113.1");
+    assert_eq!(rt; "10.0.0".parse::<Address>(), Err(ConfigFault::BadAddress));
+    Ok(())
+}
+
+#[test]
+fn texts_of_prefixes(rt: HostRuntime) -> Result<(), Fail> {
+    let prefix = "172.16.0.0/12".parse::<Prefix>()?;
+    assert!(rt; prefix.contains(0xAC1F_FFFF));
+    assert_eq!(rt; prefix.to_string(rt.alloc())?.as_str(), "172.16.0.0/12");
+    assert_eq!(rt; "10.0.0.0/".parse::<Prefix>(), Err(ConfigFault::BadPrefix));
+    Ok(())
+}
+
+#[test]
+fn texts_of_transport_addresses(rt: HostRuntime) -> Result<(), Fail> {
+    let inside = "10.0.0.3:7000".parse::<TransportAddress>()?;
+    assert_eq!(rt; (inside.address(), inside.port()), (0x0A00_0003, 7000));
+    assert_eq!(rt; inside.to_string(rt.alloc())?.as_str(), "10.0.0.3:7000");
+    let refused: &[&str] = &[
+        "10.0.0.3",
+        "10.0.0.3:0",
+        "10.0.0.3:065",
+        "10.0.0.3:65536",
+        "10.0.0.3:+1",
+        ":1",
+    ];
+    for text in refused {
+        let found = text.parse::<TransportAddress>();
+        assert_eq!(rt; found, Err(ConfigFault::BadAddress), "{text}");
+    }
+    Ok(())
+}
+
+#[test]
+fn messages(rt: HostRuntime) -> Result<(), Fail> {
+    let alloc = rt.alloc();
+    for (fault, message) in [
+        (
+            ConfigFault::NotInPool,
+            "expected an `external` address that is in `pool`",
+        ),
+        (
+            ConfigFault::BadNumber,
+            "expected a timer of 0 to 1000000000 seconds, a `ring` of 1 to 4096, a `quota` of 1 to 65535, or an `external` port of 1 to 65535",
+        ),
+        (
+            ConfigFault::BadWord,
+            "expected `independent`, `address` or `address-port` as `filter`, `outbound` or `both` as `refresh`, or `udp` or `tcp` as `protocol`",
+        ),
+        (
+            ConfigFault::DoubleRedirect,
+            "expected at most one `redirect` of a protocol for each inside endpoint and for each external endpoint",
+        ),
+    ] {
+        assert_eq!(rt; fault.to_string(alloc)?.as_str(), message);
+    }
+    Ok(())
+}

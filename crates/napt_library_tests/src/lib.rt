@@ -1,0 +1,33 @@
+//! The tests of the crates napt_wire, napt_capture, napt_config, napt_bits, napt_due, napt_times, napt_table and napt_translate, over
+//! what they make public. They stand in one crate of their own, so that the gate does not prove those again for them, and reads them
+//! once. What a run of the program shows is in `tests/runs`.
+#![tactic(auto)]
+
+#[cfg(test)]
+mod bindings;
+#[cfg(test)]
+mod bits;
+#[cfg(test)]
+mod captures;
+#[cfg(test)]
+mod checked;
+#[cfg(test)]
+mod configurations;
+#[cfg(test)]
+mod due;
+#[cfg(test)]
+mod legs;
+#[cfg(test)]
+mod numbers;
+#[cfg(test)]
+mod packets;
+#[cfg(test)]
+mod plain;
+#[cfg(test)]
+mod remotes;
+#[cfg(test)]
+mod sizes;
+#[cfg(test)]
+mod tree_of_times;
+#[cfg(test)]
+mod twins;
