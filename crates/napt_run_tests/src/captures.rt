@@ -1,18 +1,121 @@
 // What no contract says: that a run over captures comes to its end on threads, of which one may be slow. The bytes of worked
 // captures are in tests/runs, at the top of the repository, and those of long ones are in tests/hairpins.
-use crate::gates::Slow;
+ghost use Rattle.std.specs.Prelude.{◌<◌};
+
+use crate::gates::{Hold, Way};
 use crate::packets::udp;
 use crate::sample_inputs::{THREE_ADDRESSES, thousand_inputs};
-use napt_capture::Watched;
+use napt_capture::{Faulty, Plan, Trouble, Watched};
 use napt_config::Config;
-use napt_pool::{Gate, OpenGate};
-use napt_run::run_captures;
+use napt_run::{Fault, run_captures};
 use napt_samples::hosts::{RESOLVER, external};
 use std::alloc::{AllocError, Global};
-use std::sync::atomic::{AtomicU64, Ordering};
 use std::sync::{Arc, Wait};
 use std::test::Fail;
 use std::thread::Threads;
+
+/// What a device does: it moves all that is asked or a byte at a time, and goes wrong at a call, counted from 1, or at none.
+#[derive(Clone, Copy)]
+pub(crate) struct Device {
+    pub(crate) is_slow: bool,
+    pub(crate) call: u64,
+    pub(crate) trouble: Trouble,
+}
+
+/// Moves all that is asked, and never goes wrong.
+pub(crate) const GOOD: Device = Device {
+    is_slow: false,
+    call: 0,
+    trouble: Trouble::Fails,
+};
+
+impl Device {
+    pub(crate) fn plan(self) -> Plan
+        ensures { 0 < result.most }
+    {
+        let most = if self.is_slow { 1 } else { usize::MAX };
+        Plan {
+            most,
+            call: self.call,
+            trouble: self.trouble,
+        }
+    }
+}
+
+/// The devices of a run.
+#[derive(Clone, Copy)]
+pub(crate) struct Devices {
+    pub(crate) inside: Device,
+    pub(crate) outside: Device,
+    pub(crate) to_outside: Device,
+    pub(crate) to_inside: Device,
+    pub(crate) report: Device,
+}
+
+pub(crate) const ALL_GOOD: Devices = Devices {
+    inside: GOOD,
+    outside: GOOD,
+    to_outside: GOOD,
+    to_inside: GOOD,
+    report: GOOD,
+};
+
+/// What a run is given: both captures, and the devices that they and what it writes are on. Without settings it is in the built-in
+/// configuration.
+#[derive(Clone, Copy)]
+pub(crate) struct Given<'a> {
+    pub(crate) settings: Option<&'a str>,
+    pub(crate) inside: &'a [u8],
+    pub(crate) outside: &'a [u8],
+    pub(crate) devices: Devices,
+}
+
+/// What a run answers and writes.
+#[derive(Drop)]
+pub(crate) struct Written {
+    pub(crate) answer: Result<(), Fault>,
+    pub(crate) to_outside: Vec<u8>,
+    pub(crate) to_inside: Vec<u8>,
+    pub(crate) report: Vec<u8>,
+}
+
+fn config_of(alloc: Global, settings: Option<&str>) -> Result<Config, Fail> {
+    match settings {
+        Some(text) => Ok(Config::read(alloc, text.as_bytes())?),
+        None => Ok(Config::built_in(alloc)?),
+    }
+}
+
+/// What a run over captures answers and writes under a gate.
+pub(crate) fn captured<T: Threads + Wait + AllocGlobal + Copy + Send + 'static>(
+    rt: &T,
+    given: &Given<'_>,
+    gate: Arc<Hold>,
+) -> Result<Written, Fail> {
+    let alloc = rt.alloc();
+    let config = config_of(alloc, given.settings)?;
+    let devices = given.devices;
+    let mut to_outside = Faulty::new(Watched::new(Vec::new(alloc)), devices.to_outside.plan());
+    let mut to_inside = Faulty::new(Watched::new(Vec::new(alloc)), devices.to_inside.plan());
+    let mut report = Faulty::new(Watched::new(Vec::new(alloc)), devices.report.plan());
+    let answer = run_captures(
+        rt,
+        alloc,
+        &config,
+        &mut Faulty::new(Watched::new(given.inside), devices.inside.plan()),
+        Some(&mut Faulty::new(Watched::new(given.outside), devices.outside.plan())),
+        &mut to_outside,
+        Some(&mut to_inside),
+        Some(&mut report),
+        gate,
+    );
+    Ok(Written {
+        answer,
+        to_outside: to_outside.into_inner().into_inner(),
+        to_inside: to_inside.into_inner().into_inner(),
+        report: report.into_inner().into_inner(),
+    })
+}
 
 /// The header of a capture in microseconds, little-endian.
 const HEADER: [u8; 24] = [
@@ -49,46 +152,27 @@ fn hundred_replies(alloc: Global) -> Result<Vec<u8>, AllocError> {
     Ok(text)
 }
 
-/// What a run wrote.
-#[derive(Drop)]
-struct Written {
-    to_outside: Vec<u8>,
-    to_inside: Vec<u8>,
-    report: Vec<u8>,
-}
-
 /// What a run over both captures writes under a gate, with rings of so many slots.
-fn run_under<
-    T: Threads + Wait + AllocGlobal + Copy + Send + 'static,
-    G: Gate + Send + Sync + Drop + 'static,
->(rt: &T, ring: &str, gate: Arc<G>) -> Result<Written, Fail> {
+fn large_run<T: Threads + Wait + AllocGlobal + Copy + Send + 'static>(
+    rt: &T,
+    ring: &str,
+    gate: Arc<Hold>,
+) -> Result<Written, Fail> {
     let alloc = rt.alloc();
-    let text = format!(in alloc; "{THREE_ADDRESSES}ring = {ring}\n")?;
-    let config = Config::read(alloc, text.as_bytes())?;
+    let settings = format!(in alloc; "{THREE_ADDRESSES}ring = {ring}\n")?;
     let (inside, outside) = (thousand_sent(alloc)?, hundred_replies(alloc)?);
-    let mut to_outside = Watched::new(Vec::new(alloc));
-    let mut to_inside = Watched::new(Vec::new(alloc));
-    let mut report = Watched::new(Vec::new(alloc));
-    run_captures(
-        rt,
-        alloc,
-        &config,
-        &mut Watched::new(inside.as_slice()),
-        Some(&mut Watched::new(outside.as_slice())),
-        &mut to_outside,
-        Some(&mut to_inside),
-        Some(&mut report),
-        gate,
-    )?;
-    Ok(Written {
-        to_outside: to_outside.into_inner(),
-        to_inside: to_inside.into_inner(),
-        report: report.into_inner(),
-    })
+    let given = Given {
+        settings: Some(&settings),
+        inside: &inside,
+        outside: &outside,
+        devices: ALL_GOOD,
+    };
+    captured(rt, &given, gate)
 }
 
 fn is_same(written: &Written, wanted: &Written) -> bool {
-    written.to_outside.as_slice() == wanted.to_outside.as_slice()
+    written.answer == wanted.answer
+        && written.to_outside.as_slice() == wanted.to_outside.as_slice()
         && written.to_inside.as_slice() == wanted.to_inside.as_slice()
         && written.report.as_slice() == wanted.report.as_slice()
 }
@@ -96,18 +180,18 @@ fn is_same(written: &Written, wanted: &Written) -> bool {
 #[test]
 fn same_bytes_of_a_slow_worker(rt: HostRuntime) -> Result<(), Fail> {
     let alloc = rt.alloc();
-    let wanted = run_under(&rt, "1", Arc::new(alloc, OpenGate)?)?;
+    let wanted = large_run(&rt, "1", Hold::new(alloc, Way::Open)?)?;
     // A fifth of the thousand are hairpins, and each reply finds its binding.
     let counts = b"packets 1100\nto outside 800\nto inside 300\n";
+    assert_eq!(rt; wanted.answer, Ok(()));
     assert!(rt; wanted.report.starts_with(counts));
     for ring in ["1", "64"] {
-        let open = run_under(&rt, ring, Arc::new(alloc, OpenGate)?)?;
+        let open = large_run(&rt, ring, Hold::new(alloc, Way::Open)?)?;
         assert!(rt; is_same(&open, &wanted), "ring {ring}");
-        let asks = AtomicU64::new(0);
-        let gate = Arc::new(alloc, Slow { asks })?;
-        let slow = run_under(&rt, ring, Arc::try_clone(&gate)?)?;
+        let gate = Hold::new(alloc, Way::Slow)?;
+        let slow = large_run(&rt, ring, Arc::try_clone(&gate)?)?;
         assert!(rt; is_same(&slow, &wanted), "ring {ring}, a slow worker");
-        assert!(rt; gate.asks.load(Ordering::SeqCst) > 1000);
+        assert!(rt; gate.count() > 1000);
     }
     Ok(())
 }

@@ -1,96 +1,133 @@
-//! Gates that hold workers back, and see what they do.
+//! A gate that holds workers back, and counts what they do.
 
 use napt_pool::Gate;
+use std::alloc::{AllocError, Global};
+use std::sync::Arc;
 use std::sync::atomic::{AtomicU64, Ordering};
 use std::thread;
 
-/// The most often that a gate looks for what another worker does.
-const MOST_LOOKS: u32 = 1_000_000;
+/// The most often that a gate looks for what another worker does, and that it may be asked for one leg.
+pub(crate) const MOST_ASKS: u64 = 1_000_000;
 
-/// Says no to the first thousand asks of worker 0.
-#[derive(Drop)]
-pub(crate) struct Slow {
-    pub(crate) asks: AtomicU64,
+/// Which workers a gate holds back, and what it counts.
+#[derive(Clone, Copy)]
+pub(crate) enum Way {
+    /// No worker.
+    Open,
+    /// Worker 0 at its first thousand asks; these are counted, and all others of it.
+    Slow,
+    /// Each of two workers at its first leg, until it has seen the other there; those that have are counted.
+    Meeting,
+    /// Worker 0 at its first leg, until worker 2 has entered its own.
+    AfterThird,
+    /// That worker at that turn, for ever; its asks for it are counted.
+    Shut(u32, u64),
+    /// Both of two workers, for ever, worker 0 only once worker 1 was told no for the last time; the asks of worker 1 are counted.
+    SecondFirst,
 }
 
-impl Gate for Slow {
-    ghost use Rattle.std.specs.Prelude.{false};
-
-    ghost is_open = { false };
-
-    fn enter(&self, worker: u32, _turn: u64) -> bool {
-        worker != 0 || self.asks.fetch_add(1, Ordering::SeqCst) >= 1000
-    }
-}
-
-/// At its first leg each worker looks for the other.
 #[derive(Drop)]
-pub(crate) struct Meeting {
+pub(crate) struct Hold {
+    way: Way,
+    count: AtomicU64,
     first: AtomicU64,
     second: AtomicU64,
-    seen: AtomicU64,
 }
 
-impl Meeting {
-    pub(crate) fn new() -> Meeting {
-        Meeting {
-            first: AtomicU64::new(0),
-            second: AtomicU64::new(0),
-            seen: AtomicU64::new(0),
-        }
+impl Hold {
+    pub(crate) fn new(alloc: Global, way: Way) -> Result<Arc<Hold>, AllocError> {
+        let [count, first, second] = [AtomicU64::new(0), AtomicU64::new(0), AtomicU64::new(0)];
+        let hold = Hold {
+            way,
+            count,
+            first,
+            second,
+        };
+        Ok(Arc::new(alloc, hold)?)
     }
 
-    /// How many saw the other.
-    pub(crate) fn seen(&self) -> u64 {
-        self.seen.load(Ordering::SeqCst)
+    /// What was counted.
+    pub(crate) fn count(&self) -> u64 {
+        self.count.load(Ordering::SeqCst)
     }
-}
 
-impl Gate for Meeting {
-    ghost use Rattle.std.specs.Prelude.{true, refl};
+    /// Counts one more, and answers how many there were before.
+    fn counted(&self) -> u64 {
+        self.count.fetch_add(1, Ordering::SeqCst)
+    }
 
-    ghost is_open = { true };
-
-    fn enter(&self, worker: u32, turn: u64) -> bool {
-        if turn != 0 {
-            return true;
-        }
+    /// Waits a while until the other worker has come to its first leg, too.
+    fn meet(&self, worker: u32) {
         let (own, other) = if worker == 0 {
             (&self.first, &self.second)
         } else {
             (&self.second, &self.first)
         };
         own.store(1, Ordering::SeqCst);
-        for _ in 0..MOST_LOOKS {
+        for _ in 0..MOST_ASKS {
             if other.load(Ordering::SeqCst) == 1 {
-                self.seen.fetch_add(1, Ordering::SeqCst);
-                return true;
+                self.counted();
+                return;
             }
             thread::yield_now();
         }
-        true
+    }
+
+    /// Whether worker 2 has entered its first leg, where worker 0 asks for its own.
+    fn is_after_third(&self, worker: u32, turn: u64) -> bool {
+        if worker == 2 && turn == 0 {
+            self.first.store(1, Ordering::SeqCst);
+        }
+        if worker != 0 || turn != 0 || self.first.load(Ordering::SeqCst) == 1 {
+            return true;
+        }
+        thread::yield_now();
+        false
+    }
+
+    /// Waits until worker 1 was told no for the last time, or so long that it never is.
+    fn wait_for_second(&self) {
+        for _ in 0..MOST_ASKS {
+            if self.count() == MOST_ASKS {
+                return;
+            }
+            thread::yield_now();
+        }
     }
 }
 
-/// Says no to the first leg of worker 0 until worker 2 has entered its own.
-#[derive(Drop)]
-pub(crate) struct AfterThird {
-    pub(crate) entered: AtomicU64,
-}
-
-impl Gate for AfterThird {
+impl Gate for Hold {
     ghost use Rattle.std.specs.Prelude.{false};
 
     ghost is_open = { false };
 
     fn enter(&self, worker: u32, turn: u64) -> bool {
-        if worker == 2 && turn == 0 {
-            self.entered.store(1, Ordering::SeqCst);
+        match self.way {
+            Way::Open => true,
+            Way::Slow => worker != 0 || self.counted() >= 1000,
+            Way::Meeting => {
+                if turn == 0 {
+                    self.meet(worker);
+                }
+                true
+            }
+            Way::AfterThird => self.is_after_third(worker, turn),
+            Way::Shut(shut, at) => {
+                let is_shut = worker == shut && turn == at;
+                if is_shut {
+                    self.counted();
+                }
+                !is_shut
+            }
+            Way::SecondFirst => {
+                if worker == 1 {
+                    self.counted();
+                } else {
+                    self.wait_for_second();
+                    thread::yield_now();
+                }
+                false
+            }
         }
-        if worker != 0 || turn != 0 || self.entered.load(Ordering::SeqCst) == 1 {
-            return true;
-        }
-        thread::yield_now();
-        false
     }
 }

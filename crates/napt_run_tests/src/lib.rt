@@ -1,22 +1,35 @@
-//! The tests of the crate napt_run, over what it makes public. They stand in a crate of their own, so that the gate does not
-//! prove napt_run again for them.
+//! The tests of runs, of workers on threads, and of the parts of the program, over what the crates napt_run, napt_capture, napt_pool,
+//! napt_files, napt_options and napt_program make public. They stand in a crate of their own, so that the gate does not prove those
+//! again for them.
 #![tactic(auto)]
 
 #[cfg(test)]
+mod calls;
+#[cfg(test)]
 mod captures;
 #[cfg(test)]
+mod devices;
+#[cfg(test)]
+mod dispatching;
+#[cfg(test)]
 mod gates;
+#[cfg(test)]
+mod held;
+#[cfg(test)]
+mod large;
 #[cfg(test)]
 mod merging;
 #[cfg(test)]
 mod packets;
 #[cfg(test)]
-mod report;
+mod pool;
 #[cfg(test)]
-mod run;
+mod program;
+#[cfg(test)]
+mod report;
 #[cfg(test)]
 mod sample_inputs;
 #[cfg(test)]
 mod steps;
 #[cfg(test)]
-mod workers;
+mod worked;

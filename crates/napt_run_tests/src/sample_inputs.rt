@@ -1,14 +1,20 @@
-//! A run of a thousand inputs.
+//! Large runs: a thousand inputs, and sixteen hosts that each send to all others.
 
-use crate::packets::udp;
+use crate::steps::input;
 use napt_run::Input;
 use napt_samples::hosts::{RESOLVER, external, host};
 use napt_wire::Side;
 use std::alloc::{AllocError, Global};
 
-/// The configuration of that run, without the size of its rings.
+/// The settings of the thousand inputs.
 pub(crate) const THREE_ADDRESSES: &str =
     "pool = ['203.0.113.1', '203.0.113.2', '203.0.113.3']\ninside = ['10.0.0.0/8']\n";
+
+/// 203.0.113.1 to 203.0.113.16.
+pub(crate) const SIXTEEN_ADDRESSES: &str =
+    "pool = ['203.0.113.1', '203.0.113.2', '203.0.113.3', '203.0.113.4', '203.0.113.5', \
+'203.0.113.6', '203.0.113.7', '203.0.113.8', '203.0.113.9', '203.0.113.10', '203.0.113.11', '203.0.113.12', \
+'203.0.113.13', '203.0.113.14', '203.0.113.15', '203.0.113.16']\ninside = ['10.0.0.0/8']\n";
 
 const MILLISECOND: u64 = 1_000_000;
 
@@ -24,13 +30,25 @@ pub(crate) fn thousand_inputs(alloc: Global) -> Result<Vec<Input>, AllocError> {
         } else {
             RESOLVER
         };
-        let time = u64::from(k) * MILLISECOND;
-        inputs.push(Input {
-            side: Side::Inside,
-            time,
-            clock: time,
-            bytes: udp(alloc, host(2 + k % 6, port), destination)?,
-        })?;
+        let (time, from) = (u64::from(k) * MILLISECOND, host(2 + k % 6, port));
+        inputs.push(input(alloc, Side::Inside, time, from, destination)?)?;
+    }
+    Ok(inputs)
+}
+
+/// Sixteen hosts, each with an external address of its own, send to the resolver, and then each to all the others in turn, one packet
+/// in each millisecond.
+pub(crate) fn all_to_all(alloc: Global) -> Result<Vec<Input>, AllocError> {
+    let mut inputs = Vec::new(alloc);
+    for k in 0..272u16 {
+        let destination = if k < 16 {
+            RESOLVER
+        } else {
+            let round = k / 16 - 1;
+            external(1 + (k + 1 + round) % 16, 7000)
+        };
+        let (time, from) = (u64::from(k) * MILLISECOND, host(16 + k % 16, 7000));
+        inputs.push(input(alloc, Side::Inside, time, from, destination)?)?;
     }
     Ok(inputs)
 }

@@ -1,4 +1,4 @@
-//! UDP packets of a run from the inside, each with what becomes of it.
+//! UDP packets of a run, each with what becomes of it, and what bindings and legs they leave.
 
 use crate::packets::udp;
 use napt_run::{Input, Outcome, Run};
@@ -16,9 +16,10 @@ pub(crate) enum Want {
     Dropped(Cause),
 }
 
-/// A UDP packet without payload that comes from the inside at a time, in ns.
+/// A UDP packet without payload that comes from a side at a time, in ns.
 #[derive(Clone, Copy)]
 pub(crate) struct Step {
+    side: Side,
     time: u64,
     source: Endpoint,
     destination: Endpoint,
@@ -28,6 +29,7 @@ pub(crate) struct Step {
 /// A packet from the inside.
 pub(crate) fn sent(time: u64, source: Endpoint, destination: Endpoint, want: Want) -> Step {
     Step {
+        side: Side::Inside,
         time,
         source,
         destination,
@@ -38,6 +40,18 @@ pub(crate) fn sent(time: u64, source: Endpoint, destination: Endpoint, want: Wan
 /// A packet of a host to the resolver, which leaves from an external endpoint.
 pub(crate) fn query(time: u64, host: Endpoint, external: Endpoint) -> Step {
     sent(time, host, RESOLVER, Want::ToOutside(external, RESOLVER))
+}
+
+/// A query of 10.0.0.2:5000, which leaves from an external endpoint, and its answer to that.
+pub(crate) fn answered_query(external: Endpoint) -> [Step; 2] {
+    let answer = Step {
+        side: Side::Outside,
+        time: 1,
+        source: RESOLVER,
+        destination: external,
+        want: Want::ToInside(RESOLVER, CLIENT),
+    };
+    [query(0, CLIENT, external), answer]
 }
 
 /// A query of 10.0.0.3:7000, which leaves from an external endpoint, and a packet of 10.0.0.2:5000 to that endpoint.
@@ -60,16 +74,28 @@ pub(crate) fn lost_hairpin() -> [Step; 2] {
     ]
 }
 
-/// What comes, each at its own time by its own clock: the run takes the greatest so far.
+/// A packet that comes from a side at its own time, by its own clock: the run takes the greatest so far.
+pub(crate) fn input(
+    alloc: Global,
+    side: Side,
+    time: u64,
+    source: Endpoint,
+    destination: Endpoint,
+) -> Result<Input, AllocError> {
+    Ok(Input {
+        side,
+        time,
+        clock: time,
+        bytes: udp(alloc, source, destination)?,
+    })
+}
+
+/// What comes.
 pub(crate) fn inputs(alloc: Global, steps: &[Step]) -> Result<Vec<Input>, AllocError> {
     let mut inputs = Vec::new(alloc);
     for step in steps {
-        inputs.push(Input {
-            side: Side::Inside,
-            time: step.time,
-            clock: step.time,
-            bytes: udp(alloc, step.source, step.destination)?,
-        })?;
+        let (from, to) = (step.source, step.destination);
+        inputs.push(input(alloc, step.side, step.time, from, to)?)?;
     }
     Ok(inputs)
 }
@@ -89,23 +115,6 @@ fn is_met(alloc: Global, outcome: &Outcome, want: Want) -> Result<bool, AllocErr
     }
 }
 
-/// Each packet became what it should.
-pub(crate) fn assert_outcomes(
-    rt: &impl Abort,
-    alloc: Global,
-    outcomes: &[Outcome],
-    steps: &[Step],
-) -> Result<(), AllocError> {
-    assert!(rt; outcomes.len() == steps.len());
-    for (i, (outcome, step)) in outcomes.iter().zip(steps).enumerate() {
-        assert!(rt;
-            is_met(alloc, outcome, step.want)?,
-            "the outcome of input {i}"
-        );
-    }
-    Ok(())
-}
-
 /// A UDP binding of a host.
 pub(crate) fn row(inside: Endpoint, external: Endpoint) -> Row {
     Row {
@@ -116,9 +125,40 @@ pub(crate) fn row(inside: Endpoint, external: Endpoint) -> Row {
     }
 }
 
-/// The bindings of 10.0.0.2:5000 at the first address and of 10.0.0.3:7000 at an endpoint, after so many legs at each address.
-pub(crate) fn assert_two_bindings(rt: &impl Abort, run: &Run, served: Endpoint, legs: &[u64]) {
-    let rows = [row(CLIENT, external(1, 5000)), row(host(3, 7000), served)];
-    assert_eq!(rt; run.bindings.as_slice(), rows.as_slice());
-    assert_eq!(rt; run.legs.as_slice(), legs);
+/// The bindings of 10.0.0.2:5000 at the first address and of 10.0.0.3:7000 at an endpoint.
+pub(crate) fn both_rows(served: Endpoint) -> [Row; 2] {
+    [row(CLIENT, external(1, 5000)), row(host(3, 7000), served)]
+}
+
+/// A run that is told: its settings, its packets and what becomes of them, the bindings that are left, and how many legs acted at each
+/// external address.
+#[derive(Clone, Copy)]
+pub(crate) struct Worked<'a> {
+    pub(crate) name: &'a str,
+    pub(crate) settings: &'a str,
+    pub(crate) steps: &'a [Step],
+    pub(crate) bindings: &'a [Row],
+    pub(crate) legs: &'a [u64],
+}
+
+impl Worked<'_> {
+    /// The run came to what is told.
+    pub(crate) fn assert_is(
+        &self,
+        rt: &impl Abort,
+        alloc: Global,
+        run: &Run,
+    ) -> Result<(), AllocError> {
+        let name = self.name;
+        assert!(rt; run.outcomes.len() == self.steps.len(), "{name}");
+        for (i, (outcome, step)) in run.outcomes.iter().zip(self.steps).enumerate() {
+            assert!(rt;
+                is_met(alloc, outcome, step.want)?,
+                "{name}: the outcome of input {i}"
+            );
+        }
+        assert_eq!(rt; run.bindings.as_slice(), self.bindings, "{name}");
+        assert_eq!(rt; run.legs.as_slice(), self.legs, "{name}");
+        Ok(())
+    }
 }

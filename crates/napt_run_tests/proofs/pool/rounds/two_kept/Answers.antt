@@ -1,7 +1,7 @@
 use Rattle.std.proofs.Common.{◌≡◌, [], ◌∷◌, rules}
 use Rattle.napt_pool.specs.Pools.{starts, accepts, takes}
-use Rattle.napt_pool_tests.proofs.OnlyOne.{all_of_one}
-use Rattle.napt_pool_tests.proofs.tests.rounds.two_kept.Goals as goal
+use Rattle.napt_run_tests.proofs.OnlyOne.{all_of_one}
+use Rattle.napt_run_tests.proofs.pool.rounds.two_kept.Goals as goal
 
 pub returns-then-second-clause-answers : goal.returns-then-second-clause-answers
 returns-then-second-clause-answers g c =

@@ -1,6 +1,6 @@
 //! Which output is a file that an option before it names. That the standard streams are files too is seen in tests/end_to_end.
 
-use crate::options::{NOTHING, Named, options};
+use super::options::{NOTHING, Named, options};
 use napt_files::{Node, Place, is_same};
 use napt_options::{Role, lost_file};
 use std::test::Fail;
@@ -37,21 +37,28 @@ fn finds_the_later_of_two(rt: HostRuntime) -> Result<(), Fail> {
         ([None, None, None, NEW, None, NOWHERE], None),
         ([None, DEVICE, None, DEVICE, DEVICE, None], None),
     ];
-    for (named, wanted) in rows {
+    for (i, (named, wanted)) in rows.into_iter().enumerate() {
         let lost = lost_file(&rt, &options(rt.alloc(), named)?);
-        assert_eq!(rt; lost, wanted, "at {named:?}");
+        assert_eq!(rt; lost, wanted, "row {i}");
     }
     Ok(())
 }
 
 #[test]
 fn tells_one_file(rt: HostRuntime) {
-    let [file, other] = [7, 8].map(|device| Place::There(Node { device, number: 3 }));
+    let file = Place::There(Node {
+        device: 7,
+        number: 3,
+    });
+    let other = Place::There(Node {
+        device: 8,
+        number: 3,
+    });
     let folder = Node {
         device: 7,
         number: 2,
     };
-    let [new, second_new] = ["a", "b"].map(|name| Place::New(folder, name));
+    let (new, second_new) = (Place::New(folder, "a"), Place::New(folder, "b"));
     let words = Place::Words("a");
     let rows = [
         (file, file, true),
@@ -62,7 +69,7 @@ fn tells_one_file(rt: HostRuntime) {
         (new, words, false),
         (Place::Aside, Place::Aside, false),
     ];
-    for (a, b, is_one) in rows {
-        assert_eq!(rt; is_same(a, b), is_one, "at {a:?} and {b:?}");
+    for (i, (a, b, is_one)) in rows.iter().enumerate() {
+        assert!(rt; is_same(*a, *b) == *is_one, "row {i}");
     }
 }

@@ -2,8 +2,9 @@
 ghost use Rattle.std.specs.Prelude.{◌≡◌, [], ◌∷◌, map, IfOk};
 
 use super::checked::CheckedPool;
-use super::machines::Keeper;
-use napt_pool::{Ended, Gate, OfferRefused, OpenGate, Pool, PoolFault};
+use super::keeper::Keeper;
+use super::watch::{Says, Watch};
+use napt_pool::{Ended, OfferRefused, OpenGate, Pool, PoolFault};
 use std::alloc::Global;
 use std::process::Abort;
 use std::sync::{Arc, Wait};
@@ -47,23 +48,32 @@ fn machines_and_answers_come_back(rt: HostRuntime) -> Result<(), Fail> {
     Ok(())
 }
 
+/// A pool of keepers, where nothing is refused.
+fn keepers<R: Threads + Wait + Abort + AllocGlobal + Copy + Send + 'static>(
+    rt: &R,
+    workers: u32,
+    capacity: u16,
+) -> Result<CheckedPool<Keeper>, Fail> {
+    let alloc = rt.alloc();
+    let machines = Keeper::several(alloc, workers)?;
+    let gate = Watch::new(alloc, workers as usize, Says::Yes, false)?;
+    Ok(CheckedPool::start(rt, alloc, machines, usize::from(capacity), gate)?)
+}
+
 #[test]
 fn answer_comes(rt: HostRuntime) -> Result<(), Fail> {
-    let alloc = rt.alloc();
-    let gate = Arc::new(alloc, OpenGate)?;
-    let machines = Keeper::several(alloc, 2)?;
-    let mut pool = CheckedPool::started(&rt, alloc, machines, 1, gate);
-    assert_eq!(rt; pool.take(&rt, 1), Ok(None));
-    assert!(rt; pool.offer(&rt, 1, 40).is_ok());
+    let mut pool = keepers(&rt, 2, 1)?;
+    assert!(rt; pool.take(&rt, 1) == Ok(None));
+    pool.give(&rt, 1, 40);
     assert!(rt; matches!(pool.offer(&rt, 1, 41), Err(OfferRefused::Full(41))));
-    assert_eq!(rt; pool.take_soon(&rt, 1), Ok(Some(0)));
-    assert_eq!(rt; pool.take(&rt, 1), Ok(None));
-    assert!(rt; pool.close(&rt).is_ok());
+    assert!(rt; pool.take_soon(&rt, 1) == Ok(Some(0)));
+    assert!(rt; pool.take(&rt, 1) == Ok(None));
+    pool.closed(&rt);
     Ok(())
 }
 
 /// How many items worker `w` takes until it is full. `None` where it is refused for another cause.
-fn fill<G: Gate>(rt: &impl Abort, pool: &mut CheckedPool<Keeper, G>, w: u32) -> Option<u64> {
+fn fill(rt: &impl Abort, pool: &mut CheckedPool<Keeper>, w: u32) -> Option<u64> {
     for count in 0..10_000 {
         match pool.offer(rt, w, count) {
             Ok(()) => {}
@@ -75,13 +85,7 @@ fn fill<G: Gate>(rt: &impl Abort, pool: &mut CheckedPool<Keeper, G>, w: u32) -> 
 }
 
 /// Whether worker `w` answers with this many numbers from `base` on, and then has no more.
-fn empties<G: Gate>(
-    rt: &impl Abort,
-    pool: &mut CheckedPool<Keeper, G>,
-    w: u32,
-    count: u64,
-    base: u64,
-) -> bool {
+fn empties(rt: &impl Abort, pool: &mut CheckedPool<Keeper>, w: u32, count: u64, base: u64) -> bool {
     for k in 0..count {
         if pool.take_soon(rt, w) != Ok(Some(base.saturating_add(k))) {
             return false;
@@ -91,35 +95,26 @@ fn empties<G: Gate>(
 }
 
 /// Fills all workers, and then empties them.
-fn round<G: Gate>(
-    rt: &impl Abort,
-    pool: &mut CheckedPool<Keeper, G>,
-    workers: u32,
-    capacity: u64,
-    base: u64,
-) {
+fn round(rt: &impl Abort, pool: &mut CheckedPool<Keeper>, workers: u32, capacity: u64, base: u64) {
     for w in 0..workers {
-        assert_eq!(rt; fill(rt, pool, w), Some(capacity), "worker {w}");
+        assert!(rt; fill(rt, pool, w) == Some(capacity), "worker {w}");
     }
     for w in 0..workers {
         assert!(rt; empties(rt, pool, w, capacity, base), "worker {w}");
     }
 }
 
-fn three_rounds<R: Threads + Wait + Abort + Copy + Send + 'static>(
+fn three_rounds<R: Threads + Wait + Abort + AllocGlobal + Copy + Send + 'static>(
     rt: &R,
-    alloc: Global,
     workers: u32,
     capacity: u16,
 ) -> Result<(), Fail> {
-    let gate = Arc::new(alloc, OpenGate)?;
-    let machines = Keeper::several(alloc, workers)?;
-    let mut pool = CheckedPool::started(rt, alloc, machines, usize::from(capacity), gate);
+    let mut pool = keepers(rt, workers, capacity)?;
     let count = u64::from(capacity);
     for k in 0..3 {
         round(rt, &mut pool, workers, count, k * count);
     }
-    let ended = pool.close(rt).ok().expect(rt, "close");
+    let ended = pool.closed(rt);
     assert_eq!(rt; ended.len(), workers as usize);
     for end in &ended {
         assert_eq!(rt; end.machine.items.len() as u64, 3 * count);
@@ -130,26 +125,22 @@ fn three_rounds<R: Threads + Wait + Abort + Copy + Send + 'static>(
 
 #[test]
 fn ring_rounds(rt: HostRuntime) -> Result<(), Fail> {
-    let alloc = rt.alloc();
     for capacity in [1, 64, 4096] {
         for workers in [1, 2, 16] {
-            three_rounds(&rt, alloc, workers, capacity)?;
+            three_rounds(&rt, workers, capacity)?;
         }
     }
     Ok(())
 }
 
 /// Fills a pool of one worker and closes it at once: its item ring has room for Close beside all items.
-fn close_full<R: Threads + Wait + Abort + Copy + Send + 'static>(
+fn close_full<R: Threads + Wait + Abort + AllocGlobal + Copy + Send + 'static>(
     rt: &R,
-    alloc: Global,
     capacity: u16,
 ) -> Result<(), Fail> {
-    let gate = Arc::new(alloc, OpenGate)?;
-    let machines = Keeper::several(alloc, 1)?;
-    let mut pool = CheckedPool::started(rt, alloc, machines, usize::from(capacity), gate);
-    assert_eq!(rt; fill(rt, &mut pool, 0), Some(u64::from(capacity)));
-    let ended = pool.close(rt).ok().expect(rt, "close");
+    let mut pool = keepers(rt, 1, capacity)?;
+    assert!(rt; fill(rt, &mut pool, 0) == Some(u64::from(capacity)));
+    let ended = pool.closed(rt);
     assert_eq!(rt; ended.len(), 1);
     assert_eq!(rt; ended[0].answers.len(), usize::from(capacity));
     Ok(())
@@ -158,10 +149,9 @@ fn close_full<R: Threads + Wait + Abort + Copy + Send + 'static>(
 /// Most often the worker has not begun when it is closed, so all items are in the ring.
 #[test]
 fn full_pool_closes(rt: HostRuntime) -> Result<(), Fail> {
-    let alloc = rt.alloc();
     for capacity in [1, 2, 64] {
         for _ in 0..50 {
-            close_full(&rt, alloc, capacity)?;
+            close_full(&rt, capacity)?;
         }
     }
     Ok(())

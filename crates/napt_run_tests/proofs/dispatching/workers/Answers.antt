@@ -4,7 +4,7 @@ use Rattle.napt_translate.specs.Translators.{TranslatorState, begun}
 use Rattle.napt_dispatch.specs.Dispatch.{started}
 use Rattle.napt_dispatch.proofs.Ended.{length_started}
 use Rattle.napt_dispatch.proofs.Closed.{started_more}
-use Rattle.napt_run_tests.proofs.workers.workers.Goals as goal
+use Rattle.napt_run_tests.proofs.dispatching.workers.Goals as goal
 
 pub loop-index-preserved : goal.loop-index-preserved
 loop-index-preserved c =

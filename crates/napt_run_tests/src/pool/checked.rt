@@ -3,7 +3,8 @@ ghost use Rattle.std.specs.Prelude.{◌≡◌, length};
 ghost use Rattle.napt_pool.specs.Pools.{starts};
 
 use super::MOST_LOOKS;
-use napt_pool::{Ended, Gate, Machine, OfferRefused, Pool, PoolFault};
+use super::watch::Watch;
+use napt_pool::{Ended, Machine, OfferRefused, Pool, PoolFault};
 use std::alloc::Global;
 use std::process::Abort;
 use std::sync::{Arc, Wait};
@@ -12,14 +13,14 @@ use std::thread::Threads;
 
 /// A pool that stops a test which asks what a caller may not: for no worker, or for a worker that is not there. Its calls promise
 /// nothing, so that the proof of a test is short: the test sees what comes of them when it runs.
-pub(crate) struct CheckedPool<M: Machine, G: Gate> {
+pub(crate) struct CheckedPool<M: Machine> {
     alloc: Global,
-    pool: Pool<M, G>,
+    pool: Pool<M, Watch>,
     workers: u32,
     ghost many: { length (starts pool) ≡ workers },
 }
 
-impl<M: Machine, G: Gate> CheckedPool<M, G> {
+impl<M: Machine> CheckedPool<M> {
     pub(crate) fn offer(
         &mut self,
         rt: &impl Abort,
@@ -28,6 +29,12 @@ impl<M: Machine, G: Gate> CheckedPool<M, G> {
     ) -> Result<(), OfferRefused<M::Item>> {
         assert!(rt; w < self.workers);
         self.pool.offer(self.alloc, w, item)
+    }
+
+    /// Offers an item that is not refused.
+    pub(crate) fn give(&mut self, rt: &impl Abort, w: u32, item: M::Item) {
+        let offered = self.offer(rt, w, item).is_ok();
+        assert!(rt; offered, "the item of worker {w}");
     }
 
     pub(crate) fn take(&mut self, rt: &impl Abort, w: u32) -> Result<Option<M::Answer>, PoolFault> {
@@ -58,17 +65,20 @@ impl<M: Machine, G: Gate> CheckedPool<M, G> {
         } = self;
         pool.close(rt, alloc)
     }
-}
 
-impl<M: Machine, G: Gate + Send + Sync + Drop + 'static> CheckedPool<M, G> {
+    /// Closes a pool that has no fault.
+    pub(crate) fn closed<R: Threads + Abort>(self, rt: &R) -> Vec<Ended<M>> {
+        self.close(rt).ok().expect(rt, "close")
+    }
+
     /// Starts a thread for each of 1 to 16 machines, with rings for 1 to 4,096 items.
     pub(crate) fn start<R: Threads + Wait + Abort + Copy + Send + 'static>(
         rt: &R,
         alloc: Global,
         machines: Vec<M>,
         capacity: usize,
-        gate: Arc<G>,
-    ) -> Result<CheckedPool<M, G>, PoolFault>
+        gate: Arc<Watch>,
+    ) -> Result<CheckedPool<M>, PoolFault>
     where
         M: 'static,
         M::Item: 'static,
@@ -83,23 +93,5 @@ impl<M: Machine, G: Gate + Send + Sync + Drop + 'static> CheckedPool<M, G> {
             pool,
             workers: workers as u32,
         })
-    }
-
-    /// The same, where nothing is refused.
-    pub(crate) fn started<R: Threads + Wait + Abort + Copy + Send + 'static>(
-        rt: &R,
-        alloc: Global,
-        machines: Vec<M>,
-        capacity: usize,
-        gate: Arc<G>,
-    ) -> CheckedPool<M, G>
-    where
-        M: 'static,
-        M::Item: 'static,
-        M::Answer: 'static,
-    {
-        CheckedPool::start(rt, alloc, machines, capacity, gate)
-            .ok()
-            .expect(rt, "start")
     }
 }

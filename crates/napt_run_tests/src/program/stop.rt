@@ -8,7 +8,20 @@ use napt_program::{Stop, StopLine, line_at_end, status_at_end, stop_line, stop_s
 use napt_records::{Fault, Which};
 use napt_sequential::RunFault;
 use napt_wire::Side;
+use std::process::Abort;
 use std::test::Fail;
+
+/// A stop ends the program with that status and line.
+fn assert_stop(
+    rt: &(impl Abort + AllocGlobal),
+    stop: &Stop,
+    status: u8,
+    line: &str,
+) -> Result<(), Fail> {
+    assert!(rt; stop_status(stop) == status, "{line}");
+    assert!(rt; stop_line(rt.alloc(), stop)?.as_str() == line, "{line}");
+    Ok(())
+}
 
 #[test]
 fn names_lines_files_and_runs(rt: HostRuntime) -> Result<(), Fail> {
@@ -69,9 +82,8 @@ fn names_lines_files_and_runs(rt: HostRuntime) -> Result<(), Fail> {
             "napt: write report",
         ),
     ];
-    for (stop, status, line) in stops {
-        assert_eq!(rt; stop_status(&stop), status, "at {stop}");
-        assert_eq!(rt; stop_line(rt.alloc(), &stop)?.as_str(), line);
+    for (stop, status, line) in &stops {
+        assert_stop(&rt, stop, *status, line)?;
     }
     Ok(())
 }
@@ -110,9 +122,7 @@ fn names_faults_of_configurations(rt: HostRuntime) -> Result<(), Fail> {
         (ConfigFault::Memory, "napt: config memory"),
     ];
     for (fault, line) in stops {
-        let stop = Stop::Config(fault);
-        assert_eq!(rt; stop_status(&stop), 3, "at {stop}");
-        assert_eq!(rt; stop_line(rt.alloc(), &stop)?.as_str(), line);
+        assert_stop(&rt, &Stop::Config(fault), 3, line)?;
     }
     Ok(())
 }
@@ -120,28 +130,59 @@ fn names_faults_of_configurations(rt: HostRuntime) -> Result<(), Fail> {
 #[test]
 fn names_faults_of_captures(rt: HostRuntime) -> Result<(), Fail> {
     let stops = [
-        (CaptureFault::NoHeader, "no-header"),
-        (CaptureFault::BadMagic, "bad-magic"),
-        (CaptureFault::BadVersion, "bad-version"),
-        (CaptureFault::BadLink, "bad-link"),
-        (CaptureFault::BadFraction(3), "bad-fraction 3"),
+        (
+            CaptureFault::NoHeader,
+            "napt: capture inside no-header",
+            "napt: capture outside no-header",
+        ),
+        (
+            CaptureFault::BadMagic,
+            "napt: capture inside bad-magic",
+            "napt: capture outside bad-magic",
+        ),
+        (
+            CaptureFault::BadVersion,
+            "napt: capture inside bad-version",
+            "napt: capture outside bad-version",
+        ),
+        (
+            CaptureFault::BadLink,
+            "napt: capture inside bad-link",
+            "napt: capture outside bad-link",
+        ),
+        (
+            CaptureFault::BadFraction(3),
+            "napt: capture inside bad-fraction 3",
+            "napt: capture outside bad-fraction 3",
+        ),
         (
             CaptureFault::TooLong(u64::MAX),
-            "too-long 18446744073709551615",
+            "napt: capture inside too-long 18446744073709551615",
+            "napt: capture outside too-long 18446744073709551615",
         ),
-        (CaptureFault::TooLarge, "too-large"),
-        (CaptureFault::Read, "read"),
-        (CaptureFault::Memory, "memory"),
+        (
+            CaptureFault::TooLarge,
+            "napt: capture inside too-large",
+            "napt: capture outside too-large",
+        ),
+        (
+            CaptureFault::Read,
+            "napt: capture inside read",
+            "napt: capture outside read",
+        ),
+        (
+            CaptureFault::Memory,
+            "napt: capture inside memory",
+            "napt: capture outside memory",
+        ),
     ];
-    for (fault, name) in stops {
-        for (side, front) in [(Side::Inside, "inside"), (Side::Outside, "outside")] {
-            let stop = Stop::Run(Fault::Capture(side, fault));
-            assert_eq!(rt; stop_status(&stop), 4, "at {stop}");
-            assert_eq!(rt;
-                stop_line(rt.alloc(), &stop)?,
-                format!(in rt.alloc(); "napt: capture {front} {name}")?
-            );
-        }
+    for (fault, inside, outside) in stops {
+        let (of_inside, of_outside) = (
+            Stop::Run(Fault::Capture(Side::Inside, fault)),
+            Stop::Run(Fault::Capture(Side::Outside, fault)),
+        );
+        assert_stop(&rt, &of_inside, 4, inside)?;
+        assert_stop(&rt, &of_outside, 4, outside)?;
     }
     Ok(())
 }

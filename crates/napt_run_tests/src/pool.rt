@@ -1,14 +1,12 @@
 // What no contract says: that answers come, that workers step at the same time and unasked, and how often a gate is asked.
 
-mod barrier;
 mod checked;
-mod ends;
-mod gates;
-mod machines;
+mod keeper;
 mod messages;
 mod rounds;
-mod unasked;
 mod waiting;
+mod watch;
+mod watched;
 
 /// The most often that a test looks for what another thread does.
 const MOST_LOOKS: u32 = 1_000_000;

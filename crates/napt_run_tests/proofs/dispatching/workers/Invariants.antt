@@ -1,6 +1,6 @@
 use Rattle.std.proofs.Common.{◌≡◌, ◌≤◌, length}
 use Rattle.napt_dispatch.specs.Dispatch.{started}
-use Rattle.napt_run_tests.proofs.workers.workers.Given as goal
+use Rattle.napt_run_tests.proofs.dispatching.workers.Given as goal
 
 abbrev pub invariant-loop-index : goal.invariant-loop-index
 invariant-loop-index l = record {

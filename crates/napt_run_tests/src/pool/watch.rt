@@ -1,0 +1,189 @@
+// What tests see of the threads of a pool: a gate, and machines that count what they do.
+
+use super::MOST_LOOKS;
+use napt_pool::{Gate, Machine};
+use std::alloc::{AllocError, Global};
+use std::sync::Arc;
+use std::sync::atomic::{AtomicU64, Ordering};
+use std::thread;
+
+/// What a gate answers.
+#[derive(Clone, Copy)]
+pub(crate) enum Says {
+    /// Always yes.
+    Yes,
+    /// No to one worker.
+    NoTo(u32),
+    /// No at each first ask of a turn.
+    NoFirst,
+}
+
+/// A gate, and the counts of a pool.
+#[derive(Drop)]
+pub(crate) struct Watch {
+    says: Says,
+    /// Whether each step waits a while for all other machines to begin one of the same number.
+    is_barrier: bool,
+    /// How many steps each machine has begun.
+    steps: Vec<AtomicU64>,
+    /// How many steps saw that all machines had begun as many.
+    met: AtomicU64,
+    /// How often the gate was asked, and how often with another turn than that of the worker's next step.
+    asks: AtomicU64,
+    strange: AtomicU64,
+    /// How many machines were dropped.
+    drops: AtomicU64,
+}
+
+impl Watch {
+    /// The watch over so many machines.
+    pub(crate) fn new(
+        alloc: Global,
+        count: usize,
+        says: Says,
+        is_barrier: bool,
+    ) -> Result<Arc<Watch>, AllocError> {
+        let mut steps = Vec::new(alloc);
+        for _ in 0..count {
+            steps.push(AtomicU64::new(0))?;
+        }
+        let watch = Watch {
+            says,
+            is_barrier,
+            steps,
+            met: AtomicU64::new(0),
+            asks: AtomicU64::new(0),
+            strange: AtomicU64::new(0),
+            drops: AtomicU64::new(0),
+        };
+        Ok(Arc::new(alloc, watch)?)
+    }
+
+    pub(crate) fn met(&self) -> u64 {
+        self.met.load(Ordering::SeqCst)
+    }
+
+    pub(crate) fn asks(&self) -> u64 {
+        self.asks.load(Ordering::SeqCst)
+    }
+
+    pub(crate) fn strange(&self) -> u64 {
+        self.strange.load(Ordering::SeqCst)
+    }
+
+    pub(crate) fn drops(&self) -> u64 {
+        self.drops.load(Ordering::SeqCst)
+    }
+
+    /// Whether each machine has begun this many steps.
+    fn have_begun(&self, count: u64) -> bool {
+        for steps in &self.steps {
+            if steps.load(Ordering::SeqCst) < count {
+                return false;
+            }
+        }
+        true
+    }
+
+    /// Waits a while until each machine has begun this many steps: whether it has.
+    pub(crate) fn is_met(&self, count: u64) -> bool {
+        for _ in 0..MOST_LOOKS {
+            if self.have_begun(count) {
+                return true;
+            }
+            thread::yield_now();
+        }
+        false
+    }
+
+    /// Begins a step of a machine.
+    fn begin(&self, place: usize) {
+        if let Some(steps) = self.steps.get(place) {
+            let before = steps.fetch_add(1, Ordering::SeqCst);
+            if self.is_barrier && self.is_met(before.saturating_add(1)) {
+                self.met.fetch_add(1, Ordering::SeqCst);
+            }
+        }
+    }
+
+    /// Whether a worker has begun as many steps as it tells.
+    fn is_turn(&self, worker: u32, turn: u64) -> bool {
+        match self.steps.get(worker as usize) {
+            Some(steps) => steps.load(Ordering::SeqCst) == turn,
+            None => false,
+        }
+    }
+}
+
+impl Gate for Watch {
+    ghost use Rattle.std.specs.Prelude.{false};
+
+    ghost is_open = { false };
+
+    fn enter(&self, worker: u32, turn: u64) -> bool {
+        if !self.is_turn(worker, turn) {
+            self.strange.fetch_add(1, Ordering::SeqCst);
+        }
+        let asks = self.asks.fetch_add(1, Ordering::SeqCst);
+        match self.says {
+            Says::Yes => true,
+            Says::NoTo(shut) => worker != shut,
+            Says::NoFirst => asks % 2 == 1,
+        }
+    }
+}
+
+/// Answers each item with itself, or refuses it as where there is no memory. Its steps and its drop are counted.
+pub(crate) struct Echo {
+    place: usize,
+    refuses: bool,
+    watch: Arc<Watch>,
+}
+
+impl Drop for Echo {
+    fn drop(self) {
+        self.watch.drops.fetch_add(1, Ordering::SeqCst);
+        let Echo {
+            place: _,
+            refuses: _,
+            watch: _,
+        } = self;
+    }
+}
+
+impl Machine for Echo {
+    type Item = u64;
+
+    type Answer = u64;
+
+    ghost stepped = { λ echo _. echo };
+
+    ghost reply = { λ _ item. item };
+
+    fn step(&mut self, _alloc: Global, item: u64) -> Result<u64, AllocError> {
+        self.watch.begin(self.place);
+        if self.refuses {
+            return Err(AllocError);
+        }
+        Ok(item)
+    }
+}
+
+impl Echo {
+    /// A machine for each of these, which say whether it refuses its items.
+    pub(crate) fn several(
+        alloc: Global,
+        watch: &Arc<Watch>,
+        refuse: &[bool],
+    ) -> Result<Vec<Echo>, AllocError> {
+        let mut all = Vec::new(alloc);
+        for (place, refuses) in refuse.iter().enumerate() {
+            all.push(Echo {
+                place,
+                refuses: *refuses,
+                watch: Arc::try_clone(watch)?,
+            })?;
+        }
+        Ok(all)
+    }
+}

@@ -1,0 +1,158 @@
+// What threads do: they step at the same time and unasked, ask the gate before each step, stop, and drop their machines.
+
+use super::checked::CheckedPool;
+use super::watch::{Echo, Says, Watch};
+use napt_pool::PoolFault;
+use std::process::Abort;
+use std::sync::{Arc, Wait};
+use std::test::Fail;
+use std::thread::Threads;
+
+/// A pool of machines, some of which refuse their items, and the watch over it.
+struct Watched {
+    pool: CheckedPool<Echo>,
+    watch: Arc<Watch>,
+}
+
+/// Starts a pool with rings for four items. Where it is refused memory or a thread, it has dropped each machine when it returns: here
+/// nothing is refused, and `tests/refused_calls` refuses each growth in turn, in a program of its own.
+fn make_watched<R: Threads + Wait + Abort + AllocGlobal + Copy + Send + 'static>(
+    rt: &R,
+    refuse: &[bool],
+    says: Says,
+    is_barrier: bool,
+) -> Result<Watched, Fail> {
+    let alloc = rt.alloc();
+    let watch = Watch::new(alloc, refuse.len(), says, is_barrier)?;
+    let machines = Echo::several(alloc, &watch, refuse)?;
+    let started = CheckedPool::start(rt, alloc, machines, 4, Arc::try_clone(&watch)?);
+    assert!(rt; started.is_ok() || watch.drops() == refuse.len() as u64);
+    let pool = started?;
+    Ok(Watched { pool, watch })
+}
+
+/// Three items for each worker: each of the steps saw all other workers in a step of the same number.
+fn step_together<R: Threads + Wait + Abort + AllocGlobal + Copy + Send + 'static>(
+    rt: &R,
+    workers: u32,
+    refuse: &[bool],
+) -> Result<(), Fail> {
+    let Watched { mut pool, watch } = make_watched(rt, refuse, Says::Yes, true)?;
+    for item in 0..3 {
+        for w in 0..workers {
+            pool.give(rt, w, item);
+        }
+    }
+    pool.closed(rt);
+    assert_eq!(rt; watch.met(), 3 * u64::from(workers));
+    Ok(())
+}
+
+#[test]
+fn steps_meet(rt: HostRuntime) -> Result<(), Fail> {
+    step_together(&rt, 2, &[false; 2])?;
+    step_together(&rt, 16, &[false; 16])
+}
+
+/// A worker steps on an item though nobody asks for the answer.
+#[test]
+fn steps_unasked(rt: HostRuntime) -> Result<(), Fail> {
+    let Watched { mut pool, watch } = make_watched(&rt, &[false], Says::Yes, false)?;
+    pool.give(&rt, 0, 5);
+    let is_seen = watch.is_met(1);
+    pool.closed(&rt);
+    assert!(rt; is_seen);
+    Ok(())
+}
+
+/// One worker takes three items in order, and asks the gate so often, each time with the number of the steps that it has made.
+fn take_turns<R: Threads + Wait + Abort + AllocGlobal + Copy + Send + 'static>(
+    rt: &R,
+    says: Says,
+    asks: u64,
+) -> Result<(), Fail> {
+    let Watched { mut pool, watch } = make_watched(rt, &[false], says, false)?;
+    for item in 7..10 {
+        pool.give(rt, 0, item);
+    }
+    let ended = pool.closed(rt);
+    assert_eq!(rt; ended.len(), 1);
+    assert_eq!(rt; ended[0].answers.as_slice(), [7, 8, 9].as_slice());
+    assert_eq!(rt; watch.asks(), asks);
+    assert_eq!(rt; watch.strange(), 0);
+    Ok(())
+}
+
+#[test]
+fn gate_is_asked_before_the_step(rt: HostRuntime) -> Result<(), Fail> {
+    take_turns(&rt, Says::Yes, 3)
+}
+
+#[test]
+fn gate_is_asked_again(rt: HostRuntime) -> Result<(), Fail> {
+    take_turns(&rt, Says::NoFirst, 6)
+}
+
+#[test]
+fn shut_gate_is_asked_a_million_times(rt: HostRuntime) -> Result<(), Fail> {
+    let Watched { mut pool, watch } = make_watched(&rt, &[false; 2], Says::NoTo(1), false)?;
+    pool.give(&rt, 1, 5);
+    pool.give(&rt, 1, 6);
+    let told = pool.take_soon(&rt, 1).err();
+    let ended = pool.close(&rt).err();
+    assert_eq!(rt; told, Some(PoolFault::GateShut(1)));
+    assert_eq!(rt; ended, Some(PoolFault::GateShut(1)));
+    assert_eq!(rt; watch.asks(), 1_000_000);
+    Ok(())
+}
+
+#[test]
+fn least_fault_is_told(rt: HostRuntime) -> Result<(), Fail> {
+    let all = [
+        (1, [false, false, true], PoolFault::GateShut(1)),
+        (2, [false, true, false], PoolFault::Memory),
+        (0, [false, true, true], PoolFault::GateShut(0)),
+    ];
+    for (worker, refuse, fault) in all {
+        let Watched { mut pool, watch } = make_watched(&rt, &refuse, Says::NoTo(worker), false)?;
+        for w in [2, 1, 0] {
+            pool.give(&rt, w, 5);
+        }
+        assert_eq!(rt; pool.close(&rt).err(), Some(fault));
+        assert_eq!(rt; watch.drops(), 3);
+    }
+    Ok(())
+}
+
+#[test]
+fn refused_memory_is_told(rt: HostRuntime) -> Result<(), Fail> {
+    let Watched { mut pool, watch: _ } = make_watched(
+        &rt,
+        &[true, false, false],
+        Says::Yes,
+        false,
+    )?;
+    pool.give(&rt, 0, 5);
+    pool.give(&rt, 1, 6);
+    let answer = pool.take_soon(&rt, 1).ok();
+    let told = pool.take_soon(&rt, 0).err();
+    let ended = pool.close(&rt).err();
+    assert!(rt; answer == Some(Some(6)));
+    assert_eq!(rt; told, Some(PoolFault::Memory));
+    assert_eq!(rt; ended, Some(PoolFault::Memory));
+    Ok(())
+}
+
+/// `close` is refused nothing, and drops no machine.
+#[test]
+fn machines_are_dropped(rt: HostRuntime) -> Result<(), Fail> {
+    let Watched { mut pool, watch } = make_watched(&rt, &[false; 3], Says::Yes, false)?;
+    pool.give(&rt, 0, 5);
+    let ended = pool.closed(&rt);
+    assert_eq!(rt; watch.drops(), 0);
+    assert_eq!(rt; ended.len(), 3);
+    assert_eq!(rt; ended[0].answers.as_slice(), [5].as_slice());
+    drop(ended);
+    assert_eq!(rt; watch.drops(), 3);
+    Ok(())
+}

@@ -1,0 +1,6 @@
+// What no contract says: the words of fault lines, and where a file of the configuration ends.
+
+mod config_file;
+mod options;
+mod places;
+mod stop;
