@@ -1,6 +1,6 @@
 //! Packets that go out through a table.
 
-use crate::End;
+use crate::refused::End;
 use napt_config::Config;
 use napt_table::{Row, Table};
 use napt_wire::{Endpoint, Flags, Protocol};

@@ -1,6 +1,6 @@
 //! What workers leave behind: machines, threads, and asks of their gate.
 
-use crate::End;
+use crate::refused::End;
 use napt_pool::{Backoff, Gate};
 use std::alloc::{AllocError, Global};
 use std::rt::Files;

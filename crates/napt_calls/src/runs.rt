@@ -1,49 +1,24 @@
-//! What the bench measures besides the program: a part of a run alone, over the capture that standard input holds.
+//! A part of a run alone, over the capture that standard input holds: what the bench measures besides the program.
 //!
-//! `napt_bench HOW [CONFIG]`: `copy` reads the capture and writes its records to standard output, with times in nanoseconds in
-//! little-endian order. The others take it as what inside hosts send, without outside packets and without writing captures:
-//! `merged` reads and merges and runs nothing, `plain` runs on one thread, and `workers` with a worker on a thread of its own for
-//! each external address. Without a file the configuration is the built-in one. One line on standard output counts the packets,
-//! what became of them, and the legs of each address. Statuses: 0 done, 2 usage, 3 configuration, 4 capture, 5 run, 6 files and
-//! writing.
-#![tactic(auto)]
+//! `copy` reads the capture and writes its records to standard output, with times in nanoseconds in little-endian order. The
+//! others take it as what inside hosts send, without outside packets and without writing captures: `merged` reads and merges and
+//! runs nothing, `plain` runs on one thread, and `workers` with a worker on a thread of its own for each external address. Without
+//! a file the configuration is the built-in one. One line on standard output counts the packets, what became of them, and the
+//! legs of each address.
 
+use crate::Stop;
 use napt_capture::{Watched, read_capture, write_capture};
 use napt_config::Config;
 use napt_pool::OpenGate;
 use napt_run::{Outcome, Run, merge, run_plain, run_workers};
-use std::env::Env;
 use std::io::{BufReader, BufWriter};
-use std::process::ExitCode;
 use std::rt::Files;
 use std::sync::{Arc, Wait};
 use std::thread::Threads;
-use std::{env, fs, io};
+use std::{fs, io};
 
 /// How many bytes are read or written at once.
 const BUFFERED: usize = 65_536;
-
-/// Why the program stops before it is done.
-#[derive(Clone, Copy)]
-enum Stop {
-    Usage,
-    Config,
-    Capture,
-    Run,
-    File,
-}
-
-impl Stop {
-    fn status(self) -> u8 {
-        match self {
-            Stop::Usage => 2,
-            Stop::Config => 3,
-            Stop::Capture => 4,
-            Stop::Run => 5,
-            Stop::File => 6,
-        }
-    }
-}
 
 /// What is done with the capture.
 #[derive(Clone, Copy)]
@@ -54,18 +29,10 @@ enum How {
     Merged,
 }
 
-fn main(rt: HostRuntime) -> ExitCode {
-    match measured(&rt) {
-        Ok(()) => ExitCode::SUCCESS,
-        Err(stop) => ExitCode::from(stop.status()),
-    }
-}
-
 /// Does what the words say.
-fn measured<R: Env + Files + Input + Print + AllocGlobal + Threads + Wait + Copy + Send + 'static>(
-    rt: &R,
-) -> Result<(), Stop> {
-    let words = words(rt)?;
+pub(crate) fn measured<
+    R: Files + Input + Print + AllocGlobal + Threads + Wait + Copy + Send + 'static,
+>(rt: &R, words: &[String]) -> Result<(), Stop> {
     let how = how_of(words.get(1))?;
     if let How::Copy = how {
         return copied(rt);
@@ -78,14 +45,6 @@ fn measured<R: Env + Files + Input + Print + AllocGlobal + Threads + Wait + Copy
         How::Copy | How::Merged => println!(rt; "packets {}", inputs.len()),
     };
     told.map_err(|_| Stop::File)
-}
-
-/// The words of the command line, the program's name first.
-fn words<R: Env + AllocGlobal>(rt: &R) -> Result<Vec<String>, Stop> {
-    match env::args(rt) {
-        Ok(args) => args.collect(rt.alloc()).map_err(|_| Stop::Run),
-        Err(_) => Err(Stop::Usage),
-    }
 }
 
 /// What a word says is to be done.
@@ -111,8 +70,8 @@ fn configuration<R: Files + AllocGlobal>(rt: &R, path: Option<&String>) -> Resul
 /// Writes the records of the capture that standard input holds to standard output.
 fn copied<R: Input + Print + AllocGlobal>(rt: &R) -> Result<(), Stop> {
     let alloc = rt.alloc();
-    let reader = BufReader::with_capacity(alloc, BUFFERED, rt.reader()).map_err(|_| Stop::Run)?;
-    let writer = BufWriter::with_capacity(alloc, BUFFERED, io::writer(rt)).map_err(|_| Stop::Run)?;
+    let reader = BufReader::with_capacity(alloc, BUFFERED, rt.reader()).map_err(|_| Stop::Call)?;
+    let writer = BufWriter::with_capacity(alloc, BUFFERED, io::writer(rt)).map_err(|_| Stop::Call)?;
     let capture = read_capture(alloc, &mut Watched::new(reader)).map_err(|_| Stop::Capture)?;
     write_capture(&mut Watched::new(writer), &capture.records).map_err(|_| Stop::File)
 }
@@ -120,14 +79,14 @@ fn copied<R: Input + Print + AllocGlobal>(rt: &R) -> Result<(), Stop> {
 /// The inputs that standard input holds.
 fn merged<R: Input + AllocGlobal>(rt: &R) -> Result<Vec<napt_run::Input>, Stop> {
     let alloc = rt.alloc();
-    let reader = BufReader::with_capacity(alloc, BUFFERED, rt.reader()).map_err(|_| Stop::Run)?;
+    let reader = BufReader::with_capacity(alloc, BUFFERED, rt.reader()).map_err(|_| Stop::Call)?;
     let capture = read_capture(alloc, &mut Watched::new(reader)).map_err(|_| Stop::Capture)?;
-    merge(alloc, capture.records, Vec::new(alloc)).map_err(|_| Stop::Run)
+    merge(alloc, capture.records, Vec::new(alloc)).map_err(|_| Stop::Call)
 }
 
 /// The run on one thread.
 fn plain<R: AllocGlobal>(rt: &R, config: &Config, inputs: &[napt_run::Input]) -> Result<Run, Stop> {
-    run_plain(rt.alloc(), config, inputs).map_err(|_| Stop::Run)
+    run_plain(rt.alloc(), config, inputs).map_err(|_| Stop::Call)
 }
 
 /// The run over workers, through an open gate.
@@ -136,8 +95,8 @@ fn over_workers<R: AllocGlobal + Threads + Wait + Copy + Send + 'static>(
     config: &Config,
     inputs: &[napt_run::Input],
 ) -> Result<Run, Stop> {
-    let gate = Arc::new(rt.alloc(), OpenGate).map_err(|_| Stop::Run)?;
-    run_workers(rt, rt.alloc(), config, inputs, gate).map_err(|_| Stop::Run)
+    let gate = Arc::new(rt.alloc(), OpenGate).map_err(|_| Stop::Call)?;
+    run_workers(rt, rt.alloc(), config, inputs, gate).map_err(|_| Stop::Call)
 }
 
 /// Writes the line that counts.

@@ -3,8 +3,8 @@
 ghost use Rattle.std.specs.Prelude.{◌≡◌, ◌<◌, IfOk, length, vec_len};
 ghost use Rattle.napt_pool.specs.Pools.{starts};
 
-use crate::End;
-use crate::left::{Counts, gate, looked_at};
+use crate::refused::End;
+use crate::refused::left::{Counts, gate, looked_at};
 use napt_pool::{Ended, Gate, Machine, Pool, PoolFault};
 use std::alloc::{AllocError, Global};
 use std::rt::Files;

@@ -1,7 +1,7 @@
 //! Runs over captures of both sides, through two external addresses: on workers, with a report, and on one thread.
 
-use crate::End;
-use crate::left::{Asked, Counts, gate, looked_at};
+use crate::refused::End;
+use crate::refused::left::{Asked, Counts, gate, looked_at};
 use napt_capture::{CaptureFault, Watched, read_capture};
 use napt_config::Config;
 use napt_pool::PoolFault;

@@ -2,19 +2,16 @@
 //! 3.1), with a host of its own for each binding, all at 0 s, and then one host more. At last an echo identifier is asked for just
 //! before the bindings of echoes end, and when they do.
 //!
-//! `full_tables [udp] [tcp] [echo]`: with a word it fills the classes of these names alone, and ends.
+//! With one of the words `udp`, `tcp` and `echo` it fills the classes of these names alone, and ends.
 //!
 //! A line on standard output tells of each class how many of its hosts got the number in their turn, and what one more got, and one
-//! how many bindings there are. Statuses: 0 done, 1 a packet could not be sent, 5 memory, 6 a line is not written.
-#![tactic(auto)]
+//! how many bindings there are.
 
+use crate::Stop;
 use napt_config::Config;
 use napt_table::Table;
 use napt_wire::{Cause, Endpoint, Flags, Protocol};
 use std::alloc::Global;
-use std::env;
-use std::env::Env;
-use std::process::ExitCode;
 
 /// 203.0.113.1
 const EXTERNAL: u32 = 0xCB00_7101;
@@ -23,24 +20,6 @@ const CONFIGURATION: &str = "pool = [\"203.0.113.1\"]\ninside = [\"10.0.0.0/8\"]
 
 /// When the binding of an echo at 0 s ends, in ns.
 const ECHOES_END: u64 = 60_000_000_000;
-
-/// Why the program stops before it is done.
-#[derive(Clone, Copy)]
-enum Stop {
-    Unsent,
-    Memory,
-    Output,
-}
-
-impl Stop {
-    fn status(self) -> u8 {
-        match self {
-            Stop::Unsent => 1,
-            Stop::Memory => 5,
-            Stop::Output => 6,
-        }
-    }
-}
 
 /// A class of external numbers: the first of them, how many there are, and how far apart.
 #[derive(Clone, Copy)]
@@ -82,13 +61,6 @@ fn classes() -> [Class; 9] {
     ]
 }
 
-fn main(rt: HostRuntime) -> ExitCode {
-    match filled(&rt) {
-        Ok(()) => ExitCode::SUCCESS,
-        Err(stop) => ExitCode::from(stop.status()),
-    }
-}
-
 /// 198.51.100.7:53
 const REMOTE: Endpoint = Endpoint {
     address: 0xC633_6407,
@@ -123,7 +95,7 @@ fn send(
         Protocol::Tcp => table.outbound(alloc, now, Protocol::Tcp, inside, REMOTE, NO_FLAGS),
         Protocol::Udp => table.outbound(alloc, now, Protocol::Udp, inside, REMOTE, NO_FLAGS),
     };
-    answer.map_err(|_| Stop::Memory)
+    answer.map_err(|_| Stop::Call)
 }
 
 /// Sends a packet of as many hosts as the class has numbers: how many of them got the number in their turn.
@@ -154,7 +126,7 @@ fn tell_class<R: Print>(
         "{} from {}: {in_turn}, and one more gets {one_more:?}",
         class.name, class.first
     )
-    .map_err(|_| Stop::Output)
+    .map_err(|_| Stop::File)
 }
 
 /// Asks for an echo identifier at a time, for a host that has none, and tells what it gets.
@@ -166,7 +138,7 @@ fn tell_echo<R: Print>(
     now: u64,
 ) -> Result<(), Stop> {
     let answer = send(alloc, table, now, echo, echo.many)?;
-    println!(rt; "echo from {} at {now} ns: {answer:?}", echo.first).map_err(|_| Stop::Output)
+    println!(rt; "echo from {} at {now} ns: {answer:?}", echo.first).map_err(|_| Stop::File)
 }
 
 /// Tells how many bindings there are at a time.
@@ -174,28 +146,21 @@ fn tell_bindings<R: Print>(rt: &R, alloc: Global, table: &Table, now: u64) -> Re
     if now < table.at() {
         return Err(Stop::Unsent);
     }
-    let bindings = table.bindings(alloc, now).map_err(|_| Stop::Memory)?;
-    println!(rt; "{} bindings at {now} ns", bindings.len()).map_err(|_| Stop::Output)
+    let bindings = table.bindings(alloc, now).map_err(|_| Stop::Call)?;
+    println!(rt; "{} bindings at {now} ns", bindings.len()).map_err(|_| Stop::File)
 }
 
 /// The table, behind a box: a function that owns one as it stands takes minutes to prove.
 fn empty(alloc: Global) -> Result<Box<Table>, Stop> {
-    let config = Config::read(alloc, CONFIGURATION.as_bytes()).map_err(|_| Stop::Memory)?;
-    let table = Table::new(alloc, EXTERNAL, &config).map_err(|_| Stop::Memory)?;
-    Box::new(alloc, table).map_err(|_| Stop::Memory)
-}
-
-/// The words of the command line, the program's name first.
-fn words<R: Env + AllocGlobal>(rt: &R) -> Result<Vec<String>, Stop> {
-    let args = env::args(rt).map_err(|_| Stop::Memory)?;
-    args.collect(rt.alloc()).map_err(|_| Stop::Memory)
+    let config = Config::read(alloc, CONFIGURATION.as_bytes()).map_err(|_| Stop::Call)?;
+    let table = Table::new(alloc, EXTERNAL, &config).map_err(|_| Stop::Call)?;
+    Box::new(alloc, table).map_err(|_| Stop::Call)
 }
 
 /// Fills the classes that the words name, or all.
-fn filled<R: Env + Print + AllocGlobal>(rt: &R) -> Result<(), Stop> {
+pub(crate) fn filled<R: Print + AllocGlobal>(rt: &R, words: &[String]) -> Result<(), Stop> {
     let alloc = rt.alloc();
-    let words = words(rt)?;
-    let is_all = words.len() < 2;
+    let is_all = words.len() < 3;
     let mut table = empty(alloc)?;
     let classes = classes();
     for class in classes {

@@ -1,5 +1,5 @@
 use Rattle.std.proofs.Common.{◌≡◌, vec_len}
-use Rattle.refusals.proofs.pool.machines.Given as goal
+use Rattle.napt_calls.proofs.refused.pool.machines.Given as goal
 
 abbrev pub invariant-loop : goal.invariant-loop
 invariant-loop l = vec_len l.all ≡ l.counter

@@ -1,6 +1,6 @@
 //! A capture and a configuration that are read.
 
-use crate::End;
+use crate::refused::End;
 use napt_capture::{CaptureFault, Watched, read_capture};
 use napt_config::{Config, ConfigFault};
 use std::alloc::Global;

@@ -1,13 +1,12 @@
 //! Makes a call that may be refused, and looks at what a refusal left or changed. `tests/refused_calls` runs it again and again,
 //! each time with another growth of memory refused.
 //!
-//! `refusals CALL`: `pool` starts a pool of three workers, fills it and closes it; `run` runs over captures on two workers, and
-//! `plain` on one thread; `capture` and `configuration` read one; `bindings`, `flows` and `ends` send packets through a table: of
-//! new bindings, of new flows of bindings that are there, and of bindings that have ended.
+//! `pool` starts a pool of three workers, fills it and closes it; `run` runs over captures on two workers, and `plain` on one
+//! thread; `capture` and `configuration` read one; `bindings`, `flows` and `ends` send packets through a table: of new bindings, of
+//! new flows of bindings that are there, and of bindings that have ended.
 //!
 //! One line on standard output tells the end. Statuses: 0 done, 1 something is left, changed or wrong, 2 usage, 3 memory was
 //! refused before the call, 4 after it, 5 memory or a thread was refused to the call, 6 the line is not written.
-#![tactic(auto)]
 
 mod left;
 mod pool;
@@ -15,9 +14,7 @@ mod readers;
 mod run;
 mod table;
 
-use crate::table::Kind;
-use std::env;
-use std::env::Env;
+use self::table::Kind;
 use std::process::ExitCode;
 use std::rt::Files;
 use std::sync::Wait;
@@ -25,7 +22,7 @@ use std::thread::Threads;
 
 /// How a call ended.
 #[derive(Clone, Copy)]
-enum End {
+pub(crate) enum End {
     /// It answered what it answers with ample memory.
     Done,
     /// Memory was refused to it, and nothing is left or changed.
@@ -57,24 +54,25 @@ impl End {
     }
 }
 
-fn main(rt: HostRuntime) -> ExitCode {
-    let (line, status) = ended(&rt).told();
+/// Makes the call that the word says, writes the line that tells its end, and answers the status.
+pub(crate) fn told<R: Files + Print + AllocGlobal + Threads + Wait + Copy + Send + 'static>(
+    rt: &R,
+    call: Option<&String>,
+) -> ExitCode {
+    let (line, status) = ended(rt, call).told();
     match println!(rt; "{line}") {
         Ok(()) => ExitCode::from(status),
         Err(_) => ExitCode::from(6),
     }
 }
 
-/// Makes the call of the first word.
-fn ended<R: Env + Files + AllocGlobal + Threads + Wait + Copy + Send + 'static>(rt: &R) -> End {
+/// Makes the call that the word says.
+fn ended<R: Files + AllocGlobal + Threads + Wait + Copy + Send + 'static>(
+    rt: &R,
+    call: Option<&String>,
+) -> End {
     let alloc = rt.alloc();
-    let Ok(args) = env::args(rt) else {
-        return End::Before;
-    };
-    let Ok(words) = args.collect::<Vec<String>>(alloc) else {
-        return End::Before;
-    };
-    match words.get(1).map(String::as_str) {
+    match call.map(String::as_str) {
         Some("pool") => pool::ended(rt),
         Some("run") => run::ended(rt),
         Some("plain") => run::plain_ended(alloc),

@@ -1,0 +1,66 @@
+//! Calls of the libraries, for the bench and for tests from outside.
+//!
+//! `napt_calls HOW [CONFIG]`: `copy`, `merged`, `plain` and `workers` do a part of a run over the capture that standard input
+//! holds ([`runs`]). `napt_calls full [udp] [tcp] [echo]` fills the classes of external numbers of a table ([`full`]).
+//! `napt_calls refused CALL` makes a call that may be refused memory or a thread ([`refused`]).
+//!
+//! Statuses: 0 done, 1 wrong, 2 usage, 3 configuration, 4 capture, 5 memory, 6 files and writing; those of `refused` are its own.
+#![tactic(auto)]
+
+mod full;
+mod refused;
+mod runs;
+
+use std::env;
+use std::env::Env;
+use std::process::ExitCode;
+
+/// Why the program stops before it is done.
+#[derive(Clone, Copy)]
+enum Stop {
+    /// A packet could not be sent.
+    Unsent,
+    Usage,
+    Config,
+    Capture,
+    /// A call is refused, for want of memory but for a run that is refused otherwise.
+    Call,
+    File,
+}
+
+impl Stop {
+    fn status(self) -> u8 {
+        match self {
+            Stop::Unsent => 1,
+            Stop::Usage => 2,
+            Stop::Config => 3,
+            Stop::Capture => 4,
+            Stop::Call => 5,
+            Stop::File => 6,
+        }
+    }
+}
+
+fn main(rt: HostRuntime) -> ExitCode {
+    let words = match words(&rt) {
+        Ok(words) => words,
+        Err(stop) => return ExitCode::from(stop.status()),
+    };
+    let done = match words.get(1).map(String::as_str) {
+        Some("refused") => return refused::told(&rt, words.get(2)),
+        Some("full") => full::filled(&rt, &words),
+        _ => runs::measured(&rt, &words),
+    };
+    match done {
+        Ok(()) => ExitCode::SUCCESS,
+        Err(stop) => ExitCode::from(stop.status()),
+    }
+}
+
+/// The words of the command line, the program's name first.
+fn words<R: Env + AllocGlobal>(rt: &R) -> Result<Vec<String>, Stop> {
+    match env::args(rt) {
+        Ok(args) => args.collect(rt.alloc()).map_err(|_| Stop::Call),
+        Err(_) => Err(Stop::Usage),
+    }
+}
