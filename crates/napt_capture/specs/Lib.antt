@@ -5,6 +5,5 @@ pub mod Capture
 pub mod Text
 pub mod Watched
 pub mod Faulty
-pub mod Messages
 pub mod Reading
 pub mod Writing

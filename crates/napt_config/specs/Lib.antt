@@ -4,4 +4,3 @@ pub mod Fault
 pub mod Rules
 pub mod Configured
 pub mod Shown
-pub mod Messages

@@ -1,96 +1,66 @@
 //! Why a text configures nothing.
-ghost use Rattle.std.specs.Prelude.{◌≡◌, Some};
+ghost use Rattle.std.specs.Prelude.{◌≡◌};
 ghost use Rattle.napt_config.specs.declared.fault.ConfigFault.TheVariants.{Memory};
-ghost use Rattle.napt_config.specs.Messages.{fault_message};
 
 use std::alloc::{AllocError, AllocFailed};
-use std::error::Error;
-use std::fmt;
+use thiserror::Error;
 
 /// The first rule that a configuration's text breaks. The rules are judged in the order in which the
 /// configuration's format gives them: TOML, unknown keys, then key by key.
-#[derive(Clone, Copy, Debug, PartialEq, Eq)]
+#[derive(Clone, Copy, Debug, PartialEq, Eq, Error)]
 pub enum ConfigFault {
     /// The text is not UTF-8, or not TOML; a whole number outside 64 bits is not TOML either.
+    #[error("expected TOML in UTF-8")]
     NotToml,
     /// A key that no configuration has, at the top, in `timers` or in an entry of `pair` or `redirect`.
+    #[error("unknown key: expected `pool`, `inside`, `filter`, `refresh`, `timers`, `ring`, `quota`, `pair` or `redirect`; in `timers` `udp`, `tcp-established`, `tcp-transitory` or `icmp`; in a `pair` `host` or `external`; in a `redirect` `protocol`, `inside` or `external`")]
     UnknownKey,
     /// A required key is absent, or its list is empty.
+    #[error("expected `pool` and `inside` with at least one entry each, `host` and `external` in each `pair`, and `protocol`, `inside` and `external` in each `redirect`")]
     Missing,
     /// A value is of another kind than its key asks for.
+    #[error("expected a value of another kind: a text, a whole number, a list or a table, as its key asks for")]
     BadShape,
     /// A list has more entries than it may have.
+    #[error("expected at most 16 entries in `pool` and in `inside`, and at most 256 of `pair` and of `redirect`")]
     TooMany,
     /// A text is no address, or no transport address.
+    #[error("expected an IPv4 address, as `203.0.113.1`, or in a `redirect` an endpoint, as `10.0.0.3:7000`, without leading zeros")]
     BadAddress,
     /// A text is no prefix, or has bits past its length that are not 0.
+    #[error("expected an IPv4 prefix, as `10.0.0.0/8`, whose bits past its length are 0")]
     BadPrefix,
     /// A number is out of its range.
+    #[error("expected a timer of 0 to 1000000000 seconds, a `ring` of 1 to 4096, a `quota` of 1 to 65535, or an `external` port of 1 to 65535")]
     BadNumber,
     /// A text is no word that its key knows.
+    #[error("expected `independent`, `address` or `address-port` as `filter`, `outbound` or `both` as `refresh`, or `udp` or `tcp` as `protocol`")]
     BadWord,
     /// An address stands twice in the pool.
+    #[error("expected each address of `pool` once")]
     DoubleAddress,
     /// A pool address is in one of the inside prefixes.
+    #[error("expected no address of `pool` in a prefix of `inside`")]
     PoolInside,
     /// A host has two entries of `pair`.
+    #[error("expected at most one `pair` for each host")]
     DoublePair,
     /// The external address of a `pair` is not in the pool.
+    #[error("expected an `external` address that is in `pool`")]
     NotInPool,
     /// A host is in none of the inside prefixes.
+    #[error("expected a host that is in a prefix of `inside`")]
     NotInside,
     /// Two redirects of one protocol have one inside endpoint, or one external endpoint.
+    #[error("expected at most one `redirect` of a protocol for each inside endpoint and for each external endpoint")]
     DoubleRedirect,
     /// A timer is below its least value.
+    #[error("expected at least 120 seconds for `udp`, 7440 for `tcp-established`, 240 for `tcp-transitory` and 60 for `icmp`")]
     TimerTooShort,
     /// Memory ran out before another fault was found. It says nothing of the text.
+    #[error("out of memory")]
     Memory,
 }
-
-/// What a fault says.
-fn message(fault: ConfigFault) -> &'static str
-    ensures { result.now ≡ fault_message fault }
-{
-    match fault {
-        ConfigFault::NotToml => "expected TOML in UTF-8",
-        ConfigFault::UnknownKey =>
-            "unknown key: expected `pool`, `inside`, `filter`, `refresh`, `timers`, `ring`, `quota`, `pair` or `redirect`; in `timers` `udp`, `tcp-established`, `tcp-transitory` or `icmp`; in a `pair` `host` or `external`; in a `redirect` `protocol`, `inside` or `external`",
-        ConfigFault::Missing =>
-            "expected `pool` and `inside` with at least one entry each, `host` and `external` in each `pair`, and `protocol`, `inside` and `external` in each `redirect`",
-        ConfigFault::BadShape =>
-            "expected a value of another kind: a text, a whole number, a list or a table, as its key asks for",
-        ConfigFault::TooMany =>
-            "expected at most 16 entries in `pool` and in `inside`, and at most 256 of `pair` and of `redirect`",
-        ConfigFault::BadAddress =>
-            "expected an IPv4 address, as `203.0.113.1`, or in a `redirect` an endpoint, as `10.0.0.3:7000`, without leading zeros",
-        ConfigFault::BadPrefix =>
-            "expected an IPv4 prefix, as `10.0.0.0/8`, whose bits past its length are 0",
-        ConfigFault::BadNumber =>
-            "expected a timer of 0 to 1000000000 seconds, a `ring` of 1 to 4096, a `quota` of 1 to 65535, or an `external` port of 1 to 65535",
-        ConfigFault::BadWord =>
-            "expected `independent`, `address` or `address-port` as `filter`, `outbound` or `both` as `refresh`, or `udp` or `tcp` as `protocol`",
-        ConfigFault::DoubleAddress => "expected each address of `pool` once",
-        ConfigFault::PoolInside => "expected no address of `pool` in a prefix of `inside`",
-        ConfigFault::DoublePair => "expected at most one `pair` for each host",
-        ConfigFault::NotInPool => "expected an `external` address that is in `pool`",
-        ConfigFault::NotInside => "expected a host that is in a prefix of `inside`",
-        ConfigFault::DoubleRedirect =>
-            "expected at most one `redirect` of a protocol for each inside endpoint and for each external endpoint",
-        ConfigFault::TimerTooShort =>
-            "expected at least 120 seconds for `udp`, 7440 for `tcp-established`, 240 for `tcp-transitory` and 60 for `icmp`",
-        ConfigFault::Memory => "out of memory",
-    }
-}
-
-impl fmt::Display for ConfigFault {
-    ghost output = { λ fault. Some (fault_message fault) };
-
-    fn fmt<W: fmt::Write>(&self, f: &mut fmt::Formatter<W>) -> fmt::Result {
-        f.write_str(message(*self))
-    }
-}
-
-impl Error for ConfigFault {}
 
 impl From<AllocError> for ConfigFault {
     ghost from_gives = { λ _ fault. fault ≡ Memory };
