@@ -1,9 +1,10 @@
 -- A held binding that changes and keeps its ends.
-use Rattle.std.proofs.Common.{◌≡◌, ◌≢◌, ℕ, ◌+◌, ◌*◌, ◌<◌, ◌≤◌, ◌^◌, true, false, not, ◌&&◌, Some, refl, sym, ◌∙◌, ap, subst, arith, eqb, eqb-true, ltb, ◌⊎◌, inl, inr}
+use Rattle.std.proofs.Common.{◌≡◌, ◌≢◌, ℕ, ◌+◌, ◌*◌, ◌<◌, ◌≤◌, ◌^◌, true, false, not, cond, ◌&&◌, Some, refl, sym, ◌∙◌, ap, subst, arith, eqb, eqb-true, ltb, ◌⊎◌, inl, inr}
 use Rattle.std.specs.Option.{is_some}
 use Rattle.std.proofs.lemmas.Bool.{eq-eqb, true≢false}
 use Rattle.std.proofs.lemmas.Bool.Decides.{nat_tests}
 use Rattle.std.proofs.lemmas.Option.{same_Some}
+use Rattle.napt_due.specs.Queue.{Queue}
 use Rattle.napt_wire.specs.declared.Protocol.{Protocol}
 use Rattle.napt_wire.specs.declared.Endpoint.{Endpoint}
 use Rattle.napt_config.specs.Rules.{AreTimers}
@@ -18,7 +19,7 @@ use Rattle.napt_table.specs.Counts.{are_counted, count_in}
 use Rattle.napt_table.specs.declared.Row.{Row}
 use Rattle.napt_table.specs.Rows.{row}
 use Rattle.napt_table.specs.Hosts.{held_for}
-use Rattle.napt_table.specs.Part.{held, number_at, IsDue, IsPart, AreDue, IsSamePlace, HoldsSame, ChangesOne, StaysPart}
+use Rattle.napt_table.specs.Part.{held, number_at, IsDue, IsPart, AreDue, IsSamePlace, HoldsSame, ChangesOne, StaysPart, entries_of, wanted_by}
 use Rattle.napt_numbers.specs.Places.{is_used}
 use Rattle.napt_table.proofs.Hosts.{count_same}
 
@@ -147,17 +148,30 @@ module _ (old new : Part) (number : ℕ) (is : IsPart old) (one : ChangesOne num
     changed_due due n x h not_fixed = elim (cases n x h) [
       | inl p ↦
           let d : IsDue old.timers old.at old.numbers.protocol old.due.entries c number =
-          still_due (due number b here (sym fixed ∙ (ap (λ (y : Binding). y.fixed) p.1 ∙ not_fixed))) in
+          still_due (due.lives number b here (sym fixed ∙ (ap (λ (y : Binding). y.fixed) p.1 ∙ not_fixed))) in
           subst (λ (y : Binding). IsDue old.timers old.at old.numbers.protocol old.due.entries y n) p.1
           (subst (λ (m : ℕ). IsDue old.timers old.at old.numbers.protocol old.due.entries c m) (sym p.0) d)
-      | inr o ↦ due n x o.1 not_fixed
+      | inr o ↦ due.lives n x o.1 not_fixed
     ]
+
+    still_once : AreDue old → (n : ℕ) → entries_of n new.due.entries ≡ wanted_by (held new n)
+    still_once due n = ap (λ (q : Queue). entries_of n q.entries) one.due_same ∙ (due.once n
+        ∙ elim (eqb n number) as (λ v. eqb n number ≡ v → wanted_by (held old n) ≡ wanted_by (held new n)) [
+          | true ↦ λ t.
+              let e : n ≡ number = eqb-true n number t in
+              ap wanted_by (ap (held old) e ∙ here) ∙ (ap (λ v. cond {A = ℕ} v 0 1) (sym fixed)
+              ∙ sym (ap wanted_by (ap (held new) e ∙ there)))
+          | false ↦ λ t. ap wanted_by (sym (one.others n (λ e. true≢false (sym (eq-eqb n number e) ∙ t))))
+        ] refl)
 
     -- where the binding lives on for as long as a packet keeps it
     pub changed_stays : AreDue old → StaysPart old new
     changed_stays due = record {
       part = changed_part;
-      due = λ n x h not_fixed. rw (one.place.timers_is, one.place.at_is, one.place.protocol_same, one.due_same)
-          (changed_due due n x h not_fixed);
+      due = record {
+        lives = λ n x h not_fixed. rw (one.place.timers_is, one.place.at_is, one.place.protocol_same, one.due_same)
+            (changed_due due n x h not_fixed);
+        once = still_once due;
+      };
       place = one.place;
     }

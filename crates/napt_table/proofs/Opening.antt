@@ -26,7 +26,7 @@ use Rattle.napt_table.specs.declared.event.Event.{Event}
 use Rattle.napt_table.specs.declared.event.Event.TheVariants.{Redirected}
 use Rattle.napt_table.specs.Events.{played_all}
 use Rattle.napt_table.specs.Opening.{protocol_of, redirected, opening}
-use Rattle.napt_table.specs.Part.{held, number_at, IsDue, IsPart, AreDue, IsSamePlace}
+use Rattle.napt_table.specs.Part.{held, number_at, IsDue, IsPart, AreDue, IsSamePlace, entries_of, wanted_by}
 use Rattle.napt_table.specs.Shown.{list_of, shown, KeepsItsList}
 use Rattle.napt_table.specs.Tables.{TableState, IsTable, opened}
 use Rattle.napt_table.specs.declared.table.Table.TheInside.{Inside}
@@ -191,18 +191,28 @@ module _ (address : ℕ) (protocol : Protocol) (inside : Endpoint) (number : ℕ
 -- THE QUEUE
 
 -- a redirect is not in it
-pub fixed_due : (old new : Part) (number : ℕ) (binding : Binding) → AreDue old → binding.fixed ≡ true →
-    IsSamePlace old new → new.due.entries ≡ old.due.entries →
+pub fixed_due : (old new : Part) (number : ℕ) (binding : Binding) → AreDue old → held old number ≡ None →
+    binding.fixed ≡ true → IsSamePlace old new → new.due.entries ≡ old.due.entries →
     ((n : ℕ) → held new n ≡ cond (eqb number n) (Some binding) (held old n)) → AreDue new
-fixed_due old new number binding due fixed place entries holds n b h loose =
-    elim (eqb number n) as (λ v. eqb number n ≡ v → IsDue new.timers new.at new.numbers.protocol new.due.entries b n) [
-      | true ↦ λ e.
-          let same : binding ≡ b = same_Some binding b (sym (holds n ∙ ap (λ v. cond v (Some binding) (held old n)) e)
-          ∙ h) in
-          absurd (true≢false (sym fixed ∙ (ap (λ (x : Binding). x.fixed) same ∙ loose)))
-      | false ↦ λ e. rw (place.timers_is, place.at_is, place.protocol_same, entries)
-          (due n b (sym (holds n ∙ ap (λ v. cond v (Some binding) (held old n)) e) ∙ h) loose)
-    ] refl
+fixed_due old new number binding due free fixed place entries holds = record {
+  lives = λ n b h loose. elim (eqb number n) as (λ v. eqb number n ≡ v →
+      IsDue new.timers new.at new.numbers.protocol new.due.entries b n) [
+        | true ↦ λ e.
+            let same : binding ≡ b = same_Some binding b (sym (holds n ∙ ap (λ v. cond v (Some binding) (held old n)) e)
+            ∙ h) in
+            absurd (true≢false (sym fixed ∙ (ap (λ (x : Binding). x.fixed) same ∙ loose)))
+        | false ↦ λ e. rw (place.timers_is, place.at_is, place.protocol_same, entries)
+            (due.lives n b (sym (holds n ∙ ap (λ v. cond v (Some binding) (held old n)) e) ∙ h) loose)
+      ] refl;
+  once = λ n. ap (entries_of n) entries ∙ (due.once n
+      ∙ elim (eqb number n) as (λ v. eqb number n ≡ v → wanted_by (held old n) ≡ wanted_by (held new n)) [
+        | true ↦ λ e.
+            ap wanted_by (ap (held old) (sym (eqb-true number n e)) ∙ free)
+            ∙ sym (ap wanted_by (holds n ∙ ap (λ v. cond v (Some binding) (held old n)) e)
+            ∙ ap (λ v. cond {A = ℕ} v 0 1) fixed)
+        | false ↦ λ e. sym (ap wanted_by (holds n ∙ ap (λ v. cond v (Some binding) (held old n)) e))
+      ] refl);
+}
 
 -- A NEW PART, of a new table
 

@@ -261,6 +261,7 @@ impl Part {
         requires due { AreDue self.old }
         requires live { is_live self.old.timers self.old.at binding ≡ true }
         requires new { IsNew self.old number binding }
+        requires loose { binding.fixed ≡ false }
         ensures stays { StaysPart self.old self.new }
         ensures held { (n : ℕ) → held self.new n ≡ cond (number == n) (Some binding)
             (held self.old n) }

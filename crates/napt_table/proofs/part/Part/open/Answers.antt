@@ -20,7 +20,8 @@ returns-clause-stays c =
     let place = place_then c.args.self.now made c.hold.new.self c.make_room.ensures.same.place c.hold.ensures.place in
     record {
       part = c.hold.ensures.part;
-      due = fixed_due c.args.self.now c.hold.new.self c.args.number binding c.requires.due refl place
+      due = fixed_due c.args.self.now c.hold.new.self c.args.number binding c.requires.due c.requires.free refl
+          place
           (ap (λ (q : Queue). q.entries) c.hold.ensures.due ∙ c.make_room.ensures.same.entries_same)
           (λ n. c.hold.ensures.held n ∙ ap (λ (o : Option Binding). cond (eqb c.args.number n) (Some binding) o)
           (c.make_room.ensures.same.held_same n));

@@ -7,4 +7,7 @@ purge-requires-clause-part c = same_part c.args.self.now _ c.requires.part refl 
     refl) (λ e. refl)
 
 pub purge-requires-clause-due : goal.purge-requires-clause-due
-purge-requires-clause-due c = due_later c.args.self.now c.args.now c.requires.later c.requires.due
+purge-requires-clause-due c = record {
+  lives = due_later c.args.self.now c.args.now c.requires.later c.requires.due;
+  once = c.requires.due.once;
+}
