@@ -24,6 +24,7 @@ use crate::options::Options;
 use crate::places::{picture_stop, tell_failed};
 use crate::progress::Progress;
 use crate::reading::{Given, read_given};
+use crate::scene::{Shown, scene_of};
 use crate::stop::Stop;
 use crate::summary::{Told, Widths};
 use napt_account::{Account, Ends, account_of};
@@ -101,34 +102,34 @@ fn run_told<R: Files + Print + Eprint + AllocGlobal>(
     inputs: &[napt_sequential::Input],
 ) -> Result<(), Stop> {
     let ends = match options.svg {
-        Some(_) => Ends(scene::MOST),
+        Some(_) => Ends(usize::MAX),
         None => Ends(0),
     };
     let progress = Progress::of(rt, inputs.len());
     progress.tell_begin(rt);
     let account = account_of(rt.alloc(), config, inputs, ends)?;
     told(rt, options, inputs, &account, progress)?;
+    let shown = Shown {
+        config,
+        inputs,
+        account: &account,
+        part: options.part,
+    };
     match options.svg {
-        Some(path) => draw(rt, path, config, inputs, &account),
+        Some(path) => draw(rt, path, shown),
         None => Ok(()),
     }
 }
 
-/// Writes the picture of a run to a file, and says where it leaves bindings out. One that cannot be written is told by its name,
-/// with the system's reason.
+/// Writes the picture of a run to a file. One that cannot be written is told by its name, with the system's reason.
 fn draw<R: Files + Eprint + AllocGlobal>(
     rt: &R,
     path: &str,
-    config: &Config,
-    inputs: &[napt_sequential::Input],
-    account: &Account,
+    shown: Shown<'_>,
 ) -> Result<(), Stop> {
-    let text = drawing(rt.alloc(), config, inputs, account)?;
+    let text = drawing(rt.alloc(), shown)?;
     match fs::write(rt, path, text.as_str()) {
-        Ok(()) => {
-            tell_left_out(rt, path, account.lives.len());
-            Ok(())
-        }
+        Ok(()) => Ok(()),
         Err(error) => {
             tell_failed(rt, "svg", path, &error);
             Err(picture_stop())
@@ -136,24 +137,9 @@ fn draw<R: Files + Eprint + AllocGlobal>(
     }
 }
 
-fn drawing(
-    alloc: Global,
-    config: &Config,
-    inputs: &[napt_sequential::Input],
-    account: &Account,
-) -> Result<String, AllocError> {
-    let scene = scene::scene_of(alloc, config, inputs, account)?;
+fn drawing(alloc: Global, shown: Shown<'_>) -> Result<String, AllocError> {
+    let scene = scene_of(alloc, shown)?;
     drawing_of(alloc, &scene)
-}
-
-/// Says where a picture leaves out some of so many bindings.
-fn tell_left_out<R: Eprint>(rt: &R, path: &str, bindings: usize) {
-    if bindings > scene::MOST {
-        let _ = eprintln!(rt;
-            "explain: {path} shows the first {} of {bindings} bindings",
-            scene::MOST
-        );
-    }
 }
 
 /// Writes the lines that are asked for, the bindings and the summary; of one packet alone its line and the bindings that it used.

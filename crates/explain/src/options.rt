@@ -1,5 +1,6 @@
 //! The command line.
 
+use crate::scene::Part;
 use crate::shown::Party;
 use crate::stop::Stop;
 use clap::error::ErrorKind;
@@ -16,8 +17,8 @@ const NOT_WRITTEN: &str =
     "Not written: taken as an option of napt, and refused as napt would refuse it";
 
 const SVG: &str =
-    "Draws the run into this file, none that is named otherwise, in SVG: its bindings (the first 400), \
-hairpins and drops over time";
+    "Draws the run into this file, none that is named otherwise, in SVG: its bindings, hairpins and \
+drops over time, or how many bindings live where more than 30 are shown";
 
 const NOTES: &str = "Example:
   explain --config napt.toml --inside inside.pcap --outside outside.pcap --dropped
@@ -51,6 +52,16 @@ const VALUES: &[(&str, &str, &str)] = &[
     ("report", "FILE", NOT_WRITTEN),
     ("svg", "FILE", SVG),
     (
+        "from",
+        "SECONDS",
+        "Begins the picture so long after the first packet [default: at it]",
+    ),
+    (
+        "until",
+        "SECONDS",
+        "Ends the picture so long after the first packet [default: behind the last one]",
+    ),
+    (
         "only",
         "N",
         "Shows the packet of this number alone, and the bindings that it used",
@@ -83,6 +94,8 @@ pub struct Options<'m> {
     pub files: napt_options::Options,
     /// Where the picture is drawn; absent, there is none.
     pub svg: Option<&'m str>,
+    /// The part of the time that is drawn.
+    pub part: Part,
     /// The configuration to which the first is compared; absent, none is.
     pub against: Option<&'m str>,
     /// JSON in place of lines.
@@ -175,9 +188,11 @@ pub fn options_of<'m, R: Eprint + AllocGlobal>(
     refuse_mixed(rt, matches)?;
     let only = only_of(rt, matches)?;
     let host = host_of(rt, matches)?;
+    let part = part_of(rt, matches)?;
     Ok(Options {
         files: files_of(rt.alloc(), matches)?,
         svg: matches.get_str("svg"),
+        part,
         against: matches.get_str("against"),
         json: matches.get_flag("json"),
         choice: Choice {
@@ -263,4 +278,54 @@ fn party_of(text: &str) -> Option<Party> {
         address: address.0,
         number,
     })
+}
+
+/// The part of the time that is drawn. One that is no time, or of a picture that is not asked for, is told.
+fn part_of<R: Eprint>(rt: &R, matches: &ArgMatches<'_>) -> Result<Part, Stop> {
+    let from = time_of(rt, matches, "from")?;
+    let until = time_of(rt, matches, "until")?;
+    if (from.is_some() || until.is_some()) && matches.get_str("svg").is_none() {
+        let _ = eprintln!(rt; "explain: --from and --until choose a part of --svg");
+        return Err(Stop::Told(napt_program::Stop::Usage));
+    }
+    if until.is_some_and(|until| until <= from.unwrap_or(0)) {
+        let _ = eprintln!(rt; "explain: --until: expected a time behind that of --from");
+        return Err(Stop::Told(napt_program::Stop::Usage));
+    }
+    Ok(Part { from, until })
+}
+
+/// The time that an option names, in ns. One that is none is told.
+fn time_of<R: Eprint>(
+    rt: &R,
+    matches: &ArgMatches<'_>,
+    option: &str,
+) -> Result<Option<u64>, Stop> {
+    let Some(text) = matches.get_str(option) else {
+        return Ok(None);
+    };
+    match nanoseconds_of(text) {
+        Some(time) => Ok(Some(time)),
+        None => {
+            let _ = eprintln!(rt; "explain: --{option} {text}: expected seconds, as 90 or 1.5");
+            Err(Stop::Told(napt_program::Stop::Usage))
+        }
+    }
+}
+
+/// The nanoseconds of a text of seconds, with up to nine decimals.
+fn nanoseconds_of(text: &str) -> Option<u64> {
+    let (seconds, decimals) = match text.split_once('.') {
+        Some((seconds, decimals)) => (seconds, decimals),
+        None => (text, "0"),
+    };
+    let whole = seconds.parse::<u64>().ok()?.checked_mul(1_000_000_000)?;
+    if decimals.is_empty() || decimals.len() > 9 || !decimals.bytes().all(|it| it.is_ascii_digit()) {
+        return None;
+    }
+    let mut rest = decimals.parse::<u64>().ok()?;
+    for _ in decimals.len()..9 {
+        rest = rest.checked_mul(10)?;
+    }
+    whole.checked_add(rest)
 }
