@@ -2,48 +2,61 @@
 //!
 //! It takes the words of `napt`, makes the same run on one thread, and writes one line for each packet, the bindings that live
 //! at the end, and a summary, to standard output, and a picture of the run where one is asked for. It writes none of the files
-//! that the words name as outputs of `napt`. A configuration or a capture that `napt` refuses is explained instead, with the
-//! status that `napt` ends with.
+//! that the words name as outputs of `napt`. What `napt` refuses is explained on standard error instead, with the status that
+//! `napt` ends with.
 #![tactic(auto)]
 
+mod against;
+mod json;
 mod names;
 mod options;
-mod overwritten;
+mod places;
 mod progress;
+mod reading;
 mod refused;
 mod scene;
 mod shown;
 mod stop;
 mod summary;
 
+use crate::against::tell_against;
 use crate::options::Options;
-use crate::overwritten::refuse_overwritten;
+use crate::places::{picture_stop, tell_failed};
 use crate::progress::Progress;
+use crate::reading::{Given, read_given};
+use crate::scene::{Shown, scene_of};
 use crate::stop::Stop;
+use crate::summary::{Told, Widths};
 use napt_account::{Account, Ends, account_of};
-use napt_capture::{Capture, Watched, read_capture};
 use napt_config::Config;
 use napt_picture::drawing_of;
-use napt_records::merge;
+use napt_program::Streams;
 use std::alloc::{AllocError, Global};
 use std::env::Env;
-use std::io::Read;
+use std::io::ErrorKind;
 use std::process::ExitCode;
 use std::rt::Files;
-use std::{env, fs, io};
+use std::{env, fs};
 
 fn main(rt: HostRuntime) -> ExitCode {
-    match explained(&rt) {
+    let streams = Streams::open_now(&rt);
+    match explained(&rt, streams) {
         Ok(()) => ExitCode::SUCCESS,
-        Err(stop) => ExitCode::from(stop.status()),
+        Err(stop) => {
+            stop.tell(&rt);
+            ExitCode::from(stop.status())
+        }
     }
 }
 
 /// Does what the words of the command line ask for.
-fn explained<R: Env + Files + Input + Print + Eprint + AllocGlobal>(rt: &R) -> Result<(), Stop> {
+fn explained<R: Env + Files + Input + Print + Eprint + AllocGlobal>(
+    rt: &R,
+    streams: Streams,
+) -> Result<(), Stop> {
     let words = words(rt)?;
     match options::read(rt, &words)? {
-        Some(matches) => explained_under(rt, options::options_of(rt, &matches)?),
+        Some(matches) => explained_under(rt, streams, &options::options_of(rt, &matches)?),
         None => Ok(()),
     }
 }
@@ -52,197 +65,123 @@ fn explained<R: Env + Files + Input + Print + Eprint + AllocGlobal>(rt: &R) -> R
 fn words<R: Env + AllocGlobal>(rt: &R) -> Result<Vec<String>, Stop> {
     match env::args(rt) {
         Ok(args) => Ok(args.collect(rt.alloc())?),
-        Err(_) => Err(Stop::Usage),
+        Err(error) if error.kind() == ErrorKind::OutOfMemory => {
+            Err(Stop::As(napt_program::Stop::LineMemory))
+        }
+        Err(_) => Err(Stop::As(napt_program::Stop::Usage)),
     }
 }
 
 /// Reads the configuration and the captures, and tells the run.
 fn explained_under<R: Files + Input + Print + Eprint + AllocGlobal>(
     rt: &R,
-    options: Options<'_>,
+    streams: Streams,
+    options: &Options<'_>,
 ) -> Result<(), Stop> {
-    refuse_overwritten(rt, options)?;
-    let config = configuration(rt, options.config)?;
-    let inputs = inputs_of(rt, options)?;
-    run_told(rt, options, &config, &inputs)
-}
-
-/// The packets of both captures, in the order in which napt takes them.
-fn inputs_of<R: Files + Input + Print + Eprint + AllocGlobal>(
-    rt: &R,
-    options: Options<'_>,
-) -> Result<Vec<napt_sequential::Input>, Stop> {
-    let inside = inside(rt, options)?;
-    let outside = outside(rt, options)?;
-    Ok(merge(rt.alloc(), inside.records, outside.records)?)
-}
-
-fn inside<R: Files + Input + Print + Eprint + AllocGlobal>(
-    rt: &R,
-    options: Options<'_>,
-) -> Result<Capture, Stop> {
-    let bytes = match options.inside {
-        Some(path) => file(rt, path)?,
-        None => standard_input(rt)?,
-    };
-    capture(rt, "inside", &bytes)
-}
-
-/// The capture of what comes from the outside; one of no packets where there is none.
-fn outside<R: Files + Print + Eprint + AllocGlobal>(
-    rt: &R,
-    options: Options<'_>,
-) -> Result<Capture, Stop> {
-    match options.outside {
-        Some(path) => capture(rt, "outside", &file(rt, path)?),
-        None => Ok(Capture {
-            records: Vec::new(rt.alloc()),
-            cut: false,
-        }),
+    let Given {
+        config,
+        other,
+        inputs,
+        cuts,
+    } = read_given(rt, streams, options)?;
+    if !streams.output {
+        return Err(Stop::NoOutput);
+    }
+    cuts.tell(rt, options.json)?;
+    match &other {
+        Some(other) => tell_against(rt, options.choice, &inputs, [&config, other]),
+        None => run_told(rt, options, &config, &inputs),
     }
 }
 
 /// Makes the run over the inputs, tells it, and draws it where that is asked for.
 fn run_told<R: Files + Print + Eprint + AllocGlobal>(
     rt: &R,
-    options: Options<'_>,
+    options: &Options<'_>,
     config: &Config,
     inputs: &[napt_sequential::Input],
 ) -> Result<(), Stop> {
     let ends = match options.svg {
-        Some(_) => Ends(scene::MOST),
+        Some(_) => Ends(usize::MAX),
         None => Ends(0),
     };
     let progress = Progress::of(rt, inputs.len());
     progress.tell_begin(rt);
     let account = account_of(rt.alloc(), config, inputs, ends)?;
     told(rt, options, inputs, &account, progress)?;
+    let shown = Shown {
+        config,
+        inputs,
+        account: &account,
+        part: options.part,
+    };
     match options.svg {
-        Some(path) => draw(rt, path, config, inputs, &account),
+        Some(path) => draw(rt, path, shown),
         None => Ok(()),
     }
 }
 
-/// Writes the picture of a run to a file, and says where it leaves bindings out. One that cannot be written is told by its name,
-/// with the system's reason.
+/// Writes the picture of a run to a file. One that cannot be written is told by its name, with the system's reason.
 fn draw<R: Files + Eprint + AllocGlobal>(
     rt: &R,
     path: &str,
-    config: &Config,
-    inputs: &[napt_sequential::Input],
-    account: &Account,
+    shown: Shown<'_>,
 ) -> Result<(), Stop> {
-    let text = drawing(rt.alloc(), config, inputs, account)?;
+    let text = drawing(rt.alloc(), shown)?;
     match fs::write(rt, path, text.as_str()) {
-        Ok(()) => {
-            tell_left_out(rt, path, account.lives.len());
-            Ok(())
+        Ok(()) => Ok(()),
+        Err(error) => {
+            tell_failed(rt, "svg", path, &error);
+            Err(picture_stop())
         }
-        Err(error) => Err(failed_file(rt, path, &error)),
     }
 }
 
-fn drawing(
-    alloc: Global,
-    config: &Config,
-    inputs: &[napt_sequential::Input],
-    account: &Account,
-) -> Result<String, AllocError> {
-    let scene = scene::scene_of(alloc, config, inputs, account)?;
+fn drawing(alloc: Global, shown: Shown<'_>) -> Result<String, AllocError> {
+    let scene = scene_of(alloc, shown)?;
     drawing_of(alloc, &scene)
 }
 
-/// Says where a picture leaves out some of so many bindings.
-fn tell_left_out<R: Eprint>(rt: &R, path: &str, bindings: usize) {
-    if bindings > scene::MOST {
-        let _ = eprintln!(rt;
-            "explain: {path} shows the first {} of {bindings} bindings",
-            scene::MOST
-        );
-    }
-}
-
-/// Writes the lines that are asked for, the bindings and the summary.
+/// Writes the lines that are asked for, the bindings and the summary; of one packet alone its line and the bindings that it used.
 fn told<R: Print + Eprint + AllocGlobal>(
     rt: &R,
-    options: Options<'_>,
+    options: &Options<'_>,
     inputs: &[napt_sequential::Input],
     account: &Account,
     progress: Progress,
 ) -> Result<(), Stop> {
-    let mut number = 0u64;
-    for input in inputs {
-        number = number.wrapping_add(1);
-        summary::tell_line(rt, options.choice, number, input, account)?;
+    let told = Told {
+        choice: options.choice,
+        inputs,
+        account,
+        widths: Widths::of(inputs),
+    };
+    if options.json {
+        return told_in_json(rt, told, progress);
+    }
+    if let Some(number) = options.choice.only {
+        progress.tell_end(rt);
+        return told.tell_one(rt, number);
+    }
+    for number in 1..=inputs.len() as u64 {
+        told.tell_line(rt, number)?;
         progress.tell(rt, number);
     }
     progress.tell_end(rt);
-    summary::tell_bindings(rt, inputs, account)?;
+    summary::tell_bindings(rt, told)?;
     summary::tell_counts(rt, account)
 }
 
-/// The configuration that a file holds; the built-in one where there is none. One that is refused is explained.
-fn configuration<R: Files + Print + Eprint + AllocGlobal>(
+/// Writes a JSON object for each packet that is asked for.
+fn told_in_json<R: Print + Eprint + AllocGlobal>(
     rt: &R,
-    path: Option<&str>,
-) -> Result<Config, Stop> {
-    match path {
-        Some(path) => configuration_of(rt, path, &file(rt, path)?),
-        None => Ok(Config::built_in(rt.alloc())?),
+    told: Told<'_>,
+    progress: Progress,
+) -> Result<(), Stop> {
+    for number in 1..=told.inputs.len() as u64 {
+        told.tell_json(rt, number)?;
+        progress.tell(rt, number);
     }
-}
-
-/// The configuration that a text is, which stands at a path.
-fn configuration_of<R: Print + AllocGlobal>(
-    rt: &R,
-    path: &str,
-    text: &[u8],
-) -> Result<Config, Stop> {
-    let fault = match Config::read(rt.alloc(), text) {
-        Ok(config) => return Ok(config),
-        Err(fault) => fault,
-    };
-    refused::tell_config(rt, path, text, fault)?;
-    Err(Stop::Config)
-}
-
-/// The capture that some bytes are. One that is refused is explained, and one that is cut is told.
-fn capture<R: Print + AllocGlobal>(rt: &R, side: &str, bytes: &[u8]) -> Result<Capture, Stop> {
-    match read_capture(rt.alloc(), &mut Watched::new(bytes)) {
-        Ok(capture) => {
-            tell_cut(rt, side, capture.cut)?;
-            Ok(capture)
-        }
-        Err(fault) => {
-            refused::tell_capture(rt, side, bytes, fault)?;
-            Err(Stop::Capture)
-        }
-    }
-}
-
-/// Says of a capture that ends inside a record that its last packet is left out.
-fn tell_cut<R: Print>(rt: &R, side: &str, cut: bool) -> Result<(), Stop> {
-    if cut {
-        println!(rt; "the capture {side} is cut: its last packet is not whole, and is left out")?;
-    }
+    progress.tell_end(rt);
     Ok(())
-}
-
-/// What a file holds. One that cannot be read is told by its name, with the system's reason.
-fn file<R: Files + Eprint + AllocGlobal>(rt: &R, path: &str) -> Result<Vec<u8>, Stop> {
-    fs::read(rt, path).map_err(|error| failed_file(rt, path, &error))
-}
-
-/// Says why a file could not be read or written.
-fn failed_file<R: Eprint>(rt: &R, path: &str, error: &io::Error) -> Stop {
-    let _ = eprintln!(rt; "explain: {path}: {error}");
-    Stop::File
-}
-
-fn standard_input<R: Input + AllocGlobal>(rt: &R) -> Result<Vec<u8>, Stop> {
-    let mut bytes = Vec::new(rt.alloc());
-    match rt.reader().read_to_end(&mut bytes) {
-        Ok(_) => Ok(bytes),
-        Err(_) => Err(Stop::File),
-    }
 }

@@ -1,5 +1,7 @@
 //! The command line.
 
+use crate::scene::Part;
+use crate::shown::Party;
 use crate::stop::Stop;
 use clap::error::ErrorKind;
 use clap::{Arg, ArgAction, ArgMatches, Command, Error};
@@ -11,19 +13,22 @@ const VERSION: &str = "1.0, proved with rattle-kit-13f logic dac8208d650f15bf";
 const ABOUT: &str =
     "Tells what napt does with each packet of its captures, or why it refuses what it is given.";
 
-const NOT_WRITTEN: &str = "Not written: taken as an option of napt";
+const NOT_WRITTEN: &str =
+    "Not written: taken as an option of napt, and refused as napt would refuse it";
 
 const SVG: &str =
-    "Draws the run into this file, none that is read, in SVG: its bindings (the first 400), \
-hairpins and drops over time";
+    "Draws the run into this file, none that is named otherwise, in SVG: its bindings, hairpins and \
+drops over time, or how many bindings live where more than 30 are shown";
 
 const NOTES: &str = "Example:
   explain --config napt.toml --inside inside.pcap --outside outside.pcap --dropped
 
 A line tells a packet's number, time in seconds, side, the packet, what happened, and the packet as it leaves:
   1 1.000000 inside  udp 10.0.0.2:5000 > 198.51.100.7:3000 | made a binding | udp 203.0.113.1:5000 > 198.51.100.7:3000
+A number that stands for a query of ICMP is its identifier, also in a --host.
 
-The words of a call of napt may stand as they are: no output of napt is written. The statuses are those of napt.";
+The words of a call of napt may stand as they are: no output of napt is written. The statuses are those of napt, and what it
+refuses is explained on standard error. With --against the status is 1 where a packet differs.";
 
 // The options that take a value, each with the value's kind and its meaning, in the order of the help text.
 const VALUES: &[(&str, &str, &str)] = &[
@@ -46,25 +51,55 @@ const VALUES: &[(&str, &str, &str)] = &[
     ("to-inside", "FILE", NOT_WRITTEN),
     ("report", "FILE", NOT_WRITTEN),
     ("svg", "FILE", SVG),
-    ("only", "N", "Shows the packet of this number alone"),
+    (
+        "from",
+        "SECONDS",
+        "Begins the picture so long after the first packet [default: at it]",
+    ),
+    (
+        "until",
+        "SECONDS",
+        "Ends the picture so long after the first packet [default: behind the last one]",
+    ),
+    (
+        "only",
+        "N",
+        "Shows the packet of this number alone, and the bindings that it used",
+    ),
     (
         "host",
-        "ADDRESS",
-        "Shows the packets that have this address before or after",
+        "ADDRESS[:PORT]",
+        "Shows the packets and bindings that have this address, or this endpoint, inside or external",
+    ),
+    (
+        "against",
+        "FILE",
+        "Shows the packets that end otherwise under this configuration, and the counts of both",
+    ),
+];
+
+// The options without a value, each with its meaning.
+const FLAGS: &[(&str, &str)] = &[
+    ("dropped", "Shows the dropped packets alone"),
+    (
+        "json",
+        "Writes a JSON object for each packet, on a line of its own, and nothing else (docs/FORMATS.md)",
     ),
 ];
 
 /// What is to be explained, and which of its lines are shown.
-#[derive(Clone, Copy)]
+#[derive(Drop)]
 pub struct Options<'m> {
-    /// The configuration; absent, the built-in one.
-    pub config: Option<&'m str>,
-    /// The capture of what inside hosts send; absent, standard input.
-    pub inside: Option<&'m str>,
-    /// The capture of what comes from the outside; absent, no packets.
-    pub outside: Option<&'m str>,
+    /// The files that a call of `napt` with these words reads and writes.
+    pub files: napt_options::Options,
     /// Where the picture is drawn; absent, there is none.
     pub svg: Option<&'m str>,
+    /// The part of the time that is drawn.
+    pub part: Part,
+    /// The configuration to which the first is compared; absent, none is.
+    pub against: Option<&'m str>,
+    /// JSON in place of lines.
+    pub json: bool,
     pub choice: Choice,
 }
 
@@ -73,8 +108,8 @@ pub struct Options<'m> {
 pub struct Choice {
     /// The packet of this number, from 1.
     pub only: Option<u64>,
-    /// A packet with this address before or after.
-    pub host: Option<u32>,
+    /// A packet with this host or endpoint before or after.
+    pub host: Option<Party>,
     /// A dropped packet.
     pub dropped: bool,
 }
@@ -103,10 +138,10 @@ fn told<R: Print + Eprint + AllocGlobal>(rt: &R, error: &Error) -> Result<(), St
             rt.print(text)?;
             Ok(())
         }
-        ErrorKind::OutOfMemory => Err(Stop::Run),
+        ErrorKind::OutOfMemory => Err(Stop::As(napt_program::Stop::LineMemory)),
         _ => {
             let _ = rt.eprint(text);
-            Err(Stop::Usage)
+            Err(Stop::Told(napt_program::Stop::Usage))
         }
     }
 }
@@ -116,7 +151,10 @@ fn explain_command<'a>(alloc: Global) -> Result<Command<'a>, AllocError> {
     for (name, value, meaning) in VALUES.iter() {
         command = command.arg(value_arg(alloc, *name, *value, *meaning))?;
     }
-    command.arg(dropped_arg(alloc))
+    for (name, meaning) in FLAGS.iter() {
+        command = command.arg(flag_arg(alloc, *name, *meaning))?;
+    }
+    Ok(command)
 }
 
 /// The command without its options.
@@ -125,11 +163,12 @@ fn described_command<'a>(alloc: Global) -> Result<Command<'a>, AllocError> {
     Ok(command.version(VERSION).about(ABOUT).after_help(NOTES))
 }
 
-fn dropped_arg<'a>(alloc: Global) -> Arg<'a> {
-    Arg::new(alloc, "dropped")
-        .long("dropped")
+// A plain option without a value.
+fn flag_arg<'a>(alloc: Global, name: &'a str, meaning: &'a str) -> Arg<'a> {
+    Arg::new(alloc, name)
+        .long(name)
         .action(ArgAction::SetTrue)
-        .help("Shows the dropped packets alone")
+        .help(meaning)
 }
 
 // A plain option that takes a value.
@@ -142,14 +181,20 @@ fn value_arg<'a>(alloc: Global, name: &'a str, value: &'a str, meaning: &'a str)
 }
 
 /// The options that words are read as. A number or an address that is none is told.
-pub fn options_of<'m, R: Eprint>(rt: &R, matches: &'m ArgMatches<'_>) -> Result<Options<'m>, Stop> {
+pub fn options_of<'m, R: Eprint + AllocGlobal>(
+    rt: &R,
+    matches: &'m ArgMatches<'_>,
+) -> Result<Options<'m>, Stop> {
+    refuse_mixed(rt, matches)?;
     let only = only_of(rt, matches)?;
     let host = host_of(rt, matches)?;
+    let part = part_of(rt, matches)?;
     Ok(Options {
-        config: matches.get_str("config"),
-        inside: matches.get_str("inside"),
-        outside: matches.get_str("outside"),
+        files: files_of(rt.alloc(), matches)?,
         svg: matches.get_str("svg"),
+        part,
+        against: matches.get_str("against"),
+        json: matches.get_flag("json"),
         choice: Choice {
             only,
             host,
@@ -158,28 +203,129 @@ pub fn options_of<'m, R: Eprint>(rt: &R, matches: &'m ArgMatches<'_>) -> Result<
     })
 }
 
+/// Refuses a comparison that is to be drawn, or written in JSON.
+fn refuse_mixed<R: Eprint>(rt: &R, matches: &ArgMatches<'_>) -> Result<(), Stop> {
+    let is_compared = matches.get_str("against").is_some();
+    if is_compared && (matches.get_flag("json") || matches.get_str("svg").is_some()) {
+        let _ = eprintln!(rt; "explain: --against goes with neither --json nor --svg");
+        return Err(Stop::Told(napt_program::Stop::Usage));
+    }
+    Ok(())
+}
+
+/// The files that the options of `napt` name.
+fn files_of(
+    alloc: Global,
+    matches: &ArgMatches<'_>,
+) -> Result<napt_options::Options, AllocError> {
+    Ok(napt_options::Options {
+        config: file_of(alloc, matches, "config")?,
+        inside: file_of(alloc, matches, "inside")?,
+        outside: file_of(alloc, matches, "outside")?,
+        to_outside: file_of(alloc, matches, "to-outside")?,
+        to_inside: file_of(alloc, matches, "to-inside")?,
+        report: file_of(alloc, matches, "report")?,
+    })
+}
+
+fn file_of(
+    alloc: Global,
+    matches: &ArgMatches<'_>,
+    name: &str,
+) -> Result<Option<String>, AllocError> {
+    match matches.get_str(name) {
+        Some(path) => Ok(Some(String::from_str(alloc, path)?)),
+        None => Ok(None),
+    }
+}
+
 fn only_of<R: Eprint>(rt: &R, matches: &ArgMatches<'_>) -> Result<Option<u64>, Stop> {
     let Some(text) = matches.get_str("only") else {
         return Ok(None);
     };
     match text.parse::<u64>() {
-        Ok(number) => Ok(Some(number)),
-        Err(_) => {
+        Ok(number) if number > 0 => Ok(Some(number)),
+        _ => {
             let _ = eprintln!(rt; "explain: --only {text}: expected a packet's number, from 1");
-            Err(Stop::Usage)
+            Err(Stop::Told(napt_program::Stop::Usage))
         }
     }
 }
 
-fn host_of<R: Eprint>(rt: &R, matches: &ArgMatches<'_>) -> Result<Option<u32>, Stop> {
+fn host_of<R: Eprint>(rt: &R, matches: &ArgMatches<'_>) -> Result<Option<Party>, Stop> {
     let Some(text) = matches.get_str("host") else {
         return Ok(None);
     };
-    match text.parse::<Address>() {
-        Ok(address) => Ok(Some(address.0)),
-        Err(_) => {
-            let _ = eprintln!(rt; "explain: --host {text}: expected an IPv4 address, as 10.0.0.2");
-            Err(Stop::Usage)
+    match party_of(text) {
+        Some(party) => Ok(Some(party)),
+        None => {
+            let _ = eprintln!(rt;
+                "explain: --host {text}: expected an IPv4 address, as 10.0.0.2, or an endpoint, as 203.0.113.1:5000"
+            );
+            Err(Stop::Told(napt_program::Stop::Usage))
         }
     }
+}
+
+/// The host or the endpoint that a text is, as `10.0.0.2` or `203.0.113.1:5000`.
+fn party_of(text: &str) -> Option<Party> {
+    let (address, number) = match text.split_once(':') {
+        Some((address, number)) => (address, Some(number.parse::<u16>().ok()?)),
+        None => (text, None),
+    };
+    let address = address.parse::<Address>().ok()?;
+    Some(Party {
+        address: address.0,
+        number,
+    })
+}
+
+/// The part of the time that is drawn. One that is no time, or of a picture that is not asked for, is told.
+fn part_of<R: Eprint>(rt: &R, matches: &ArgMatches<'_>) -> Result<Part, Stop> {
+    let from = time_of(rt, matches, "from")?;
+    let until = time_of(rt, matches, "until")?;
+    if (from.is_some() || until.is_some()) && matches.get_str("svg").is_none() {
+        let _ = eprintln!(rt; "explain: --from and --until choose a part of --svg");
+        return Err(Stop::Told(napt_program::Stop::Usage));
+    }
+    if until.is_some_and(|until| until <= from.unwrap_or(0)) {
+        let _ = eprintln!(rt; "explain: --until: expected a time behind that of --from");
+        return Err(Stop::Told(napt_program::Stop::Usage));
+    }
+    Ok(Part { from, until })
+}
+
+/// The time that an option names, in ns. One that is none is told.
+fn time_of<R: Eprint>(
+    rt: &R,
+    matches: &ArgMatches<'_>,
+    option: &str,
+) -> Result<Option<u64>, Stop> {
+    let Some(text) = matches.get_str(option) else {
+        return Ok(None);
+    };
+    match nanoseconds_of(text) {
+        Some(time) => Ok(Some(time)),
+        None => {
+            let _ = eprintln!(rt; "explain: --{option} {text}: expected seconds, as 90 or 1.5");
+            Err(Stop::Told(napt_program::Stop::Usage))
+        }
+    }
+}
+
+/// The nanoseconds of a text of seconds, with up to nine decimals.
+fn nanoseconds_of(text: &str) -> Option<u64> {
+    let (seconds, decimals) = match text.split_once('.') {
+        Some((seconds, decimals)) => (seconds, decimals),
+        None => (text, "0"),
+    };
+    let whole = seconds.parse::<u64>().ok()?.checked_mul(1_000_000_000)?;
+    if decimals.is_empty() || decimals.len() > 9 || !decimals.bytes().all(|it| it.is_ascii_digit()) {
+        return None;
+    }
+    let mut rest = decimals.parse::<u64>().ok()?;
+    for _ in decimals.len()..9 {
+        rest = rest.checked_mul(10)?;
+    }
+    whole.checked_add(rest)
 }

@@ -8,7 +8,7 @@ use napt_reasons::{Reason, capture_reasons, config_reasons};
 use std::alloc::AllocError;
 
 /// Writes that the configuration of a path, which is this text, is refused by a fault, and why.
-pub fn tell_config<R: Print + AllocGlobal>(
+pub fn tell_config<R: Eprint + AllocGlobal>(
     rt: &R,
     path: &str,
     text: &[u8],
@@ -20,7 +20,7 @@ pub fn tell_config<R: Print + AllocGlobal>(
 }
 
 /// Writes that the capture of a side, which is these bytes, is refused by a fault, and why.
-pub fn tell_capture<R: Print + AllocGlobal>(
+pub fn tell_capture<R: Eprint + AllocGlobal>(
     rt: &R,
     side: &str,
     bytes: &[u8],
@@ -32,25 +32,24 @@ pub fn tell_capture<R: Print + AllocGlobal>(
 }
 
 /// Writes that a file is refused, by a fault's name in code.
-fn tell_refusal<R: Print + AllocGlobal>(
+fn tell_refusal<R: Eprint + AllocGlobal>(
     rt: &R,
     kind: &str,
     file: &str,
     code: &str,
 ) -> Result<(), Stop> {
     let name = hyphened(rt.alloc(), code)?;
-    println!(rt; "the {kind} {file} is refused: {name}")?;
+    let _ = eprintln!(rt; "the {kind} {file} is refused: {name}");
     Ok(())
 }
 
-fn tell_reasons<R: Print>(rt: &R, reasons: Result<Vec<Reason>, AllocError>) -> Result<(), Stop> {
+fn tell_reasons<R: Eprint>(rt: &R, reasons: Result<Vec<Reason>, AllocError>) -> Result<(), Stop> {
     for reason in &reasons? {
-        tell_reason(rt, reason)?;
+        tell_reason(rt, reason);
     }
     Ok(())
 }
 
-fn tell_reason<R: Print>(rt: &R, reason: &Reason) -> Result<(), Stop> {
-    println!(rt; "  {:<9} {}", reason.title, reason.text)?;
-    Ok(())
+fn tell_reason<R: Eprint>(rt: &R, reason: &Reason) {
+    let _ = eprintln!(rt; "  {:<9} {}", reason.title, reason.text);
 }

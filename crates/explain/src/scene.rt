@@ -2,50 +2,86 @@
 
 use crate::names::Seconds;
 use crate::summary::count_dropped;
+use jiff::Timestamp;
 use napt_account::{Account, Life};
 use napt_config::{Address, Config};
-use napt_picture::{Binding, BindingKind, Pass, Scene};
+use napt_picture::{Binding, BindingKind, MOST_BARS, Pass, Scene};
 use napt_records::{EndpointText, cause_name, protocol_name};
 use napt_sequential::{Input, Outcome};
 use napt_wire::{Cause, Protocol};
 use std::alloc::{AllocError, Global};
 
-/// How many bindings a picture shows at most.
-pub const MOST: usize = 400;
+/// The run that a picture shows.
+#[derive(Clone, Copy)]
+pub struct Shown<'a> {
+    pub config: &'a Config,
+    pub inputs: &'a [Input],
+    pub account: &'a Account,
+    pub part: Part,
+}
 
-/// The scene of the run over the inputs.
-pub fn scene_of(
-    alloc: Global,
-    config: &Config,
-    inputs: &[Input],
-    account: &Account,
-) -> Result<Scene, AllocError> {
+/// The part of the time that a picture shows, in ns since the first packet.
+#[derive(Clone, Copy)]
+pub struct Part {
+    /// Absent, from the first packet on.
+    pub from: Option<u64>,
+    /// Absent, until the last packet and a little more.
+    pub until: Option<u64>,
+}
+
+impl<'a> Shown<'a> {
+    /// The time of the first packet.
+    fn zero(self) -> u64 {
+        self.inputs.first().map_or(0, |input| input.clock)
+    }
+
+    /// A time since the first packet, in ns since 1970.
+    fn moment(self, since: Option<u64>) -> Option<u64> {
+        since.map(|since| self.zero().saturating_add(since))
+    }
+
+    /// Whether a binding lives in the part that is shown; a redirect always does.
+    fn has(self, life: &Life) -> bool {
+        let begins = self.moment(self.part.until).is_none_or(|until| life.made <= until);
+        let ends = self.moment(self.part.from).is_none_or(|from| from < life.end);
+        life.fixed || (begins && ends)
+    }
+
+    /// Whether few enough bindings are shown for each to have a bar.
+    fn has_bars(self) -> bool {
+        let lives = self.account.lives.iter();
+        lives.filter(|life| self.has(*life)).count() <= MOST_BARS
+    }
+}
+
+/// The scene of a run.
+pub fn scene_of(alloc: Global, shown: Shown<'_>) -> Result<Scene, AllocError> {
     let mut scene = Scene {
-        head: head_of(alloc, config, account)?,
+        head: head_of(alloc, shown)?,
+        from: shown.moment(shown.part.from),
+        until: shown.moment(shown.part.until),
         lanes: Vec::new(alloc),
         bindings: Vec::new(alloc),
         causes: Vec::new(alloc),
         passes: Vec::new(alloc),
     };
-    add_lanes(alloc, &mut scene.lanes, config)?;
-    add_bindings(alloc, &mut scene.bindings, config, &account.lives)?;
-    add_packets(alloc, &mut scene, inputs, account)?;
+    add_lanes(alloc, &mut scene.lanes, shown.config)?;
+    add_bindings(alloc, &mut scene.bindings, shown)?;
+    add_packets(alloc, &mut scene, shown.inputs, shown.account)?;
     Ok(scene)
 }
 
-/// The line above the picture, which says where bindings are left out.
-fn head_of(alloc: Global, config: &Config, account: &Account) -> Result<String, AllocError> {
-    let packets = account.uses.len();
-    let addresses = config.pool().len();
-    let bindings = account.lives.len();
-    if bindings > MOST {
-        format!(in alloc;
-            "packets: {packets}, external addresses: {addresses}, bindings: {bindings}, of which the first {MOST} are shown"
-        )
-    } else {
-        format!(in alloc;
-            "packets: {packets}, external addresses: {addresses}, bindings: {bindings}"
-        )
+/// The line above the picture, with the date from which its times count.
+fn head_of(alloc: Global, shown: Shown<'_>) -> Result<String, AllocError> {
+    let packets = shown.account.uses.len();
+    let addresses = shown.config.pool().len();
+    let bindings = shown.account.lives.len();
+    let head = format!(in alloc;
+        "packets: {packets}, external addresses: {addresses}, bindings: {bindings}"
+    )?;
+    match Timestamp::from_nanosecond(shown.zero() as i128) {
+        Ok(date) if packets > 0 => format!(in alloc; "{head}, from {date} on"),
+        _ => Ok(head),
     }
 }
 
@@ -58,35 +94,39 @@ fn add_lanes(alloc: Global, lanes: &mut Vec<String>, config: &Config) -> Result<
     Ok(())
 }
 
-/// The bindings of the first lives.
+/// The bindings of all lives. Those that have a bar have words too.
 fn add_bindings(
     alloc: Global,
     bindings: &mut Vec<Binding>,
-    config: &Config,
-    lives: &[Life],
+    shown: Shown<'_>,
 ) -> Result<(), AllocError> {
-    for life in lives.iter().take(MOST) {
-        bindings.push(binding_of(alloc, config, life)?)?;
+    let has_bars = shown.has_bars();
+    for life in &shown.account.lives {
+        let mut binding = binding_of(alloc, shown.config, life);
+        if has_bars && shown.has(life) {
+            binding.label = label_of(alloc, life)?;
+            binding.title = title_of(alloc, life, &binding.label, shown.zero())?;
+        }
+        bindings.push(binding)?;
     }
     Ok(())
 }
 
-fn binding_of(alloc: Global, config: &Config, life: &Life) -> Result<Binding, AllocError> {
-    let label = label_of(alloc, life)?;
-    let title = title_of(alloc, life, &label)?;
+/// A binding without words.
+fn binding_of(alloc: Global, config: &Config, life: &Life) -> Binding {
     let lane = match config.pool_index(life.external.address) {
         Some(lane) => lane as usize,
         None => usize::MAX,
     };
-    Ok(Binding {
+    Binding {
         kind: kind_of(life),
         lane,
-        label,
-        title,
+        label: String::new(alloc),
+        title: String::new(alloc),
         made: life.made,
         used: life.used,
         end: life.end,
-    })
+    }
 }
 
 fn kind_of(life: &Life) -> BindingKind {
@@ -108,15 +148,20 @@ fn label_of(alloc: Global, life: &Life) -> Result<String, AllocError> {
     format!(in alloc; "{name} {inside} > :{}{kind}", life.external.number)
 }
 
-/// A binding of a label with its external address, and with its times where it is no redirect.
-fn title_of(alloc: Global, life: &Life, label: &str) -> Result<String, AllocError> {
+/// A binding of a label with its external address, and with its times since the first packet where it is no redirect.
+fn title_of(
+    alloc: Global,
+    life: &Life,
+    label: &str,
+    zero: u64,
+) -> Result<String, AllocError> {
     let external = Address(life.external.address);
     if life.fixed {
         return format!(in alloc; "{label} at {external}");
     }
-    let made = Seconds(life.made);
-    let used = Seconds(life.used);
-    let end = Seconds(life.end);
+    let made = Seconds(life.made.saturating_sub(zero));
+    let used = Seconds(life.used.saturating_sub(zero));
+    let end = Seconds(life.end.saturating_sub(zero));
     format!(in alloc;
         "{label} at {external}: made at {made}, last packet at {used}, expires at {end}"
     )

@@ -2,7 +2,7 @@
 
 use napt_config::Address;
 use napt_records::{EndpointText, protocol_name};
-use napt_wire::{Flags, Kind, Packet, Side};
+use napt_wire::{Endpoint, Flags, Kind, Packet, Side};
 use std::alloc::{AllocError, Global};
 use std::fmt;
 
@@ -19,7 +19,12 @@ pub fn packet_text(alloc: Global, packet: &Packet) -> Result<String, AllocError>
         }
         Kind::Echo => {
             let number = source_port.max(destination_port);
-            format!(in alloc; "icmp echo {from} > {to} id {number}")
+            let kind = if is_reply(packet.bytes()) {
+                "reply"
+            } else {
+                "request"
+            };
+            format!(in alloc; "icmp echo {kind} {from} > {to} id {number}")
         }
         Kind::ErrorOf(inner) => {
             let name = protocol_name(inner.protocol);
@@ -29,6 +34,14 @@ pub fn packet_text(alloc: Global, packet: &Packet) -> Result<String, AllocError>
             );
             format!(in alloc; "icmp error {from} > {to} about {name} {quoted_from} > {quoted_to}")
         }
+    }
+}
+
+/// Whether an echo message is a reply, by its ICMP type (RFC 792), which stands behind the IP header.
+pub fn is_reply(bytes: &[u8]) -> bool {
+    match bytes.first() {
+        Some(first) => bytes.get((*first & 15) as usize * 4) == Some(&0),
+        None => false,
     }
 }
 
@@ -46,29 +59,45 @@ impl fmt::Display for FlagsText {
     }
 }
 
-/// The packet that some bytes are on their arrival; where they are none, what can be said of them.
-pub fn arrival_text(alloc: Global, side: Side, bytes: &[u8]) -> Result<String, AllocError> {
+/// The packet that some bytes are on their arrival, if they are one.
+pub fn arrival(alloc: Global, side: Side, bytes: &[u8]) -> Result<Option<Packet>, AllocError> {
     let copy = Vec::from_slice(alloc, bytes)?;
-    match Packet::read(side, copy) {
-        Ok(packet) => packet_text(alloc, &packet),
-        Err(_) => unread_text(alloc, bytes),
+    Ok(Packet::read(side, copy).ok())
+}
+
+/// The same in words; where they are none, what can be said of them.
+pub fn arrival_text(alloc: Global, side: Side, bytes: &[u8]) -> Result<String, AllocError> {
+    match arrival(alloc, side, bytes)? {
+        Some(packet) => packet_text(alloc, &packet),
+        None => unread_text(alloc, bytes),
     }
 }
 
 fn unread_text(alloc: Global, bytes: &[u8]) -> Result<String, AllocError> {
     let many = bytes.len();
-    match (
-        version(bytes),
-        address_at(bytes, 12),
-        address_at(bytes, 16),
-        bytes.get(9),
-    ) {
-        (4, Some(from), Some(to), Some(protocol)) => {
-            let (from, to) = (Address(from), Address(to));
+    if is_arp(bytes) {
+        return format!(in alloc; "arp, {many} bytes");
+    }
+    match (version(bytes), addresses(bytes), bytes.get(9)) {
+        (4, Some((from, to)), Some(protocol)) => {
             format!(in alloc; "ip {from} > {to} protocol {protocol}, {many} bytes")
         }
+        (6, _, _) => format!(in alloc; "ipv6, {many} bytes"),
         _ => format!(in alloc; "{many} bytes"),
     }
+}
+
+/// Whether a packet without its Ethernet header is ARP for IPv4 over Ethernet (RFC 826): it begins with the hardware 1, the
+/// protocol 0x0800, and the lengths 6 and 4 of both addresses.
+fn is_arp(bytes: &[u8]) -> bool {
+    bytes.starts_with(&[0, 1, 8, 0, 6, 4])
+}
+
+/// The source and the destination in an IPv4 header.
+fn addresses(bytes: &[u8]) -> Option<(Address, Address)> {
+    let from = address_at(bytes, 12)?;
+    let to = address_at(bytes, 16)?;
+    Some((Address(from), Address(to)))
 }
 
 /// The version of an IP header; 0 without a byte.
@@ -86,7 +115,63 @@ fn address_at(bytes: &[u8], at: usize) -> Option<u32> {
     Some(u32::from_be_bytes(*four))
 }
 
+/// A host by its address, or one of its endpoints by its number too.
+#[derive(Clone, Copy)]
+pub struct Party {
+    pub address: u32,
+    /// The port or identifier; absent, any.
+    pub number: Option<u16>,
+}
+
+impl Party {
+    /// Whether an endpoint is this one, or is the host's.
+    pub fn has(self, endpoint: Endpoint) -> bool {
+        endpoint.address == self.address
+            && self.number.is_none_or(|number| number == endpoint.number)
+    }
+
+    /// Whether it is an end of a packet. An error is also of the ends of the packet that it quotes, and an identifier of a query
+    /// is that of both ends.
+    pub fn is_end_of(self, packet: &Packet) -> bool {
+        let (source, destination) = (packet.source(), packet.destination());
+        match packet.kind() {
+            Kind::Echo => {
+                let number = source.number.max(destination.number);
+                self.has(Endpoint { number, ..source }) || self.has(Endpoint { number, ..destination })
+            }
+            Kind::ErrorOf(inner) => {
+                self.is_host(source.address)
+                    || self.is_host(destination.address)
+                    || self.has(inner.source)
+                    || self.has(inner.destination)
+            }
+            Kind::Udp | Kind::Tcp(_) => self.has(source) || self.has(destination),
+        }
+    }
+
+    /// Whether it is a whole host, of this address.
+    fn is_host(self, address: u32) -> bool {
+        self.number.is_none() && self.address == address
+    }
+
+    /// Whether it is an end of what some bytes are on their arrival; of what is no packet only an address may be one.
+    pub fn is_end_of_arrival(
+        self,
+        alloc: Global,
+        side: Side,
+        bytes: &[u8],
+    ) -> Result<bool, AllocError> {
+        if self.number.is_none() {
+            return Ok(has_address(bytes, self.address));
+        }
+        match arrival(alloc, side, bytes)? {
+            Some(packet) => Ok(self.is_end_of(&packet)),
+            None => Ok(false),
+        }
+    }
+}
+
 /// Whether an address is a source or destination of a datagram.
-pub fn has_address(bytes: &[u8], address: u32) -> bool {
+fn has_address(bytes: &[u8], address: u32) -> bool {
     address_at(bytes, 12) == Some(address) || address_at(bytes, 16) == Some(address)
 }

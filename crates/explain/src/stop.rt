@@ -1,68 +1,68 @@
 //! Why the program ends with a status other than 0.
 
-ghost use Rattle.std.specs.Prelude.{◌≡◌};
-ghost use Rattle.explain.specs.declared.stop.Stop.TheVariants.{File, Run};
-
+use napt_program::{MEMORY, stop_status};
+use napt_records::Fault;
 use napt_sequential::RunFault;
 use std::alloc::{AllocError, AllocFailed};
 use std::io;
 
-/// Why the program ends early. What there is to say was written before.
-#[derive(Clone, Copy)]
+/// Why the program ends early.
+#[derive(Drop)]
 pub enum Stop {
-    /// The command line is not understood.
-    Usage,
-    /// The configuration is refused.
-    Config,
-    /// A capture is refused.
-    Capture,
-    /// Memory ran out, or there are more packets than a run can count.
-    Run,
-    /// A file cannot be read, or standard output cannot be written.
-    File,
+    /// As `napt` stops, by a reason that was told before.
+    Told(napt_program::Stop),
+    /// As `napt` stops, by what its fault line says.
+    As(napt_program::Stop),
+    /// Standard output was closed from the start.
+    NoOutput,
+    /// Standard output cannot be written.
+    Output(io::Error),
+    /// Some packets end otherwise under the other configuration.
+    Differ,
 }
 
 impl Stop {
-    /// The exit status, which is that of `napt`.
-    pub fn status(self) -> u8 {
+    /// The exit status, which is that of `napt`; 6 where standard output fails, as for a file; 1 where
+    /// packets differ.
+    pub fn status(&self) -> u8 {
         match self {
-            Stop::Usage => 2,
-            Stop::Config => 3,
-            Stop::Capture => 4,
-            Stop::Run => 5,
-            Stop::File => 6,
+            Stop::Told(stop) | Stop::As(stop) => stop_status(stop),
+            Stop::NoOutput | Stop::Output(_) => 6,
+            Stop::Differ => 1,
         }
+    }
+
+    /// Writes the line that says why, where that was not told before.
+    pub fn tell<R: Eprint>(&self, rt: &R) {
+        let _ = match self {
+            Stop::Told(_) | Stop::Differ => Ok(()),
+            Stop::As(stop) => eprintln!(rt; "explain: {stop}"),
+            Stop::NoOutput => eprintln!(rt; "explain: standard output is closed"),
+            Stop::Output(error) => eprintln!(rt; "explain: standard output: {error}"),
+        };
     }
 }
 
 impl From<AllocError> for Stop {
-    ghost from_gives = { λ _ stop. stop ≡ Run };
-
     fn from(_refused: AllocError) -> Stop {
-        Stop::Run
+        Stop::As(MEMORY)
     }
 }
 
 impl<T: Drop> From<AllocFailed<T>> for Stop {
-    ghost from_gives = { λ _ stop. stop ≡ Run };
-
     fn from(_refused: AllocFailed<T>) -> Stop {
-        Stop::Run
+        Stop::As(MEMORY)
     }
 }
 
 impl From<RunFault> for Stop {
-    ghost from_gives = { λ _ stop. stop ≡ Run };
-
-    fn from(_fault: RunFault) -> Stop {
-        Stop::Run
+    fn from(fault: RunFault) -> Stop {
+        Stop::As(napt_program::Stop::Run(Fault::Run(fault)))
     }
 }
 
 impl From<io::Error> for Stop {
-    ghost from_gives = { λ _ stop. stop ≡ File };
-
-    fn from(_error: io::Error) -> Stop {
-        Stop::File
+    fn from(error: io::Error) -> Stop {
+        Stop::Output(error)
     }
 }

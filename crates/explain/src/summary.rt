@@ -1,8 +1,9 @@
 //! The lines of an account.
 
+use crate::json::tell_object;
 use crate::names::{Seconds, side_name};
 use crate::options::Choice;
-use crate::shown::{arrival_text, has_address, packet_text};
+use crate::shown::{Party, arrival_text, packet_text};
 use crate::stop::Stop;
 use napt_account::{Account, Note};
 use napt_reasons::{advice, meaning};
@@ -12,53 +13,169 @@ use napt_table::Row;
 use napt_wire::{Cause, Kind, Packet, Side};
 use std::alloc::{AllocError, Global};
 
-/// Writes the line of the packet of a number, from 1, where it is asked for.
-pub fn tell_line<R: Print + AllocGlobal>(
-    rt: &R,
-    choice: Choice,
-    number: u64,
-    input: &Input,
-    account: &Account,
-) -> Result<(), Stop> {
-    let at = number.wrapping_sub(1) as usize;
-    let (Some(outcome), Some(used)) = (account.outcome_at(at), account.uses.get(at)) else {
-        return Ok(());
-    };
-    if !is_chosen(choice, number, input, outcome) {
-        return Ok(());
-    }
-    let line = line_text(rt.alloc(), number, input, outcome, used.note)?;
-    println!(rt; "{line}")?;
-    Ok(())
+/// A run whose lines are told.
+#[derive(Clone, Copy)]
+pub struct Told<'a> {
+    pub choice: Choice,
+    pub inputs: &'a [Input],
+    pub account: &'a Account,
+    pub widths: Widths,
 }
 
-/// The line of a packet.
-fn line_text(
-    alloc: Global,
-    number: u64,
-    input: &Input,
-    outcome: &Outcome,
-    note: Note,
-) -> Result<String, AllocError> {
-    let time = Seconds(input.time);
+/// How wide the first columns of the lines are.
+#[derive(Clone, Copy)]
+pub struct Widths {
+    number: usize,
+    time: usize,
+}
+
+impl Widths {
+    /// Those that the numbers and the times of all packets need.
+    pub fn of(inputs: &[Input]) -> Widths {
+        let latest = inputs.last().map_or(0, |input| input.clock);
+        Widths {
+            number: digits(inputs.len() as u64),
+            time: digits(latest / 1_000_000_000).saturating_add(7),
+        }
+    }
+}
+
+/// How many decimal digits a number has.
+fn digits(number: u64) -> usize {
+    let mut rest = number / 10;
+    let mut many = 1;
+    for _ in 0..20 {
+        if rest > 0 {
+            rest /= 10;
+            many += 1;
+        }
+    }
+    many
+}
+
+/// A packet of a run: its number, from 1, what it was, and what became of it.
+#[derive(Clone, Copy)]
+pub struct Line<'a> {
+    pub number: u64,
+    pub input: &'a Input,
+    pub outcome: &'a Outcome,
+    pub note: Note,
+}
+
+impl<'a> Told<'a> {
+    /// Writes the line of the packet of a number, from 1, where it is asked for.
+    pub fn tell_line<R: Print + AllocGlobal>(self, rt: &R, number: u64) -> Result<(), Stop> {
+        let Some(line) = self.line_at(number) else {
+            return Ok(());
+        };
+        if is_chosen(rt.alloc(), self.choice, line)? {
+            let text = line_text(rt.alloc(), self.widths, line)?;
+            println!(rt; "{text}")?;
+        }
+        Ok(())
+    }
+
+    fn line_at(self, number: u64) -> Option<Line<'a>> {
+        let at = number.checked_sub(1)? as usize;
+        let input = self.inputs.get(at)?;
+        let outcome = self.account.outcome_at(at)?;
+        let note = self.account.uses.get(at)?.note;
+        Some(Line {
+            number,
+            input,
+            outcome,
+            note,
+        })
+    }
+
+    /// Writes the JSON object of the packet of a number, from 1, where it is asked for.
+    pub fn tell_json<R: Print + AllocGlobal>(self, rt: &R, number: u64) -> Result<(), Stop> {
+        match self.line_at(number) {
+            Some(line) if is_chosen(rt.alloc(), self.choice, line)? => tell_object(rt, line),
+            _ => Ok(()),
+        }
+    }
+
+    /// Writes the line of the packet of a number, from 1, and the bindings that it went through.
+    pub fn tell_one<R: Print + Eprint + AllocGlobal>(
+        self,
+        rt: &R,
+        number: u64,
+    ) -> Result<(), Stop> {
+        let Some(line) = self.line_at(number) else {
+            let many = self.inputs.len();
+            let _ = eprintln!(rt; "explain: --only {number}: there are {many} packets");
+            return Err(Stop::Told(napt_program::Stop::Usage));
+        };
+        let text = line_text(rt.alloc(), self.widths, line)?;
+        println!(rt; "{text}")?;
+        let at = number.saturating_sub(1) as usize;
+        if let Some(used) = self.account.uses.get(at) {
+            self.tell_used(rt, "out", used.out)?;
+            self.tell_used(rt, "in", used.into)?;
+        }
+        Ok(())
+    }
+
+    /// Writes the binding at a place, through which a packet went this way.
+    fn tell_used<R: Print>(self, rt: &R, way: &str, at: Option<usize>) -> Result<(), Stop> {
+        let Some(life) = at.and_then(|at| self.account.lives.get(at)) else {
+            return Ok(());
+        };
+        let name = protocol_name(life.protocol);
+        let (inside, external) = (EndpointText(life.inside), EndpointText(life.external));
+        print!(rt; "  {way} through {name} {inside} at {external}")?;
+        if life.fixed {
+            println!(rt; ", a redirect")?;
+        } else {
+            let (made, used) = (Seconds(life.made), Seconds(life.used));
+            println!(rt; ", made at {made}, last packet at {used}")?;
+        }
+        Ok(())
+    }
+}
+
+/// The line of a packet. Its columns stand below one another, but for an ICMP error, which quotes more than fits.
+fn line_text(alloc: Global, widths: Widths, line: Line<'_>) -> Result<String, AllocError> {
+    let Line {
+        number,
+        input,
+        outcome,
+        note,
+    } = line;
+    let Widths {
+        number: number_width,
+        time: time_width,
+    } = widths;
+    let time = format!(in alloc; "{}", Seconds(input.time))?;
     let side = side_name(input.side);
     let before = arrival_text(alloc, input.side, &input.bytes)?;
     let rest = rest_text(alloc, input.side, outcome, note)?;
-    format!(in alloc; "{number} {time} {side:<7} {before} | {rest}")
+    format!(in alloc;
+        "{number:>number_width$} {time:>time_width$} {side:<7} {before:<50} | {rest}"
+    )
 }
 
-fn is_chosen(choice: Choice, number: u64, input: &Input, outcome: &Outcome) -> bool {
-    let is_numbered = choice.only.is_none_or(|only| only == number);
-    let is_hosted = choice.host.is_none_or(|host| has_address(&input.bytes, host)
-        || leaves_with(outcome, host));
-    let is_dropped = matches!(outcome, Outcome::Dropped(_));
-    is_numbered && is_hosted && (is_dropped || !choice.dropped)
+fn is_chosen(alloc: Global, choice: Choice, line: Line<'_>) -> Result<bool, AllocError> {
+    let is_dropped = matches!(line.outcome, Outcome::Dropped(_));
+    let is_numbered = choice.only.is_none_or(|only| only == line.number);
+    if !is_numbered || (choice.dropped && !is_dropped) {
+        return Ok(false);
+    }
+    match choice.host {
+        None => Ok(true),
+        Some(host) => {
+            let input = line.input;
+            Ok(leaves_with(line.outcome, host)
+                || host.is_end_of_arrival(alloc, input.side, &input.bytes)?)
+        }
+    }
 }
 
-/// Whether an outcome's packet has the address.
-fn leaves_with(outcome: &Outcome, host: u32) -> bool {
+/// Whether an outcome's packet has the host or endpoint.
+pub fn leaves_with(outcome: &Outcome, host: Party) -> bool {
     match outcome {
-        Outcome::ToOutside(packet) | Outcome::ToInside(packet) => has_address(packet.bytes(), host),
+        Outcome::ToOutside(packet) | Outcome::ToInside(packet) => host.is_end_of(packet),
         Outcome::Dropped(_) => false,
     }
 }
@@ -75,7 +192,7 @@ fn rest_text(
         Outcome::ToInside(packet) if side == Side::Inside => hairpin_text(alloc, packet, note),
         Outcome::ToInside(packet) | Outcome::ToOutside(packet) => {
             let after = packet_text(alloc, packet)?;
-            format!(in alloc; "{} | {after}", used(packet, note))
+            format!(in alloc; "{:<21} | {after}", used(packet, note))
         }
     }
 }
@@ -86,10 +203,9 @@ fn dropped_text(alloc: Global, cause: Cause) -> Result<String, AllocError> {
 }
 
 fn hairpin_text(alloc: Global, packet: &Packet, note: Note) -> Result<String, AllocError> {
-    let via = EndpointText(packet.source());
     let used = used(packet, note);
     let after = packet_text(alloc, packet)?;
-    format!(in alloc; "hairpin via {via}, {used} | {after}")
+    format!(in alloc; "{used:<21} | hairpin: {after}")
 }
 
 /// What a packet that went through did to a binding.
@@ -102,15 +218,23 @@ fn used(packet: &Packet, note: Note) -> &'static str {
     }
 }
 
-/// Writes the bindings that live at the last clock, with their ages.
-pub fn tell_bindings<R: Print>(rt: &R, inputs: &[Input], account: &Account) -> Result<(), Stop> {
-    let now = inputs.last().map_or(0, |input| input.clock);
+/// Writes the bindings that live at the last clock, with their ages; those of a host or an endpoint where one is chosen.
+pub fn tell_bindings<R: Print>(rt: &R, told: Told<'_>) -> Result<(), Stop> {
+    let now = told.inputs.last().map_or(0, |input| input.clock);
     let time = Seconds(now);
-    println!(rt; "live bindings at {time}: {}", account.run.bindings.len())?;
-    for row in &account.run.bindings {
-        tell_binding(rt, now, row, account)?;
+    let rows = &told.account.run.bindings;
+    println!(rt; "live bindings at {time}: {}", rows.len())?;
+    for row in rows {
+        if has_party(row, told.choice.host) {
+            tell_binding(rt, now, row, told.account)?;
+        }
     }
     Ok(())
+}
+
+/// Whether a binding has a host or an endpoint, where one is chosen.
+fn has_party(row: &Row, host: Option<Party>) -> bool {
+    host.is_none_or(|host| host.has(row.inside) || host.has(row.external))
 }
 
 fn tell_binding<R: Print>(rt: &R, now: u64, row: &Row, account: &Account) -> Result<(), Stop> {
@@ -165,14 +289,16 @@ fn tell_cause<R: Print + AllocGlobal>(
     Ok(())
 }
 
-fn count_to_outside(outcomes: &[Outcome]) -> usize {
+/// How many packets leave for the outside.
+pub fn count_to_outside(outcomes: &[Outcome]) -> usize {
     outcomes
         .iter()
         .filter(|outcome| matches!(outcome, Outcome::ToOutside(_)))
         .count()
 }
 
-fn count_to_inside(outcomes: &[Outcome]) -> usize {
+/// How many packets leave for the inside.
+pub fn count_to_inside(outcomes: &[Outcome]) -> usize {
     outcomes
         .iter()
         .filter(|outcome| matches!(outcome, Outcome::ToInside(_)))

@@ -5,11 +5,22 @@ use crate::span::{LEFT, RIGHT, Span};
 use std::alloc::{AllocError, Global};
 use std::collections::{BTreeMap, BTreeSet};
 
-/// The line above the first lane.
-pub const HEAD: u64 = 80;
+/// The line above the first lane, below the legend and the axis.
+pub const HEAD: u64 = 140;
 
 /// The height of a bar with its label.
-const ROW: u64 = 34;
+const ROW: u64 = 26;
+
+/// Of so many bindings at most each has a bar; of more it is shown how many live.
+pub const MOST_BARS: usize = 30;
+
+/// The height of a lane that shows how many bindings live.
+const COUNT_LANE: u64 = 70;
+
+/// How far apart arrows stand that would stand in one column, and how many of them may.
+const BESIDE: u64 = 5;
+
+const MOST_BESIDE: u64 = 5;
 
 /// The height of the row of a cause.
 const CAUSE_ROW: u64 = 20;
@@ -64,10 +75,28 @@ pub struct Mark {
     pub into: u64,
 }
 
+/// How many bindings of a lane live in a column: the most that do at once, and how many do at its end, up to the next step's.
+#[derive(Clone, Copy)]
+pub struct Step {
+    pub column: u64,
+    pub most: u64,
+    pub last: u64,
+}
+
+/// A lane that shows how many of its bindings live.
+#[derive(Drop)]
+pub struct Counts {
+    pub steps: Vec<Step>,
+    /// The most that live at once.
+    pub most: u64,
+}
+
 /// Where everything in a picture stands.
 #[derive(Drop)]
 pub struct Layout {
     pub span: Span,
+    /// One for each lane where it is shown how many bindings live; else none.
+    pub counts: Vec<Counts>,
     /// One for each lane of the scene.
     pub lanes: Vec<Lane>,
     /// The bars, lane by lane.
@@ -79,6 +108,8 @@ pub struct Layout {
     pub bottom: u64,
     /// The tops of the bars, by the places of their bindings.
     tops: BTreeMap<usize, u64>,
+    /// The tops of the arrow in each column.
+    arrows: BTreeMap<u64, (u64, u64)>,
 }
 
 /// The bar of the binding at a place of the scene, at the top of the picture.
@@ -126,26 +157,158 @@ fn row_for(taken: &mut Vec<u64>, from: u64, to: u64) -> Result<usize, AllocError
     Ok(at)
 }
 
+/// Whether a binding lives in the time that is shown; a redirect always does.
+fn is_shown(span: Span, binding: &Binding) -> bool {
+    binding.kind == BindingKind::Redirect || span.meets(binding.made, binding.end)
+}
+
+/// By how many the living bindings of a lane become more and fewer at a moment.
+#[derive(Clone, Copy)]
+struct Change {
+    more: u64,
+    fewer: u64,
+}
+
+/// How many bindings of a lane live, over the time that is shown.
+fn counts_of(
+    alloc: Global,
+    span: Span,
+    lane: usize,
+    bindings: &[Binding],
+) -> Result<Counts, AllocError> {
+    let changes = changes_of(alloc, span, lane, bindings)?;
+    let mut counts = Counts {
+        steps: Vec::new(alloc),
+        most: 0,
+    };
+    let mut many = 0u64;
+    for (moment, change) in &changes {
+        many = many
+            .saturating_sub(change.fewer)
+            .saturating_add(change.more);
+        counts.add_step(span.column_of(*moment), many)?;
+    }
+    Ok(counts)
+}
+
+impl Counts {
+    /// So many live from a moment in a column on.
+    fn add_step(&mut self, column: u64, many: u64) -> Result<(), AllocError> {
+        self.most = self.most.max(many);
+        match self.steps.last_mut() {
+            Some(step) if step.column == column => {
+                step.most = step.most.max(many);
+                step.last = many;
+                Ok(())
+            }
+            _ => {
+                self.steps.push(Step {
+                    column,
+                    most: many,
+                    last: many,
+                })?;
+                Ok(())
+            }
+        }
+    }
+}
+
+/// At which moments bindings of a lane begin and end.
+fn changes_of(
+    alloc: Global,
+    span: Span,
+    lane: usize,
+    bindings: &[Binding],
+) -> Result<BTreeMap<u64, Change>, AllocError> {
+    let mut changes = BTreeMap::new(alloc);
+    for binding in bindings {
+        if binding.lane == lane && is_shown(span, binding) {
+            let stands = binding.kind == BindingKind::Redirect;
+            let from = if stands { span.start } else { binding.made.max(span.start) };
+            add_change(&mut changes, from, Change { more: 1, fewer: 0 })?;
+            if !stands && span.has(binding.end) {
+                add_change(&mut changes, binding.end, Change { more: 0, fewer: 1 })?;
+            }
+        }
+    }
+    Ok(changes)
+}
+
+fn add_change(
+    changes: &mut BTreeMap<u64, Change>,
+    moment: u64,
+    change: Change,
+) -> Result<(), AllocError> {
+    let before = match changes.get(&moment) {
+        Some(before) => *before,
+        None => Change { more: 0, fewer: 0 },
+    };
+    let after = Change {
+        more: before.more.saturating_add(change.more),
+        fewer: before.fewer.saturating_add(change.fewer),
+    };
+    changes.insert(moment, after)?;
+    Ok(())
+}
+
 impl Layout {
+    /// Whether the lanes show how many bindings live, in place of bars.
+    pub fn has_counts(&self) -> bool {
+        !self.counts.is_empty()
+    }
+
     /// The places of what a scene shows.
     pub fn of(alloc: Global, scene: &Scene) -> Result<Layout, AllocError> {
         let mut layout = Layout {
-            span: Span::of(&scene.passes),
+            span: Span::of(scene),
+            counts: Vec::new(alloc),
             lanes: Vec::new(alloc),
             bars: Vec::new(alloc),
             causes: Vec::new(alloc),
             marks: BTreeSet::new(alloc),
             bottom: HEAD,
             tops: BTreeMap::new(alloc),
+            arrows: BTreeMap::new(alloc),
         };
         layout.add_all(alloc, scene)?;
         Ok(layout)
     }
 
     fn add_all(&mut self, alloc: Global, scene: &Scene) -> Result<(), AllocError> {
-        self.add_lanes(alloc, scene.lanes.len(), &scene.bindings)?;
+        let many = scene.lanes.len();
+        if self.shown(&scene.bindings) > MOST_BARS {
+            self.add_count_lanes(alloc, many, &scene.bindings)?;
+        } else {
+            self.add_lanes(alloc, many, &scene.bindings)?;
+        }
         self.add_causes(scene.causes.len())?;
         self.add_marks(&scene.passes)
+    }
+
+    /// How many bindings live in the time that is shown.
+    fn shown(&self, bindings: &[Binding]) -> usize {
+        bindings
+            .iter()
+            .filter(|binding| is_shown(self.span, binding))
+            .count()
+    }
+
+    /// So many lanes, each with how many of its bindings live.
+    fn add_count_lanes(
+        &mut self,
+        alloc: Global,
+        many: usize,
+        bindings: &[Binding],
+    ) -> Result<(), AllocError> {
+        for lane in 0..many {
+            let counts = counts_of(alloc, self.span, lane, bindings)?;
+            self.counts.push(counts)?;
+            let top = self.bottom;
+            let bottom = top.saturating_add(COUNT_LANE);
+            self.bottom = bottom;
+            self.lanes.push(Lane { top, bottom })?;
+        }
+        Ok(())
     }
 
     /// So many lanes, with the bars of their bindings.
@@ -171,7 +334,7 @@ impl Layout {
         let top = self.bottom;
         let mut taken = Vec::new(alloc);
         for (place, binding) in bindings.iter().enumerate() {
-            if binding.lane == lane {
+            if binding.lane == lane && is_shown(self.span, binding) {
                 self.add_bar(&mut taken, top, place, binding)?;
             }
         }
@@ -211,7 +374,9 @@ impl Layout {
 
     fn add_marks(&mut self, passes: &[Pass]) -> Result<(), AllocError> {
         for pass in passes {
-            self.add_pass(*pass)?;
+            if self.span.has(pass.clock) {
+                self.add_pass(*pass)?;
+            }
         }
         Ok(())
     }
@@ -224,7 +389,35 @@ impl Layout {
         self.add_mark(MarkKind::Dropped, pass.clock, dropped, dropped)?;
         self.add_mark(MarkKind::Out, pass.clock, out, out)?;
         self.add_mark(MarkKind::Into, pass.clock, into, into)?;
-        self.add_mark(MarkKind::Hairpin, pass.clock, out, into)
+        match (out, into) {
+            (Some(out), Some(into)) => self.add_arrow(pass.clock, out, into),
+            _ => Ok(()),
+        }
+    }
+
+    /// The arrow of a hairpin at a time, beside others that stand in its column.
+    fn add_arrow(&mut self, clock: u64, top: u64, into: u64) -> Result<(), AllocError> {
+        let first = self.span.column_of(clock);
+        for beside in 0..=MOST_BESIDE {
+            let column = first.saturating_add(beside * BESIDE);
+            match self.arrows.get(&column) {
+                Some(tops) if *tops != (top, into) => {}
+                Some(_) => return Ok(()),
+                None => return self.insert_arrow(column, top, into),
+            }
+        }
+        Ok(())
+    }
+
+    fn insert_arrow(&mut self, column: u64, top: u64, into: u64) -> Result<(), AllocError> {
+        self.arrows.insert(column, (top, into))?;
+        self.marks.insert(Mark {
+            kind: MarkKind::Hairpin,
+            column,
+            top,
+            into,
+        })?;
+        Ok(())
     }
 
     /// A mark at a time, where both of its tops are there.

@@ -5,6 +5,9 @@
 pub struct Scene {
     /// The line above the lanes.
     pub head: String,
+    /// The part of the time that is shown; absent, the time of all packets.
+    pub from: Option<u64>,
+    pub until: Option<u64>,
     /// The names of the lanes.
     pub lanes: Vec<String>,
     /// The bindings, of which each has a bar.

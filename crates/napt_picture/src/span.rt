@@ -2,7 +2,7 @@
 
 ghost use Rattle.std.specs.Prelude.{◌≤◌};
 
-use crate::scene::Pass;
+use crate::scene::Scene;
 
 /// The columns between which time passes.
 pub const LEFT: u64 = 150;
@@ -21,31 +21,47 @@ pub const TIME_WIDTH: u64 = 115;
 /// The time that is shown, in ns.
 #[derive(Clone, Copy)]
 pub struct Span {
-    /// The time of the first packet.
+    /// The time of the first packet, from which the axis counts.
+    pub zero: u64,
+    /// Where the picture begins.
     pub start: u64,
-    /// That of the last packet, and something more.
+    /// Where it ends: behind the last packet, where no other end is chosen.
     pub end: u64,
     /// What a column stands for.
     pub column: u64,
 }
 
 impl Span {
-    /// The time from the first of the packets to the last, and a sixteenth more; a second where none passes.
-    pub fn of(passes: &[Pass]) -> Span {
-        let (start, last) = match (passes.first(), passes.last()) {
+    /// The time from the first of the packets to the last, and a sixteenth more; a second where none passes. Of it the part that
+    /// is chosen.
+    pub fn of(scene: &Scene) -> Span {
+        let (zero, last) = match (scene.passes.first(), scene.passes.last()) {
             (Some(first), Some(last)) => (first.clock, last.clock),
             _ => (0, 0),
         };
-        let passed = match last.saturating_sub(start) {
+        let passed = match last.saturating_sub(zero) {
             0 => SECOND,
             passed => passed,
         };
-        let shown = passed.saturating_add(passed / 16);
+        let whole = zero.saturating_add(passed.saturating_add(passed / 16));
+        let start = scene.from.unwrap_or(zero);
+        let end = scene.until.unwrap_or(whole).max(start);
         Span {
+            zero,
             start,
-            end: start.saturating_add(shown),
-            column: (shown / (RIGHT - LEFT)).saturating_add(1),
+            end,
+            column: (end.saturating_sub(start) / (RIGHT - LEFT)).saturating_add(1),
         }
+    }
+
+    /// Whether a moment is shown.
+    pub fn has(self, moment: u64) -> bool {
+        self.start <= moment && moment <= self.end
+    }
+
+    /// Whether any of the time from one moment on and before another is shown.
+    pub fn meets(self, from: u64, to: u64) -> bool {
+        from <= self.end && self.start < to
     }
 
     /// The column of a moment; what is before or after the span is at its edge.

@@ -3,7 +3,7 @@
 ghost use Rattle.std.specs.Prelude.{IfOk, string_bytes};
 ghost use Rattle.napt_picture.specs.Element.{IsElement};
 
-use crate::layout::{Bar, HEAD, Lane, Layout, Mark, MarkKind};
+use crate::layout::{Bar, Counts, HEAD, Lane, Layout, Mark, MarkKind, Step};
 use crate::scene::{Binding, BindingKind, Scene};
 use crate::span::{LEFT, MICROSECOND, MILLISECOND, RIGHT, SECOND, Span, TIME_WIDTH};
 use std::alloc::{AllocError, Global};
@@ -27,28 +27,46 @@ const STYLE: &str = "<style>
   .hairpin { stroke: #b3261e; stroke-width: 1.5; fill: none; marker-end: url(#tip) }
   .tip { fill: #b3261e; stroke: #fff; stroke-width: 0.8 }
   .drop { stroke: #b3261e; stroke-width: 2; fill: none }
+  .drops { stroke: #b3261e; stroke-width: 1; fill: none }
+  .count { fill: #2f6fb5; opacity: 0.6 }
 </style>
 <defs><marker id=\"tip\" viewBox=\"-1 -1 10 10\" refX=\"8\" refY=\"4\" markerWidth=\"10\" markerHeight=\"10\" orient=\"auto\" \
 markerUnits=\"userSpaceOnUse\"><path class=\"tip\" d=\"M0 0L8 4L0 8z\"/></marker></defs>
 ";
 
-/// The words below a picture.
-const LEGEND: [&str; 3] = [
+/// The words above a picture of bars.
+const LEGEND: &[&str] = &[
     "A bar is a binding, from its making to its last packet; a thin bar goes on to where it expires, or to the picture's right end.",
     "Blue is udp, green tcp, orange icmp, violet a redirect. A stroke at a bar's upper edge is a packet that goes out, at its lower",
-    "edge one that comes in; an ICMP error has none. An arrow is a hairpin, from where it goes out to where it comes in. A cross is a dropped packet.",
+    "edge one that comes in; an ICMP error has none. An arrow is a hairpin, from where it goes out to where it comes in; arrows of",
+    "one moment stand side by side. A cross is a dropped packet.",
 ];
+
+/// The words above a picture of counts.
+const COUNT_LEGEND: &[&str] = &[
+    "Each address has the number of its bindings that live, over time; at its name stands the most that lived at once.",
+    "A stroke in the row of a cause is at least one packet that was dropped for it.",
+];
+
+/// The first line of the legend.
+const LEGEND_TOP: u64 = 48;
 
 /// The whole width of a drawing.
 const WIDTH: u64 = RIGHT + 30;
 
 /// Where a bar begins below its top, and how high it is.
-const BAR_TOP: u64 = 16;
+const BAR_TOP: u64 = 14;
 
-const BAR_HEIGHT: u64 = 12;
+const BAR_HEIGHT: u64 = 6;
 
 /// How far an arrow's tip reaches into a bar.
-const TIP: u64 = 9;
+const TIP: u64 = 5;
+
+/// What a lane of counts has above its greatest count.
+const COUNT_PAD: u64 = 6;
+
+/// What stands below all lanes: the axis.
+const FOOT: u64 = 36;
 
 /// A rectangle.
 #[derive(Clone, Copy)]
@@ -71,7 +89,7 @@ pub fn drawing_of(alloc: Global, scene: &Scene) -> Result<String, AllocError>
 /// What stands between the name of the element and its end.
 fn inner_of(alloc: Global, scene: &Scene, layout: &Layout) -> Result<String, AllocError> {
     let mut text = String::new(alloc);
-    draw_page(&mut text, &scene.head, layout.bottom.saturating_add(70))?;
+    draw_page(&mut text, &scene.head, layout.bottom.saturating_add(FOOT))?;
     draw_all(&mut text, scene, layout)?;
     Ok(text)
 }
@@ -98,10 +116,15 @@ fn draw_all(text: &mut String, scene: &Scene, layout: &Layout) -> Result<(), All
     draw_lanes(text, &scene.lanes, &layout.lanes)?;
     draw_causes(text, &scene.causes, &layout.causes)?;
     draw_axis(text, layout.span, layout.bottom)?;
+    if layout.has_counts() {
+        draw_counts(text, layout)?;
+        draw_drops(text, layout)?;
+        return draw_legend(text, COUNT_LEGEND);
+    }
     draw_bars(text, &scene.bindings, &layout.bars)?;
     draw_marks(text, layout)?;
     draw_labels(text, &scene.bindings, &layout.bars)?;
-    draw_legend(text, layout.bottom.saturating_add(24))
+    draw_legend(text, LEGEND)
 }
 
 fn draw_lanes(text: &mut String, names: &[String], lanes: &[Lane]) -> Result<(), AllocError> {
@@ -120,13 +143,49 @@ fn draw_lane(text: &mut String, name: &str, lane: Lane) -> Result<(), AllocError
         height: height.saturating_sub(3),
     };
     draw_area(text, "lane", area)?;
-    draw_words(
-        text,
-        "side",
-        LEFT - 10,
-        lane.top.saturating_add(height / 2),
-        name,
-    )
+    draw_words(text, "side", LEFT - 10, lane.top.saturating_add(14), name)
+}
+
+/// How many bindings of each lane live, each lane by its own greatest count, which stands below its name.
+fn draw_counts(text: &mut String, layout: &Layout) -> Result<(), AllocError> {
+    for (counts, lane) in layout.counts.iter().zip(layout.lanes.iter()) {
+        draw_count(text, counts, *lane)?;
+        open_words(text, "time side", LEFT - 10, lane.top.saturating_add(30))?;
+        writeln!(text, "at most {}</text>", counts.most)?;
+    }
+    Ok(())
+}
+
+/// The area below the number of a lane's living bindings.
+fn draw_count(text: &mut String, counts: &Counts, lane: Lane) -> Result<(), AllocError> {
+    let floor = lane.bottom.saturating_sub(3);
+    let full = floor
+        .saturating_sub(lane.top)
+        .saturating_sub(COUNT_PAD);
+    write!(text, "<path class=\"count\" d=\"M{LEFT} {floor}")?;
+    for step in &counts.steps {
+        draw_step(text, *step, floor, full.saturating_mul(1000) / counts.most.max(1))?;
+    }
+    writeln!(text, "H{RIGHT}V{floor}z\"/>")
+}
+
+/// A step of the line above an area, where a binding has so many thousandths of a line.
+fn draw_step(text: &mut String, step: Step, floor: u64, each: u64) -> Result<(), AllocError> {
+    let most = floor.saturating_sub(step.most.saturating_mul(each) / 1000);
+    let last = floor.saturating_sub(step.last.saturating_mul(each) / 1000);
+    let next = step.column.saturating_add(1).min(RIGHT);
+    write!(text, "H{}V{most}H{next}V{last}", step.column)
+}
+
+/// A stroke in the row of a cause for each column with a packet that was dropped for it.
+fn draw_drops(text: &mut String, layout: &Layout) -> Result<(), AllocError> {
+    for mark in &layout.marks {
+        if mark.kind == MarkKind::Dropped {
+            let line = mark.top.saturating_add(4);
+            writeln!(text, "<path class=\"drops\" d=\"M{} {line}v12\"/>", mark.column)?;
+        }
+    }
+    Ok(())
 }
 
 fn draw_causes(text: &mut String, names: &[String], tops: &[u64]) -> Result<(), AllocError> {
@@ -137,24 +196,36 @@ fn draw_causes(text: &mut String, names: &[String], tops: &[u64]) -> Result<(), 
     Ok(())
 }
 
-/// The times, with a line through all lanes at each.
+/// The times since the first packet, above and below, with a line through all lanes at each.
 fn draw_axis(text: &mut String, span: Span, bottom: u64) -> Result<(), AllocError> {
     draw_words(text, "time unit", 16, HEAD - 12, "seconds")?;
+    draw_words(text, "time unit", 16, bottom.saturating_add(16), "seconds")?;
     let apart = span.time_between();
-    let mut time = span.start.div_ceil(apart.max(1)).saturating_mul(apart);
+    let begin = span.start.saturating_sub(span.zero);
+    let mut time = begin.div_ceil(apart.max(1)).saturating_mul(apart);
     for _ in 0..=(RIGHT - LEFT) / TIME_WIDTH {
-        if time <= span.end {
-            draw_time(text, span.column_of(time), time, apart)?;
-            draw_line(text, span.column_of(time), bottom)?;
+        let moment = span.zero.saturating_add(time);
+        if moment <= span.end {
+            let column = span.column_of(moment);
+            draw_time(text, Point { column, line: HEAD - 12 }, time, apart)?;
+            draw_time(text, Point { column, line: bottom.saturating_add(16) }, time, apart)?;
+            draw_line(text, column, bottom)?;
         }
         time = time.saturating_add(apart);
     }
     Ok(())
 }
 
+/// A place in a drawing.
+#[derive(Clone, Copy)]
+struct Point {
+    column: u64,
+    line: u64,
+}
+
 /// A time of the axis in seconds, with the decimals that the times have.
-fn draw_time(text: &mut String, column: u64, time: u64, apart: u64) -> Result<(), AllocError> {
-    open_words(text, "time", column, HEAD - 12)?;
+fn draw_time(text: &mut String, at: Point, time: u64, apart: u64) -> Result<(), AllocError> {
+    open_words(text, "time", at.column, at.line)?;
     let (seconds, rest) = (time / SECOND, time % SECOND);
     if apart % SECOND == 0 {
         writeln!(text, "{seconds}</text>")
@@ -169,8 +240,9 @@ fn draw_time(text: &mut String, column: u64, time: u64, apart: u64) -> Result<()
 fn draw_line(text: &mut String, column: u64, bottom: u64) -> Result<(), AllocError> {
     writeln!(
         text,
-        "<path class=\"grid\" d=\"M{column} {}V{bottom}\"/>",
-        HEAD - 6
+        "<path class=\"grid\" d=\"M{column} {}V{}\"/>",
+        HEAD - 6,
+        bottom.saturating_add(4)
     )
 }
 
@@ -247,10 +319,10 @@ fn draw_mark(text: &mut String, mark: Mark) -> Result<(), AllocError> {
         into,
     } = mark;
     match kind {
-        MarkKind::Out => draw_stroke(text, column, top.saturating_add(BAR_TOP - 2), "v7"),
+        MarkKind::Out => draw_stroke(text, column, top.saturating_add(BAR_TOP - 2), "v5"),
         MarkKind::Into => {
             let line = top.saturating_add(BAR_TOP + BAR_HEIGHT + 2);
-            draw_stroke(text, column, line, "v-7")
+            draw_stroke(text, column, line, "v-5")
         }
         MarkKind::Hairpin => draw_hairpin(text, column, top, into),
         MarkKind::Dropped => {
@@ -279,14 +351,14 @@ fn draw_hairpin(text: &mut String, column: u64, out: u64, into: u64) -> Result<(
     } else if into < out {
         writeln!(text, "{above}V{}\"/>", tip.saturating_add(BAR_HEIGHT - TIP))
     } else {
-        writeln!(text, "{above}c14 -8 14 20 0 {BAR_HEIGHT}\"/>")
+        writeln!(text, "{above}c14 -8 14 14 0 {BAR_HEIGHT}\"/>")
     }
 }
 
-fn draw_legend(text: &mut String, top: u64) -> Result<(), AllocError> {
-    let mut line = top;
-    for words in LEGEND {
-        draw_words(text, "legend", 16, line, words)?;
+fn draw_legend(text: &mut String, lines: &[&str]) -> Result<(), AllocError> {
+    let mut line = LEGEND_TOP;
+    for words in lines {
+        draw_words(text, "legend", 16, line, *words)?;
         line = line.saturating_add(16);
     }
     Ok(())

@@ -26,10 +26,14 @@ pub fn configuration<R: Files + AllocGlobal>(rt: &R, path: Option<&String>) -> R
     let Some(path) = path else {
         return Config::built_in(rt.alloc()).map_err(|_| Stop::Config(ConfigFault::Memory));
     };
-    match File::open(rt, path.as_str()) {
-        Ok(file) => config_from(rt.alloc(), file),
-        Err(error) => Err(unread_config(&error)),
-    }
+    config_from(rt.alloc(), config_file(rt, path)?)
+}
+
+/// The file of a configuration, to be read. Fails by its role, or where memory runs out, where it cannot be opened.
+pub fn config_file<R: Files>(rt: &R, path: &str) -> Result<R::File, Stop>
+    ensures { IfErr result IsUnread }
+{
+    File::open(rt, path).map_err(|error| unread_config(&error))
 }
 
 /// The configuration that the reader tells to its end.
@@ -41,12 +45,14 @@ pub fn config_from<D: Read + Drop>(alloc: Global, device: D) -> Result<Config, S
     ensures bounded { OnOk result (IfSome (D.remaining device) (λ text. length text ≤ MOST_BYTES)) }
     ensures refused { IfErr result (IsConfigStop true) }
 {
-    let text = text_of(alloc, device)?;
+    let text = config_text(alloc, device)?;
     Ok(Config::read(alloc, &text)?)
 }
 
 /// All that the reader tells, where that is at most `MOST_BYTES`.
-fn text_of<D: Read + Drop>(alloc: Global, device: D) -> Result<Vec<u8>, Stop>
+///
+/// Fails where the reader fails or tells more, by the file's role, and where memory runs out, by `ConfigFault::Memory`.
+pub fn config_text<D: Read + Drop>(alloc: Global, device: D) -> Result<Vec<u8>, Stop>
     ensures told { IfOk result (λ text. IfSome (D.remaining device) (λ bytes. text.items ≡ bytes)) }
     ensures bounded { IfOk result (λ text. vec_len text ≤ MOST_BYTES) }
     ensures refused { IfErr result IsUnread }

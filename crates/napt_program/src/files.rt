@@ -1,7 +1,7 @@
 //! The files of a run, opened in a fixed order.
 
 ghost use Rattle.std.specs.Prelude.{◌≡◌, IfErr, IfOk, IsSome, is_some};
-ghost use Rattle.napt_program.specs.Files.{AreOpen, IsFileStop};
+ghost use Rattle.napt_program.specs.Files.{AreInputsOpen, AreOpen, IsFileStop};
 
 use crate::stop::Stop;
 use either::{Either, Left, Right};
@@ -27,6 +27,15 @@ pub struct RunFiles<S, T, F> {
     pub report: Option<F>,
 }
 
+/// The captures of a run, open: those that are named, and standard input for an inside capture that is not.
+#[derive(Drop)]
+pub struct InputFiles<S, F> {
+    /// The capture of what inside hosts send.
+    pub inside: Either<S, F>,
+    /// The capture of what comes from the outside.
+    pub outside: Option<F>,
+}
+
 /// Opens the captures, the inside first; then makes or empties the outputs, to the outside, to the inside, the report.
 ///
 /// Fails, by its role, where a file cannot be opened or created, and before any output is touched where one is a file
@@ -38,15 +47,7 @@ pub fn open_files<'r, R: Files + Input + Print>(
     ensures open { IfOk result (AreOpen options.now) }
     ensures refused { IfErr result (IsFileStop options.now) }
 {
-    let inside = match &options.inside {
-        None => Left(rt.reader()),
-        Some(path) => Right(opened(rt, path, Role::Inside)?),
-    };
-    let outside = match &options.outside {
-        None => None,
-        Some(path) => Some(opened(rt, path, Role::Outside)?),
-    };
-    refuse_lost_file(rt, options)?;
+    let InputFiles { inside, outside } = open_inputs(rt, options)?;
     let to_outside = match &options.to_outside {
         None => Left(io::writer(rt)),
         Some(path) => Right(created(rt, path, Role::ToOutside)?),
@@ -58,6 +59,28 @@ pub fn open_files<'r, R: Files + Input + Print>(
         to_inside: created_at(rt, options.to_inside.as_ref(), Role::ToInside)?,
         report: created_at(rt, options.report.as_ref(), Role::Report)?,
     })
+}
+
+/// Opens the captures, the inside first, and makes and empties nothing.
+///
+/// Fails, by its role, where a capture cannot be opened, and then where an output is a file that an earlier option names.
+pub fn open_inputs<R: Files + Input>(
+    rt: &R,
+    options: &Options,
+) -> Result<InputFiles<R::Reader, R::File>, Stop>
+    ensures open { IfOk result (AreInputsOpen options.now) }
+    ensures refused { IfErr result (IsFileStop options.now) }
+{
+    let inside = match &options.inside {
+        None => Left(rt.reader()),
+        Some(path) => Right(opened(rt, path, Role::Inside)?),
+    };
+    let outside = match &options.outside {
+        None => None,
+        Some(path) => Some(opened(rt, path, Role::Outside)?),
+    };
+    refuse_lost_file(rt, options)?;
+    Ok(InputFiles { inside, outside })
 }
 
 /// Refuses, by its role, the first output in the order of the options that is a file which an earlier one names.

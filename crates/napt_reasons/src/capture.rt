@@ -14,6 +14,8 @@ enum Form {
     Gzip,
     /// A libpcap capture of this link type, as its bytes are ordered and its fractions counted.
     Pcap(Spelling, u32),
+    /// It gave no bytes: it could not be read.
+    Unread,
     /// None of these, or a libpcap capture that ends within its header.
     Unknown,
 }
@@ -33,7 +35,10 @@ fn first_four(bytes: &[u8]) -> [u8; 4] {
     }
 }
 
-fn form_of(bytes: &[u8]) -> Form {
+fn form_of(bytes: &[u8], fault: CaptureFault) -> Form {
+    if fault == CaptureFault::Read {
+        return Form::Unread;
+    }
     if bytes.is_empty() {
         return Form::Empty;
     }
@@ -84,7 +89,7 @@ pub fn capture_reasons(
 {
     let mut reasons = Vec::new(alloc);
     add(&mut reasons, "why", format!(in alloc; "{fault}"))?;
-    add_form(alloc, &mut reasons, form_of(bytes))?;
+    add_form(alloc, &mut reasons, form_of(bytes, fault))?;
     Ok(reasons)
 }
 
@@ -94,7 +99,7 @@ fn add_form(alloc: Global, reasons: &mut Vec<Reason>, form: Form) -> Result<(), 
 {
     add(reasons, "it is", form_text(alloc, form))?;
     match form {
-        Form::Empty => Ok(()),
+        Form::Empty | Form::Unread => Ok(()),
         Form::Unknown => {
             let text = "save it in the format pcap; napt reads libpcap captures of raw IPv4";
             add(reasons, "do", String::from_str(alloc, text))
@@ -148,6 +153,7 @@ fn form_text(alloc: Global, form: Form) -> Result<String, AllocError> {
         Form::Empty => String::from_str(alloc, "empty"),
         Form::Pcapng => String::from_str(alloc, "pcapng"),
         Form::Gzip => String::from_str(alloc, "compressed by gzip"),
+        Form::Unread => String::from_str(alloc, "a folder, or a file or device that failed"),
         Form::Unknown => String::from_str(alloc, "no capture that is known here"),
         Form::Pcap(spelling, link) => pcap_text(alloc, spelling, link),
     }

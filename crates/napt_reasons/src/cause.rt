@@ -31,7 +31,7 @@ pub fn advice(cause: Cause) -> Option<&'static str> {
             "the capture was made with a snapshot length: capture whole packets (tcpdump -s 0)",
         ),
         Cause::NotIpv4 => Some(
-            "link headers or a VLAN tag were left in the capture, or the recipe that cuts them was used twice",
+            "IPv6 and ARP are not translated; else link headers or a VLAN tag were left in the capture, or cut twice",
         ),
         Cause::BadHeader => Some(
             "link headers were cut at the wrong place, or the card leaves total lengths 0: switch its offload off",

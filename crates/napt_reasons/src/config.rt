@@ -5,6 +5,7 @@ ghost use Rattle.std.specs.Prelude.{◌≤◌, ◌+◌, IfOk, OnOk, vec_len};
 use crate::expected::{expected_at, shape_of};
 use crate::part::{Entry, Place, Refused};
 use crate::reason::{Reason, add};
+use crate::spelling::{line_of_name, meant};
 use napt_config::ConfigFault;
 use std::alloc::{AllocError, Global};
 use toml::Value;
@@ -104,12 +105,33 @@ fn add_for_place<'t>(
     ensures { OnOk result (vec_len reasons.old + 1 ≤ vec_len reasons.new) }
 {
     add(reasons, "at", place_text(refused.alloc, place))?;
+    if refused.fault == ConfigFault::UnknownKey {
+        add_spelling(reasons, refused, place)?;
+    }
     let value = value_text(refused.alloc, refused.value(place));
     add(reasons, "value", value)?;
     add_other(reasons, refused, place)?;
     match expected(refused.fault, place) {
         Some(text) => add(reasons, "expected", String::from_str(refused.alloc, text)),
         None => add_why(reasons, refused),
+    }
+}
+
+/// Adds of a name that no configuration has its line and the name that was meant, where these are found.
+fn add_spelling<'t>(
+    reasons: &mut Vec<Reason>,
+    refused: Refused<'t>,
+    place: Place<'t>,
+) -> Result<(), AllocError>
+    ensures { OnOk result (vec_len reasons.old ≤ vec_len reasons.new) }
+{
+    let alloc = refused.alloc;
+    if let Some(line) = line_of_name(refused.text, place) {
+        add(reasons, "line", format!(in alloc; "{line}"))?;
+    }
+    match meant(alloc, place)? {
+        Some(name) => add(reasons, "meant", format!(in alloc; "`{name}`?")),
+        None => Ok(()),
     }
 }
 

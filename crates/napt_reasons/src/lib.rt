@@ -8,6 +8,7 @@ mod config;
 mod expected;
 mod part;
 mod reason;
+mod spelling;
 
 pub use crate::capture::capture_reasons;
 pub use crate::cause::{advice, meaning};

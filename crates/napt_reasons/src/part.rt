@@ -25,6 +25,14 @@ fn fields_of(key: &str) -> &'static [&'static str] {
     }
 }
 
+/// The names that a configuration knows where a place has its name: its keys, or the fields of a key.
+pub fn known_names(place: Place<'_>) -> &'static [&'static str] {
+    match place.field {
+        Some(_) => fields_of(place.key),
+        None => KEYS,
+    }
+}
+
 /// The names of a table that are not left out.
 #[derive(Clone, Copy)]
 enum Kept<'t> {

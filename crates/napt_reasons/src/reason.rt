@@ -7,8 +7,8 @@ use std::alloc::AllocError;
 /// One thing that is said of what is refused.
 #[derive(Drop)]
 pub struct Reason {
-    /// What it is about: `why`, `at`, `value`, `with`, `expected`, `line`, `it is` or `do`; empty where it goes on with the reason
-    /// before.
+    /// What it is about: `why`, `at`, `line`, `meant`, `value`, `with`, `expected`, `it is` or `do`; empty where it goes on with the
+    /// reason before.
     pub title: &'static str,
     pub text: String,
 }

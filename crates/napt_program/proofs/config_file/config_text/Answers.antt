@@ -1,6 +1,6 @@
 use Rattle.std.proofs.Common.{◌≤◌, length, arith}
 use Rattle.napt_program.proofs.ConfigLemmas.{all_is_told}
-use Rattle.napt_program.proofs.config_file.text_of.Goals as goal
+use Rattle.napt_program.proofs.config_file.config_text.Goals as goal
 
 pub returns-in-Ok-clause-told : goal.returns-in-Ok-clause-told
 returns-in-Ok-clause-told g c =

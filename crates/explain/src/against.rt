@@ -1,0 +1,157 @@
+//! The same captures under two configurations: which packets end otherwise.
+
+use crate::names::{Seconds, side_name};
+use crate::options::Choice;
+use crate::shown::{arrival_text, packet_text};
+use crate::stop::Stop;
+use crate::summary::{count_dropped, count_to_inside, count_to_outside, leaves_with};
+use napt_config::Config;
+use napt_records::cause_name;
+use napt_sequential::{Input, Outcome, run_plain};
+use napt_wire::Cause;
+use std::alloc::{AllocError, Global};
+
+/// What becomes of the same inputs under two configurations.
+#[derive(Clone, Copy)]
+struct Both<'a> {
+    inputs: &'a [Input],
+    first: &'a [Outcome],
+    second: &'a [Outcome],
+}
+
+/// A packet that ends otherwise under the second configuration; its number counts from 1.
+#[derive(Clone, Copy)]
+struct Difference<'a> {
+    number: u64,
+    input: &'a Input,
+    first: &'a Outcome,
+    second: &'a Outcome,
+}
+
+/// Makes the run over the inputs under both configurations, and writes a line for each packet that is chosen and ends otherwise,
+/// and how many end in which way under each. Stops by `Differ` where any packet ends otherwise.
+pub fn tell_against<R: Print + AllocGlobal>(
+    rt: &R,
+    choice: Choice,
+    inputs: &[Input],
+    configs: [&Config; 2],
+) -> Result<(), Stop> {
+    let [first, second] = configs;
+    let first = run_plain(rt.alloc(), first, inputs)?;
+    let second = run_plain(rt.alloc(), second, inputs)?;
+    let both = Both {
+        inputs,
+        first: &first.outcomes,
+        second: &second.outcomes,
+    };
+    let different = both.tell_differences(rt, choice)?;
+    both.tell_counts(rt, different)?;
+    if different > 0 {
+        return Err(Stop::Differ);
+    }
+    Ok(())
+}
+
+impl<'a> Both<'a> {
+    /// Writes the lines of the chosen packets that end otherwise, and answers how many of all do.
+    fn tell_differences<R: Print + AllocGlobal>(
+        self,
+        rt: &R,
+        choice: Choice,
+    ) -> Result<u64, Stop> {
+        let mut different = 0u64;
+        for at in 0..self.inputs.len() {
+            if let Some(difference) = self.difference_at(at) {
+                different = different.saturating_add(1);
+                if difference.is_chosen(rt.alloc(), choice)? {
+                    let text = difference.text(rt.alloc())?;
+                    println!(rt; "{text}")?;
+                }
+            }
+        }
+        Ok(different)
+    }
+
+    /// The packet at a place, from 0, where it ends otherwise.
+    fn difference_at(self, at: usize) -> Option<Difference<'a>> {
+        let (first, second) = (self.first.get(at)?, self.second.get(at)?);
+        if ends_alike(first, second) {
+            return None;
+        }
+        Some(Difference {
+            number: (at as u64).saturating_add(1),
+            input: self.inputs.get(at)?,
+            first,
+            second,
+        })
+    }
+
+    /// Writes how many packets end otherwise, and how many end in which way under each configuration.
+    fn tell_counts<R: Print>(self, rt: &R, different: u64) -> Result<(), Stop> {
+        let (first, second) = (self.first, self.second);
+        println!(rt; "packets: {}, of which {different} differ", self.inputs.len())?;
+        let (one, other) = (count_to_outside(first), count_to_outside(second));
+        println!(rt; "  {one} and {other} to the outside")?;
+        let (one, other) = (count_to_inside(first), count_to_inside(second));
+        println!(rt; "  {one} and {other} to the inside")?;
+        for cause in Cause::ALL {
+            let (one, other) = (count_dropped(first, cause), count_dropped(second, cause));
+            if one > 0 || other > 0 {
+                println!(rt; "  {one} and {other} dropped, {}", cause_name(cause))?;
+            }
+        }
+        Ok(())
+    }
+}
+
+/// Whether a packet ends in the same way, with the same bytes.
+fn ends_alike(first: &Outcome, second: &Outcome) -> bool {
+    match (first, second) {
+        (Outcome::Dropped(one), Outcome::Dropped(other)) => one == other,
+        (Outcome::ToOutside(one), Outcome::ToOutside(other))
+        | (Outcome::ToInside(one), Outcome::ToInside(other)) => one.bytes() == other.bytes(),
+        _ => false,
+    }
+}
+
+impl<'a> Difference<'a> {
+    fn is_chosen(self, alloc: Global, choice: Choice) -> Result<bool, AllocError> {
+        let is_dropped = matches!(self.first, Outcome::Dropped(_))
+            || matches!(self.second, Outcome::Dropped(_));
+        if choice.only.is_some_and(|only| only != self.number) || (choice.dropped && !is_dropped) {
+            return Ok(false);
+        }
+        match choice.host {
+            None => Ok(true),
+            Some(host) => Ok(leaves_with(self.first, host)
+                || leaves_with(self.second, host)
+                || host.is_end_of_arrival(alloc, self.input.side, &self.input.bytes)?),
+        }
+    }
+
+    /// The line of the packet, with what becomes of it under the first and under the second configuration.
+    fn text(self, alloc: Global) -> Result<String, AllocError> {
+        let number = self.number;
+        let time = Seconds(self.input.time);
+        let side = side_name(self.input.side);
+        let before = arrival_text(alloc, self.input.side, &self.input.bytes)?;
+        let first = outcome_text(alloc, self.first)?;
+        let second = outcome_text(alloc, self.second)?;
+        format!(in alloc; "{number} {time} {side:<7} {before} | {first} | {second}")
+    }
+}
+
+/// What becomes of a packet, as `out: udp 203.0.113.1:5000 > 198.51.100.7:3000`.
+fn outcome_text(alloc: Global, outcome: &Outcome) -> Result<String, AllocError> {
+    match outcome {
+        Outcome::Dropped(cause) => format!(in alloc; "dropped, {}", cause_name(*cause)),
+        Outcome::ToOutside(packet) => {
+            let text = packet_text(alloc, packet)?;
+            format!(in alloc; "out: {text}")
+        }
+        Outcome::ToInside(packet) => {
+            let text = packet_text(alloc, packet)?;
+            format!(in alloc; "in: {text}")
+        }
+    }
+}

@@ -1,0 +1,208 @@
+//! The configuration and the captures, read as `napt` reads them. What it refuses is explained.
+
+use crate::names::side_name;
+use crate::options::Options;
+use crate::places::{refuse_picture, tell_closed, tell_config, tell_file};
+use crate::refused;
+use crate::stop::Stop;
+use either::{Either, Left, Right};
+use napt_capture::{Capture, CaptureFault, Watched, read_capture};
+use napt_config::{Config, ConfigFault};
+use napt_program::{
+    InputFiles, Streams, closed_stream, config_file, config_text, open_inputs, refuse_unmade,
+};
+use napt_records::{Fault, merge};
+use napt_wire::Side;
+use std::alloc::Global;
+use std::io;
+use std::io::{BufReader, ErrorKind, Read};
+use std::rt::Files;
+
+/// How many bytes are read at once.
+const BUFFERED: usize = 65_536;
+
+/// How many first bytes of a capture tell what it is: those of its header.
+const HEADER: u64 = 24;
+
+/// What is said of a capture that ends inside a record.
+const CUT: &str = "is cut: its last packet is not whole, and is left out";
+
+/// What a run is made of.
+#[derive(Drop)]
+pub struct Given {
+    pub config: Config,
+    /// The configuration to which it is compared.
+    pub other: Option<Config>,
+    /// The packets of both captures, in the order in which napt takes them.
+    pub inputs: Vec<napt_sequential::Input>,
+    pub cuts: Cuts,
+}
+
+/// Which captures end inside a record, which is left out.
+#[derive(Clone, Copy)]
+pub struct Cuts {
+    inside: bool,
+    outside: bool,
+}
+
+impl Cuts {
+    /// Says of a capture that ends inside a record that its last packet is left out; among JSON on standard error.
+    pub fn tell<R: Print + Eprint>(self, rt: &R, json: bool) -> Result<(), Stop> {
+        for (side, cut) in [("inside", self.inside), ("outside", self.outside)] {
+            if cut && json {
+                let _ = eprintln!(rt; "explain: the capture {side} {CUT}");
+            } else if cut {
+                println!(rt; "the capture {side} {CUT}")?;
+            }
+        }
+        Ok(())
+    }
+}
+
+/// Reads the configuration and the captures.
+///
+/// Ends as `napt` would: what it refuses is refused in the same order. Its outputs are neither made nor emptied: one that could
+/// not be is refused as far as that is known beforehand (`napt_program::unmade`).
+pub fn read_given<R: Files + Input + Eprint + AllocGlobal>(
+    rt: &R,
+    streams: Streams,
+    options: &Options<'_>,
+) -> Result<Given, Stop> {
+    if let Some(role) = closed_stream(streams, &options.files) {
+        return Err(tell_closed(rt, role));
+    }
+    let config = configuration(rt, options)?;
+    let other = other_configuration(rt, options)?;
+    let InputFiles { inside, outside } = explain_file(rt, options, open_inputs(rt, &options.files))?;
+    explain_file(rt, options, refuse_unmade(rt, &options.files))?;
+    refuse_picture(rt, options)?;
+    let inside = capture(rt, Side::Inside, inside)?;
+    let outside = outside_capture(rt, outside)?;
+    let cuts = Cuts {
+        inside: inside.cut,
+        outside: outside.cut,
+    };
+    let inputs = merge(rt.alloc(), inside.records, outside.records)?;
+    Ok(Given {
+        config,
+        other,
+        inputs,
+        cuts,
+    })
+}
+
+/// What was opened; where a file was refused it is told why.
+fn explain_file<R: Files + Eprint, T: Drop>(
+    rt: &R,
+    options: &Options<'_>,
+    opened: Result<T, napt_program::Stop>,
+) -> Result<T, Stop> {
+    match opened {
+        Ok(opened) => Ok(opened),
+        Err(napt_program::Stop::File(role)) => Err(tell_file(rt, options, role)),
+        Err(stop) => Err(Stop::As(stop)),
+    }
+}
+
+/// The configuration that a file holds; the built-in one where there is none. One that is refused is explained.
+fn configuration<R: Files + Eprint + AllocGlobal>(
+    rt: &R,
+    options: &Options<'_>,
+) -> Result<Config, Stop> {
+    match &options.files.config {
+        Some(path) => configuration_at(rt, "config", path),
+        None => Config::built_in(rt.alloc())
+            .map_err(|_| Stop::As(napt_program::Stop::Config(ConfigFault::Memory))),
+    }
+}
+
+/// The configuration to which the first is compared, if one is.
+fn other_configuration<R: Files + Eprint + AllocGlobal>(
+    rt: &R,
+    options: &Options<'_>,
+) -> Result<Option<Config>, Stop> {
+    match options.against {
+        Some(path) => Ok(Some(configuration_at(rt, "against", path)?)),
+        None => Ok(None),
+    }
+}
+
+/// The configuration that a file holds, which an option names. One that is refused is explained.
+fn configuration_at<R: Files + Eprint + AllocGlobal>(
+    rt: &R,
+    option: &str,
+    path: &str,
+) -> Result<Config, Stop> {
+    let text = match configuration_text(rt, path) {
+        Ok(text) => text,
+        Err(napt_program::Stop::File(_)) => return Err(tell_config(rt, option, path)),
+        Err(stop) => return Err(Stop::As(stop)),
+    };
+    let fault = match Config::read(rt.alloc(), &text) {
+        Ok(config) => return Ok(config),
+        Err(fault) => fault,
+    };
+    refused::tell_config(rt, path, &text, fault)?;
+    Err(Stop::Told(napt_program::Stop::Config(fault)))
+}
+
+fn configuration_text<R: Files + AllocGlobal>(
+    rt: &R,
+    path: &str,
+) -> Result<Vec<u8>, napt_program::Stop> {
+    config_text(rt.alloc(), config_file(rt, path)?)
+}
+
+/// The capture of what comes from the outside; one of no packets where there is none.
+fn outside_capture<R: Eprint + AllocGlobal, F: Read + Drop>(
+    rt: &R,
+    file: Option<F>,
+) -> Result<Capture, Stop> {
+    match file {
+        Some(file) => capture(rt, Side::Outside, file),
+        None => Ok(Capture {
+            records: Vec::new(rt.alloc()),
+            cut: false,
+        }),
+    }
+}
+
+/// The capture of a side that a device tells. One that is refused is explained.
+fn capture<R: Eprint + AllocGlobal, D: Read + Drop>(
+    rt: &R,
+    side: Side,
+    device: D,
+) -> Result<Capture, Stop> {
+    let alloc = rt.alloc();
+    let mut head = Vec::new(alloc);
+    match read_whole(alloc, device, &mut head) {
+        Ok(capture) => Ok(capture),
+        Err(fault) => {
+            refused::tell_capture(rt, side_name(side), &head, fault)?;
+            Err(Stop::Told(napt_program::Stop::Run(Fault::Capture(side, fault))))
+        }
+    }
+}
+
+/// The capture that a device tells, and its first bytes, which go into `head`.
+fn read_whole<D: Read + Drop>(
+    alloc: Global,
+    device: D,
+    head: &mut Vec<u8>,
+) -> Result<Capture, CaptureFault> {
+    let mut reader = match BufReader::with_capacity(alloc, BUFFERED, device) {
+        Ok(reader) => reader,
+        Err(_) => return Err(CaptureFault::Memory),
+    };
+    match reader.by_ref().take(HEADER).read_to_end(head) {
+        Ok(_) => read_capture(alloc, &mut Watched::new(head.as_slice().chain(reader))),
+        Err(error) => Err(fault_of(&error)),
+    }
+}
+
+fn fault_of(error: &io::Error) -> CaptureFault {
+    match error.kind() {
+        ErrorKind::OutOfMemory => CaptureFault::Memory,
+        _ => CaptureFault::Read,
+    }
+}
