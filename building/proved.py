@@ -13,9 +13,12 @@ NO_INPUT = 4
 # of a crate: its built library, and what checks of it kept
 RLIB, KEPT = "out/rlib", "out/incremental"
 GIGABYTES = 4
-# seconds that a crate takes on one processor of a quiet machine: for itself, for each crate below it, for a line of src/, and to
-# compile a program
-FIRST, BELOW, LINE, COMPILED = 24, 5, 0.09, 60
+# seconds that a crate takes on a quiet machine: for itself, for each crate below it, for a line of src/, and to compile a program
+FIRST, BELOW, LINE, COMPILED = 13.5, 2.8, 0.05, 34
+# processor seconds of that for each second: the large crates take two processors
+BUSY = 1.5
+# seconds of a quiet machine that are taken as seen when a build begins, so that the first crates do not decide its pace alone
+SEEN = 120
 # lines of src/ that are worth one processor more, which reads all crates below once more
 WORTH = 500
 
@@ -119,26 +122,38 @@ class Build:
         self.lanes = len(os.sched_getaffinity(0))
         self.running, self.done = [], []
         self.began = time.time()
+        # what crates were to take on a quiet machine, and what they took
+        self.foreseen, self.taken = SEEN, SEEN
 
     def seconds_for(self, name):
-        """Returns about how long the proof of a crate takes, and for a program its code."""
+        """Returns about how long the proof of a crate takes on a quiet machine, and for a program its code."""
         below = len(with_below(self.deps, name)) - 1
         return FIRST + BELOW * below + LINE * self.lines[name] + COMPILED * (name in self.programs)
 
-    def chain(self, name):
-        """Returns how long a crate and the longest chain of crates above it take, in seconds."""
-        above = [self.chain(it) for it in self.seconds if name in self.deps[it]]
-        return self.seconds[name] + max(above, default=0)
+    def chain(self, name, seconds):
+        """Returns how long a crate and the longest chain of crates above it take, where each takes so many seconds."""
+        above = [self.chain(it, seconds) for it in seconds if name in self.deps[it]]
+        return seconds[name] + max(above, default=0)
 
     def say(self, what):
         say(self.title, what)
 
     def minutes(self):
-        """Returns about how long the rest takes."""
-        rest = [*self.left, *(it.name for it in self.running)]
-        longest = max([self.chain(name) for name in rest], default=0)
-        wanted = max(longest, sum(self.seconds[name] for name in rest) / self.lanes)
-        return max(1, round(wanted / 60))
+        """Returns about how long the rest takes, at the pace of what was proved so far."""
+        pace, now = self.taken / self.foreseen, time.time()
+        rest = {name: self.seconds[name] * pace for name in self.left}
+        for it in self.running:
+            whole = self.seconds[it.name] * pace
+            rest[it.name] = max(whole / 10, whole - (now - it.began))
+        longest = max([self.chain(name, rest) for name in rest], default=0)
+        return max(1, round(max(longest, BUSY * sum(rest.values()) / self.lanes) / 60))
+
+    def note_pace(self, attempt):
+        """Notes how long an attempt took, unless it found most of its crate proved before."""
+        took, foreseen = time.time() - attempt.began, self.seconds[attempt.name]
+        if took > foreseen / 4:
+            self.foreseen += foreseen
+            self.taken += took
 
     def tell(self, what):
         """Says how far the build is, and how long the rest may take."""
@@ -149,7 +164,7 @@ class Build:
     def ready(self):
         """Returns the crates whose libraries are built, that with the longest chain first."""
         ready = [name for name in self.left if all(dep in self.done for dep in self.deps[name])]
-        return sorted(ready, key=lambda name: -self.chain(name))
+        return sorted(ready, key=lambda name: -self.chain(name, self.seconds))
 
     def has_memory(self):
         """Returns whether there is memory for one crate more, where the youngest do not have all of theirs yet."""
@@ -179,6 +194,7 @@ class Build:
         """Takes what an attempt made that has ended, and returns whether it built the crate."""
         name = attempt.name
         if attempt.is_built(self.began):
+            self.note_pace(attempt)
             self.done.append(name)
             self.tell(f"{name} is proved")
             return True
