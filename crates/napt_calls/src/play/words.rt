@@ -1,0 +1,90 @@
+//! The words of a line.
+
+use crate::Stop;
+use napt_wire::{Endpoint, Flags, Protocol, Side, Way};
+use std::alloc::Global;
+use std::str::SplitWhitespace;
+
+/// The words of a line that are not yet read.
+#[derive(Drop)]
+pub(crate) struct Words<'a> {
+    rest: SplitWhitespace<'a>,
+}
+
+impl<'a> Words<'a> {
+    pub(crate) fn of(line: &'a str) -> Words<'a> {
+        Words {
+            rest: line.split_whitespace(),
+        }
+    }
+
+    pub(crate) fn word(&mut self) -> Result<&'a str, Stop> {
+        self.rest.next().ok_or(Stop::Usage)
+    }
+
+    pub(crate) fn number(&mut self) -> Result<u64, Stop> {
+        self.word()?.parse::<u64>().map_err(|_| Stop::Usage)
+    }
+
+    pub(crate) fn long(&mut self) -> Result<u32, Stop> {
+        self.word()?.parse::<u32>().map_err(|_| Stop::Usage)
+    }
+
+    pub(crate) fn short(&mut self) -> Result<u16, Stop> {
+        self.word()?.parse::<u16>().map_err(|_| Stop::Usage)
+    }
+
+    /// An address and a number.
+    pub(crate) fn endpoint(&mut self) -> Result<Endpoint, Stop> {
+        Ok(Endpoint {
+            address: self.long()?,
+            number: self.short()?,
+        })
+    }
+
+    /// Those of the letters F, S, R and A that are in a word; `-` has none.
+    pub(crate) fn flags(&mut self) -> Result<Flags, Stop> {
+        let word = self.word()?;
+        Ok(Flags {
+            fin: word.contains('F'),
+            syn: word.contains('S'),
+            rst: word.contains('R'),
+            ack: word.contains('A'),
+        })
+    }
+
+    pub(crate) fn protocol(&mut self) -> Result<Protocol, Stop> {
+        match self.word()? {
+            "icmp" => Ok(Protocol::Icmp),
+            "tcp" => Ok(Protocol::Tcp),
+            "udp" => Ok(Protocol::Udp),
+            _ => Err(Stop::Usage),
+        }
+    }
+
+    pub(crate) fn side(&mut self) -> Result<Side, Stop> {
+        match self.word()? {
+            "inside" => Ok(Side::Inside),
+            "outside" => Ok(Side::Outside),
+            _ => Err(Stop::Usage),
+        }
+    }
+
+    pub(crate) fn way(&mut self) -> Result<Way, Stop> {
+        match self.word()? {
+            "outgoing" => Ok(Way::Outgoing),
+            "incoming" => Ok(Way::Incoming),
+            _ => Err(Stop::Usage),
+        }
+    }
+
+    /// All words that are left, a byte each.
+    pub(crate) fn bytes(&mut self, alloc: Global) -> Result<Vec<u8>, Stop> {
+        let mut bytes = Vec::new(alloc);
+        while let Some(word) = self.rest.next() {
+            let byte = word.parse::<u8>().map_err(|_| Stop::Usage)?;
+            bytes.push(byte).map_err(|_| Stop::Call)?;
+        }
+        Ok(bytes)
+    }
+}
