@@ -4,8 +4,8 @@
 //! which says the call. All numbers are decimal: bytes one by one, times in ns, an address as one number, an endpoint as its
 //! address and its number. An answer is what `{:?}` shows of it.
 //!
-//! [`packets`] reads and changes the packet at hand, [`table`] calls the table at hand, [`translators`] the translators at hand,
-//! over the packet at hand, and [`captures`] reads and writes captures.
+//! [`packets`] reads and changes the current packet, [`table`] calls the current table, [`translators`] the current translators,
+//! over the current packet, and [`captures`] reads and writes captures.
 
 mod captures;
 mod packets;
@@ -23,7 +23,7 @@ use std::io::{BufRead, BufReader};
 
 /// What the calls are made on.
 #[derive(Drop)]
-struct Hand {
+struct Player {
     packet: Option<Packet>,
     table: Option<Box<Table>>,
     translators: Option<Translators>,
@@ -33,19 +33,19 @@ struct Hand {
 pub(crate) fn played<R: Input + Print + AllocGlobal>(rt: &R) -> Result<(), Stop> {
     let alloc = rt.alloc();
     let reader = BufReader::new(alloc, rt.reader()).map_err(|_| Stop::Call)?;
-    let mut hand = Hand {
+    let mut player = Player {
         packet: None,
         table: None,
         translators: None,
     };
     for line in reader.lines(alloc) {
         let line = line.map_err(|_| Stop::File)?;
-        hand.play(rt, alloc, line.as_str())?;
+        player.play(rt, alloc, line.as_str())?;
     }
     Ok(())
 }
 
-impl Hand {
+impl Player {
     /// Makes the call that a line says, and tells its answer.
     fn play<R: Print>(&mut self, rt: &R, alloc: Global, line: &str) -> Result<(), Stop> {
         let mut words = Words::of(line);
@@ -77,7 +77,7 @@ impl Hand {
         Ok(())
     }
 
-    /// A call on the translators at hand.
+    /// A call on the current translators.
     fn translated<R: Print>(
         &mut self,
         rt: &R,

@@ -5,7 +5,7 @@ use crate::play::words::Words;
 use napt_wire::{Endpoint, Kind, Packet, Way, fix_check, fix_check_udp};
 use std::alloc::Global;
 
-/// `read SIDE BYTES`: tells what the packet at hand is from now on, with both ends, or why the bytes are refused, with the bytes
+/// `read SIDE BYTES`: tells what the current packet is from now on, with both ends, or why the bytes are refused, with the bytes
 /// that came back.
 pub(crate) fn read<R: Print>(
     rt: &R,
@@ -30,7 +30,7 @@ pub(crate) fn read<R: Print>(
     }
 }
 
-/// A call on the packet at hand: `local_end WAY` and `remote_end WAY` tell that end; `set_source END`, `set_destination END`,
+/// A call on the current packet: `local_end WAY` and `remote_end WAY` tell that end; `set_source END`, `set_destination END`,
 /// `revert_inner WAY END` and `bytes` tell the bytes.
 pub(crate) fn answer<R: Print>(
     rt: &R,

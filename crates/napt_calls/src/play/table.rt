@@ -24,7 +24,7 @@ pub(crate) fn begun<R: Print>(
     Box::new(alloc, table).map_err(|_| Stop::Call)
 }
 
-/// A call on the table at hand.
+/// A call on the current table.
 pub(crate) fn answer<R: Print>(
     rt: &R,
     alloc: Global,

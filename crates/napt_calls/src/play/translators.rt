@@ -41,7 +41,7 @@ impl Translators {
         self.all.get_mut(usize::from(place)).ok_or(Stop::Usage)
     }
 
-    /// `route SIDE`, of the packet at hand
+    /// `route SIDE`, of the current packet
     pub(crate) fn tell_route<R: Print>(
         &self,
         rt: &R,
@@ -52,13 +52,13 @@ impl Translators {
         println!(rt; "{place:?}").map_err(|_| Stop::File)
     }
 
-    /// `onward`, of the packet at hand
+    /// `onward`, of the current packet
     pub(crate) fn tell_onward<R: Print>(&self, rt: &R, packet: &Packet) -> Result<(), Stop> {
         let place = onward(&self.config, packet);
         println!(rt; "{place:?}").map_err(|_| Stop::File)
     }
 
-    /// `translate PLACE NUMBER NOW WAY`: a leg of the packet at hand; the one that leaves is at hand from now on.
+    /// `translate PLACE NUMBER NOW WAY`: a leg of the current packet; the one that leaves is the current one from now on.
     pub(crate) fn translate<R: Print>(
         &mut self,
         rt: &R,
