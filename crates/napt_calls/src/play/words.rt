@@ -81,7 +81,7 @@ impl<'a> Words<'a> {
     /// All words that are left, a byte each.
     pub(crate) fn bytes(&mut self, alloc: Global) -> Result<Vec<u8>, Stop> {
         let mut bytes = Vec::new(alloc);
-        while let Some(word) = self.rest.next() {
+        for word in self.rest.by_ref() {
             let byte = word.parse::<u8>().map_err(|_| Stop::Usage)?;
             bytes.push(byte).map_err(|_| Stop::Call)?;
         }
