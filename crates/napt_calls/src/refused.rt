@@ -1,13 +1,15 @@
 //! Makes a call that may be refused, and looks at what a refusal left or changed. `tests/refused_calls` runs it again and again,
 //! each time with another growth of memory refused.
 //!
-//! `pool` starts a pool of three workers, fills it and closes it; `run` runs over captures on two workers, and `plain` on one
-//! thread; `capture` and `configuration` read one; `bindings`, `flows` and `ends` send packets through a table: of new bindings, of
-//! new flows of bindings that are there, and of bindings that have ended.
+//! `pool` starts a pool of three workers, fills it and closes it; `run` runs over captures on two workers, `workers` so over their
+//! inputs, and `plain` on one thread; `dispatch` dispatches these inputs to a pool that is started before, and `merge` merges them;
+//! `capture` and `configuration` read one; `bindings`, `flows` and `ends` send packets through a table: of new bindings, of new flows
+//! of bindings that are there, and of bindings that have ended.
 //!
 //! One line on standard output tells the end. Statuses: 0 done, 1 something is left, changed or wrong, 2 usage, 3 memory was
 //! refused before the call, 4 after it, 5 memory or a thread was refused to the call, 6 the line is not written.
 
+mod dispatching;
 mod left;
 mod pool;
 mod readers;
@@ -75,7 +77,10 @@ fn ended<R: Files + AllocGlobal + Threads + Wait + Copy + Send + 'static>(
     match call.map(String::as_str) {
         Some("pool") => pool::ended(rt),
         Some("run") => run::ended(rt),
+        Some("workers") => run::workers_ended(rt),
         Some("plain") => run::plain_ended(alloc),
+        Some("dispatch") => dispatching::ended(rt),
+        Some("merge") => run::merge_ended(alloc),
         Some("capture") => readers::capture_ended(alloc),
         Some("configuration") => readers::configuration_ended(alloc),
         Some("bindings") => table::ended(alloc, Kind::Bindings),

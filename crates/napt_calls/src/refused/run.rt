@@ -1,11 +1,13 @@
-//! Runs over captures of both sides, through two external addresses: on workers, with a report, and on one thread.
+//! Runs through two external addresses: over captures of both sides with a report, and over their inputs on workers and on one
+//! thread; and these inputs, merged.
 
 use crate::refused::End;
 use crate::refused::left::{Asked, Counts, gate, looked_at};
-use napt_capture::{CaptureFault, Watched, read_capture};
+use napt_capture::{CaptureFault, Record, Watched, read_capture};
 use napt_config::Config;
 use napt_pool::PoolFault;
-use napt_run::{Fault, Input, RunFault, merge, run_captures, run_plain};
+use napt_run::{Fault, Input, RunFault, merge, run_captures, run_plain, run_workers};
+use napt_wire::Side;
 use std::alloc::Global;
 use std::rt::Files;
 use std::sync::{Arc, Wait};
@@ -39,15 +41,27 @@ const OUTSIDE: [u8; 68] = [
 /// How many bytes an output has room for, so that none grows while it is written.
 const ROOM: usize = 4096;
 
+/// What a fault of a run comes to.
+pub(crate) fn end_of_run(fault: RunFault) -> End {
+    match fault {
+        RunFault::Memory | RunFault::Pool(PoolFault::Memory) => End::Memory,
+        RunFault::Pool(PoolFault::NoThread) => End::NoThread,
+        _ => End::Wrong("another fault"),
+    }
+}
+
 /// What a fault comes to that came before anything was written.
 fn end_of(fault: Fault) -> End {
     match fault {
         Fault::Capture(_, CaptureFault::Memory) => End::Memory,
-        Fault::Run(RunFault::Memory) => End::Memory,
-        Fault::Run(RunFault::Pool(PoolFault::Memory)) => End::Memory,
-        Fault::Run(RunFault::Pool(PoolFault::NoThread)) => End::NoThread,
+        Fault::Run(fault) => end_of_run(fault),
         _ => End::Wrong("another fault"),
     }
+}
+
+/// The configuration; none where memory is refused.
+pub(crate) fn configuration(alloc: Global) -> Option<Config> {
+    Config::read(alloc, CONFIGURATION.as_bytes()).ok()
 }
 
 /// Makes the run, through the gate.
@@ -95,7 +109,7 @@ pub(crate) fn ended<R: Files + AllocGlobal + Threads + Wait + Copy + Send + 'sta
     rt: &R,
 ) -> End {
     let alloc = rt.alloc();
-    let Ok(config) = Config::read(alloc, CONFIGURATION.as_bytes()) else {
+    let Some(config) = configuration(alloc) else {
         return End::Before;
     };
     let Ok(counts) = Counts::shared(alloc) else {
@@ -108,25 +122,79 @@ pub(crate) fn ended<R: Files + AllocGlobal + Threads + Wait + Copy + Send + 'sta
     looked_at(rt, &counts, end)
 }
 
+/// The records of a capture; none where memory is refused.
+fn records(alloc: Global, capture: &[u8]) -> Option<Vec<Record>> {
+    let capture = read_capture(alloc, &mut Watched::new(capture)).ok()?;
+    Some(capture.records)
+}
+
 /// The merged inputs; none where memory is refused.
-fn inputs(alloc: Global) -> Option<Vec<Input>> {
-    let inside = read_capture(alloc, &mut Watched::new(INSIDE.as_slice())).ok()?;
-    let outside = read_capture(alloc, &mut Watched::new(OUTSIDE.as_slice())).ok()?;
-    merge(alloc, inside.records, outside.records).ok()
+pub(crate) fn inputs(alloc: Global) -> Option<Vec<Input>> {
+    let inside = records(alloc, &INSIDE)?;
+    let outside = records(alloc, &OUTSIDE)?;
+    merge(alloc, inside, outside).ok()
+}
+
+/// Whether an input is a packet of 28 bytes that came from a side at a time, in seconds, the latest so far.
+fn came(input: &Input, side: Side, seconds: u64) -> bool {
+    let time = seconds.saturating_mul(1_000_000_000);
+    input.side == side && input.time == time && input.clock == time && input.bytes.len() == 28
+}
+
+/// Whether the inputs are those of both captures, in their order.
+fn are_merged(inputs: &[Input]) -> bool {
+    match inputs {
+        [first, second, third] => {
+            came(first, Side::Inside, 1)
+                && came(second, Side::Inside, 2)
+                && came(third, Side::Outside, 3)
+        }
+        _ => false,
+    }
+}
+
+/// The records of both captures are merged.
+pub(crate) fn merge_ended(alloc: Global) -> End {
+    let (Some(inside), Some(outside)) = (records(alloc, &INSIDE), records(alloc, &OUTSIDE)) else {
+        return End::Before;
+    };
+    match merge(alloc, inside, outside) {
+        Ok(inputs) if are_merged(&inputs) => End::Done,
+        Ok(_) => End::Wrong("other inputs"),
+        Err(_) => End::Memory,
+    }
 }
 
 /// The run on one thread.
 pub(crate) fn plain_ended(alloc: Global) -> End {
-    let Ok(config) = Config::read(alloc, CONFIGURATION.as_bytes()) else {
-        return End::Before;
-    };
-    let Some(inputs) = inputs(alloc) else {
+    let (Some(config), Some(inputs)) = (configuration(alloc), inputs(alloc)) else {
         return End::Before;
     };
     match run_plain(alloc, &config, &inputs) {
         Ok(run) if run.bindings.len() == 2 => End::Done,
         Ok(_) => End::Wrong("another run"),
-        Err(RunFault::Memory) => End::Memory,
-        Err(_) => End::Wrong("another fault"),
+        Err(fault) => end_of_run(fault),
     }
+}
+
+/// The run over workers.
+pub(crate) fn workers_ended<R: Files + AllocGlobal + Threads + Wait + Copy + Send + 'static>(
+    rt: &R,
+) -> End {
+    let alloc = rt.alloc();
+    let (Some(config), Some(inputs)) = (configuration(alloc), inputs(alloc)) else {
+        return End::Before;
+    };
+    let Ok(counts) = Counts::shared(alloc) else {
+        return End::Before;
+    };
+    let Ok(gate) = gate(alloc, &counts) else {
+        return End::Before;
+    };
+    let end = match run_workers(rt, alloc, &config, &inputs, gate) {
+        Ok(run) if run.bindings.len() == 2 && run.outcomes.len() == 3 => End::Done,
+        Ok(_) => End::Wrong("another run"),
+        Err(fault) => end_of_run(fault),
+    };
+    looked_at(rt, &counts, end)
 }

@@ -1,0 +1,79 @@
+//! Inputs that are dispatched to a pool.
+
+ghost use Rattle.std.specs.Prelude.{◌≡◌, length, vec_len, IfOk};
+ghost use Rattle.napt_config.specs.Rules.{KeepsRules};
+ghost use Rattle.napt_dispatch.specs.Dispatch.{started};
+
+use crate::refused::End;
+use crate::refused::left::{Asked, Counts, gate, looked_at};
+use crate::refused::run::{configuration, end_of_run, inputs};
+use napt_config::Config;
+use napt_pool::{Pool, PoolFault};
+use napt_run::{Input, Worker, dispatch};
+use napt_translate::Translator;
+use std::alloc::{AllocError, Global};
+use std::rt::Files;
+use std::sync::{Arc, Wait};
+use std::thread::Threads;
+
+/// The workers of all external addresses before any leg, in the order of the pool.
+fn workers(alloc: Global, config: &Config) -> Result<Vec<Worker>, AllocError>
+    ensures kept { KeepsRules config.now }
+    ensures made { IfOk result (λ made. made.items ≡ started config.now (length config.now.pool)) }
+    ensures many { IfOk result (λ made. vec_len made ≡ length config.now.pool) }
+{
+    let many = config.pool().len() as u32;
+    let mut made = Vec::new(alloc);
+    for index in 0..many {
+        let translator = Translator::new(alloc, index, config.copy(alloc)?)?;
+        made.push(Worker { translator })?;
+    }
+    Ok(made)
+}
+
+/// Dispatches the inputs to a pool, and closes it.
+fn dispatched<R: Threads + Wait + Copy + Send + 'static>(
+    rt: &R,
+    alloc: Global,
+    config: &Config,
+    inputs: &[Input],
+    gate: Arc<Asked>,
+) -> End {
+    let Ok(machines) = workers(alloc, config) else {
+        return End::Before;
+    };
+    if inputs.len() != 3 {
+        return End::Wrong("other inputs");
+    }
+    let mut pool = match Pool::start(rt, alloc, machines, config.ring(), gate) {
+        Ok(pool) => pool,
+        Err(PoolFault::Memory | PoolFault::NoThread) => return End::Before,
+        Err(_) => return End::Wrong("another fault"),
+    };
+    let answer = dispatch(rt, alloc, &mut pool, config, inputs);
+    let closed = pool.close(rt, alloc);
+    match (answer, closed) {
+        (Ok((outcomes, legs)), Ok(_))
+            if outcomes.len() == 3 && legs.as_slice() == [1, 3].as_slice() => { End::Done }
+        (Ok(_), Err(PoolFault::Memory)) => End::After,
+        (Ok(_), _) => End::Wrong("another run"),
+        (Err(fault), _) => end_of_run(fault),
+    }
+}
+
+pub(crate) fn ended<R: Files + AllocGlobal + Threads + Wait + Copy + Send + 'static>(
+    rt: &R,
+) -> End {
+    let alloc = rt.alloc();
+    let (Some(config), Some(inputs)) = (configuration(alloc), inputs(alloc)) else {
+        return End::Before;
+    };
+    let Ok(counts) = Counts::shared(alloc) else {
+        return End::Before;
+    };
+    let Ok(gate) = gate(alloc, &counts) else {
+        return End::Before;
+    };
+    let end = dispatched(rt, alloc, &config, &inputs, gate);
+    looked_at(rt, &counts, end)
+}
