@@ -1,5 +1,5 @@
 -- The workers that were joined so far.
-use Rattle.std.proofs.Common.{◌≡◌, ℕ, zero, suc, ◌+◌, ◌<◌, add-one, refl, sym, ap, ◌∙◌, arith, Bool, true, false, List, map, length, [], ◌∷◌, ◌++◌, append_assoc, length-append, ◌⊎◌, inl, inr, ⊎_elim, get_or}
+use Rattle.std.proofs.Common.{rules, ◌≡◌, ℕ, zero, suc, ◌+◌, ◌<◌, add-one, refl, sym, ap, ◌∙◌, arith, Bool, true, false, List, map, length, [], ◌∷◌, ◌++◌, append_assoc, length-append, ◌⊎◌, inl, inr, ⊎_elim, get_or}
 use Rattle.std.specs.Prelude.{Result, Ok, Err, OnOk, IfOk, IfErr, MatchResult, Contains, replicate}
 use Rattle.std.proofs.lemmas.List.{length-map}
 use Rattle.std.proofs.lemmas.Result.{IfOk-weaker}
@@ -18,6 +18,8 @@ use Rattle.napt_pool.specs.Workers.{IsEnd, AreEnds, closing_machine, closing_thr
 use Rattle.napt_pool.specs.Pools.{starts, accepts, takes, heard, thread_states, zip_with, HasTold, HaveReceived, IsLeastStop}
 use Rattle.napt_pool.proofs.Ending.{length-replies}
 use Rattle.napt_pool.proofs.Steps.{map-snoc}
+use Rattle.std.proofs.lemmas.List.{nil_from_length}
+use Rattle.std.specs.Vec.Iter.{into_iter_items, into_iter_len}
 
 no_rest : {A : Type 0} (t rest : List A) → length (t ++ rest) ≡ length t → t ++ rest ≡ t
 no_rest [] [] e = refl
@@ -265,3 +267,7 @@ pub map-split-step : {X Y : Type 0} (f : X → Y) (xs xs' : List X) (rest more a
 map-split-step f xs xs' rest more all x y e fx step was =
     ap (λ r. map f r ++ more) e ∙ ap (λ r. r ++ more) (map-snoc f xs x) ∙ ap (λ z. (map f xs ++ z ∷ []) ++ more) fx
     ∙ split-step (map f xs) rest more all y was step
+
+-- an iterator of which nothing is left to count has no elements left
+pub drained : {X Z : Type 0} (it : _) → into_iter_len {X = X} {Z = Z} it ≡ 0 → into_iter_items it ≡ []
+drained it e = search (rules, nil_from_length)

@@ -1,6 +1,6 @@
 -- What a worker shows: the machine that it began with, the items that were accepted for it, and the answers that were
 -- taken.
-use Rattle.std.specs.Prelude.{◌≡◌, ◌<◌, ⊤, ℕ, Bool, true, false, Result, Err, OnOk, IfOk, IfErr, List, Vec, Contains, map, replicate, slice_index_or, vec_len, [], ◌∷◌, ◌++◌}
+use Rattle.std.specs.Prelude.{◌≡◌, ◌<◌, ⊤, ℕ, Bool, true, false, Result, Err, OnOk, IfOk, IfErr, List, Vec, Contains, map, length, replicate, slice_index_or, vec_len, [], ◌∷◌, ◌++◌}
 use Rattle.napt_pool.specs.declared.fault.Stop.{Stop}
 use Rattle.napt_pool.specs.declared.thread_state.ThreadState.{ThreadState}
 use Rattle.napt_pool.specs.declared.worker.Worker.{Worker}
@@ -76,3 +76,18 @@ module _ {M G I A : Type 0} (g : Ghosts M I A) (open_gate : Bool) where
   AreEnds [] (e ∷ es) = ⊥
   AreEnds (w ∷ ws) [] = ⊥
   AreEnds (w ∷ ws) (e ∷ es) = IsEnd w e × AreEnds ws es
+
+-- a worker for each of these machines was closed, and joined with this end
+module _ {M I A : Type 0} (G : Type 0) (g : Ghosts M I A) (open_gate : Bool) where
+  pub record AreJoined (machines : List M) (ends : List (Result (Ended M I A) Stop)) : Type 0 where
+    pub closing : List (Closing M G I A)
+    pub machines_are : map closing_machine closing ≡ machines
+    pub ends_are : AreEnds g open_gate closing ends
+
+  -- the first of the machines were started, so many, and the worker of each of these was closed and joined
+  pub record AreGivenUp (machines : List M) (started : ℕ) (ends : List (Result (Ended M I A) Stop)) : Type 0 where
+    pub front : List M
+    pub rest : List M
+    pub machines_are : front ++ rest ≡ machines
+    pub started_is : length front ≡ started
+    pub joined : AreJoined front ends

@@ -1,8 +1,9 @@
 // Closing and joining a list of workers.
 ghost use Rattle.std.specs.Prelude.{◌≡◌, ◌≤◌, ◌<◌, ◌^◌, vec_len, vec_capacity, [], map, IfOk, IfErr};
 ghost use Rattle.napt_pool.specs.Faults.{IsLeastFault};
-ghost use Rattle.napt_pool.specs.Workers.{machine_of, thread_state_of, accepted_of, taken_of, heard_of, closing_machine, closing_thread_state, closing_accepted, closing_taken, closing_heard, AreEnds};
+ghost use Rattle.napt_pool.specs.Workers.{machine_of, thread_state_of, accepted_of, taken_of, heard_of, closing_machine, closing_thread_state, closing_accepted, closing_taken, closing_heard, AreEnds, AreJoined};
 
+use crate::close_buffers::CloseBuffers;
 use crate::closing::{Closing, Ended};
 use crate::fault::{PoolFault, Stop};
 use crate::gate::Gate;
@@ -10,10 +11,40 @@ use crate::machine::Machine;
 use crate::worker::Worker;
 use std::thread::Threads;
 
-/// Closes and joins each worker, and drops what it leaves.
-pub(crate) fn give_up<M: Machine, G: Gate, R: Threads>(rt: &R, workers: Vec<Worker<M, G>>) {
-    for worker in workers {
-        let _ = worker.close().join(rt);
+/// Why a worker was not started, and how those ended that were started before it.
+#[derive(Drop)]
+pub(crate) struct NotStarted<M: Machine> {
+    pub(crate) fault: PoolFault,
+    // How many were started.
+    pub(crate) started: usize,
+    pub(crate) ends: Vec<Result<Ended<M>, Stop>>,
+}
+
+/// Closes and joins each worker, since the next one was not started.
+pub(crate) fn give_up<M: Machine, G: Gate, R: Threads>(
+    rt: &R,
+    fault: PoolFault,
+    workers: Vec<Worker<M, G>>,
+    buffers: CloseBuffers<M, G>,
+) -> NotStarted<M>
+    requires room { vec_len workers ≤ buffers.count }
+    ensures fault { result.fault ≡ fault }
+    ensures started { result.started ≡ vec_len workers }
+    ensures joined { AreJoined G M.Machine G.is_open (map machine_of workers.items)
+        result.ends.items }
+{
+    let CloseBuffers {
+        count: _,
+        closing,
+        ends,
+        ended: _,
+    } = buffers;
+    let started = workers.len();
+    let closing = close_all(workers, closing);
+    NotStarted {
+        fault,
+        started,
+        ends: join_all(rt, closing, ends),
     }
 }
 

@@ -174,11 +174,13 @@ impl<M: Machine, G: Gate + Send + Sync + Drop + 'static> Pool<M, G> {
         let Ok(buffers) = CloseBuffers::new(alloc, machines.len()) else {
             return Err(PoolFault::Memory);
         };
-        let workers = start_all(rt, alloc, machines, capacity, gate)?;
-        Ok(Pool {
-            workers,
-            capacity,
-            buffers,
-        })
+        match start_all(rt, alloc, machines, capacity, gate, buffers) {
+            Ok((workers, buffers)) => Ok(Pool {
+                workers,
+                capacity,
+                buffers,
+            }),
+            Err(not_started) => Err(not_started.fault),
+        }
     }
 }

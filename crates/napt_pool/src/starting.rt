@@ -1,11 +1,12 @@
 // Starting a list of workers.
-ghost use Rattle.std.specs.Prelude.{◌≤◌, vec_len, IfOk, IfErr};
+ghost use Rattle.std.specs.Prelude.{◌≡◌, ◌≤◌, vec_len, IfOk, IfErr};
 ghost use Rattle.napt_pool.specs.Faults.{IsStartFault};
-ghost use Rattle.napt_pool.specs.Workers.{AreNew};
+ghost use Rattle.napt_pool.specs.Workers.{AreNew, AreGivenUp};
 
+use crate::close_buffers::CloseBuffers;
 use crate::fault::PoolFault;
 use crate::gate::Gate;
-use crate::joining::give_up;
+use crate::joining::{NotStarted, give_up};
 use crate::machine::Machine;
 use crate::worker::Worker;
 use std::alloc::Global;
@@ -23,27 +24,29 @@ pub(crate) fn start_all<
     machines: Vec<M>,
     capacity: usize,
     gate: Arc<G>,
-) -> Result<Vec<Worker<M, G>>, PoolFault>
+    buffers: CloseBuffers<M, G>,
+) -> Result<(Vec<Worker<M, G>>, CloseBuffers<M, G>), NotStarted<M>>
 where
     M: 'static,
     M::Item: 'static,
     M::Answer: 'static,
     requires capacity { (1 ≤ capacity) × (capacity ≤ 4096) }
     requires count { vec_len machines ≤ 16 }
-    ensures started { IfOk result (λ workers. AreNew machines capacity workers) }
-    ensures refused { IfErr result IsStartFault }
+    requires room { vec_len machines ≤ buffers.count }
+    ensures started { IfOk result (λ made. AreNew machines capacity made.0) }
+    ensures buffers { IfOk result (λ made. made.1 ≡ buffers) }
+    ensures refused { IfErr result (λ gone. IsStartFault gone.fault) }
+    ensures joined { IfErr result (λ gone. AreGivenUp G M.Machine G.is_open machines.items
+        gone.started gone.ends.items) }
 {
     let Ok(mut workers) = Vec::with_capacity(alloc, machines.len()) else {
-        return Err(PoolFault::Memory);
+        return Err(give_up(rt, PoolFault::Memory, Vec::new(alloc), buffers));
     };
     let mut number = 0u32;
     for machine in machines {
         let worker = match Worker::start(rt, alloc, machine, capacity, &gate, number) {
             Ok(worker) => worker,
-            Err(fault) => {
-                give_up(rt, workers);
-                return Err(fault);
-            }
+            Err(fault) => return Err(give_up(rt, fault, workers, buffers)),
         };
         match workers.push(worker) {
             Ok(()) => {}
@@ -51,5 +54,5 @@ where
         }
         number += 1;
     }
-    Ok(workers)
+    Ok((workers, buffers))
 }

@@ -1,7 +1,8 @@
-use Rattle.std.proofs.Common.{rules, arith, ◌≡◌, ◌++◌, ◌∷◌, [], vec_items, vec_len, ◌+◌, below_more, ap, ◌∙◌}
-use Rattle.std.specs.Prelude.{slice_index_or}
+use Rattle.std.proofs.Common.{rules, arith, ◌≡◌, ◌++◌, ◌∷◌, [], map, vec_items, vec_len, ◌+◌, below_more, ap, sym, append-nil, ◌∙◌}
+use Rattle.std.specs.Prelude.{slice_index_or, replicate}
+use Rattle.std.specs.Vec.Iter.{into_iter_items}
 use Rattle.napt_pool.specs.Workers.{machine_of, accepted_of, taken_of, heard_of}
-use Rattle.napt_pool.proofs.Joins.{all-push, map-split-step}
+use Rattle.napt_pool.proofs.Joins.{all-push, map-split-step, drained}
 use Rattle.napt_pool.proofs.starting.start_all.Goals as goal
 
 pub loop-machine-preserved : goal.loop-machine-preserved
@@ -23,4 +24,20 @@ loop-machine-preserved g c =
           ≡ c.args.capacity) (vec_len c.loop-machine.workers)
           (λ i less. ap (λ w. w.capacity) (c.push.ensures.by_index.0 i d less) ∙ was.capacity i d less)
           (ap (λ w. w.capacity) (c.push.ensures.by_index.1 d (search rules)) ∙ started.capacity) k (omega arith);
+    }
+
+pub returns-clause-started : goal.returns-clause-started
+returns-clause-started g c =
+    let was = c.loop-machine.invariant in
+    let none : into_iter_items c.loop-machine.machine-iterator ≡ [] =
+    drained c.loop-machine.machine-iterator c.in-None.ensures.steps.0 in
+    let gives : into_iter_items c.into_iter-machine-iterator.result ≡ vec_items c.args.machines = search rules in
+    let same : vec_len c.loop-machine.workers ≡ vec_len c.args.machines = search rules in
+    record {
+      machines_are = sym (append-nil (map machine_of (vec_items c.loop-machine.workers)))
+          ∙ ap (λ r. map machine_of (vec_items c.loop-machine.workers) ++ r) (sym none) ∙ was.machines ∙ gives;
+      accepted_are = was.accepted ∙ ap (λ n. replicate n []) same;
+      taken_are = was.taken ∙ ap (λ n. replicate n []) same;
+      heard_are = was.heard ∙ ap (λ n. replicate n []) same;
+      capacity_is = was.capacity;
     }
