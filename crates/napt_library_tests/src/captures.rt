@@ -460,34 +460,3 @@ fn what_is_written_reads_back(rt: HostRuntime) -> Result<(), Fail> {
     }
     Ok(())
 }
-
-#[test]
-fn faults_say_where_they_are(rt: HostRuntime) -> Result<(), Fail> {
-    let texts = [
-        (
-            CaptureFault::TooLong(7),
-            "record 7 has more than 262144 bytes",
-        ),
-        (
-            CaptureFault::BadFraction(1),
-            "the time of record 1 has a fraction of a second or more",
-        ),
-        (
-            CaptureFault::TooLarge,
-            "the capture is longer than 68719476736 bytes",
-        ),
-        (
-            CaptureFault::BadLink,
-            "the capture's link type is neither 101 (raw IP) nor 228 (raw IPv4)",
-        ),
-    ];
-    for (fault, text) in &texts {
-        assert_eq!(rt; fault.to_string(rt.alloc())?.as_str(), *text);
-    }
-    let fault = WriteFault { written: 24 };
-    assert_eq!(rt;
-        fault.to_string(rt.alloc())?.as_str(),
-        "writing failed after 24 bytes"
-    );
-    Ok(())
-}

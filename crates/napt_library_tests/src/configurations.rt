@@ -318,29 +318,3 @@ fn texts_of_transport_addresses(rt: HostRuntime) -> Result<(), Fail> {
     }
     Ok(())
 }
-
-#[test]
-fn messages(rt: HostRuntime) -> Result<(), Fail> {
-    let alloc = rt.alloc();
-    for (fault, message) in [
-        (
-            ConfigFault::NotInPool,
-            "expected an `external` address that is in `pool`",
-        ),
-        (
-            ConfigFault::BadNumber,
-            "expected a timer of 0 to 1000000000 seconds, a `ring` of 1 to 4096, a `quota` of 1 to 65535, or an `external` port of 1 to 65535",
-        ),
-        (
-            ConfigFault::BadWord,
-            "expected `independent`, `address` or `address-port` as `filter`, `outbound` or `both` as `refresh`, or `udp` or `tcp` as `protocol`",
-        ),
-        (
-            ConfigFault::DoubleRedirect,
-            "expected at most one `redirect` of a protocol for each inside endpoint and for each external endpoint",
-        ),
-    ] {
-        assert_eq!(rt; fault.to_string(alloc)?.as_str(), message);
-    }
-    Ok(())
-}

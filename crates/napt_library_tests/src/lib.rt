@@ -18,6 +18,8 @@ mod due;
 #[cfg(test)]
 mod legs;
 #[cfg(test)]
+mod messages;
+#[cfg(test)]
 mod numbers;
 #[cfg(test)]
 mod packets;

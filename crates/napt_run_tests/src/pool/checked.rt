@@ -3,8 +3,7 @@ ghost use Rattle.std.specs.Prelude.{◌≡◌, length};
 ghost use Rattle.napt_pool.specs.Pools.{starts};
 
 use super::MOST_LOOKS;
-use super::watch::Watch;
-use napt_pool::{Ended, Machine, OfferRefused, Pool, PoolFault};
+use napt_pool::{Ended, Gate, Machine, OfferRefused, Pool, PoolFault};
 use std::alloc::Global;
 use std::process::Abort;
 use std::sync::{Arc, Wait};
@@ -13,14 +12,14 @@ use std::thread::Threads;
 
 /// A pool that stops a test which asks what a caller may not: for no worker, or for a worker that is not there. Its calls promise
 /// nothing, so that the proof of a test is short: the test sees what comes of them when it runs.
-pub(crate) struct CheckedPool<M: Machine> {
+pub(crate) struct CheckedPool<M: Machine, G: Gate> {
     alloc: Global,
-    pool: Pool<M, Watch>,
+    pool: Pool<M, G>,
     workers: u32,
     ghost many: { length (starts pool) ≡ workers },
 }
 
-impl<M: Machine> CheckedPool<M> {
+impl<M: Machine, G: Gate> CheckedPool<M, G> {
     pub(crate) fn offer(
         &mut self,
         rt: &impl Abort,
@@ -70,15 +69,17 @@ impl<M: Machine> CheckedPool<M> {
     pub(crate) fn closed<R: Threads + Abort>(self, rt: &R) -> Vec<Ended<M>> {
         self.close(rt).ok().expect(rt, "close")
     }
+}
 
+impl<M: Machine, G: Gate + Send + Sync + Drop + 'static> CheckedPool<M, G> {
     /// Starts a thread for each of 1 to 16 machines, with rings for 1 to 4,096 items.
     pub(crate) fn start<R: Threads + Wait + Abort + Copy + Send + 'static>(
         rt: &R,
         alloc: Global,
         machines: Vec<M>,
         capacity: usize,
-        gate: Arc<Watch>,
-    ) -> Result<CheckedPool<M>, PoolFault>
+        gate: Arc<G>,
+    ) -> Result<CheckedPool<M, G>, PoolFault>
     where
         M: 'static,
         M::Item: 'static,

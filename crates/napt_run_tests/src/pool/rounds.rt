@@ -3,7 +3,6 @@ ghost use Rattle.std.specs.Prelude.{◌≡◌, [], ◌∷◌, map, IfOk};
 
 use super::checked::CheckedPool;
 use super::keeper::Keeper;
-use super::watch::{Says, Watch};
 use napt_pool::{Ended, OfferRefused, OpenGate, Pool, PoolFault};
 use std::alloc::Global;
 use std::process::Abort;
@@ -53,10 +52,10 @@ fn keepers<R: Threads + Wait + Abort + AllocGlobal + Copy + Send + 'static>(
     rt: &R,
     workers: u32,
     capacity: u16,
-) -> Result<CheckedPool<Keeper>, Fail> {
+) -> Result<CheckedPool<Keeper, OpenGate>, Fail> {
     let alloc = rt.alloc();
     let machines = Keeper::several(alloc, workers)?;
-    let gate = Watch::new(alloc, workers as usize, Says::Yes, false)?;
+    let gate = Arc::new(alloc, OpenGate)?;
     Ok(CheckedPool::start(rt, alloc, machines, usize::from(capacity), gate)?)
 }
 
@@ -73,7 +72,7 @@ fn answer_comes(rt: HostRuntime) -> Result<(), Fail> {
 }
 
 /// How many items worker `w` takes until it is full. `None` where it is refused for another cause.
-fn fill(rt: &impl Abort, pool: &mut CheckedPool<Keeper>, w: u32) -> Option<u64> {
+fn fill(rt: &impl Abort, pool: &mut CheckedPool<Keeper, OpenGate>, w: u32) -> Option<u64> {
     for count in 0..10_000 {
         match pool.offer(rt, w, count) {
             Ok(()) => {}
@@ -85,7 +84,13 @@ fn fill(rt: &impl Abort, pool: &mut CheckedPool<Keeper>, w: u32) -> Option<u64> 
 }
 
 /// Whether worker `w` answers with this many numbers from `base` on, and then has no more.
-fn empties(rt: &impl Abort, pool: &mut CheckedPool<Keeper>, w: u32, count: u64, base: u64) -> bool {
+fn empties(
+    rt: &impl Abort,
+    pool: &mut CheckedPool<Keeper, OpenGate>,
+    w: u32,
+    count: u64,
+    base: u64,
+) -> bool {
     for k in 0..count {
         if pool.take_soon(rt, w) != Ok(Some(base.saturating_add(k))) {
             return false;
@@ -95,7 +100,13 @@ fn empties(rt: &impl Abort, pool: &mut CheckedPool<Keeper>, w: u32, count: u64, 
 }
 
 /// Fills all workers, and then empties them.
-fn round(rt: &impl Abort, pool: &mut CheckedPool<Keeper>, workers: u32, capacity: u64, base: u64) {
+fn round(
+    rt: &impl Abort,
+    pool: &mut CheckedPool<Keeper, OpenGate>,
+    workers: u32,
+    capacity: u64,
+    base: u64,
+) {
     for w in 0..workers {
         assert!(rt; fill(rt, pool, w) == Some(capacity), "worker {w}");
     }

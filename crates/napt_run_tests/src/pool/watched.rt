@@ -2,7 +2,7 @@
 
 use super::checked::CheckedPool;
 use super::watch::{Echo, Says, Watch};
-use napt_pool::PoolFault;
+use napt_pool::{OpenGate, PoolFault};
 use std::process::Abort;
 use std::sync::{Arc, Wait};
 use std::test::Fail;
@@ -10,7 +10,7 @@ use std::thread::Threads;
 
 /// A pool of machines, some of which refuse their items, and the watch over it.
 struct Watched {
-    pool: CheckedPool<Echo>,
+    pool: CheckedPool<Echo, Watch>,
     watch: Arc<Watch>,
 }
 
@@ -20,10 +20,9 @@ fn make_watched<R: Threads + Wait + Abort + AllocGlobal + Copy + Send + 'static>
     rt: &R,
     refuse: &[bool],
     says: Says,
-    is_barrier: bool,
 ) -> Result<Watched, Fail> {
     let alloc = rt.alloc();
-    let watch = Watch::new(alloc, refuse.len(), says, is_barrier)?;
+    let watch = Watch::new(alloc, refuse.len(), says, false)?;
     let machines = Echo::several(alloc, &watch, refuse)?;
     let started = CheckedPool::start(rt, alloc, machines, 4, Arc::try_clone(&watch)?);
     assert!(rt; started.is_ok() || watch.drops() == refuse.len() as u64);
@@ -31,13 +30,17 @@ fn make_watched<R: Threads + Wait + Abort + AllocGlobal + Copy + Send + 'static>
     Ok(Watched { pool, watch })
 }
 
-/// Three items for each worker: each of the steps saw all other workers in a step of the same number.
+/// Three items for each worker, whatever the gate: each of the steps saw all other workers in a step of the same number.
 fn step_together<R: Threads + Wait + Abort + AllocGlobal + Copy + Send + 'static>(
     rt: &R,
     workers: u32,
     refuse: &[bool],
 ) -> Result<(), Fail> {
-    let Watched { mut pool, watch } = make_watched(rt, refuse, Says::Yes, true)?;
+    let alloc = rt.alloc();
+    let watch = Watch::new(alloc, refuse.len(), Says::Yes, true)?;
+    let machines = Echo::several(alloc, &watch, refuse)?;
+    let gate = Arc::new(alloc, OpenGate)?;
+    let mut pool = CheckedPool::start(rt, alloc, machines, 64, gate)?;
     for item in 0..3 {
         for w in 0..workers {
             pool.give(rt, w, item);
@@ -57,7 +60,7 @@ fn steps_meet(rt: HostRuntime) -> Result<(), Fail> {
 /// A worker steps on an item though nobody asks for the answer.
 #[test]
 fn steps_unasked(rt: HostRuntime) -> Result<(), Fail> {
-    let Watched { mut pool, watch } = make_watched(&rt, &[false], Says::Yes, false)?;
+    let Watched { mut pool, watch } = make_watched(&rt, &[false], Says::Yes)?;
     pool.give(&rt, 0, 5);
     let is_seen = watch.is_met(1);
     pool.closed(&rt);
@@ -71,7 +74,7 @@ fn take_turns<R: Threads + Wait + Abort + AllocGlobal + Copy + Send + 'static>(
     says: Says,
     asks: u64,
 ) -> Result<(), Fail> {
-    let Watched { mut pool, watch } = make_watched(rt, &[false], says, false)?;
+    let Watched { mut pool, watch } = make_watched(rt, &[false], says)?;
     for item in 7..10 {
         pool.give(rt, 0, item);
     }
@@ -95,7 +98,7 @@ fn gate_is_asked_again(rt: HostRuntime) -> Result<(), Fail> {
 
 #[test]
 fn shut_gate_is_asked_a_million_times(rt: HostRuntime) -> Result<(), Fail> {
-    let Watched { mut pool, watch } = make_watched(&rt, &[false; 2], Says::NoTo(1), false)?;
+    let Watched { mut pool, watch } = make_watched(&rt, &[false; 2], Says::NoTo(1))?;
     pool.give(&rt, 1, 5);
     pool.give(&rt, 1, 6);
     let told = pool.take_soon(&rt, 1).err();
@@ -114,7 +117,7 @@ fn least_fault_is_told(rt: HostRuntime) -> Result<(), Fail> {
         (0, [false, true, true], PoolFault::GateShut(0)),
     ];
     for (worker, refuse, fault) in all {
-        let Watched { mut pool, watch } = make_watched(&rt, &refuse, Says::NoTo(worker), false)?;
+        let Watched { mut pool, watch } = make_watched(&rt, &refuse, Says::NoTo(worker))?;
         for w in [2, 1, 0] {
             pool.give(&rt, w, 5);
         }
@@ -126,12 +129,7 @@ fn least_fault_is_told(rt: HostRuntime) -> Result<(), Fail> {
 
 #[test]
 fn refused_memory_is_told(rt: HostRuntime) -> Result<(), Fail> {
-    let Watched { mut pool, watch: _ } = make_watched(
-        &rt,
-        &[true, false, false],
-        Says::Yes,
-        false,
-    )?;
+    let Watched { mut pool, watch: _ } = make_watched(&rt, &[true, false, false], Says::Yes)?;
     pool.give(&rt, 0, 5);
     pool.give(&rt, 1, 6);
     let answer = pool.take_soon(&rt, 1).ok();
@@ -146,7 +144,7 @@ fn refused_memory_is_told(rt: HostRuntime) -> Result<(), Fail> {
 /// `close` is refused nothing, and drops no machine.
 #[test]
 fn machines_are_dropped(rt: HostRuntime) -> Result<(), Fail> {
-    let Watched { mut pool, watch } = make_watched(&rt, &[false; 3], Says::Yes, false)?;
+    let Watched { mut pool, watch } = make_watched(&rt, &[false; 3], Says::Yes)?;
     pool.give(&rt, 0, 5);
     let ended = pool.closed(&rt);
     assert_eq!(rt; watch.drops(), 0);
