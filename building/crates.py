@@ -39,9 +39,10 @@ def lines_of(name):
     return count
 
 
-def current_program(name):
-    """Returns the path of the program that a launcher would run now, or None where it would build one."""
-    said = subprocess.run([f"{TOP}/launch", "--which", name], stdout=subprocess.PIPE, text=True, check=False).stdout
+def current_program(name, must_be_unproved=False):
+    """Returns the path of the program that a launcher would run now, or None where it would build one. A proved one may not count."""
+    words = [f"{TOP}/launch", "--which", name, *["unproved"] * must_be_unproved]
+    said = subprocess.run(words, stdout=subprocess.PIPE, text=True, check=False).stdout
     return said.rstrip("\n") or None
 
 
