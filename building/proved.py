@@ -200,7 +200,7 @@ class Build:
             return True
         self.say(f"{name} is not built; the end of crates/{name}/out/build.log:")
         with open(f"{TOP}/crates/{name}/out/build.log", encoding="utf-8", errors="replace") as log:
-            print(*log.readlines()[-12:], sep="", file=sys.stderr, flush=True)
+            print(*log.readlines()[-12:], sep="", end="", file=sys.stderr, flush=True)
         return False
 
     def all(self):
