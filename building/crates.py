@@ -42,7 +42,7 @@ def lines_of(name):
 def current_program(name, must_be_unproved=False):
     """Returns the path of the program that a launcher would run now, or None where it would build one. A proved one may not count."""
     words = [f"{TOP}/launch", "--which", name, *["unproved"] * must_be_unproved]
-    said = subprocess.run(words, stdout=subprocess.PIPE, text=True, check=False).stdout
+    said = subprocess.run(words, stdin=subprocess.DEVNULL, stdout=subprocess.PIPE, text=True, check=False).stdout
     return said.rstrip("\n") or None
 
 

@@ -103,6 +103,9 @@ class Lock:
             fcntl.flock(self.handle, fcntl.LOCK_EX | fcntl.LOCK_NB)
         except BlockingIOError:
             return False
+        except OSError:
+            # some file systems have no locks
+            pass
         return True
 
     def __enter__(self):

@@ -1,7 +1,7 @@
 """The proved build: each crate is proved by rt once the libraries below it are, as many at once as there are processors."""
 import os
 import shutil
-import subprocess
+import sys
 import tempfile
 import time
 
@@ -68,7 +68,7 @@ class Attempt:
     def kept(self):
         """Returns what of the crate's out/ a build begins with, and leaves."""
         program = f"out/{self.name}"
-        return [KEPT, program, f"{program}.o", f"{program}.stamp"] if self.is_program else [RLIB, KEPT]
+        return [KEPT, program, f"{program}.stamp"] if self.is_program else [RLIB, KEPT]
 
     def copy(self, below):
         """Copies the crate and those below it. Files of built libraries have a second name there: rt never writes into them."""
@@ -200,7 +200,7 @@ class Build:
             return True
         self.say(f"{name} is not built; the end of crates/{name}/out/build.log:")
         with open(f"{TOP}/crates/{name}/out/build.log", encoding="utf-8", errors="replace") as log:
-            self.say("".join(["\n", *log.readlines()[-12:]]).rstrip("\n"))
+            print(*log.readlines()[-12:], sep="", end="", file=sys.stderr, flush=True)
         return False
 
     def all(self):
