@@ -90,12 +90,12 @@ fn explained_under<R: Files + Input + Print + Eprint + AllocGlobal>(
     cuts.tell(rt, options.json)?;
     match &other {
         Some(other) => tell_against(rt, options.choice, &inputs, [&config, other]),
-        None => run_told(rt, options, &config, &inputs),
+        None => run(rt, options, &config, &inputs),
     }
 }
 
 /// Makes the run over the inputs, tells it, and draws it where that is asked for.
-fn run_told<R: Files + Print + Eprint + AllocGlobal>(
+fn run<R: Files + Print + Eprint + AllocGlobal>(
     rt: &R,
     options: &Options<'_>,
     config: &Config,
@@ -108,7 +108,7 @@ fn run_told<R: Files + Print + Eprint + AllocGlobal>(
     let progress = Progress::of(rt, inputs.len());
     progress.tell_begin(rt);
     let account = account_of(rt.alloc(), config, inputs, ends)?;
-    told(rt, options, inputs, &account, progress)?;
+    tell_run(rt, options, inputs, &account, progress)?;
     let shown = Shown {
         config,
         inputs,
@@ -143,7 +143,7 @@ fn drawing(alloc: Global, shown: Shown<'_>) -> Result<String, AllocError> {
 }
 
 /// Writes the lines that are asked for, the bindings and the summary; of one packet alone its line and the bindings that it used.
-fn told<R: Print + Eprint + AllocGlobal>(
+fn tell_run<R: Print + Eprint + AllocGlobal>(
     rt: &R,
     options: &Options<'_>,
     inputs: &[napt_sequential::Input],
@@ -157,7 +157,7 @@ fn told<R: Print + Eprint + AllocGlobal>(
         widths: Widths::of(inputs),
     };
     if options.json {
-        return told_in_json(rt, told, progress);
+        return tell_in_json(rt, told, progress);
     }
     if let Some(number) = options.choice.only {
         progress.tell_end(rt);
@@ -173,7 +173,7 @@ fn told<R: Print + Eprint + AllocGlobal>(
 }
 
 /// Writes a JSON object for each packet that is asked for.
-fn told_in_json<R: Print + Eprint + AllocGlobal>(
+fn tell_in_json<R: Print + Eprint + AllocGlobal>(
     rt: &R,
     told: Told<'_>,
     progress: Progress,

@@ -9,7 +9,7 @@ use either::{Either, Left, Right};
 use napt_capture::{Capture, CaptureFault, Watched, read_capture};
 use napt_config::{Config, ConfigFault};
 use napt_program::{
-    InputFiles, Streams, closed_stream, config_file, config_text, open_inputs, refuse_unmade,
+    InputFiles, Streams, closed_stream, config_text, open_config, open_inputs, refuse_unmade,
 };
 use napt_records::{Fault, merge};
 use napt_wire::Side;
@@ -150,7 +150,7 @@ fn configuration_text<R: Files + AllocGlobal>(
     rt: &R,
     path: &str,
 ) -> Result<Vec<u8>, napt_program::Stop> {
-    config_text(rt.alloc(), config_file(rt, path)?)
+    config_text(rt.alloc(), open_config(rt, path)?)
 }
 
 /// The capture of what comes from the outside; one of no packets where there is none.

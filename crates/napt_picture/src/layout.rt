@@ -17,10 +17,13 @@ pub const MOST_BARS: usize = 30;
 /// The height of a lane that shows how many bindings live.
 const COUNT_LANE: u64 = 70;
 
-/// How far apart arrows stand that would stand in one column, and how many of them may.
-const BESIDE: u64 = 5;
+/// How far apart arrows stand that would stand in one column, and how many may stand beside the first.
+const BESIDE: u64 = 8;
 
-const MOST_BESIDE: u64 = 5;
+const MOST_BESIDE: u64 = 8;
+
+/// The last column of an arrow, right of the time that is shown.
+const LAST_ARROW: u64 = RIGHT + 24;
 
 /// The height of the row of a cause.
 const CAUSE_ROW: u64 = 20;
@@ -395,18 +398,19 @@ impl Layout {
         }
     }
 
-    /// The arrow of a hairpin at a time, beside others that stand in its column.
+    /// The arrow of a hairpin at a time, beside others that stand in its column; upon the last one where there are too many.
     fn add_arrow(&mut self, clock: u64, top: u64, into: u64) -> Result<(), AllocError> {
         let first = self.span.column_of(clock);
+        let mut column = first;
         for beside in 0..=MOST_BESIDE {
-            let column = first.saturating_add(beside * BESIDE);
+            column = first.saturating_add(beside * BESIDE).min(LAST_ARROW);
             match self.arrows.get(&column) {
                 Some(tops) if *tops != (top, into) => {}
                 Some(_) => return Ok(()),
-                None => return self.insert_arrow(column, top, into),
+                None => break,
             }
         }
-        Ok(())
+        self.insert_arrow(column, top, into)
     }
 
     fn insert_arrow(&mut self, column: u64, top: u64, into: u64) -> Result<(), AllocError> {

@@ -13,6 +13,7 @@ const STYLE: &str = "<style>
   .head { font-size: 14px; font-weight: bold }
   .name { stroke: #f3f5f7; stroke-width: 3; stroke-linejoin: round; paint-order: stroke }
   .side { font-weight: bold; text-anchor: end }
+  .most { text-anchor: end; fill: #555 }
   .time { text-anchor: middle; fill: #555 }
   .unit { text-anchor: start }
   .page { fill: #fff }
@@ -150,7 +151,7 @@ fn draw_lane(text: &mut String, name: &str, lane: Lane) -> Result<(), AllocError
 fn draw_counts(text: &mut String, layout: &Layout) -> Result<(), AllocError> {
     for (counts, lane) in layout.counts.iter().zip(layout.lanes.iter()) {
         draw_count(text, counts, *lane)?;
-        open_words(text, "time side", LEFT - 10, lane.top.saturating_add(30))?;
+        open_words(text, "most", LEFT - 10, lane.top.saturating_add(30))?;
         writeln!(text, "at most {}</text>", counts.most)?;
     }
     Ok(())
