@@ -398,19 +398,23 @@ impl Layout {
         }
     }
 
-    /// The arrow of a hairpin at a time, beside others that stand in its column; upon the last one where there are too many.
+    /// The arrow of a hairpin at a time, beside others that stand in its column.
     fn add_arrow(&mut self, clock: u64, top: u64, into: u64) -> Result<(), AllocError> {
-        let first = self.span.column_of(clock);
+        let column = self.column_beside(self.span.column_of(clock), (top, into));
+        self.insert_arrow(column, top, into)
+    }
+
+    /// The first column, of this one and those beside it, where no arrow of other tops stands; the last one where there is none.
+    fn column_beside(&self, first: u64, tops: (u64, u64)) -> u64 {
         let mut column = first;
         for beside in 0..=MOST_BESIDE {
             column = first.saturating_add(beside * BESIDE).min(LAST_ARROW);
             match self.arrows.get(&column) {
-                Some(tops) if *tops != (top, into) => {}
-                Some(_) => return Ok(()),
-                None => break,
+                Some(taken) if *taken != tops => {}
+                _ => return column,
             }
         }
-        self.insert_arrow(column, top, into)
+        column
     }
 
     fn insert_arrow(&mut self, column: u64, top: u64, into: u64) -> Result<(), AllocError> {
