@@ -122,11 +122,7 @@ fn run<R: Files + Print + Eprint + AllocGlobal>(
 }
 
 /// Writes the picture of a run to a file. One that cannot be written is told by its name, with the system's reason.
-fn draw<R: Files + Eprint + AllocGlobal>(
-    rt: &R,
-    path: &str,
-    shown: Shown<'_>,
-) -> Result<(), Stop> {
+fn draw<R: Files + Eprint + AllocGlobal>(rt: &R, path: &str, shown: Shown<'_>) -> Result<(), Stop> {
     let text = drawing(rt.alloc(), shown)?;
     match fs::write(rt, path, text.as_str()) {
         Ok(()) => Ok(()),

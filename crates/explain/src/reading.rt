@@ -73,7 +73,11 @@ pub fn read_given<R: Files + Input + Eprint + AllocGlobal>(
     }
     let config = configuration(rt, options)?;
     let other = other_configuration(rt, options)?;
-    let InputFiles { inside, outside } = explain_file(rt, options, open_inputs(rt, &options.files))?;
+    let InputFiles { inside, outside } = explain_file(
+        rt,
+        options,
+        open_inputs(rt, &options.files),
+    )?;
     explain_file(rt, options, refuse_unmade(rt, &options.files))?;
     refuse_picture(rt, options)?;
     let inside = capture(rt, Side::Inside, inside)?;
@@ -111,8 +115,9 @@ fn configuration<R: Files + Eprint + AllocGlobal>(
 ) -> Result<Config, Stop> {
     match &options.files.config {
         Some(path) => configuration_at(rt, "config", path),
-        None => Config::built_in(rt.alloc())
-            .map_err(|_| Stop::As(napt_program::Stop::Config(ConfigFault::Memory))),
+        None => Config::built_in(rt.alloc()).map_err(|_| Stop::As(napt_program::Stop::Config(
+            ConfigFault::Memory,
+        ))),
     }
 }
 

@@ -227,7 +227,11 @@ fn changes_of(
     for binding in bindings {
         if binding.lane == lane && is_shown(span, binding) {
             let stands = binding.kind == BindingKind::Redirect;
-            let from = if stands { span.start } else { binding.made.max(span.start) };
+            let from = if stands {
+                span.start
+            } else {
+                binding.made.max(span.start)
+            };
             add_change(&mut changes, from, Change { more: 1, fewer: 0 })?;
             if !stands && span.has(binding.end) {
                 add_change(&mut changes, binding.end, Change { more: 0, fewer: 1 })?;
