@@ -54,11 +54,7 @@ pub fn tell_against<R: Print + AllocGlobal>(
 
 impl<'a> Both<'a> {
     /// Writes the lines of the chosen packets that end otherwise, and answers how many of all do.
-    fn tell_differences<R: Print + AllocGlobal>(
-        self,
-        rt: &R,
-        choice: Choice,
-    ) -> Result<u64, Stop> {
+    fn tell_differences<R: Print + AllocGlobal>(self, rt: &R, choice: Choice) -> Result<u64, Stop> {
         let mut different = 0u64;
         for at in 0..self.inputs.len() {
             if let Some(difference) = self.difference_at(at) {
@@ -89,7 +85,10 @@ impl<'a> Both<'a> {
     /// Writes how many packets end otherwise, and how many end in which way under each configuration.
     fn tell_counts<R: Print>(self, rt: &R, different: u64) -> Result<(), Stop> {
         let (first, second) = (self.first, self.second);
-        println!(rt; "packets: {}, of which {different} differ", self.inputs.len())?;
+        println!(rt;
+            "packets: {}, of which {different} differ",
+            self.inputs.len()
+        )?;
         let (one, other) = (count_to_outside(first), count_to_outside(second));
         println!(rt; "  {one} and {other} to the outside")?;
         let (one, other) = (count_to_inside(first), count_to_inside(second));
@@ -123,9 +122,11 @@ impl<'a> Difference<'a> {
         }
         match choice.host {
             None => Ok(true),
-            Some(host) => Ok(leaves_with(self.first, host)
-                || leaves_with(self.second, host)
-                || host.is_end_of_arrival(alloc, self.input.side, &self.input.bytes)?),
+            Some(host) => Ok(
+                leaves_with(self.first, host)
+                    || leaves_with(self.second, host)
+                    || host.is_end_of_arrival(alloc, self.input.side, &self.input.bytes)?,
+            ),
         }
     }
 

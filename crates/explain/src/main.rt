@@ -90,12 +90,12 @@ fn explained_under<R: Files + Input + Print + Eprint + AllocGlobal>(
     cuts.tell(rt, options.json)?;
     match &other {
         Some(other) => tell_against(rt, options.choice, &inputs, [&config, other]),
-        None => run_told(rt, options, &config, &inputs),
+        None => run(rt, options, &config, &inputs),
     }
 }
 
 /// Makes the run over the inputs, tells it, and draws it where that is asked for.
-fn run_told<R: Files + Print + Eprint + AllocGlobal>(
+fn run<R: Files + Print + Eprint + AllocGlobal>(
     rt: &R,
     options: &Options<'_>,
     config: &Config,
@@ -108,7 +108,7 @@ fn run_told<R: Files + Print + Eprint + AllocGlobal>(
     let progress = Progress::of(rt, inputs.len());
     progress.tell_begin(rt);
     let account = account_of(rt.alloc(), config, inputs, ends)?;
-    told(rt, options, inputs, &account, progress)?;
+    tell_run(rt, options, inputs, &account, progress)?;
     let shown = Shown {
         config,
         inputs,
@@ -122,11 +122,7 @@ fn run_told<R: Files + Print + Eprint + AllocGlobal>(
 }
 
 /// Writes the picture of a run to a file. One that cannot be written is told by its name, with the system's reason.
-fn draw<R: Files + Eprint + AllocGlobal>(
-    rt: &R,
-    path: &str,
-    shown: Shown<'_>,
-) -> Result<(), Stop> {
+fn draw<R: Files + Eprint + AllocGlobal>(rt: &R, path: &str, shown: Shown<'_>) -> Result<(), Stop> {
     let text = drawing(rt.alloc(), shown)?;
     match fs::write(rt, path, text.as_str()) {
         Ok(()) => Ok(()),
@@ -143,7 +139,7 @@ fn drawing(alloc: Global, shown: Shown<'_>) -> Result<String, AllocError> {
 }
 
 /// Writes the lines that are asked for, the bindings and the summary; of one packet alone its line and the bindings that it used.
-fn told<R: Print + Eprint + AllocGlobal>(
+fn tell_run<R: Print + Eprint + AllocGlobal>(
     rt: &R,
     options: &Options<'_>,
     inputs: &[napt_sequential::Input],
@@ -157,7 +153,7 @@ fn told<R: Print + Eprint + AllocGlobal>(
         widths: Widths::of(inputs),
     };
     if options.json {
-        return told_in_json(rt, told, progress);
+        return tell_in_json(rt, told, progress);
     }
     if let Some(number) = options.choice.only {
         progress.tell_end(rt);
@@ -173,7 +169,7 @@ fn told<R: Print + Eprint + AllocGlobal>(
 }
 
 /// Writes a JSON object for each packet that is asked for.
-fn told_in_json<R: Print + Eprint + AllocGlobal>(
+fn tell_in_json<R: Print + Eprint + AllocGlobal>(
     rt: &R,
     told: Told<'_>,
     progress: Progress,

@@ -214,10 +214,7 @@ fn refuse_mixed<R: Eprint>(rt: &R, matches: &ArgMatches<'_>) -> Result<(), Stop>
 }
 
 /// The files that the options of `napt` name.
-fn files_of(
-    alloc: Global,
-    matches: &ArgMatches<'_>,
-) -> Result<napt_options::Options, AllocError> {
+fn files_of(alloc: Global, matches: &ArgMatches<'_>) -> Result<napt_options::Options, AllocError> {
     Ok(napt_options::Options {
         config: file_of(alloc, matches, "config")?,
         inside: file_of(alloc, matches, "inside")?,
@@ -296,11 +293,7 @@ fn part_of<R: Eprint>(rt: &R, matches: &ArgMatches<'_>) -> Result<Part, Stop> {
 }
 
 /// The time that an option names, in ns. One that is none is told.
-fn time_of<R: Eprint>(
-    rt: &R,
-    matches: &ArgMatches<'_>,
-    option: &str,
-) -> Result<Option<u64>, Stop> {
+fn time_of<R: Eprint>(rt: &R, matches: &ArgMatches<'_>, option: &str) -> Result<Option<u64>, Stop> {
     let Some(text) = matches.get_str(option) else {
         return Ok(None);
     };
@@ -320,7 +313,10 @@ fn nanoseconds_of(text: &str) -> Option<u64> {
         None => (text, "0"),
     };
     let whole = seconds.parse::<u64>().ok()?.checked_mul(1_000_000_000)?;
-    if decimals.is_empty() || decimals.len() > 9 || !decimals.bytes().all(|it| it.is_ascii_digit()) {
+    if decimals.is_empty()
+        || decimals.len() > 9
+        || !decimals.bytes().all(|it| it.is_ascii_digit())
+    {
         return None;
     }
     let mut rest = decimals.parse::<u64>().ok()?;

@@ -5,11 +5,10 @@ use crate::stop::Stop;
 use napt_files::{is_same, place_of};
 use napt_options::Role;
 use napt_program::{MOST_BYTES, unmade};
-use std::fs;
 use std::fs::File;
-use std::io;
 use std::io::Read;
 use std::rt::Files;
+use std::{fs, io};
 
 /// A file by what names it: an option, or a standard stream that stands for an absent one.
 #[derive(Clone, Copy)]
@@ -47,7 +46,10 @@ pub fn tell_closed<R: Eprint>(rt: &R, role: Role) -> Stop {
         Role::Inside => "standard input",
         _ => "standard output",
     };
-    let _ = eprintln!(rt; "explain: {stream} is closed, and stands for --{}", role.name());
+    let _ = eprintln!(rt;
+        "explain: {stream} is closed, and stands for --{}",
+        role.name()
+    );
     Stop::Told(napt_program::Stop::File(role))
 }
 
@@ -166,10 +168,13 @@ fn named_again<R: Files>(
 ) -> Option<&'static str> {
     let place = place_of(rt, path);
     let all = all_named(options, output);
-    let again = all.iter().take(before(output)).find(|named| match named.path {
-        Some(other) => is_same(place, place_of(rt, other)),
-        None => false,
-    });
+    let again = all
+        .iter()
+        .take(before(output))
+        .find(|named| match named.path {
+            Some(other) => is_same(place, place_of(rt, other)),
+            None => false,
+        });
     again.map(|named| named.name)
 }
 

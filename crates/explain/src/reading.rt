@@ -9,7 +9,7 @@ use either::{Either, Left, Right};
 use napt_capture::{Capture, CaptureFault, Watched, read_capture};
 use napt_config::{Config, ConfigFault};
 use napt_program::{
-    InputFiles, Streams, closed_stream, config_file, config_text, open_inputs, refuse_unmade,
+    InputFiles, Streams, closed_stream, config_text, open_config, open_inputs, refuse_unmade,
 };
 use napt_records::{Fault, merge};
 use napt_wire::Side;
@@ -73,7 +73,11 @@ pub fn read_given<R: Files + Input + Eprint + AllocGlobal>(
     }
     let config = configuration(rt, options)?;
     let other = other_configuration(rt, options)?;
-    let InputFiles { inside, outside } = explain_file(rt, options, open_inputs(rt, &options.files))?;
+    let InputFiles { inside, outside } = explain_file(
+        rt,
+        options,
+        open_inputs(rt, &options.files),
+    )?;
     explain_file(rt, options, refuse_unmade(rt, &options.files))?;
     refuse_picture(rt, options)?;
     let inside = capture(rt, Side::Inside, inside)?;
@@ -111,8 +115,9 @@ fn configuration<R: Files + Eprint + AllocGlobal>(
 ) -> Result<Config, Stop> {
     match &options.files.config {
         Some(path) => configuration_at(rt, "config", path),
-        None => Config::built_in(rt.alloc())
-            .map_err(|_| Stop::As(napt_program::Stop::Config(ConfigFault::Memory))),
+        None => Config::built_in(rt.alloc()).map_err(|_| Stop::As(napt_program::Stop::Config(
+            ConfigFault::Memory,
+        ))),
     }
 }
 
@@ -150,7 +155,7 @@ fn configuration_text<R: Files + AllocGlobal>(
     rt: &R,
     path: &str,
 ) -> Result<Vec<u8>, napt_program::Stop> {
-    config_text(rt.alloc(), config_file(rt, path)?)
+    config_text(rt.alloc(), open_config(rt, path)?)
 }
 
 /// The capture of what comes from the outside; one of no packets where there is none.

@@ -42,8 +42,12 @@ impl<'a> Shown<'a> {
 
     /// Whether a binding lives in the part that is shown; a redirect always does.
     fn has(self, life: &Life) -> bool {
-        let begins = self.moment(self.part.until).is_none_or(|until| life.made <= until);
-        let ends = self.moment(self.part.from).is_none_or(|from| from < life.end);
+        let begins = self
+            .moment(self.part.until)
+            .is_none_or(|until| life.made <= until);
+        let ends = self
+            .moment(self.part.from)
+            .is_none_or(|from| from < life.end);
         life.fixed || (begins && ends)
     }
 
@@ -149,12 +153,7 @@ fn label_of(alloc: Global, life: &Life) -> Result<String, AllocError> {
 }
 
 /// A binding of a label with its external address, and with its times since the first packet where it is no redirect.
-fn title_of(
-    alloc: Global,
-    life: &Life,
-    label: &str,
-    zero: u64,
-) -> Result<String, AllocError> {
+fn title_of(alloc: Global, life: &Life, label: &str, zero: u64) -> Result<String, AllocError> {
     let external = Address(life.external.address);
     if life.fixed {
         return format!(in alloc; "{label} at {external}");

@@ -137,7 +137,11 @@ impl Party {
         match packet.kind() {
             Kind::Echo => {
                 let number = source.number.max(destination.number);
-                self.has(Endpoint { number, ..source }) || self.has(Endpoint { number, ..destination })
+                self.has(Endpoint { number, ..source })
+                    || self.has(Endpoint {
+                        number,
+                        ..destination
+                    })
             }
             Kind::ErrorOf(inner) => {
                 self.is_host(source.address)

@@ -151,9 +151,7 @@ fn line_text(alloc: Global, widths: Widths, line: Line<'_>) -> Result<String, Al
     let side = side_name(input.side);
     let before = arrival_text(alloc, input.side, &input.bytes)?;
     let rest = rest_text(alloc, input.side, outcome, note)?;
-    format!(in alloc;
-        "{number:>number_width$} {time:>time_width$} {side:<7} {before:<50} | {rest}"
-    )
+    format!(in alloc; "{number:>number_width$} {time:>time_width$} {side:<7} {before:<50} | {rest}")
 }
 
 fn is_chosen(alloc: Global, choice: Choice, line: Line<'_>) -> Result<bool, AllocError> {
@@ -166,8 +164,10 @@ fn is_chosen(alloc: Global, choice: Choice, line: Line<'_>) -> Result<bool, Allo
         None => Ok(true),
         Some(host) => {
             let input = line.input;
-            Ok(leaves_with(line.outcome, host)
-                || host.is_end_of_arrival(alloc, input.side, &input.bytes)?)
+            Ok(
+                leaves_with(line.outcome, host)
+                    || host.is_end_of_arrival(alloc, input.side, &input.bytes)?,
+            )
         }
     }
 }

@@ -17,10 +17,13 @@ pub const MOST_BARS: usize = 30;
 /// The height of a lane that shows how many bindings live.
 const COUNT_LANE: u64 = 70;
 
-/// How far apart arrows stand that would stand in one column, and how many of them may.
-const BESIDE: u64 = 5;
+/// How far apart arrows stand that would stand in one column, and how many may stand beside the first.
+const BESIDE: u64 = 8;
 
-const MOST_BESIDE: u64 = 5;
+const MOST_BESIDE: u64 = 8;
+
+/// The last column of an arrow, right of the time that is shown.
+const LAST_ARROW: u64 = RIGHT + 24;
 
 /// The height of the row of a cause.
 const CAUSE_ROW: u64 = 20;
@@ -224,7 +227,11 @@ fn changes_of(
     for binding in bindings {
         if binding.lane == lane && is_shown(span, binding) {
             let stands = binding.kind == BindingKind::Redirect;
-            let from = if stands { span.start } else { binding.made.max(span.start) };
+            let from = if stands {
+                span.start
+            } else {
+                binding.made.max(span.start)
+            };
             add_change(&mut changes, from, Change { more: 1, fewer: 0 })?;
             if !stands && span.has(binding.end) {
                 add_change(&mut changes, binding.end, Change { more: 0, fewer: 1 })?;
@@ -397,16 +404,21 @@ impl Layout {
 
     /// The arrow of a hairpin at a time, beside others that stand in its column.
     fn add_arrow(&mut self, clock: u64, top: u64, into: u64) -> Result<(), AllocError> {
-        let first = self.span.column_of(clock);
+        let column = self.column_beside(self.span.column_of(clock), (top, into));
+        self.insert_arrow(column, top, into)
+    }
+
+    /// The first column, of this one and those beside it, where no arrow of other tops stands; the last one where there is none.
+    fn column_beside(&self, first: u64, tops: (u64, u64)) -> u64 {
+        let mut column = first;
         for beside in 0..=MOST_BESIDE {
-            let column = first.saturating_add(beside * BESIDE);
+            column = first.saturating_add(beside * BESIDE).min(LAST_ARROW);
             match self.arrows.get(&column) {
-                Some(tops) if *tops != (top, into) => {}
-                Some(_) => return Ok(()),
-                None => return self.insert_arrow(column, top, into),
+                Some(taken) if *taken != tops => {}
+                _ => return column,
             }
         }
-        Ok(())
+        column
     }
 
     fn insert_arrow(&mut self, column: u64, top: u64, into: u64) -> Result<(), AllocError> {

@@ -13,6 +13,7 @@ const STYLE: &str = "<style>
   .head { font-size: 14px; font-weight: bold }
   .name { stroke: #f3f5f7; stroke-width: 3; stroke-linejoin: round; paint-order: stroke }
   .side { font-weight: bold; text-anchor: end }
+  .most { text-anchor: end; fill: #555 }
   .time { text-anchor: middle; fill: #555 }
   .unit { text-anchor: start }
   .page { fill: #fff }
@@ -150,7 +151,7 @@ fn draw_lane(text: &mut String, name: &str, lane: Lane) -> Result<(), AllocError
 fn draw_counts(text: &mut String, layout: &Layout) -> Result<(), AllocError> {
     for (counts, lane) in layout.counts.iter().zip(layout.lanes.iter()) {
         draw_count(text, counts, *lane)?;
-        open_words(text, "time side", LEFT - 10, lane.top.saturating_add(30))?;
+        open_words(text, "most", LEFT - 10, lane.top.saturating_add(30))?;
         writeln!(text, "at most {}</text>", counts.most)?;
     }
     Ok(())
@@ -159,12 +160,15 @@ fn draw_counts(text: &mut String, layout: &Layout) -> Result<(), AllocError> {
 /// The area below the number of a lane's living bindings.
 fn draw_count(text: &mut String, counts: &Counts, lane: Lane) -> Result<(), AllocError> {
     let floor = lane.bottom.saturating_sub(3);
-    let full = floor
-        .saturating_sub(lane.top)
-        .saturating_sub(COUNT_PAD);
+    let full = floor.saturating_sub(lane.top).saturating_sub(COUNT_PAD);
     write!(text, "<path class=\"count\" d=\"M{LEFT} {floor}")?;
     for step in &counts.steps {
-        draw_step(text, *step, floor, full.saturating_mul(1000) / counts.most.max(1))?;
+        draw_step(
+            text,
+            *step,
+            floor,
+            full.saturating_mul(1000) / counts.most.max(1),
+        )?;
     }
     writeln!(text, "H{RIGHT}V{floor}z\"/>")
 }
@@ -182,7 +186,11 @@ fn draw_drops(text: &mut String, layout: &Layout) -> Result<(), AllocError> {
     for mark in &layout.marks {
         if mark.kind == MarkKind::Dropped {
             let line = mark.top.saturating_add(4);
-            writeln!(text, "<path class=\"drops\" d=\"M{} {line}v12\"/>", mark.column)?;
+            writeln!(
+                text,
+                "<path class=\"drops\" d=\"M{} {line}v12\"/>",
+                mark.column
+            )?;
         }
     }
     Ok(())
@@ -207,8 +215,24 @@ fn draw_axis(text: &mut String, span: Span, bottom: u64) -> Result<(), AllocErro
         let moment = span.zero.saturating_add(time);
         if moment <= span.end {
             let column = span.column_of(moment);
-            draw_time(text, Point { column, line: HEAD - 12 }, time, apart)?;
-            draw_time(text, Point { column, line: bottom.saturating_add(16) }, time, apart)?;
+            draw_time(
+                text,
+                Point {
+                    column,
+                    line: HEAD - 12,
+                },
+                time,
+                apart,
+            )?;
+            draw_time(
+                text,
+                Point {
+                    column,
+                    line: bottom.saturating_add(16),
+                },
+                time,
+                apart,
+            )?;
             draw_line(text, column, bottom)?;
         }
         time = time.saturating_add(apart);

@@ -26,11 +26,11 @@ pub fn configuration<R: Files + AllocGlobal>(rt: &R, path: Option<&String>) -> R
     let Some(path) = path else {
         return Config::built_in(rt.alloc()).map_err(|_| Stop::Config(ConfigFault::Memory));
     };
-    config_from(rt.alloc(), config_file(rt, path)?)
+    config_from(rt.alloc(), open_config(rt, path)?)
 }
 
 /// The file of a configuration, to be read. Fails by its role, or where memory runs out, where it cannot be opened.
-pub fn config_file<R: Files>(rt: &R, path: &str) -> Result<R::File, Stop>
+pub fn open_config<R: Files>(rt: &R, path: &str) -> Result<R::File, Stop>
     ensures { IfErr result IsUnread }
 {
     File::open(rt, path).map_err(|error| unread_config(&error))

@@ -5,13 +5,12 @@ ghost use Rattle.napt_program.specs.Files.{IsFileStop};
 
 use crate::stop::Stop;
 use napt_options::{Options, Role};
-use std::fs;
 use std::fs::{FileType, OpenOptions};
-use std::io;
 use std::io::ErrorKind;
 use std::os::unix::fs::FileTypeExt;
 use std::path::Path;
 use std::rt::Files;
+use std::{fs, io};
 
 /// Refuses, by its role, the first output in the order of the options that could not be made or emptied, as `unmade` tells.
 /// Makes and changes nothing.
