@@ -28,7 +28,7 @@ mod program;
 #[cfg(test)]
 mod report;
 #[cfg(test)]
-mod sample_inputs;
+pub mod sample_inputs;
 #[cfg(test)]
 mod steps;
 #[cfg(test)]

@@ -1,4 +1,5 @@
-//! Large runs: a thousand inputs, and sixteen hosts that each send to all others.
+//! The inputs of large runs: a thousand, and those of sixteen hosts that each send to all others. An `Err` of a function here
+//! says that memory was refused.
 
 use crate::steps::input;
 use napt_run::Input;
@@ -7,11 +8,11 @@ use napt_wire::Side;
 use std::alloc::{AllocError, Global};
 
 /// The settings of the thousand inputs.
-pub(crate) const THREE_ADDRESSES: &str =
+pub const THREE_ADDRESSES: &str =
     "pool = ['203.0.113.1', '203.0.113.2', '203.0.113.3']\ninside = ['10.0.0.0/8']\n";
 
 /// 203.0.113.1 to 203.0.113.16.
-pub(crate) const SIXTEEN_ADDRESSES: &str =
+pub const SIXTEEN_ADDRESSES: &str =
     "pool = ['203.0.113.1', '203.0.113.2', '203.0.113.3', '203.0.113.4', '203.0.113.5', \
 '203.0.113.6', '203.0.113.7', '203.0.113.8', '203.0.113.9', '203.0.113.10', '203.0.113.11', '203.0.113.12', \
 '203.0.113.13', '203.0.113.14', '203.0.113.15', '203.0.113.16']\ninside = ['10.0.0.0/8']\n";
@@ -20,8 +21,8 @@ const MILLISECOND: u64 = 1_000_000;
 
 /// A thousand UDP packets without payload, all from inside, one in each millisecond from 0 on. They come from the hosts
 /// 10.0.0.2 to 10.0.0.7 in turn and the ports 6000 to 6003 in turn. Every fifth goes to the same port of 203.0.113.1,
-/// 203.0.113.2 and 203.0.113.3 in turn, the others to `RESOLVER`.
-pub(crate) fn thousand_inputs(alloc: Global) -> Result<Vec<Input>, AllocError> {
+/// 203.0.113.2 and 203.0.113.3 in turn, the others to `RESOLVER`. Under `THREE_ADDRESSES` no packet is dropped.
+pub fn thousand_inputs(alloc: Global) -> Result<Vec<Input>, AllocError> {
     let mut inputs = Vec::new(alloc);
     for k in 0..1000u16 {
         let port = 6000 + k % 4;
@@ -38,7 +39,7 @@ pub(crate) fn thousand_inputs(alloc: Global) -> Result<Vec<Input>, AllocError> {
 
 /// Sixteen hosts, each with an external address of its own, send to the resolver, and then each to all the others in turn, one packet
 /// in each millisecond.
-pub(crate) fn all_to_all(alloc: Global) -> Result<Vec<Input>, AllocError> {
+pub fn all_to_all(alloc: Global) -> Result<Vec<Input>, AllocError> {
     let mut inputs = Vec::new(alloc);
     for k in 0..272u16 {
         let destination = if k < 16 {

@@ -1,5 +1,7 @@
-// A wait ends once what it waits for is there, however long it took.
+// A wait ends once what it waits for is there, however long it took, and sleeps only where it takes long.
 use napt_pool::Backoff;
+use std::fs;
+use std::rt::Files;
 use std::sync::Arc;
 use std::sync::atomic::{AtomicBool, Ordering};
 use std::test::Fail;
@@ -24,5 +26,34 @@ fn waits_for_a_thread(rt: HostRuntime) -> Result<(), Fail> {
         backoff.pause(&rt);
     }
     child.join(&rt);
+    Ok(())
+}
+
+/// How often this thread has slept, as Linux counts it: a thread that yields does not sleep.
+fn sleeps<R: Files + AllocGlobal>(rt: &R) -> Result<u64, Fail> {
+    let status = fs::read_to_string(rt, "/proc/thread-self/status")?;
+    for line in status.lines() {
+        if let Some(count) = line.strip_prefix("voluntary_ctxt_switches:") {
+            return Ok(count.trim().parse::<u64>()?);
+        }
+    }
+    Err("no count of sleeps".into())
+}
+
+/// The first 512 pauses of a wait are no sleeps, and each after them is one. Other causes of a sleep are few.
+#[test]
+fn sleeps_after_its_looks(rt: HostRuntime) -> Result<(), Fail> {
+    let mut backoff = Backoff::new();
+    let begun = sleeps(&rt)?;
+    for _ in 0..512 {
+        backoff.pause(&rt);
+    }
+    let looked = sleeps(&rt)?;
+    for _ in 0..512 {
+        backoff.pause(&rt);
+    }
+    let slept = sleeps(&rt)?;
+    assert!(rt; looked.saturating_sub(begun) < 128, "{begun} {looked}");
+    assert!(rt; slept.saturating_sub(looked) >= 384, "{looked} {slept}");
     Ok(())
 }
