@@ -1,7 +1,7 @@
 //! The lines of an account.
 
-use crate::json::tell_object;
 use crate::names::{Seconds, side_name};
+use crate::objects::tell_object;
 use crate::options::Choice;
 use crate::shown::{Party, arrival_text, packet_text};
 use crate::stop::Stop;
