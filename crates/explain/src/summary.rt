@@ -222,11 +222,12 @@ fn used(packet: &Packet, note: Note) -> &'static str {
 pub fn tell_bindings<R: Print>(rt: &R, told: Told<'_>) -> Result<(), Stop> {
     let now = told.inputs.last().map_or(0, |input| input.clock);
     let time = Seconds(now);
-    let rows = &told.account.run.bindings;
+    let account = told.account;
+    let rows = &account.run.bindings;
     println!(rt; "live bindings at {time}: {}", rows.len())?;
     for row in rows {
         if has_party(row, told.choice.host) {
-            tell_binding(rt, now, row, told.account)?;
+            tell_binding(rt, now, row, account)?;
         }
     }
     Ok(())
