@@ -43,11 +43,11 @@ impl Widths {
 /// How many decimal digits a number has.
 fn digits(number: u64) -> usize {
     let mut rest = number / 10;
-    let mut many = 1;
+    let mut many = 1usize;
     for _ in 0..20 {
         if rest > 0 {
             rest /= 10;
-            many += 1;
+            many = many.saturating_add(1);
         }
     }
     many
