@@ -120,22 +120,23 @@ impl<'a> Difference<'a> {
         if choice.only.is_some_and(|only| only != self.number) || (choice.dropped && !is_dropped) {
             return Ok(false);
         }
+        let input = self.input;
         match choice.host {
             None => Ok(true),
             Some(host) => Ok(
                 leaves_with(self.first, host)
                     || leaves_with(self.second, host)
-                    || host.is_end_of_arrival(alloc, self.input.side, &self.input.bytes)?,
+                    || host.is_end_of_arrival(alloc, input.side, &input.bytes)?,
             ),
         }
     }
 
     /// The line of the packet, with what becomes of it under the first and under the second configuration.
     fn text(self, alloc: Global) -> Result<String, AllocError> {
-        let number = self.number;
-        let time = Seconds(self.input.time);
-        let side = side_name(self.input.side);
-        let before = arrival_text(alloc, self.input.side, &self.input.bytes)?;
+        let (number, input) = (self.number, self.input);
+        let time = Seconds(input.time);
+        let side = side_name(input.side);
+        let before = arrival_text(alloc, input.side, &input.bytes)?;
         let first = outcome_text(alloc, self.first)?;
         let second = outcome_text(alloc, self.second)?;
         format!(in alloc; "{number} {time} {side:<7} {before} | {first} | {second}")

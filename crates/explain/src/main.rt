@@ -7,8 +7,8 @@
 #![tactic(auto)]
 
 mod against;
-mod json;
 mod names;
+mod objects;
 mod options;
 mod places;
 mod progress;

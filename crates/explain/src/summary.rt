@@ -1,7 +1,7 @@
 //! The lines of an account.
 
-use crate::json::tell_object;
 use crate::names::{Seconds, side_name};
+use crate::objects::tell_object;
 use crate::options::Choice;
 use crate::shown::{Party, arrival_text, packet_text};
 use crate::stop::Stop;
@@ -43,11 +43,11 @@ impl Widths {
 /// How many decimal digits a number has.
 fn digits(number: u64) -> usize {
     let mut rest = number / 10;
-    let mut many = 1;
+    let mut many = 1usize;
     for _ in 0..20 {
         if rest > 0 {
             rest /= 10;
-            many += 1;
+            many = many.saturating_add(1);
         }
     }
     many
@@ -222,11 +222,12 @@ fn used(packet: &Packet, note: Note) -> &'static str {
 pub fn tell_bindings<R: Print>(rt: &R, told: Told<'_>) -> Result<(), Stop> {
     let now = told.inputs.last().map_or(0, |input| input.clock);
     let time = Seconds(now);
-    let rows = &told.account.run.bindings;
+    let account = told.account;
+    let rows = &account.run.bindings;
     println!(rt; "live bindings at {time}: {}", rows.len())?;
     for row in rows {
         if has_party(row, told.choice.host) {
-            tell_binding(rt, now, row, told.account)?;
+            tell_binding(rt, now, row, account)?;
         }
     }
     Ok(())

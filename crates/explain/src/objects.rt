@@ -126,7 +126,7 @@ fn ends_of(alloc: Global, packet: &Packet) -> Result<Ends, AllocError> {
     let (has_ports, about) = match kind {
         Kind::Udp | Kind::Tcp(_) => (true, None),
         Kind::Echo => (false, None),
-        Kind::ErrorOf(inner) => (false, Some(quoted(alloc, inner)?)),
+        Kind::ErrorOf(inner) => (false, Some(quoted_of(alloc, inner)?)),
     };
     Ok(Ends {
         kind: kind_name(packet),
@@ -149,7 +149,7 @@ fn kind_name(packet: &Packet) -> &'static str {
     }
 }
 
-fn quoted(alloc: Global, inner: Inner) -> Result<Quoted, AllocError> {
+fn quoted_of(alloc: Global, inner: Inner) -> Result<Quoted, AllocError> {
     let (source, destination) = (inner.source, inner.destination);
     let is_query = inner.protocol == Protocol::Icmp;
     Ok(Quoted {
