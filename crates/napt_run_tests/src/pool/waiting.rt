@@ -1,11 +1,10 @@
 // A wait ends once what it waits for is there, however long it took, and sleeps only where it takes long.
 use napt_pool::Backoff;
-use std::fs;
 use std::rt::Files;
 use std::sync::Arc;
 use std::sync::atomic::{AtomicBool, Ordering};
 use std::test::Fail;
-use std::thread;
+use std::{fs, thread};
 
 /// The pauses of a wait go from looking at once over yields to sleeps.
 #[test]
