@@ -1,5 +1,5 @@
 -- What is true of a worker after legs were offered.
-use Rattle.std.proofs.Common.{◌≡◌, ◌≢◌, ◌⊎◌, ◌||◌, ℕ, zero, suc, ◌+◌, ◌<◌, Bool, true, false, List, [], ◌∷◌, length, refl, sym, ◌∙◌, ap, arith, inl, inr}
+use Rattle.std.proofs.Common.{◌≡◌, ◌≢◌, ◌⊎◌, ◌||◌, ℕ, zero, suc, ◌+◌, ◌<◌, Bool, true, false, List, [], ◌∷◌, length, refl, sym, ◌∙◌, ap, subst, arith, inl, inr}
 use Rattle.std.specs.Prelude.{nat_le, slice_get, slice_set, MatchBool}
 use Rattle.std.proofs.lemmas.List.{set-set, set-get_or}
 use Rattle.napt_translate.specs.declared.translator.Leg.{Leg}
@@ -69,9 +69,9 @@ second_forgets number progress later leg is = rw is.0 (set_forgets progress numb
 
 -- OFFERS
 
-pub or_true : (b : Bool) → (b || true) ≡ true
-or_true true = refl
-or_true false = refl
+or_right : (a b : Bool) → b ≡ true → (a || b) ≡ true
+or_right true b h = refl
+or_right false b h = h
 
 -- a place that waits goes on waiting
 first_waits_on : (progress later : List Progress) (held : List Held) → Forgets progress later →
@@ -172,15 +172,18 @@ module _ {M G : Type 0} where
   pub offered_as_first_waits : (w : ℕ) (pool : Pool M G Leg Answer) (d later : Dispatcher) → parts_of later ≡ parts_of d →
       first_waits (parts_of d).progress (of_worker (parts_of d).held w) ≡ true → HasOffered pool later w
   offered_as_first_waits w pool d later same h =
-      inl (rw (same, h) (or_true (nat_le later.ring (length (of_worker (parts_of d).owed w)))))
+      inl (subst (λ (p : Parts). waits later.ring p w ≡ true) (sym same)
+      (or_right (nat_le later.ring (length (of_worker (parts_of d).owed w)))
+      (first_waits (parts_of d).progress (of_worker (parts_of d).held w)) h))
 
   -- nothing is held
   pub offered_as_none : (w : ℕ) (pool : Pool M G Leg Answer) (d : Dispatcher) →
       length (of_worker (parts_of d).held w) ≡ 0 → HasOffered pool d w
   offered_as_none w pool d none =
-      inl (rw (waits_at_none (parts_of d).progress (of_worker (parts_of d).held w)
-      (nothing (of_worker (parts_of d).held w) none))
-      (or_true (nat_le d.ring (length (of_worker (parts_of d).owed w)))))
+      inl (or_right (nat_le d.ring (length (of_worker (parts_of d).owed w)))
+      (first_waits (parts_of d).progress (of_worker (parts_of d).held w))
+      (waits_at_none (parts_of d).progress (of_worker (parts_of d).held w)
+      (nothing (of_worker (parts_of d).held w) none)))
 
   -- what the pool gave back stands first again
   pub puts_back : (w : ℕ) (leg back : Leg) (pool : Pool M G Leg Answer) (d : Dispatcher)
