@@ -23,9 +23,9 @@ returns-in-Known-clause-first c =
         room = c.in-Some-Place.ensures.room;
       },
       λ offered taken.
-      let state : DispatchState = record { offered = offered; taken = taken; parts = parts_of c.args.self.now } in
-      next_keeps_as c.args.w c.in-Some-Place.number state (parts_of left).held c.requires.place popped c.in-Known.leg
-      c.second_leg.new.self c.in-Known.ensures,
+          let state : DispatchState = record { offered = offered; taken = taken; parts = parts_of c.args.self.now } in
+          next_keeps_as c.args.w c.in-Some-Place.number state (parts_of left).held c.requires.place popped c.in-Known.leg
+          c.second_leg.new.self c.in-Known.ensures,
     )
 
 pub returns-in_ok-put_back-in-Unknown-clause-first : goal.returns-in_ok-put_back-in-Unknown-clause-first

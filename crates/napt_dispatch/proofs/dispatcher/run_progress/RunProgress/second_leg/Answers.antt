@@ -51,8 +51,8 @@ returns-then-number-len c =
     let past : length c.self.inside.stages.items ≤ c.args.number = omega (arith, c.self.inside.stages.ok.0) in (
       refl,
       rw (← c.self.view_is)
-      (known_past c.self.inside.stages.items c.self.inside.outcomes.items c.self.inside.unread c.args.number
-      c.self.invariant past),
+          (known_past c.self.inside.stages.items c.self.inside.outcomes.items c.self.inside.unread c.args.number
+          c.self.invariant past),
     )
 
 pub returns-in-Awaited : goal.returns-in-Awaited
@@ -60,8 +60,8 @@ returns-in-Awaited c =
     let lt : c.args.number < length c.self.inside.stages.items = omega (arith, c.self.inside.stages.ok.0) in (
       refl,
       rw (← c.self.view_is)
-      (known_not c.self.inside.stages.items c.self.inside.outcomes.items c.self.inside.unread c.args.number
-      c.index.result.now c.self.invariant lt c.index.ensures c.in-Awaited.is),
+          (known_not c.self.inside.stages.items c.self.inside.outcomes.items c.self.inside.unread c.args.number
+          c.index.result.now c.self.invariant lt c.index.ensures c.in-Awaited.is),
     )
 
 pub returns-in_default : goal.returns-in_default
@@ -83,5 +83,5 @@ returns-in_default c =
         c.in-Onward.is,
         ← c.index_mut-kept.ensures.value,
       )
-      (onward_lost _ c.index_mut-kept.result.now (λ x h. c.in_default.not-ToInside x (c.replace.ensures.value ∙ h))),
+          (onward_lost _ c.index_mut-kept.result.now (λ x h. c.in_default.not-ToInside x (c.replace.ensures.value ∙ h))),
     )
