@@ -1,6 +1,7 @@
 -- What the workers are left with shows what a run gives.
 use Rattle.std.proofs.Common.{◌≡◌, ◌≢◌, ℕ, zero, suc, ◌+◌, ◌<◌, ◌≤◌, max, Bool, true, false, List, [], ◌∷◌, ◌++◌, length, map, Result, Ok, Err, refl, sym, ◌∙◌, ap, subst, arith}
 use Rattle.std.proofs.lemmas.List.{length-map}
+use Rattle.std.proofs.lemmas.List.Folds.{flat_map-map}
 use Rattle.std.specs.Prelude.{slice_index, slice_index_or, flat_map, IfErr, OnOk}
 use Rattle.napt_config.specs.Rules.{Rules}
 use Rattle.napt_table.specs.declared.Row.{Row}
@@ -11,6 +12,7 @@ use Rattle.napt_translate.specs.declared.translator.Leg.{Leg}
 use Rattle.napt_translate.specs.declared.translator.Answer.{Answer}
 use Rattle.napt_translate.specs.Legs.{Kept, kept_after_all}
 use Rattle.napt_translate.specs.Translators.{TranslatorState, begun, kept_of, with_kept, left_by}
+use Rattle.napt_pool.specs.declared.closing.Ended.{Ended}
 use Rattle.napt_pool.specs.declared.machine.Machine.{Ghosts}
 use Rattle.napt_pool.specs.Histories.{after}
 use Rattle.napt_pool.specs.Pools.{zip_with}
@@ -104,6 +106,14 @@ module _ (g : Ghosts TranslatorState Leg Answer) (stepped_is : (s : TranslatorSt
 
 pub started_more : (rules : Rules) (n : ℕ) → started rules (n + 1) ≡ started rules n ++ begun n rules ∷ []
 started_more rules n = let e : n + 1 ≡ suc n = omega arith in ap (started rules) e
+
+-- the rows of the workers as they ended, by their translators
+pub rows_shown : (last : ℕ) (bindings : List Row) (ended lent : List (Ended TranslatorState Leg Answer)) →
+    bindings ≡ flat_map (λ e. rows_after last e.machine) lent → lent ≡ ended →
+    bindings ≡ flat_map (rows_after last) (map (λ e. e.machine) ended)
+rows_shown last bindings ended lent is same =
+    is ∙ (ap (flat_map (λ (e : Ended TranslatorState Leg Answer). rows_after last e.machine)) same
+    ∙ sym (flat_map-map (rows_after last) (λ (e : Ended TranslatorState Leg Answer). e.machine) ended))
 
 -- FAULTS
 

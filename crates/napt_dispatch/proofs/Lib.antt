@@ -2,6 +2,7 @@ pub mod Closed
 pub mod Ended
 pub mod Hairpin
 pub mod Lists
+pub mod Offering
 pub mod Offers
 pub mod Queues
 pub mod Stages

@@ -1,13 +1,15 @@
 -- A leg that is offered at once stands where it would be held.
-use Rattle.std.proofs.Common.{◌≡◌, ◌≢◌, ℕ, ◌<◌, List, [], ◌∷◌, ◌++◌, length, sym, refl, inl, inr, Option, Some, None}
-use Rattle.std.specs.Prelude.{MatchOption}
+use Rattle.std.proofs.Common.{◌≡◌, ◌≢◌, ℕ, ◌+◌, ◌<◌, ◌≤◌, List, [], ◌∷◌, ◌++◌, length, sym, refl, inl, inr, arith, Option, Some, None}
+use Rattle.std.specs.Prelude.{IfSome, MatchOption}
 use Rattle.std.proofs.lemmas.Bool.{cases_eq}
 use Rattle.std.proofs.lemmas.List.{set-set, set_comm}
 use Rattle.napt_translate.specs.declared.translator.Leg.{Leg}
 use Rattle.napt_dispatch.specs.declared.dispatcher.held.Held.TheVariants.{Ready, Place}
 use Rattle.napt_dispatch.specs.Dispatch.{of_worker}
-use Rattle.napt_dispatch.specs.Standing.{pushed, put_first, Parts, with_held}
+use Rattle.napt_dispatch.specs.Queues.{pushed, put_first, many_in}
+use Rattle.napt_dispatch.specs.Standing.{Parts, with_held}
 use Rattle.napt_dispatch.proofs.Lists.{push_other}
+use Rattle.napt_dispatch.proofs.Queues.{many_pushed}
 use Rattle.napt_dispatch.proofs.Standing.{set_own}
 
 module _ {X : Type 0} (lists : List (List X)) (w : ℕ) (x : X) (lt : w < length lists)
@@ -50,3 +52,13 @@ pub placed_first : (w : ℕ) (leg : Leg) (to : Option ℕ) (parts later : Parts)
 placed_first w leg None parts later lt none e = rw (e, put_is_pushed parts.held w (Ready leg) lt none) refl
 placed_first w leg (Some v) parts later lt none e =
     rw (e, put_before_place parts.held w (Ready leg) lt none v (Place leg.number)) refl
+
+-- a place more fits, and then one leg
+pub placed_room : (to : Option ℕ) (number : ℕ) (parts later : Parts) → IfSome to (λ v. v < length parts.held) →
+    MatchOption to (later ≡ parts) (λ v. later ≡ with_held (pushed v (Place number) parts.held) parts) →
+    many_in parts.held + 2 ≤ 65536 → many_in later.held < 65536
+placed_room None number parts later within e room = rw e (omega (arith, room))
+placed_room (Some v) number parts later within e room =
+    let more : many_in later.held ≡ many_in parts.held + 1 =
+    rw e (many_pushed parts.held v within (Place number)) in
+    omega (arith, room, more)

@@ -1,14 +1,16 @@
 -- What is known of inputs, by their stages and what is kept beside them.
-use Rattle.std.proofs.Common.{◌≡◌, ℕ, zero, suc, ◌<◌, true, ◌+◌, List, [], ◌∷◌, ◌++◌, length, map, set, replicate, get_or, Option, Some, refl, sym, ◌∙◌, ap, arith, append-nil, append_assoc, length-append}
+use Rattle.std.proofs.Common.{◌≡◌, ◌≢◌, ◌⊎◌, inl, inr, ℕ, zero, suc, ◌<◌, ◌≤◌, true, ◌+◌, List, [], ◌∷◌, ◌++◌, length, map, set, replicate, get_or, Option, Some, refl, sym, ◌∙◌, ap, arith, append-nil, append_assoc, length-append}
 use Rattle.std.proofs.lemmas.List.{set-append_left, length-replicate}
 use Rattle.std.specs.Prelude.{slice_get}
 use Rattle.napt_pool.specs.Pools.{zip_with}
+use Rattle.napt_wire.specs.declared.Cause.TheVariants.{NoBinding}
 use Rattle.napt_sequential.specs.declared.outcome.Outcome.{Outcome}
+use Rattle.napt_sequential.specs.declared.outcome.Outcome.TheVariants.{ToOutside, ToInside, Dropped}
 use Rattle.napt_dispatch.specs.declared.dispatcher.progress.Progress.{Progress}
 use Rattle.napt_dispatch.specs.declared.dispatcher.progress.Progress.TheVariants.{Awaited}
 use Rattle.napt_dispatch.specs.declared.dispatcher.stage.Stage.{Stage}
 use Rattle.napt_dispatch.specs.declared.dispatcher.stage.Stage.TheVariants as stages
-use Rattle.napt_dispatch.specs.Stages.{progress_of, has_ended, known}
+use Rattle.napt_dispatch.specs.Stages.{progress_of, has_ended, known, is_unknown}
 use Rattle.napt_dispatch.specs.Standing.{outcome_in}
 
 zip_set : (ss : List Stage) (os : List Outcome) (i : ℕ) (s : Stage) (o : Outcome) →
@@ -84,6 +86,35 @@ pub known_more : (ss : List Stage) (os : List Outcome) (o : Outcome) (unread : �
 known_more ss os o unread e =
     rw (zip_more ss os stages.Awaited o e)
     (append_assoc (zip_with progress_of ss os) (Awaited ∷ []) (replicate unread Awaited))
+
+awaited_unknown : (n i : ℕ) → is_unknown (slice_get (replicate n Awaited) i) ≡ true
+awaited_unknown zero i = refl
+awaited_unknown (suc n) zero = refl
+awaited_unknown (suc n) (suc i) = awaited_unknown n i
+
+-- of one that was not read nothing is known
+pub known_past : (ss : List Stage) (os : List Outcome) (unread i : ℕ) → length ss ≡ length os → length ss ≤ i →
+    is_unknown (slice_get (known ss os unread) i) ≡ true
+known_past [] os unread i e le = awaited_unknown unread i
+known_past (s ∷ ss) [] unread i e le = absurd (omega arith)
+known_past (s ∷ ss) (o ∷ os) unread zero e le = absurd (omega arith)
+known_past (s ∷ ss) (o ∷ os) unread (suc i) e le = known_past ss os unread i (omega arith) (omega arith)
+
+-- nor of one that awaits an answer, or ended on its way in
+pub known_not : (ss : List Stage) (os : List Outcome) (unread i : ℕ) (s : Stage) → length ss ≡ length os →
+    i < length ss → s ≡ get_or ss i s → (s ≡ stages.Awaited) ⊎ (s ≡ stages.EndedIn) →
+    is_unknown (slice_get (known ss os unread) i) ≡ true
+known_not ss os unread i s e lt at (inl is) =
+    rw (known_get ss os unread i s (Dropped NoBinding) e lt, ← at, is) refl
+known_not ss os unread i s e lt at (inr is) =
+    rw (known_get ss os unread i s (Dropped NoBinding) e lt, ← at, is) refl
+
+-- nor of one that went onward and whose packet is not kept
+pub onward_lost : (now : ℕ) (o : Outcome) → ((packet : List ℕ) → o ≢ ToInside packet) →
+    is_unknown (Some (progress_of (stages.Onward now) o)) ≡ true
+onward_lost now (ToInside packet) n = absurd (n packet refl)
+onward_lost now (ToOutside packet) n = refl
+onward_lost now (Dropped cause) n = refl
 
 pub known_long : (ss : List Stage) (os : List Outcome) (unread : ℕ) → length ss ≡ length os →
     length (known ss os unread) ≡ length ss + unread

@@ -36,7 +36,8 @@ use Rattle.napt_sequential.specs.Dispatching.{IsFront, told, IsTold, IsForetold,
 use Rattle.napt_dispatch.specs.Dispatch.{of_worker, Right, Distinct, IsDispatched}
 use Rattle.napt_sequential.specs.Places.{first_act, second_legs, second_of, IsSeconded}
 use Rattle.napt_sequential.specs.Admission.{admission}
-use Rattle.napt_dispatch.specs.Standing.{pushed, put_first, Popped, Parts, DispatchState, IsSized, owed_of, IsOwed, resolved, next_leg, IsKnown, Reaches, Stands, Keeps, with_held, with_progress, with_first, ended, IsToldBy, Noted, IsSecond, Admits, IsDone, outcome_in}
+use Rattle.napt_dispatch.specs.Queues.{pushed, put_first, Popped}
+use Rattle.napt_dispatch.specs.Standing.{Parts, DispatchState, IsSized, owed_of, IsOwed, resolved, next_leg, IsKnown, Reaches, Stands, Keeps, with_held, with_progress, with_first, ended, IsToldBy, Noted, IsSecond, Admits, IsDone, outcome_in}
 use Rattle.napt_dispatch.proofs.Lists.{push_own, push_other, count_push, place_within, no_lengths, of_replicate}
 use Rattle.napt_sequential.proofs.Dispatched.{right_answers, answers_tell}
 use Rattle.napt_sequential.proofs.Grown.{outcomes_long}

@@ -1,4 +1,5 @@
 pub mod Dispatch
 pub mod Offers
+pub mod Queues
 pub mod Stages
 pub mod Standing

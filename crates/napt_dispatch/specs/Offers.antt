@@ -2,7 +2,8 @@
 use Rattle.std.specs.Prelude.{Option, Some, None}
 use Rattle.napt_dispatch.specs.declared.dispatcher.offer.Offer.{Offer}
 use Rattle.napt_dispatch.specs.declared.dispatcher.held.Held.TheVariants.{Ready}
-use Rattle.napt_dispatch.specs.Standing.{put_first, Parts, DispatchState, with_held}
+use Rattle.napt_dispatch.specs.Queues.{put_first}
+use Rattle.napt_dispatch.specs.Standing.{Parts, DispatchState, with_held}
 
 -- as if its leg were first of what is held for its worker
 abbrev pub with_offer : Option Offer → Parts → Parts

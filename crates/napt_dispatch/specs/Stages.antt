@@ -1,5 +1,5 @@
 -- How far an input has come.
-use Rattle.std.specs.Prelude.{ℕ, ◌++◌, List, replicate, Bool, true, false}
+use Rattle.std.specs.Prelude.{ℕ, ◌++◌, List, replicate, Bool, true, false, Option, Some, None}
 use Rattle.napt_pool.specs.Pools.{zip_with}
 use Rattle.napt_sequential.specs.declared.outcome.Outcome.{Outcome}
 use Rattle.napt_sequential.specs.declared.outcome.Outcome.TheVariants.{ToOutside, ToInside, Dropped}
@@ -27,3 +27,11 @@ has_ended stages.EndedIn = true
 -- what is known of all inputs: of those that were read, and of so many that were not
 abbrev pub known : List Stage → List Outcome → ℕ → List Progress
 known stages kept unread = zip_with progress_of stages kept ++ replicate unread Awaited
+
+-- nothing is known of the second leg of an input (RFC 4787, REQ-9)
+abbrev pub is_unknown : Option Progress → Bool
+is_unknown None = true
+is_unknown (Some Awaited) = true
+is_unknown (Some (Onward now packet)) = false
+is_unknown (Some (EndedOut outcome)) = false
+is_unknown (Some (EndedIn outcome)) = true

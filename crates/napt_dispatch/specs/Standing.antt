@@ -3,7 +3,7 @@
 -- For each worker: what it was offered, followed by what is held for it, are its legs of the run over the inputs that
 -- were read. A place among what is held stands for a second leg (RFC 4787, REQ-9) that the answer of the first will
 -- tell. That the answers are right is a premise until the workers are joined, which then tells it.
-use Rattle.std.specs.Prelude.{◌≡◌, ℕ, ◌<◌, max, Bool, List, [], ◌∷◌, ◌++◌, map, flat_map, length, slice_index, slice_set, slice_get, Option, Some, None, Result, MatchResult}
+use Rattle.std.specs.Prelude.{◌≡◌, ◌≢◌, ◌⊎◌, ◌||◌, ℕ, ◌+◌, ◌<◌, max, nat_le, Bool, true, false, List, [], ◌∷◌, ◌++◌, map, flat_map, length, slice_index, slice_set, slice_get, Option, Some, None, Result, MatchResult}
 use Rattle.napt_wire.specs.declared.Way.{Way}
 use Rattle.napt_wire.specs.declared.Way.TheVariants.{Outgoing, Incoming}
 use Rattle.napt_config.specs.Rules.{Rules}
@@ -13,7 +13,7 @@ use Rattle.napt_translate.specs.declared.translator.Answer.{Answer}
 use Rattle.napt_translate.specs.declared.translator.End.{End}
 use Rattle.napt_translate.specs.declared.translator.End.TheVariants as ends
 use Rattle.napt_pool.specs.declared.pool.Pool.{Pool}
-use Rattle.napt_pool.specs.Pools.{starts, accepts, takes}
+use Rattle.napt_pool.specs.Pools.{starts, accepts, takes, capacity_of}
 use Rattle.napt_sequential.specs.declared.fault.RunFault.{RunFault}
 use Rattle.napt_sequential.specs.declared.outcome.Outcome.{Outcome}
 use Rattle.napt_sequential.specs.declared.outcome.Outcome.TheVariants as outcomes
@@ -30,23 +30,9 @@ use Rattle.napt_dispatch.specs.declared.dispatcher.second.Second.TheVariants as 
 use Rattle.napt_sequential.specs.Inputs.{Arrival}
 use Rattle.napt_sequential.specs.Sequential.{Act, Course, run, last_clock, legs_at}
 use Rattle.napt_dispatch.specs.Dispatch.{of_worker, IsDispatchFault, Right}
+use Rattle.napt_dispatch.specs.Queues.{pushed, put_first, Popped, many_in}
+use Rattle.napt_dispatch.specs.Stages.{is_unknown}
 use Rattle.napt_sequential.specs.Places.{second_legs}
-
--- LISTS OF WORKERS
-
--- one more at the end of a worker's list
-abbrev pub pushed : {X : Type 0} → ℕ → X → List (List X) → List (List X)
-pushed w x lists = slice_set lists w (of_worker lists w ++ x ∷ [])
-
--- one more at its front
-abbrev pub put_first : {X : Type 0} → ℕ → X → List (List X) → List (List X)
-put_first w x lists = slice_set lists w (x ∷ of_worker lists w)
-
--- the first of a worker's list left it
-pub record Popped {X : Type 0} (w : ℕ) (x : X) (lists later : List (List X)) : Type 0 where
-  pub rest : List X
-  pub first : of_worker lists w ≡ x ∷ rest
-  pub later_is : later ≡ slice_set lists w rest
 
 -- WHAT A DISPATCHER KEEPS
 
@@ -62,7 +48,7 @@ abbrev pub parts_of : Dispatcher → Parts
 parts_of d = record {
   counts = d.offered.items;
   owed = map (λ q. q.items) d.owed.items;
-  held = map (λ q. q.items) d.held.items;
+  held = d.held;
   progress = d.progress;
 }
 
@@ -201,21 +187,42 @@ pub record Noted (w : ℕ) (answer : Answer) (parts later : Parts) : Type 0 wher
 
 -- the second leg of an input, as far as it is known
 abbrev pub IsSecond : ℕ → List Progress → List Progress → Second → Type 0
-IsSecond number progress later seconds.Unknown = later ≡ progress
+IsSecond number progress later seconds.Unknown = (later ≡ progress) × (is_unknown (slice_get progress number) ≡ true)
 IsSecond number progress later seconds.Never = (later ≡ progress) × (outcome : Outcome)
     × (slice_get progress number ≡ Some (EndedOut outcome))
 IsSecond number progress later (seconds.Known leg) =
     (later ≡ slice_set progress number Awaited)
     × (slice_get progress number ≡ Some (Onward leg.now leg.packet)) × (leg ≡ next_leg number leg.now leg.packet)
 
+-- of an input whose second leg was not known it is not known now
+abbrev pub Forgets : List Progress → List Progress → Type 0
+Forgets progress later = (number : ℕ) → is_unknown (slice_get progress number) ≡ true →
+    is_unknown (slice_get later number) ≡ true
+
+-- what stood first for worker w was taken out, and there is room to put it back
+pub record TakesFirst (w : ℕ) (parts later : Parts) : Type 0 where
+  pub first : Held
+  pub popped : Popped w first parts.held later.held
+  pub counts_stay : later.counts ≡ parts.counts
+  pub owed_stays : later.owed ≡ parts.owed
+  pub forgets : Forgets parts.progress later.progress
+  pub room : many_in later.held < 65536
+
+-- nothing that is held can be offered: nothing is held, or a place that waits stands first
+abbrev pub first_waits : List Progress → List Held → Bool
+first_waits progress [] = true
+first_waits progress (Ready leg ∷ rest) = false
+first_waits progress (Place number ∷ rest) = is_unknown (slice_get progress number)
+
 -- what stood first for worker w: it still does, a place that stands for nothing went, or a leg was taken out
 abbrev pub IsFirst : ℕ → Parts → Parts → First → Type 0
-IsFirst w parts later firsts.Waits = KeepsParts parts later
-IsFirst w parts later firsts.Gone = KeepsParts parts later
-IsFirst w parts later (firsts.Next leg) =
-    (offered : List (List Leg)) (taken : List (List Answer)) →
+IsFirst w parts later firsts.Waits = (later ≡ parts)
+    × (first_waits parts.progress (of_worker parts.held w) ≡ true)
+IsFirst w parts later firsts.Gone = TakesFirst w parts later × KeepsParts parts later
+IsFirst w parts later (firsts.Next leg) = TakesFirst w parts later
+    × ((offered : List (List Leg)) (taken : List (List Answer)) →
     Keeps (record { offered = offered; taken = taken; parts = parts })
-    (with_first w leg (record { offered = offered; taken = taken; parts = later }))
+    (with_first w leg (record { offered = offered; taken = taken; parts = later })))
 
 -- one input more was read
 abbrev pub Admits : Rules → ℕ → ℕ → Arrival → Parts → Parts → Type 0
@@ -229,6 +236,56 @@ Admits rules number now input parts later =
       parts =
           later;
     })
+
+-- OFFERS
+
+-- the ring of worker w has no room for a leg more, until an answer is taken
+abbrev pub IsRingFull : {M G : Type 0} → Pool M G Leg Answer → ℕ → Type 0
+IsRingFull pool w = length (of_worker (accepts pool) w) ≡ length (of_worker (takes pool) w) + capacity_of pool
+
+-- a leg was offered to worker w: it was accepted behind the others, and its answer is owed
+pub record Offers {M G : Type 0} (w : ℕ) (leg : Leg) (pool : Pool M G Leg Answer) (d : Dispatcher)
+    (later_pool : Pool M G Leg Answer) (later : Dispatcher) : Type 0 where
+  pub accepted : accepts later_pool ≡ pushed w leg (accepts pool)
+  pub takes_stay : takes later_pool ≡ takes pool
+  pub capacity_stays : capacity_of later_pool ≡ capacity_of pool
+  pub ring_stays : later.ring ≡ d.ring
+  pub parts_are : parts_of later ≡ record (parts_of d) {
+    counts = slice_set (parts_of d).counts w (slice_index (parts_of d).counts w + 1);
+    owed = pushed w (owed_of leg) (parts_of d).owed;
+  }
+
+-- it was not, since the ring of worker w is full: it stands first of what is held
+pub record PutsBack {M G : Type 0} (w : ℕ) (leg : Leg) (pool : Pool M G Leg Answer) (d : Dispatcher)
+    (later_pool : Pool M G Leg Answer) (later : Dispatcher) : Type 0 where
+  pub full : IsRingFull pool w
+  pub accepts_stay : accepts later_pool ≡ accepts pool
+  pub takes_stay : takes later_pool ≡ takes pool
+  pub capacity_stays : capacity_of later_pool ≡ capacity_of pool
+  pub ring_stays : later.ring ≡ d.ring
+  pub parts_are : parts_of later ≡ with_held (put_first w (Ready leg) (parts_of d).held) (parts_of d)
+
+-- nothing can be offered to worker w: as many legs are owed as its ring has room for, or nothing that is held can be
+abbrev pub waits : ℕ → Parts → ℕ → Bool
+waits ring parts w = nat_le ring (length (of_worker parts.owed w))
+    || first_waits parts.progress (of_worker parts.held w)
+
+-- worker w was offered all that it can be: nothing is held for it, a place that waits stands first, or its ring is full
+abbrev pub HasOffered : {M G : Type 0} → Pool M G Leg Answer → Dispatcher → ℕ → Type 0
+HasOffered pool d w = (waits d.ring (parts_of d) w ≡ true) ⊎ IsRingFull pool w
+
+-- no worker but w was offered anything, and of no input is more known
+pub record OffersOnlyTo {M G : Type 0} (w : ℕ) (pool : Pool M G Leg Answer) (d : Dispatcher)
+    (later_pool : Pool M G Leg Answer) (later : Dispatcher) : Type 0 where
+  pub takes_stay : takes later_pool ≡ takes pool
+  pub capacity_stays : capacity_of later_pool ≡ capacity_of pool
+  pub ring_stays : later.ring ≡ d.ring
+  pub accepts_else : (v : ℕ) → v ≢ w → of_worker (accepts later_pool) v ≡ of_worker (accepts pool) v
+  pub owed_else : (v : ℕ) → v ≢ w → of_worker (parts_of later).owed v ≡ of_worker (parts_of d).owed v
+  pub held_else : (v : ℕ) → v ≢ w → of_worker (parts_of later).held v ≡ of_worker (parts_of d).held v
+  pub forgets : Forgets (parts_of d).progress (parts_of later).progress
+
+-- THE END
 
 -- nothing is held and nothing owed
 pub record IsDone (parts : Parts) : Type 0 where

@@ -27,7 +27,7 @@ mod taking;
 use crate::Worker;
 use crate::inputs::copies;
 use arrived::Arrived;
-use held::{Held, Owed};
+use held::{HeldLegs, Owed};
 use impossible_answer::ImpossibleAnswer;
 use napt_config::Config;
 use napt_pool::{Gate, Machine, Pool};
@@ -48,9 +48,7 @@ pub(crate) struct Dispatcher {
     /// The legs whose answers each worker owes, oldest first.
     owed: Vec<VecDeque<Owed>>,
     /// What is not yet offered to each worker, oldest first.
-    held: Vec<VecDeque<Held>>,
-    /// How much is held for all of them.
-    many_held: u64,
+    held: HeldLegs,
     /// Of each input.
     progress: RunProgress,
 }
@@ -72,8 +70,7 @@ impl Dispatcher {
             ring,
             offered: vec![in alloc; 0; workers]?,
             owed: empty(alloc, workers)?,
-            held: empty(alloc, workers)?,
-            many_held: 0,
+            held: HeldLegs::new(alloc, workers)?,
             progress: RunProgress::new(alloc, inputs)?,
         })
     }

@@ -1,6 +1,7 @@
-//! Copies of inputs, for a run that owns their bytes.
+//! The inputs of a run that stand in a list.
 
 ghost use Rattle.std.specs.Prelude.{◌≡◌, IfOk};
+ghost use Rattle.napt_sequential.specs.Sequential as model;
 
 use napt_sequential::Input;
 use std::alloc::{AllocError, Global};
@@ -27,4 +28,15 @@ pub(crate) fn copies(alloc: Global, inputs: &[Input]) -> Result<VecDeque<Input>,
         made.push(copy_of(alloc, input)?)?;
     }
     Ok(VecDeque::from(made))
+}
+
+/// The greatest clock of the inputs, in ns; 0 where there are none.
+pub(crate) fn last_clock(inputs: &[Input]) -> u64
+    ensures { result ≡ model.last_clock 0 inputs.now }
+{
+    let mut clock = 0u64;
+    for input in inputs {
+        clock = clock.max(input.clock);
+    }
+    clock
 }

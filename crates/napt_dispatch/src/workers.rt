@@ -1,16 +1,18 @@
 //! The run over workers on threads of their own.
 
-ghost use Rattle.std.specs.Prelude.{◌≡◌, ◌↔◌, ◌^◌, ◌≤◌, ◌<◌, length, map, flat_map, vec_len, AllPairs, IfOk, IfErr, Err, true, false};
+ghost use Rattle.std.specs.Prelude.{◌≡◌, ◌↔◌, ◌^◌, ◌≤◌, ◌<◌, [], length, map, flat_map, replicate, vec_len, AllPairs, IfOk, IfErr, OnOk, Ok, Err, true, false};
 ghost use Rattle.napt_config.specs.Rules.{KeepsRules};
+ghost use Rattle.napt_pool.specs.Histories.{after, replies};
+ghost use Rattle.napt_pool.specs.Pools.{starts, accepts, takes, zip_with};
 ghost use Rattle.napt_sequential.specs.Sequential as model;
-ghost use Rattle.napt_dispatch.specs.Dispatch.{first_fault, started, rows_after, IsFaultUnder, is_gate_fault};
+ghost use Rattle.napt_dispatch.specs.Dispatch.{first_fault, started, rows_after, IsDispatchFault, IsFaultUnder, is_gate_fault};
 ghost use Rattle.napt_table.specs.Endpoints.{AreRowsApart};
 
 use crate::Worker;
-use crate::dispatcher::{Dispatched, dispatch_arrivals};
-use crate::inputs::copies;
+use crate::dispatcher::{Dispatched, dispatch, dispatch_arrivals};
+use crate::inputs::last_clock;
 use napt_config::Config;
-use napt_pool::{Ended, Gate, Pool, PoolFault};
+use napt_pool::{Ended, Gate, Machine, Pool, PoolFault};
 use napt_sequential::{Arrivals, Input, Run, RunFault, runs_are_sound};
 use napt_table::Row;
 use napt_translate::Translator;
@@ -46,6 +48,56 @@ fn bindings(alloc: Global, ended: &[Ended<Worker>], now: u64) -> Result<Vec<Row>
     Ok(made)
 }
 
+/// Starts a worker on a thread of its own for each external address.
+fn start<R: Threads + Wait + Copy + Send + 'static, G: Gate + Send + Sync + Drop + 'static>(
+    rt: &R,
+    alloc: Global,
+    config: &Config,
+    gate: Arc<G>,
+) -> Result<Pool<Worker, G>, RunFault>
+    ensures started { IfOk result (λ pool. starts pool ≡ started config.now
+        (length config.now.pool)) }
+    ensures unoffered { IfOk result (λ pool. accepts pool ≡ replicate (length config.now.pool) []) }
+    ensures untaken { IfOk result (λ pool. takes pool ≡ replicate (length config.now.pool) []) }
+    ensures fault { IfErr result (IsFaultUnder G.is_open) }
+{
+    let machines = workers(alloc, config)?;
+    Ok(Pool::start(rt, alloc, machines, config.ring(), gate)?)
+}
+
+/// What dispatching and closing come to: a fault of dispatching is told before one of the pool.
+fn first_fault<D: Drop>(
+    dispatched: Result<D, RunFault>,
+    closed: Result<Vec<Ended<Worker>>, PoolFault>,
+) -> Result<(D, Vec<Ended<Worker>>), RunFault>
+    ensures { result ≡ first_fault dispatched closed }
+{
+    let dispatched = dispatched?;
+    Ok((dispatched, closed?))
+}
+
+/// Closes the pool whatever dispatching came to, and gives what it gave beside the workers as they ended. A fault of
+/// dispatching is told before one of the pool.
+fn close<R: Threads, G: Gate, D: Drop>(
+    rt: &R,
+    alloc: Global,
+    pool: Pool<Worker, G>,
+    dispatched: Result<D, RunFault>,
+) -> Result<(D, Vec<Ended<Worker>>), RunFault>
+    ensures given { IfOk result (λ both. dispatched ≡ Ok both.0) }
+    ensures machines { IfOk result (λ both. map (λ e. e.machine) both.1.items
+        ≡ zip_with (after ⟦<Worker as Machine>⟧) (starts pool) (accepts pool)) }
+    ensures settled { map length (takes pool) ≡ map length (accepts pool) →
+        OnOk result (takes pool ≡ zip_with (replies ⟦<Worker as Machine>⟧)
+        (starts pool) (accepts pool)) }
+    ensures first { IfErr dispatched (λ fault. result ≡ Err fault) }
+    ensures fault { IfErr dispatched (IsDispatchFault G.is_open) →
+        IfErr result (IsFaultUnder G.is_open) }
+{
+    let closed = pool.close(rt, alloc);
+    first_fault(dispatched, closed)
+}
+
 /// Runs over the inputs with a worker on a thread of its own for each external address, and gives exactly what `run_plain`
 /// gives, whatever the gate, the size of the rings and the schedule are. The gate is asked by each worker before each leg.
 ///
@@ -67,20 +119,15 @@ pub fn run_workers<
     if inputs.len() > 4_294_967_295 {
         return Err(RunFault::TooMany);
     }
-    let mut inputs = copies(alloc, inputs)?;
-    let done = run_on_pool(rt, alloc, config, &mut inputs, gate)?;
-    Ok(done.run)
-}
-
-/// What dispatching and closing come to: a fault of dispatching is told before one of the pool.
-fn first_fault(
-    dispatched: Result<Dispatched, RunFault>,
-    closed: Result<Vec<Ended<Worker>>, PoolFault>,
-) -> Result<(Dispatched, Vec<Ended<Worker>>), RunFault>
-    ensures { result ≡ first_fault dispatched closed }
-{
-    let dispatched = dispatched?;
-    Ok((dispatched, closed?))
+    let mut pool = start(rt, alloc, config, gate)?;
+    let dispatched = dispatch(rt, alloc, &mut pool, config, inputs);
+    let ((outcomes, legs), ended) = close(rt, alloc, pool, dispatched)?;
+    let bindings = bindings(alloc, &ended, last_clock(inputs))?;
+    Ok(Run {
+        outcomes,
+        bindings,
+        legs,
+    })
 }
 
 /// A run, with the arrival time of each of its inputs, in ns.
@@ -109,11 +156,9 @@ pub fn run_on_pool<
     ensures times { IfOk result (λ done. done.times.items ≡ map (λ i. i.time) (I.rest inputs.old)) }
     ensures fault { IfErr result (IsFaultUnder G.is_open) }
 {
-    let machines = workers(alloc, config)?;
-    let mut pool = Pool::start(rt, alloc, machines, config.ring(), gate)?;
+    let mut pool = start(rt, alloc, config, gate)?;
     let dispatched = dispatch_arrivals(rt, alloc, &mut pool, config, inputs);
-    let closed = pool.close(rt, alloc);
-    let (dispatched, ended) = first_fault(dispatched, closed)?;
+    let (dispatched, ended) = close(rt, alloc, pool, dispatched)?;
     let Dispatched {
         outcomes,
         legs,

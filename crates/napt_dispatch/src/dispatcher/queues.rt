@@ -1,8 +1,8 @@
 //! Queues, one for each worker.
 
-ghost use Rattle.std.specs.Prelude.{◌≡◌, ◌<◌, ℕ, [], map, length, true, IfOk, OnOk, MatchOption};
+ghost use Rattle.std.specs.Prelude.{◌≡◌, ◌↔◌, ◌<◌, ℕ, [], map, length, true, IfOk, OnOk, OnErr, MatchOption};
 ghost use Rattle.napt_dispatch.specs.Dispatch.{of_worker};
-ghost use Rattle.napt_dispatch.specs.Standing.{pushed, put_first, Popped};
+ghost use Rattle.napt_dispatch.specs.Queues.{pushed, put_first, Popped, BeginsWith};
 
 use std::alloc::{AllocError, Global};
 use std::collections::VecDeque;
@@ -27,8 +27,10 @@ pub(crate) fn push_back<T: Drop>(
     item: T,
 ) -> Result<(), AllocError>
     requires { w < length (map (λ q. q.items) queues.old.items) }
-    ensures { OnOk result (map (λ q. q.items) queues.new.items
+    ensures ok { OnOk result (map (λ q. q.items) queues.new.items
         ≡ pushed w item (map (λ q. q.items) queues.old.items)) }
+    ensures err { OnErr result (map (λ q. q.items) queues.new.items
+        ≡ map (λ q. q.items) queues.old.items) }
 {
     let queue = &mut queues[w as usize];
     queue.push_back(item)?;
@@ -42,8 +44,10 @@ pub(crate) fn push_front<T: Drop>(
     item: T,
 ) -> Result<(), AllocError>
     requires { w < length (map (λ q. q.items) queues.old.items) }
-    ensures { OnOk result (map (λ q. q.items) queues.new.items
+    ensures ok { OnOk result (map (λ q. q.items) queues.new.items
         ≡ put_first w item (map (λ q. q.items) queues.old.items)) }
+    ensures err { OnErr result (map (λ q. q.items) queues.new.items
+        ≡ map (λ q. q.items) queues.old.items) }
 {
     let queue = &mut queues[w as usize];
     queue.push_front(item)?;
@@ -53,8 +57,9 @@ pub(crate) fn push_front<T: Drop>(
 /// Takes the first item of the queue of worker `w`, where there is one.
 pub(crate) fn pop_front<T>(queues: &mut Vec<VecDeque<T>>, w: u32) -> Option<T>
     requires { w < length (map (λ q. q.items) queues.old.items) }
-    ensures { MatchOption result (map (λ q. q.items) queues.new.items
-        ≡ map (λ q. q.items) queues.old.items) (λ item.
+    ensures { MatchOption result ((map (λ q. q.items) queues.new.items
+        ≡ map (λ q. q.items) queues.old.items)
+        × (of_worker (map (λ q. q.items) queues.old.items) w ≡ [])) (λ item.
         Popped w item (map (λ q. q.items) queues.old.items) (map (λ q. q.items) queues.new.items)) }
 {
     let queue = &mut queues[w as usize];
@@ -64,6 +69,8 @@ pub(crate) fn pop_front<T>(queues: &mut Vec<VecDeque<T>>, w: u32) -> Option<T>
 /// The first item of the queue of worker `w`, where there is one.
 pub(crate) fn first_of<T>(queues: &[VecDeque<T>], w: u32) -> Option<&T>
     requires { w < length (map (λ q. q.items) queues.now) }
+    ensures { MatchOption result (of_worker (map (λ q. q.items) queues.now) w ≡ []) (λ item.
+        BeginsWith item.now (of_worker (map (λ q. q.items) queues.now) w)) }
 {
     queues[w as usize].front()
 }
@@ -71,6 +78,7 @@ pub(crate) fn first_of<T>(queues: &[VecDeque<T>], w: u32) -> Option<&T>
 /// How many items wait for worker `w`.
 pub(crate) fn len_at<T>(queues: &[VecDeque<T>], w: u32) -> usize
     requires { w < length (map (λ q. q.items) queues.now) }
+    ensures { result ≡ length (of_worker (map (λ q. q.items) queues.now) w) }
 {
     queues[w as usize].len()
 }
@@ -78,7 +86,7 @@ pub(crate) fn len_at<T>(queues: &[VecDeque<T>], w: u32) -> usize
 /// Whether no item waits for worker `w`.
 pub(crate) fn is_empty_at<T>(queues: &[VecDeque<T>], w: u32) -> bool
     requires { w < length (map (λ q. q.items) queues.now) }
-    ensures { result ≡ true → of_worker (map (λ q. q.items) queues.now) w ≡ [] }
+    ensures { (result ≡ true) ↔ (of_worker (map (λ q. q.items) queues.now) w ≡ []) }
 {
     queues[w as usize].is_empty()
 }

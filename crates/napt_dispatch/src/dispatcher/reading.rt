@@ -1,6 +1,6 @@
 //! Reading the inputs in their order.
 
-ghost use Rattle.std.specs.Prelude.{◌≡◌, ◌<◌, ◌^◌, ℕ, Bool, true, [], length, slice_set, slice_get, Ok, Err, Some, None, IfOk, IfErr, IfSome, OnOk, MatchOption};
+ghost use Rattle.std.specs.Prelude.{◌≡◌, ◌↔◌, ◌+◌, ◌<◌, ◌≤◌, ◌^◌, ℕ, Bool, true, [], length, slice_set, slice_get, Ok, Err, Some, None, IfOk, IfErr, IfSome, OnOk, MatchOption};
 ghost use Rattle.napt_wire.specs.declared.Side.TheVariants.{Inside as InsideSide};
 ghost use Rattle.napt_wire.specs.Fields.{destination};
 ghost use Rattle.napt_wire.specs.Packet.{IsPacket};
@@ -14,7 +14,8 @@ ghost use Rattle.napt_dispatch.specs.declared.dispatcher.held.Held.TheVariants.{
 ghost use Rattle.napt_dispatch.specs.declared.dispatcher.progress.Progress.TheVariants.{EndedIn};
 ghost use Rattle.napt_dispatch.specs.Dispatch.{of_worker, HaveArrived, IsDispatchFault};
 ghost use Rattle.napt_dispatch.specs.Offers.{with_offer, with_offered};
-ghost use Rattle.napt_dispatch.specs.Standing.{pushed, parts_of, state_of, IsSized, Stands, Keeps, IsSizedFor, with_held, with_progress, Admits};
+ghost use Rattle.napt_dispatch.specs.Queues.{pushed, many_in};
+ghost use Rattle.napt_dispatch.specs.Standing.{parts_of, state_of, IsSized, Stands, Keeps, IsSizedFor, with_held, with_progress, Admits};
 
 use crate::Worker;
 use crate::dispatcher::Dispatcher;
@@ -23,7 +24,7 @@ use crate::dispatcher::held::Held;
 use crate::dispatcher::impossible_answer::ImpossibleAnswer;
 use crate::dispatcher::offer::Offer;
 use crate::dispatcher::progress::Progress;
-use crate::dispatcher::queues::{is_empty_at, len_at};
+use crate::dispatcher::queues::len_at;
 use napt_config::Config;
 use napt_pool::{Gate, Pool};
 use napt_sequential::{
@@ -41,14 +42,15 @@ const LOOK_EACH: usize = 4;
 impl Dispatcher {
     /// Holds a place at worker `to`, where there is one, for the second leg of the input of a number.
     fn hold_place(&mut self, to: Option<u32>, number: u64) -> Result<(), AllocError>
-        requires { IfSome to (λ v. v < length (parts_of self.old).held) }
+        requires to { IfSome to (λ v. v < length (parts_of self.old).held) }
+        requires room { many_in (parts_of self.old).held < 65536 }
         ensures { OnOk result (MatchOption to (parts_of self.new ≡ parts_of self.old) (λ v.
             parts_of self.new
             ≡ with_held (pushed v (Place number) (parts_of self.old).held) (parts_of self.old))) }
     {
         match to {
             None => Ok(()),
-            Some(v) => self.hold(v, Held::Place(number)),
+            Some(v) => self.held.push(v, Held::Place(number)),
         }
     }
 
@@ -56,9 +58,10 @@ impl Dispatcher {
     fn is_free(&self, w: u32) -> bool
         requires held { w < length (parts_of self.now).held }
         requires owed { w < length (parts_of self.now).owed }
-        ensures { result ≡ true → of_worker (parts_of self.now).held w ≡ [] }
+        ensures { (result ≡ true) ↔ ((of_worker (parts_of self.now).held w ≡ [])
+            × (length (of_worker (parts_of self.now).owed w) < self.now.ring)) }
     {
-        is_empty_at(&self.held, w) && len_at(&self.owed, w) < self.ring
+        self.held.is_empty_at(w) && len_at(&self.owed, w) < self.ring
     }
 
     /// Gives back a first leg for worker `w` where it may be offered at once, and else holds it. Either way a place is held
@@ -72,9 +75,12 @@ impl Dispatcher {
         requires place { w < length (parts_of self.old).held }
         requires owed { w < length (parts_of self.old).owed }
         requires to { IfSome to (λ v. v < length (parts_of self.old).held) }
+        requires room { many_in (parts_of self.old).held + 2 ≤ 65536 }
         ensures worker { IfOk result (λ found. IfSome found (λ o. o.worker ≡ w)) }
         ensures sized { OnOk result ((count : ℕ) → IsSized count (parts_of self.old) →
             IsSized count (parts_of self.new)) }
+        ensures room { IfOk result (λ found.
+            IfSome found (λ o. many_in (parts_of self.new).held < 65536)) }
         ensures placed { IfOk result (λ found.
             MatchOption to (with_offer found (parts_of self.new)
             ≡ with_held (pushed w (Ready leg) (parts_of self.old).held) (parts_of self.old)) (λ v.
@@ -87,7 +93,7 @@ impl Dispatcher {
             self.hold_place(to, number)?;
             return Ok(Some(Offer { worker: w, leg }));
         }
-        self.hold(w, Held::Ready(leg))?;
+        self.held.push(w, Held::Ready(leg))?;
         self.hold_place(to, number)?;
         Ok(None)
     }
@@ -120,7 +126,10 @@ impl Dispatcher {
     ) -> Result<Option<Offer>, RunFault>
         requires keeps { KeepsRules config.now }
         requires sized { IsSized (length config.now.pool) (parts_of self.old) }
+        requires room { many_in (parts_of self.old).held + 2 ≤ 65536 }
         ensures sized { OnOk result (IsSized (length config.now.pool) (parts_of self.new)) }
+        ensures room { IfOk result (λ found.
+            IfSome found (λ o. many_in (parts_of self.new).held < 65536)) }
         ensures place { IfOk result (λ found.
             IfSome found (λ o. o.worker < length config.now.pool)) }
         ensures admits { IfOk result (λ found. Admits config.now number now input
@@ -157,6 +166,7 @@ impl Dispatcher {
     ) -> Result<(), RunFault>
         requires place { IfSome found (λ o. o.worker < length (starts pool.old)) }
         requires sized { IsSizedFor pool.old self.old }
+        requires room { IfSome found (λ o. many_in (parts_of self.old).held < 65536) }
         ensures starts { starts pool.new ≡ starts pool.old }
         ensures sized { OnOk result (IsSizedFor pool.new self.new) }
         ensures keeps { OnOk result (Keeps (with_offered found (state_of pool.old self.old))

@@ -1,9 +1,10 @@
 //! What a dispatcher knows of each input.
 
-ghost use Rattle.std.specs.Prelude.{◌≡◌, map, length, slice_set, replicate, Some, IfOk, OnOk, IfSome};
+ghost use Rattle.std.specs.Prelude.{◌≡◌, map, length, slice_set, slice_get, replicate, Some, IfOk, OnOk, IfSome};
 ghost use Rattle.napt_wire.specs.declared.Cause.TheVariants.{NoBinding};
 ghost use Rattle.napt_sequential.specs.declared.outcome.Outcome.TheVariants.{Dropped};
 ghost use Rattle.napt_dispatch.specs.declared.dispatcher.progress.Progress.TheVariants.{Awaited};
+ghost use Rattle.napt_dispatch.specs.Stages.{is_unknown};
 ghost use Rattle.napt_dispatch.specs.Standing.{IsSecond, outcome_in};
 
 use crate::dispatcher::impossible_answer::ImpossibleAnswer;
@@ -87,14 +88,20 @@ impl RunProgress {
     }
 
     /// Whether nothing is known of the second leg of the input of a number.
-    pub(crate) fn is_unknown(&self, number: u64) -> bool {
+    pub(crate) fn is_unknown(&self, number: u64) -> bool
+        ensures { result ≡ is_unknown (slice_get self.now number) }
+    {
         if number >= self.stages.len() as u64 {
             return true;
         }
-        !matches!(
-            self.stages[number as usize],
-            Stage::Onward(_) | Stage::EndedOut
-        )
+        match self.stages[number as usize] {
+            Stage::EndedOut => false,
+            Stage::Onward(_) => match self.outcomes[number as usize] {
+                Outcome::ToInside(_) => false,
+                _ => true,
+            },
+            Stage::Awaited | Stage::EndedIn => true,
+        }
     }
 
     /// The second leg of the input of a number, taken out where it is known.

@@ -1,8 +1,9 @@
 //! Taking the answers of the workers, and going on where there are any.
 
-ghost use Rattle.std.specs.Prelude.{◌≤◌, ◌<◌, length, IfSome, OnOk};
+ghost use Rattle.std.specs.Prelude.{◌+◌, ◌≤◌, ◌<◌, ℕ, length, IfSome, OnOk};
 ghost use Rattle.napt_pool.specs.Pools.{starts};
-ghost use Rattle.napt_dispatch.specs.Standing.{parts_of, IsSizedFor, ContinuesUnlessFault, IsDone};
+ghost use Rattle.napt_dispatch.specs.Queues.{many_in};
+ghost use Rattle.napt_dispatch.specs.Standing.{parts_of, IsSizedFor, ContinuesUnlessFault, HasOffered, IsDone};
 
 use crate::Worker;
 use crate::dispatcher::Dispatcher;
@@ -12,9 +13,6 @@ use napt_pool::{Backoff, Gate, Pool};
 use napt_sequential::RunFault;
 use std::alloc::Global;
 use std::sync::Wait;
-
-/// The most legs and places that are held. No input is read while fewer than two more would fit.
-const MOST_HELD: u64 = 65_536;
 
 impl Dispatcher {
     /// Takes and notes the next answer of worker `w`, if it is there.
@@ -114,7 +112,8 @@ impl Dispatcher {
     ) -> Result<(), RunFault>
         requires count { count ≤ length (starts pool.old) }
         requires sized { IsSizedFor pool.old self.old }
-        ensures { ContinuesUnlessFault G.is_open pool.old self.old pool.new self.new result }
+        ensures state { ContinuesUnlessFault G.is_open pool.old self.old pool.new self.new result }
+        ensures offered { OnOk result ((w : ℕ) → w < count → HasOffered pool.new self.new w) }
     {
         self.take_some(rt, alloc, pool, count)?;
         self.offer_all(alloc, pool, count)?;
@@ -131,10 +130,11 @@ impl Dispatcher {
     ) -> Result<(), RunFault>
         requires count { count ≤ length (starts pool.old) }
         requires sized { IsSizedFor pool.old self.old }
-        ensures { ContinuesUnlessFault G.is_open pool.old self.old pool.new self.new result }
+        ensures state { ContinuesUnlessFault G.is_open pool.old self.old pool.new self.new result }
+        ensures room { OnOk result (many_in (parts_of self.new).held + 2 ≤ 65536) }
     {
         for _ in rt.forever() {
-            if self.many_held < MOST_HELD - 1 {
+            if self.held.has_room() {
                 return Ok(());
             }
             self.go_on(rt, alloc, pool, count)?;

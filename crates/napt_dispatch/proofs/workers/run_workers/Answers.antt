@@ -1,17 +1,38 @@
-use Rattle.std.proofs.Common.{◌≡◌}
-use Rattle.napt_sequential.specs.Sequential.{ran}
+use Rattle.std.proofs.Common.{◌≡◌, List, length, map, refl, sym, ap, subst, ◌∙◌}
+use Rattle.std.specs.Prelude.{AllPairs}
+use Rattle.std.proofs.lemmas.Result.{IfOk-at_ok}
+use Rattle.napt_config.specs.Rules.{Rules}
+use Rattle.napt_table.specs.Endpoints.{AreRowsApart}
+use Rattle.napt_pool.specs.Pools.{starts, accepts}
+use Rattle.napt_sequential.specs.Inputs.{Arrival}
+use Rattle.napt_sequential.specs.Sequential.{Ran}
 use Rattle.napt_sequential.proofs.Rows.{rows_apart}
 use Rattle.napt_sequential.proofs.Shown.{ran_long}
+use Rattle.napt_dispatch.specs.Dispatch.{started}
+use Rattle.napt_dispatch.specs.contracts.worker.WorkerMachine.TheImpl.{ghosts}
+use Rattle.napt_dispatch.proofs.Closed.{on_ok_at, rows_shown, workers_shown}
 use Rattle.napt_dispatch.proofs.workers.run_workers.Goals as goal
+
+pub returns-clause-run : goal.returns-clause-run
+returns-clause-run g c =
+    let config : Rules = c.args.config.now in
+    let inputs : List Arrival = c.args.inputs.now in
+    let given = c.in_ok-outcomes.ensures.given in
+    let began : starts c.dispatch-dispatched.new.pool ≡ started config (length config.pool) =
+    c.dispatch-dispatched.ensures.starts ∙ c.in_ok-pool.ensures.started in
+    let settled = on_ok_at _ _ given c.dispatch-dispatched.ensures.settled in
+    let answered = c.in_ok-outcomes.ensures.settled settled in
+    workers_shown ghosts (λ s leg. refl) config inputs (starts c.dispatch-dispatched.new.pool)
+    (accepts c.dispatch-dispatched.new.pool) (map (λ e. e.machine) c.in_ok-outcomes.ended.items)
+    c.in_ok-outcomes.outcomes.items c.in_ok-outcomes.legs.items c.last_clock.result c.in_ok-bindings.bindings.items
+    began c.in_ok-outcomes.ensures.machines (IfOk-at_ok _ given c.dispatch-dispatched.ensures.run answered)
+    c.last_clock.ensures (rows_shown _ _ _ _ c.in_ok-bindings.ensures c.deref.ensures.value)
 
 pub returns-clause-one_each : goal.returns-clause-one_each
 returns-clause-one_each g c =
-    let is : c.in_ok-done.done.run ≡ ran c.args.config.now c.args.inputs.now =
-    rw c.in_ok-inputs.ensures at c.in_ok-done.ensures.run in
-    rw is (ran_long c.args.config.now c.args.inputs.now)
+    ap (λ (r : Ran). length r.outcomes) (returns-clause-run g c) ∙ ran_long c.args.config.now c.args.inputs.now
 
 pub returns-clause-apart : goal.returns-clause-apart
 returns-clause-apart g c =
-    let is : c.in_ok-done.done.run ≡ ran c.args.config.now c.args.inputs.now =
-    rw c.in_ok-inputs.ensures at c.in_ok-done.ensures.run in
-    rw is (rows_apart c.runs_are_sound.ensures.apart c.args.config.now c.pool-pool.ensures.kept c.args.inputs.now)
+    subst (λ (r : Ran). AllPairs AreRowsApart r.bindings) (sym (returns-clause-run g c))
+    (rows_apart c.runs_are_sound.ensures.apart c.args.config.now c.pool-pool.ensures.kept c.args.inputs.now)

@@ -38,7 +38,7 @@ loop-number-preserved g c =
     record {
       same = c.in_ok-look_at.ensures.starts_stay
           ∙ (c.in_ok-offer_admitted.ensures.starts
-          ∙ (c.in_ok-make_room.ensures.starts_stay ∙ c.loop-number.invariant.same));
+          ∙ (c.in_ok-make_room.ensures.state.starts_stay ∙ c.loop-number.invariant.same));
       sized = c.in_ok-look_at.ensures.sized;
       left = cc;
       many = c.loop-number.invariant.many;
@@ -49,7 +49,7 @@ loop-number-preserved g c =
             taken = takes c.make_room.new.pool;
             parts = parts_of c.expect_input.new.self;
           }) =
-          rw (whole, c.in_ok-expect_input.ensures) (c.in_ok-make_room.ensures.keeps config (take n inputs) inputs
+          rw (whole, c.in_ok-expect_input.ensures) (c.in_ok-make_room.ensures.state.keeps config (take n inputs) inputs
           (c.loop-number.invariant.served begin)) in
           let read : Stands config (take (n + 1) inputs) inputs
           (with_offered c.in_ok-found.found (state_of c.make_room.new.pool c.admit.new.self)) =

@@ -13,4 +13,16 @@ returns-in-Ok-clause-keeps g c =
     (state_of c.offer.new.self later)
     c.in-Ok.ensures.accepted c.in-Ok.ensures.takes
     (offered_parts_are c.args.w c.args.leg (parts_of c.args.self.now) (parts_of c.count_offer.new.self)
-    (parts_of later) c.in_ok-count_offer-in-Ok.ensures refl c.in_ok-push_back-in-Ok.ensures refl refl)
+    (parts_of later) c.in_ok-count_offer-in-Ok.ensures.counted refl c.in_ok-push_back-in-Ok.ensures.ok refl refl)
+
+pub returns-in-Ok-clause-went : goal.returns-in-Ok-clause-went
+returns-in-Ok-clause-went g c =
+    let later : Dispatcher = record c.count_offer.new.self { owed = c.push_back.new.queues } in
+    record {
+      accepted = c.in-Ok.ensures.accepted;
+      takes_stay = c.in-Ok.ensures.takes;
+      capacity_stays = c.in-Ok.ensures.capacity;
+      ring_stays = c.in_ok-count_offer-in-Ok.ensures.ring;
+      parts_are = offered_parts_are c.args.w c.args.leg (parts_of c.args.self.now) (parts_of c.count_offer.new.self)
+          (parts_of later) c.in_ok-count_offer-in-Ok.ensures.counted refl c.in_ok-push_back-in-Ok.ensures.ok refl refl;
+    }

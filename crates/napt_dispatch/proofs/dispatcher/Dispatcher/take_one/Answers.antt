@@ -1,6 +1,7 @@
 use Rattle.std.proofs.Common.{◌≡◌, ◌<◌, length, arith, rules}
 use Rattle.napt_pool.specs.Pools.{takes}
-use Rattle.napt_dispatch.specs.Standing.{pushed, parts_of, state_of}
+use Rattle.napt_dispatch.specs.Queues.{pushed}
+use Rattle.napt_dispatch.specs.Standing.{parts_of, state_of}
 use Rattle.napt_dispatch.proofs.Standing.{answered_keeps}
 use Rattle.napt_dispatch.proofs.dispatcher.Dispatcher.take_one.Goals as goal
 

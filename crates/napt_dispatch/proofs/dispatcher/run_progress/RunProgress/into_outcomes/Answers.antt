@@ -1,4 +1,4 @@
-use Rattle.std.proofs.Common.{◌≡◌, ℕ, ◌+◌, length, sym, ap, ◌∙◌, arith}
+use Rattle.std.proofs.Common.{◌≡◌, ◌+◌, length, sym, ap, ◌∙◌, arith}
 use Rattle.napt_dispatch.proofs.Stages.{known_ended, known_long}
 use Rattle.napt_dispatch.proofs.dispatcher.run_progress.RunProgress.into_outcomes.Goals as goal
 

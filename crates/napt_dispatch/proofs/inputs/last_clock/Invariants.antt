@@ -1,0 +1,6 @@
+use Rattle.std.proofs.Common.{◌≡◌, take}
+use Rattle.napt_sequential.specs.Sequential.{last_clock}
+use Rattle.napt_dispatch.proofs.inputs.last_clock.Given as goal
+
+abbrev pub invariant-loop-input : goal.invariant-loop-input
+invariant-loop-input l = l.clock ≡ last_clock 0 (take l.input-index l.inputs)
