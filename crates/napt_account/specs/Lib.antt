@@ -1,1 +1,5 @@
+pub mod Attribution
+pub mod Ends
+pub mod Log
+pub mod Passages
 pub use Rattle.napt_sequential.specs.Sequential

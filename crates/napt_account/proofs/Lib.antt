@@ -1,0 +1,5 @@
+pub mod Attribution
+pub mod Entries
+pub mod FirstEnds
+pub mod Lists
+pub mod Steps
