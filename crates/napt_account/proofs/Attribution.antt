@@ -1,14 +1,11 @@
 -- The log of a whole run names, at each time, what lives then.
-use Rattle.std.proofs.Common.{◌≡◌, ℕ, ◌+◌, ◌<◌, ◌≤◌, max, Bool, ◌&&◌, List, [], ◌∷◌, ◌++◌, map, refl, sym, ◌∙◌, ap, arith}
+use Rattle.std.proofs.Common.{◌≡◌, ℕ, ◌+◌, ◌<◌, ◌≤◌, max, List, [], ◌∷◌, ◌++◌, map, refl, sym, ◌∙◌, ap, arith}
 use Rattle.std.specs.Prelude.{filter}
 use Rattle.std.specs.List.{list_any}
-use Rattle.napt_wire.specs.declared.Protocol.{Protocol}
-use Rattle.napt_wire.specs.declared.Endpoint.{Endpoint}
 use Rattle.napt_wire.specs.Laws.{PacketsCarryNumbers}
 use Rattle.napt_config.specs.Rules.{Rules, KeepsRules, pair_of}
 use Rattle.napt_binding.specs.declared.Binding.{Binding}
 use Rattle.napt_binding.specs.Life.{is_live}
-use Rattle.napt_table.specs.declared.Row.{Row}
 use Rattle.napt_table.specs.Rows.{row}
 use Rattle.napt_table.specs.Endpoints.{IsSound, OutStaysSound, InStaysSound}
 use Rattle.napt_table.specs.Live.{OutLeavesLive, InLeavesLive}
@@ -23,7 +20,7 @@ use Rattle.napt_account.specs.Log.{living, begun, logged, entries_from, log_of, 
 use Rattle.napt_account.specs.Attribution.{IsBeforeNext, LogNamesTheHolders, LogListsTheLiving}
 use Rattle.napt_account.proofs.FirstEnds.{ends_are_first}
 use Rattle.napt_account.proofs.Lists.{any_seen_of, any_among, filter_seen, filter_agrees, map_twice, each_mapped, each_every}
-use Rattle.napt_account.proofs.Steps.{Grows, grows_step}
+use Rattle.napt_account.proofs.Steps.{grows_step}
 use Rattle.napt_account.proofs.Entries.{Tells, hold, hold_of, named, tells_later, named_now, tells_step, named_before}
 
 -- no clock goes back

@@ -1,5 +1,5 @@
 -- A binding lives before its end, and no longer.
-use Rattle.std.proofs.Common.{◌≡◌, ℕ, ◌<◌, ◌≤◌, max, Bool, true, false, ◌||◌, not, ◌&&◌, cond, List, [], ◌∷◌, Option, Some, None, refl, ◌∙◌, ap, arith}
+use Rattle.std.proofs.Common.{◌≡◌, ℕ, ◌<◌, ◌≤◌, max, Bool, true, false, ◌||◌, cond, List, [], ◌∷◌, Option, Some, None, refl, ◌∙◌, ap, arith}
 use Rattle.std.specs.Prelude.{nat_lt}
 use Rattle.std.specs.List.{list_any}
 use Rattle.std.proofs.lemmas.Bool.Decides.{nat_tests}
@@ -11,8 +11,8 @@ use Rattle.napt_binding.specs.declared.Marks.{Marks}
 use Rattle.napt_binding.specs.declared.Flow.{Flow}
 use Rattle.napt_binding.specs.declared.Binding.{Binding}
 use Rattle.napt_binding.specs.Marks.{idle, is_established}
-use Rattle.napt_binding.specs.Life.{is_recent, is_live_flow, is_live_by, is_live}
-use Rattle.napt_account.specs.Ends.{end_after, last_end, end_by, end_of, is_before, EndsAreFirst}
+use Rattle.napt_binding.specs.Life.{is_recent, is_live_flow, is_live_by}
+use Rattle.napt_account.specs.Ends.{end_after, last_end, end_by, is_before, EndsAreFirst}
 
 recent_before : (now last seconds : ℕ) → 0 < seconds → is_recent now last seconds ≡ nat_lt now (end_after last seconds)
 recent_before now last seconds some = grind (arith, nat_tests)

@@ -4,6 +4,8 @@
 
 mod account;
 mod log;
+mod who;
 
 pub use crate::account::{Account, Ends, Life, Note, Use, account_of};
 pub use crate::log::{Entry, Shortage, log_attributes};
+pub use crate::who::holders;

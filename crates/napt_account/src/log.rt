@@ -13,7 +13,8 @@ pub struct Entry {
     pub binding: Row,
     /// When it was made; 0 for a redirect, which stands before the first packet.
     pub made: u64,
-    /// The first time at which it no longer lives, if no packet comes after the last input; none for a redirect, which lives on.
+    /// The first time at which it no longer lives, if no packet comes after the last input; none for
+    /// a redirect, which lives on. The last use may be near the greatest time that 64 bits can tell.
     pub end: Option<u128>,
     /// How many packets went out through it. An ICMP error changes no binding and is not counted.
     pub sent: u64,
@@ -23,7 +24,8 @@ pub struct Entry {
     pub last: u64,
 }
 
-/// An outgoing packet for which no binding could be made (RFC 8158, section 5.1: ports exhausted, quota exceeded).
+/// An outgoing packet for which no binding could be made: its host has its quota, or each number of its
+/// class is taken (RFC 8158: quota exceeded, ports exhausted).
 #[derive(Clone, Copy, Debug, PartialEq, Eq)]
 pub struct Shortage {
     /// When it came, in ns.
@@ -35,8 +37,8 @@ pub struct Shortage {
     pub host: u32,
 }
 
-/// At each moment of a run the log of the whole run names exactly the bindings that live: whom it names had the endpoint, and whoever
-/// had it is named.
+/// At each moment of a run the log of the whole run names exactly the bindings that live: whom it
+/// names had the endpoint, and whoever had it is named.
 pub fn log_attributes()
     ensures ends { EndsAreFirst }
     ensures names { LogNamesTheHolders }
