@@ -24,8 +24,8 @@ pub struct Entry {
     pub last: u64,
 }
 
-/// An outgoing packet for which no binding could be made: its host has its quota, or each number of its
-/// class is taken (RFC 8158: quota exceeded, ports exhausted).
+/// An outgoing packet for which no binding could be made: its host has its quota, or each number of
+/// its class is taken (RFC 8158: quota exceeded, ports exhausted).
 #[derive(Clone, Copy, Debug, PartialEq, Eq)]
 pub struct Shortage {
     /// When it came, in ns.
