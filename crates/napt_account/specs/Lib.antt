@@ -1,1 +1,6 @@
+pub mod Attribution
+pub mod Ends
+pub mod Fronts
+pub mod Log
+pub mod Passages
 pub use Rattle.napt_sequential.specs.Sequential

@@ -1,0 +1,7 @@
+use Rattle.std.proofs.Common.{◌≤◌, take}
+use Rattle.napt_sequential.specs.Sequential.{last_clock}
+use Rattle.napt_account.proofs.who.count_by.Given as goal
+
+-- those that were passed came by the time
+abbrev pub invariant-loop-index : goal.invariant-loop-index
+invariant-loop-index l = last_clock 0 (take l.index l.inputs) ≤ l.at

@@ -1,0 +1,46 @@
+-- The log of a whole run names exactly who had an external endpoint at a time.
+use Rattle.std.specs.Prelude.{◌≡◌, ℕ, ◌<◌, ◌≤◌, ◌&&◌, Bool, List, [], ◌∷◌, ◌++◌, map, filter}
+use Rattle.std.specs.List.{list_any}
+use Rattle.napt_wire.specs.declared.Protocol.{Protocol}
+use Rattle.napt_wire.specs.declared.Endpoint.{Endpoint}
+use Rattle.napt_config.specs.Rules.{Rules, KeepsRules}
+use Rattle.napt_config.specs.declared.settings.Timers.{Timers}
+use Rattle.napt_binding.specs.declared.Binding.{Binding}
+use Rattle.napt_binding.specs.Life.{is_live}
+use Rattle.napt_table.specs.Rows.{row}
+use Rattle.napt_table.specs.Opening.{opening}
+use Rattle.napt_sequential.specs.Inputs.{Arrival}
+use Rattle.napt_sequential.specs.Sequential.{run, last_clock}
+use Rattle.napt_account.specs.declared.log.Entry.{Entry}
+use Rattle.napt_account.specs.Passages.{has_ends}
+use Rattle.napt_account.specs.Log.{log_of, stands_at}
+
+-- a time before the next input, where there is one
+abbrev pub IsBeforeNext : ℕ → List Arrival → Type 0
+IsBeforeNext now [] = Unit {0}
+IsBeforeNext now (input ∷ inputs) = now < input.clock
+
+-- whether a binding of the protocol and these endpoints lives in the list at a time
+abbrev pub is_held : Timers → ℕ → Protocol → Endpoint → Endpoint → List Binding → Bool
+is_held timers now protocol inside external list =
+    list_any (λ b. has_ends protocol inside external (row b) && is_live timers now b) list
+
+-- whether one of the entries has the protocol and these endpoints, was made by a time and has not ended by then
+abbrev pub is_named : ℕ → Protocol → Endpoint → Endpoint → List Entry → Bool
+is_named now protocol inside external entries =
+    list_any (λ e. has_ends protocol inside external e.binding && stands_at now e) entries
+
+-- after every front of the inputs, and at each time up to the next input's, a binding lives exactly where the log of all
+-- inputs names it
+abbrev pub LogNamesTheHolders : Type 0
+LogNamesTheHolders = (rules : Rules) → KeepsRules rules → (front rest : List Arrival) (now : ℕ) →
+    last_clock 0 front ≤ now → IsBeforeNext now rest → (protocol : Protocol) (inside external : Endpoint) →
+    is_held rules.timers now protocol inside external (run rules front (opening rules)).list
+    ≡ is_named now protocol inside external (log_of rules (front ++ rest)).entries
+
+-- the same as lists: the rows of what lives are those of the entries that stand, each once, in the order of making
+abbrev pub LogListsTheLiving : Type 0
+LogListsTheLiving = (rules : Rules) → KeepsRules rules → (front rest : List Arrival) (now : ℕ) →
+    last_clock 0 front ≤ now → IsBeforeNext now rest →
+    map row (filter (is_live rules.timers now) (run rules front (opening rules)).list)
+    ≡ map (λ e. e.binding) (filter (stands_at now) (log_of rules (front ++ rest)).entries)

@@ -1,0 +1,19 @@
+-- The inputs that came by a time, and the time itself as an input that changes nothing.
+use Rattle.std.specs.Prelude.{◌≡◌, ℕ, ◌≤◌, List, [], ◌∷◌, ◌++◌}
+use Rattle.napt_wire.specs.declared.Side.TheVariants.{Outside}
+use Rattle.napt_sequential.specs.Inputs.{Arrival}
+use Rattle.napt_sequential.specs.Sequential.{last_clock}
+use Rattle.napt_account.specs.Attribution.{IsBeforeNext}
+
+-- with no bytes, at a time: no packet, so it is dropped
+abbrev pub nothing_at : ℕ → Arrival
+nothing_at at = record { side = Outside; time = at; clock = at; bytes = [] }
+
+-- a front of the inputs up to a time, with that time behind it
+pub record IsFrontAt (at : ℕ) (inputs cut : List Arrival) : Type 0 where
+  pub front : List Arrival
+  pub rest : List Arrival
+  pub all : inputs ≡ front ++ rest
+  pub by : last_clock 0 front ≤ at
+  pub next : IsBeforeNext at rest
+  pub is_cut : cut ≡ front ++ nothing_at at ∷ []

@@ -1,0 +1,51 @@
+//! The log of a run: who had which external endpoint, from when and until when (RFC 6888, REQ-12).
+
+ghost use Rattle.napt_account.specs.Attribution.{LogNamesTheHolders, LogListsTheLiving};
+ghost use Rattle.napt_account.specs.Ends.{EndsAreFirst};
+
+use napt_table::{Row, opening_is_sound, steps_leave_live, steps_stay_sound};
+use napt_wire::{Cause, Protocol, packets_carry_numbers};
+
+/// A binding of a run, from when it was made until it ended, with times in ns.
+#[derive(Clone, Copy, Debug, PartialEq, Eq)]
+pub struct Entry {
+    /// Its protocol and both its endpoints, and whether it is a redirect.
+    pub binding: Row,
+    /// When it was made; 0 for a redirect, which stands before the first packet.
+    pub made: u64,
+    /// The first time at which it no longer lives, if no packet comes after the last input; none for
+    /// a redirect, which lives on. The last use may be near the greatest time that 64 bits can tell.
+    pub end: Option<u128>,
+    /// How many packets went out through it. An ICMP error changes no binding and is not counted.
+    pub sent: u64,
+    /// How many packets came in through it.
+    pub received: u64,
+    /// When a packet last went through it, either way; 0 for a redirect that none went through.
+    pub last: u64,
+}
+
+/// An outgoing packet for which no binding could be made: its host has its quota, or each number of
+/// its class is taken (RFC 8158: quota exceeded, ports exhausted).
+#[derive(Clone, Copy, Debug, PartialEq, Eq)]
+pub struct Shortage {
+    /// When it came, in ns.
+    pub at: u64,
+    /// `OverQuota` or `NoPort`.
+    pub cause: Cause,
+    pub protocol: Protocol,
+    /// The address of the inside host that sent it.
+    pub host: u32,
+}
+
+/// At each moment of a run the log of the whole run names exactly the bindings that live: whom it
+/// names had the endpoint, and whoever had it is named.
+pub fn log_attributes()
+    ensures ends { EndsAreFirst }
+    ensures names { LogNamesTheHolders }
+    ensures lists { LogListsTheLiving }
+{
+    packets_carry_numbers();
+    steps_stay_sound();
+    steps_leave_live();
+    opening_is_sound();
+}

@@ -1,0 +1,103 @@
+//! Who had an external endpoint at a time (RFC 6888, REQ-12; RFC 6269, section 12).
+
+ghost use Rattle.std.specs.Prelude.{◌≡◌, ◌≤◌, length, take, drop, filter, IfOk};
+ghost use Rattle.std.specs.List.{list_any};
+ghost use Rattle.napt_wire.specs.declared.Protocol.{Protocol};
+ghost use Rattle.napt_wire.specs.declared.Endpoint.{Endpoint};
+ghost use Rattle.napt_binding.specs.Bindings.{same_endpoint};
+ghost use Rattle.napt_sequential.specs.Sequential.{last_clock};
+ghost use Rattle.napt_account.specs.Fronts.{IsFrontAt};
+ghost use Rattle.napt_account.specs.Passages.{has_ends};
+ghost use Rattle.napt_account.specs.Log.{log_of};
+ghost use Rattle.napt_account.specs.Attribution.{IsBeforeNext, is_named};
+
+use crate::log::log_attributes;
+use napt_config::Config;
+use napt_sequential::{Input, RunFault, run_plain, runs_are_sound};
+use napt_table::Row;
+use napt_wire::{Endpoint, Side};
+use std::alloc::{AllocError, Global};
+
+/// How many inputs came by a time, in ns, before the first one that came later.
+fn count_by(inputs: &[Input], at: u64) -> usize
+    ensures within { result ≤ length inputs.now }
+    ensures by { last_clock 0 (take result inputs.now) ≤ at }
+    ensures next { IsBeforeNext at (drop result inputs.now) }
+{
+    for (index, input) in inputs.iter().enumerate() {
+        if input.clock > at {
+            return index;
+        }
+    }
+    inputs.len()
+}
+
+/// Those of the rows that have the external endpoint.
+fn with_external(alloc: Global, rows: &[Row], external: Endpoint) -> Result<Vec<Row>, AllocError>
+    ensures { IfOk result (λ found. found.items ≡ filter (λ r. same_endpoint external r.external) rows.now) }
+{
+    rows.iter()
+        .filter(|row| {
+            external.address == row.external.address && external.number == row.external.number
+        })
+        .copied()
+        .collect(alloc)
+}
+
+/// The inputs that came by a time, in ns, and behind them one with no bytes at that time.
+fn front(alloc: Global, inputs: Vec<Input>, at: u64) -> Result<Vec<Input>, AllocError>
+    ensures { IfOk result (λ front. IsFrontAt at inputs.items front.items) }
+{
+    let came = count_by(&inputs, at);
+    let mut front = inputs;
+    front.truncate(came);
+    front.push(Input {
+        side: Side::Outside,
+        time: at,
+        clock: at,
+        bytes: Vec::new(alloc),
+    })?;
+    Ok(front)
+}
+
+/// The rows of the bindings that live at a time, in ns: those that the log of all inputs names then.
+fn living_at(
+    alloc: Global,
+    config: &Config,
+    inputs: Vec<Input>,
+    at: u64,
+) -> Result<Vec<Row>, RunFault>
+    ensures { IfOk result (λ rows. (protocol : Protocol) (inside external : Endpoint) →
+        list_any (has_ends protocol inside external) rows.items
+        ≡ is_named at protocol inside external (log_of config.now inputs.items).entries) }
+{
+    log_attributes();
+    runs_are_sound();
+    // a configuration keeps its rules, as each of its calls says
+    let _kept = config.pool();
+    let front = front(alloc, inputs, at)?;
+    let run = run_plain(alloc, config, &front)?;
+    Ok(run.bindings)
+}
+
+/// Who had an external endpoint at a time, in ns: the bindings with it that were made by then and had
+/// not ended, at most one for each protocol. They are those that the log of the run over all inputs
+/// names then: whoever had the endpoint is told, and nobody else. Only the inputs that came by that
+/// time are run through, once.
+///
+/// `RunFault::TooMany` comes only where more than 4,294,967,294 inputs came by then,
+/// `RunFault::Memory` only where memory is refused, and `RunFault::Pool` never.
+pub fn holders(
+    alloc: Global,
+    config: &Config,
+    inputs: Vec<Input>,
+    external: Endpoint,
+    at: u64,
+) -> Result<Vec<Row>, RunFault>
+    ensures { IfOk result (λ holders. (protocol : Protocol) (inside : Endpoint) →
+        list_any (has_ends protocol inside external) holders.items
+        ≡ is_named at protocol inside external (log_of config.now inputs.items).entries) }
+{
+    let rows = living_at(alloc, config, inputs, at)?;
+    Ok(with_external(alloc, &rows, external)?)
+}
