@@ -52,12 +52,14 @@ fn dispatched<R: Threads + Wait + Copy + Send + 'static>(
     };
     let answer = dispatch(rt, alloc, &mut pool, config, inputs);
     let closed = pool.close(rt, alloc);
-    match (answer, closed) {
-        (Ok((outcomes, legs)), Ok(_))
-            if outcomes.len() == 3 && legs.as_slice() == [1, 3].as_slice() => { End::Done }
-        (Ok(_), Err(PoolFault::Memory)) => End::After,
-        (Ok(_), _) => End::Wrong("another run"),
-        (Err(fault), _) => end_of_run(fault),
+    let (outcomes, legs) = match answer {
+        Ok(done) => done,
+        Err(fault) => return end_of_run(fault),
+    };
+    match closed {
+        Ok(_) if outcomes.len() == 3 && legs.as_slice() == [1, 3].as_slice() => End::Done,
+        Err(PoolFault::Memory) => End::After,
+        _ => End::Wrong("another run"),
     }
 }
 
