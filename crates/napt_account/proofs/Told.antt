@@ -1,4 +1,5 @@
--- The rows that a run tells, one nanosecond or more after its last input, are those that the log of all inputs names then.
+-- The rows that a run tells, one nanosecond or more after its last input, are those that the log of all inputs names
+-- then.
 use Rattle.std.proofs.Common.{◌≡◌, ℕ, ◌+◌, ◌≤◌, max, Bool, true, false, ◌&&◌, ◌||◌, ◌==◌, zero, suc, ◌<◌, length, take, drop, get_or, List, [], ◌∷◌, ◌++◌, map, Result, Err, refl, sym, ◌∙◌, ap, arith}
 use Rattle.std.specs.Prelude.{filter, flat_map}
 use Rattle.std.specs.List.{list_any}
@@ -121,7 +122,8 @@ step_nothing rules number now at list = ap (λ (r : Result (List ℕ) Cause).
     (step_as rules (first_leg number now Outside) (admission_as rules Outside r) list).list) unread
 
 left_alone : (rules : Rules) (number clock at : ℕ) (front : List Arrival) (list : List Binding) →
-    (run_from rules number clock (front ++ nothing_at at ∷ []) list).list ≡ (run_from rules number clock front list).list
+    (run_from rules number clock (front ++ nothing_at at ∷ []) list).list
+    ≡ (run_from rules number clock front list).list
 left_alone rules number clock at [] list = step_nothing rules number (max clock at) at list
 left_alone rules number clock at (input ∷ front) list =
     let now : ℕ = max clock input.clock in
@@ -134,7 +136,8 @@ clock_then clock at (input ∷ front) le = clock_then (max clock input.clock) at
 
 -- the rows that the run over a front tells at a time, asked for one protocol and two endpoints
 pub told_at : (rules : Rules) → KeepsRules rules → (front : List Arrival) (at : ℕ) → last_clock 0 front ≤ at →
-    IsSound (pair_of rules) (run rules front (opening rules)).list → (protocol : Protocol) (inside external : Endpoint) →
+    IsSound (pair_of rules) (run rules front (opening rules)).list →
+    (protocol : Protocol) (inside external : Endpoint) →
     list_any (has_ends protocol inside external) (ran rules (front ++ nothing_at at ∷ [])).bindings
     ≡ is_held rules.timers at protocol inside external (run rules front (opening rules)).list
 unfolding ran

@@ -30,8 +30,8 @@ abbrev pub is_named : ℕ → Protocol → Endpoint → Endpoint → List Entry 
 is_named now protocol inside external entries =
     list_any (λ e. has_ends protocol inside external e.binding && stands_at now e) entries
 
--- after every front of the inputs, and at each time up to the next input's, a binding lives exactly where the log of all
--- inputs names it
+-- after every front of the inputs, and at each time up to the next input's, a binding lives exactly where the log of
+-- all inputs names it
 abbrev pub LogNamesTheHolders : Type 0
 LogNamesTheHolders = (rules : Rules) → KeepsRules rules → (front rest : List Arrival) (now : ℕ) →
     last_clock 0 front ≤ now → IsBeforeNext now rest → (protocol : Protocol) (inside external : Endpoint) →

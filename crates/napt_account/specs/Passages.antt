@@ -1,7 +1,8 @@
 -- Which packets went through a binding, by the legs that acted.
 --
--- RFC 3022, section 4: out, the source is the inside endpoint before and the external one after; in, the destination is the
--- external endpoint before and the inside one after. An ICMP error goes through no binding (RFC 5508, REQ-3 to REQ-6).
+-- RFC 3022, section 4: out, the source is the inside endpoint before and the external one after; in, the destination
+-- is the external endpoint before and the inside one after. An ICMP error goes through no binding (RFC 5508, REQ-3 to
+-- REQ-6).
 use Rattle.std.specs.Prelude.{ℕ, Bool, false, ◌&&◌, List, length, filter, Option, Some, None}
 use Rattle.napt_wire.specs.declared.Protocol.{Protocol}
 use Rattle.napt_wire.specs.declared.Endpoint.{Endpoint}

@@ -34,7 +34,8 @@ fn count_by(inputs: &[Input], at: u64) -> usize
 
 /// Those of the rows that have the external endpoint.
 fn with_external(alloc: Global, rows: &[Row], external: Endpoint) -> Result<Vec<Row>, AllocError>
-    ensures { IfOk result (λ found. found.items ≡ filter (λ r. same_endpoint external r.external) rows.now) }
+    ensures { IfOk result (λ found.
+        found.items ≡ filter (λ r. same_endpoint external r.external) rows.now) }
 {
     rows.iter()
         .filter(|row| {

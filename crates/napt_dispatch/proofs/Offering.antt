@@ -169,7 +169,8 @@ module _ {M G : Type 0} where
   keeps_same pool d later same = λ rules done all s. rw same s
 
   -- what stands first waits
-  pub offered_as_first_waits : (w : ℕ) (pool : Pool M G Leg Answer) (d later : Dispatcher) → parts_of later ≡ parts_of d →
+  pub offered_as_first_waits : (w : ℕ) (pool : Pool M G Leg Answer) (d later : Dispatcher) →
+      parts_of later ≡ parts_of d →
       first_waits (parts_of d).progress (of_worker (parts_of d).held w) ≡ true → HasOffered pool later w
   offered_as_first_waits w pool d later same h =
       inl (subst (λ (p : Parts). waits later.ring p w ≡ true) (sym same)

@@ -56,8 +56,10 @@ pub popped_by : {Q X : Type 0} (queues : List Q) (f : Q → List X) (w : ℕ) (q
     w < length (map f queues) → queue ≡ get_or queues w queue → f queue ≡ option_to_list o ++ f later →
     f later ≡ drop 1 (f queue) → MatchOption o ((map f (set queues w later) ≡ map f queues)
     × (of_worker (map f queues) w ≡ [])) (λ x. Popped w x (map f queues) (map f (set queues w later)))
-popped_by queues f w queue later None below at e rest =
-    (queue_kept queues f w queue later at (sym e), queue_at queues f w queue below at ∙ nothing_left (f queue) (e ∙ rest))
+popped_by queues f w queue later None below at e rest = (
+  queue_kept queues f w queue later at (sym e),
+  queue_at queues f w queue below at ∙ nothing_left (f queue) (e ∙ rest),
+)
 popped_by queues f w queue later (Some x) below at e rest = queue_popped queues f w queue later x below at e
 
 pub on_err : {T E P : Type 0} (result : Result T E) → P → OnErr result P
@@ -86,7 +88,8 @@ module _ {X : Type 0} (lists : List (List X)) (w : ℕ) (lt : w < length lists) 
 
   pub many_put : (x : X) → many_in (put_first w x lists) ≡ many_in lists + 1
   many_put x =
-      let all : many_in (put_first w x lists) + length (of_worker lists w) ≡ many_in lists + suc (length (of_worker lists w)) =
+      let all : many_in (put_first w x lists) + length (of_worker lists w)
+      ≡ many_in lists + suc (length (of_worker lists w)) =
       many_set (x ∷ of_worker lists w) in
       omega arith
 

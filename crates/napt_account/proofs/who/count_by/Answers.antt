@@ -11,7 +11,8 @@ loop-index-preserved c =
     let i : ℕ = c.loop-index.index in
     let next : i + 1 ≡ suc i = omega arith in
     let more : last_clock 0 (take (i + 1) inputs) ≡ max (last_clock 0 (take i inputs)) (get_or inputs i input).clock =
-    ap (λ (n : ℕ). last_clock 0 (take n inputs)) next ∙ clock_more 0 inputs i input (omega (arith, c.loop-index-test.true)) in
+    ap (λ (n : ℕ). last_clock 0 (take n inputs)) next
+    ∙ clock_more 0 inputs i input (omega (arith, c.loop-index-test.true)) in
     let is : input.clock ≡ (get_or inputs i input).clock = ap (λ (a : Arrival). a.clock) c.index-inputs-index.is in
     let shown = ap (λ (a : Arrival). a.clock) c.input.view_is in
     let early = c.if-input-at.false in

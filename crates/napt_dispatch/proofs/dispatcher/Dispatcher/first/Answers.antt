@@ -24,7 +24,8 @@ returns-in-Known-clause-first c =
       },
       λ offered taken.
           let state : DispatchState = record { offered = offered; taken = taken; parts = parts_of c.args.self.now } in
-          next_keeps_as c.args.w c.in-Some-Place.number state (parts_of left).held c.requires.place popped c.in-Known.leg
+          next_keeps_as c.args.w c.in-Some-Place.number state (parts_of left).held c.requires.place popped
+          c.in-Known.leg
           c.second_leg.new.self c.in-Known.ensures,
     )
 
@@ -33,7 +34,8 @@ returns-in_ok-put_back-in-Unknown-clause-first c =
     let popped : Popped c.args.w (Place c.in-Some-Place.number) c.args.self.now.held c.pop.new.self =
     rw c.in-Some-Place.field-0-is at c.in-Some-Place.ensures.first in
     let held : c.put_back.new.self ≡ c.args.self.now.held = c.in_ok-put_back-in-Unknown.ensures
-    ∙ put_back_same c.args.self.now.held c.pop.new.self c.args.w (Place c.in-Some-Place.number) c.requires.place popped in (
+    ∙ put_back_same c.args.self.now.held c.pop.new.self c.args.w (Place c.in-Some-Place.number) c.requires.place
+    popped in (
       parts_as refl refl held c.in-Unknown.ensures.0,
       waits_at_place c.args.self.now.progress (of_worker c.args.self.now.held c.args.w) popped.rest
           c.in-Some-Place.number popped.first c.in-Unknown.ensures.1,

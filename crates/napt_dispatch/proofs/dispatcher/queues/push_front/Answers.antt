@@ -9,4 +9,5 @@ returns-clause-ok g c =
 pub returns-in_err-push_front-clause-err : goal.returns-in_err-push_front-clause-err
 returns-in_err-push_front-clause-err g c =
     on_err c.from_residual.result (queue_kept c.args.queues.now.items (λ q. q.items) c.args.w
-    c.index_mut-queue.result.now c.push_front.new.self c.index_mut-queue.ensures.value c.in_err-push_front.ensures.items)
+    c.index_mut-queue.result.now c.push_front.new.self c.index_mut-queue.ensures.value
+    c.in_err-push_front.ensures.items)

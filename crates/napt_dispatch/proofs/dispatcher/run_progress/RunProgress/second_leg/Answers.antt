@@ -83,5 +83,6 @@ returns-in_default c =
         c.in-Onward.is,
         ← c.index_mut-kept.ensures.value,
       )
-          (onward_lost _ c.index_mut-kept.result.now (λ x h. c.in_default.not-ToInside x (c.replace.ensures.value ∙ h))),
+          (onward_lost _ c.index_mut-kept.result.now (λ x h.
+          c.in_default.not-ToInside x (c.replace.ensures.value ∙ h))),
     )
