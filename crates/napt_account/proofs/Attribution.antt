@@ -4,14 +4,7 @@ use Rattle.std.specs.Prelude.{filter}
 use Rattle.std.specs.List.{list_any}
 use Rattle.napt_wire.specs.Laws.{PacketsCarryNumbers}
 use Rattle.napt_config.specs.Rules.{Rules, KeepsRules, pair_of}
-use Rattle.napt_binding.specs.declared.Binding.{Binding}
-use Rattle.napt_binding.specs.Life.{is_live}
-use Rattle.napt_table.specs.Rows.{row}
-use Rattle.napt_table.specs.Endpoints.{IsSound, OutStaysSound, InStaysSound}
-use Rattle.napt_table.specs.Live.{OutLeavesLive, InLeavesLive}
-use Rattle.napt_table.specs.Opening.{opening, OpeningIsSound}
-use Rattle.napt_sequential.specs.Inputs.{Arrival}
-use Rattle.napt_sequential.specs.Sequential.{Course, step, run_from, last_clock}
+use Rattle.napt_rules.specs.Prelude.{Binding, is_live, opening, Arrival, row, Course, step, run_from, last_clock, IsSound, OpeningIsSound, OutStaysSound, InStaysSound, OutLeavesLive, InLeavesLive}
 use Rattle.napt_sequential.proofs.Sound.{run_sound}
 use Rattle.napt_account.specs.declared.log.Entry.{Entry}
 use Rattle.napt_account.specs.Ends.{end_of, is_before}

@@ -7,18 +7,12 @@ use Rattle.std.proofs.lemmas.Bool.{and_from, and_parts}
 use Rattle.std.proofs.lemmas.Bool.Decides.{nat_tests}
 use Rattle.napt_config.specs.Rules.{AreTimers}
 use Rattle.napt_config.specs.declared.settings.Timers.{Timers}
-use Rattle.napt_binding.specs.declared.Binding.{Binding}
-use Rattle.napt_binding.specs.Bindings.{same_protocol, same_endpoint}
-use Rattle.napt_binding.specs.Lists.{Each}
-use Rattle.napt_binding.specs.Life.{is_live}
-use Rattle.napt_table.specs.declared.Row.{Row}
-use Rattle.napt_table.specs.Rows.{row}
-use Rattle.napt_table.specs.Endpoints.{Apart, AreRowsApart}
+use Rattle.napt_rules.specs.Prelude.{Binding, Each, same_protocol, same_endpoint, is_live, row, Course, AreRowsApart, Apart}
+use Rattle.napt_rules.specs.declared.Row.{Row}
 use Rattle.napt_binding.proofs.Lists.{filter_narrow, each_filter, filter_all, find_passes, each_weaker}
 use Rattle.napt_binding.proofs.Purges.{lived}
 use Rattle.napt_table.proofs.Seen.{protocol_is, same_itself, end_itself, end_is}
 use Rattle.napt_table.proofs.Sound.{apart_kept}
-use Rattle.napt_sequential.specs.Sequential.{Course}
 use Rattle.napt_account.specs.declared.log.Entry.{Entry}
 use Rattle.napt_account.specs.Ends.{end_of, is_before, EndsAreFirst}
 use Rattle.napt_account.specs.Passages.{has_ends}

@@ -7,11 +7,9 @@ use Rattle.napt_wire.specs.declared.Protocol.{Protocol}
 use Rattle.napt_wire.specs.declared.Protocol.TheVariants.{Icmp, Tcp, Udp}
 use Rattle.napt_config.specs.Rules.{AreTimers}
 use Rattle.napt_config.specs.declared.settings.Timers.{Timers}
-use Rattle.napt_binding.specs.declared.Marks.{Marks}
-use Rattle.napt_binding.specs.declared.Flow.{Flow}
-use Rattle.napt_binding.specs.declared.Binding.{Binding}
-use Rattle.napt_binding.specs.Marks.{idle, is_established}
-use Rattle.napt_binding.specs.Life.{is_recent, is_live_flow, is_live_by}
+use Rattle.napt_rules.specs.declared.Marks.{Marks}
+use Rattle.napt_rules.specs.declared.Flow.{Flow}
+use Rattle.napt_rules.specs.Prelude.{Binding, is_established, idle, is_recent, is_live_flow, is_live_by}
 use Rattle.napt_account.specs.Ends.{end_after, last_end, end_by, is_before, EndsAreFirst}
 
 recent_before : (now last seconds : ℕ) → 0 < seconds → is_recent now last seconds ≡ nat_lt now (end_after last seconds)

@@ -11,27 +11,16 @@ use Rattle.napt_wire.specs.declared.Way.TheVariants.{Incoming}
 use Rattle.napt_wire.specs.Fields.{destination, kind}
 use Rattle.napt_config.specs.Rules.{Rules, AreTimers}
 use Rattle.napt_config.specs.declared.settings.Timers.{Timers}
-use Rattle.napt_binding.specs.declared.inbound.Inbound.{Inbound}
-use Rattle.napt_binding.specs.declared.sent.Sent.{Sent}
-use Rattle.napt_binding.specs.declared.Binding.{Binding}
-use Rattle.napt_binding.specs.Inbound.{inbound_of}
-use Rattle.napt_binding.specs.Lists.{change_first}
-use Rattle.napt_binding.specs.Life.{with_live_flows, purge}
-use Rattle.napt_binding.specs.Filtering.{permits}
-use Rattle.napt_table.specs.declared.received.Received.{Received}
-use Rattle.napt_table.specs.declared.Row.{Row}
-use Rattle.napt_table.specs.Quota.{granted}
-use Rattle.napt_table.specs.Rows.{row}
-use Rattle.napt_table.specs.Live.{OutLeavesLive, InLeavesLive}
-use Rattle.napt_table.specs.Steps.{In, fresh, out_made, out_found, in_found, step_out, step_in, of_source, sent_by, of_destination, received_by}
+use Rattle.napt_rules.specs.declared.Inbound.{Inbound}
+use Rattle.napt_rules.specs.declared.Sent.{Sent}
+use Rattle.napt_rules.specs.Prelude.{Binding, change_first, with_live_flows, purge, permits, inbound_of, granted, of_source, sent_by, fresh, out_made, out_found, step_out, of_destination, received_by, In, in_found, step_in, Acted, sent_of, received_of, act_out, act_in, act_by, act, Arrival, row, Course, follow_by, first_leg, step, OutLeavesLive, InLeavesLive}
+use Rattle.napt_rules.specs.declared.Received.{Received}
+use Rattle.napt_rules.specs.declared.Row.{Row}
 use Rattle.napt_table.proofs.Sound.{sent_row, received_row}
-use Rattle.napt_translate.specs.declared.translator.Leg.{Leg}
-use Rattle.napt_translate.specs.declared.translator.End.{End}
-use Rattle.napt_translate.specs.declared.translator.End.TheVariants.{ToOutside, ToInside, Onward, Dropped}
-use Rattle.napt_translate.specs.Legs.{Acted, sent_of, received_of, act_out, act_in, act_by, act}
+use Rattle.napt_rules.specs.declared.Leg.{Leg}
+use Rattle.napt_rules.specs.declared.End.{End}
+use Rattle.napt_rules.specs.declared.End.TheVariants.{ToOutside, ToInside, Onward, Dropped}
 use Rattle.napt_translate.proofs.Acts.{of_act}
-use Rattle.napt_sequential.specs.Inputs.{Arrival}
-use Rattle.napt_sequential.specs.Sequential.{Course, follow_by, first_leg, step}
 use Rattle.napt_sequential.proofs.AnyStep.{of_step}
 use Rattle.napt_account.specs.Log.{living}
 use Rattle.napt_account.proofs.Lists.{map_joined, map_twice}

@@ -13,19 +13,9 @@ use Rattle.napt_wire.specs.Reading.{reading}
 use Rattle.napt_config.specs.Rules.{Rules, KeepsRules, pair_of, has}
 use Rattle.napt_config.specs.declared.settings.Timers.{Timers}
 use Rattle.napt_config.proofs.Pools.{paired_in_pool}
-use Rattle.napt_binding.specs.declared.Binding.{Binding}
-use Rattle.napt_binding.specs.Bindings.{is_at, of, same_protocol, same_endpoint}
-use Rattle.napt_binding.specs.Lists.{Each}
-use Rattle.napt_binding.specs.Life.{is_live, purge}
+use Rattle.napt_rules.specs.Prelude.{Binding, Each, same_protocol, same_endpoint, is_at, of, is_live, purge, opening, Arrival, admission_as, row, put, in_order, rows, first_leg, step_as, step, run_from, run, last_clock, ran, IsPaired, IsSound, RunsAreSound}
 use Rattle.napt_binding.proofs.Lists.{any_narrow, each_weaker}
-use Rattle.napt_table.specs.declared.Row.{Row}
-use Rattle.napt_table.specs.Rows.{row, put, in_order, rows}
-use Rattle.napt_table.specs.Endpoints.{IsSound, IsPaired}
-use Rattle.napt_table.specs.Opening.{opening}
-use Rattle.napt_sequential.specs.Inputs.{Arrival}
-use Rattle.napt_sequential.specs.Admission.{admission_as}
-use Rattle.napt_sequential.specs.Sequential.{first_leg, step_as, step, run_from, run, last_clock, ran}
-use Rattle.napt_sequential.specs.Sound.{RunsAreSound}
+use Rattle.napt_rules.specs.declared.Row.{Row}
 use Rattle.napt_account.specs.Fronts.{nothing_at, IsFrontAt}
 use Rattle.napt_account.specs.Log.{living, log_of}
 use Rattle.napt_account.specs.Passages.{has_ends}

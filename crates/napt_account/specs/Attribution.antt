@@ -5,12 +5,7 @@ use Rattle.napt_wire.specs.declared.Protocol.{Protocol}
 use Rattle.napt_wire.specs.declared.Endpoint.{Endpoint}
 use Rattle.napt_config.specs.Rules.{Rules, KeepsRules}
 use Rattle.napt_config.specs.declared.settings.Timers.{Timers}
-use Rattle.napt_binding.specs.declared.Binding.{Binding}
-use Rattle.napt_binding.specs.Life.{is_live}
-use Rattle.napt_table.specs.Rows.{row}
-use Rattle.napt_table.specs.Opening.{opening}
-use Rattle.napt_sequential.specs.Inputs.{Arrival}
-use Rattle.napt_sequential.specs.Sequential.{run, last_clock}
+use Rattle.napt_rules.specs.Prelude.{Binding, is_live, opening, Arrival, row, run, last_clock}
 use Rattle.napt_account.specs.declared.log.Entry.{Entry}
 use Rattle.napt_account.specs.Passages.{has_ends}
 use Rattle.napt_account.specs.Log.{log_of, stands_at}

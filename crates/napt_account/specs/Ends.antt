@@ -7,10 +7,8 @@ use Rattle.napt_wire.specs.declared.Protocol.{Protocol}
 use Rattle.napt_wire.specs.declared.Protocol.TheVariants.{Icmp, Tcp, Udp}
 use Rattle.napt_config.specs.Rules.{AreTimers}
 use Rattle.napt_config.specs.declared.settings.Timers.{Timers}
-use Rattle.napt_binding.specs.declared.Flow.{Flow}
-use Rattle.napt_binding.specs.declared.Binding.{Binding}
-use Rattle.napt_binding.specs.Marks.{idle}
-use Rattle.napt_binding.specs.Life.{second, is_live}
+use Rattle.napt_rules.specs.declared.Flow.{Flow}
+use Rattle.napt_rules.specs.Prelude.{Binding, idle, second, is_live}
 
 -- in ns: so many seconds after it was last used
 abbrev pub end_after : ℕ → ℕ → ℕ

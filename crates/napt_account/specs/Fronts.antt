@@ -1,8 +1,7 @@
 -- The inputs that came by a time, and the time itself as an input that changes nothing.
 use Rattle.std.specs.Prelude.{◌≡◌, ℕ, ◌≤◌, List, [], ◌∷◌, ◌++◌}
 use Rattle.napt_wire.specs.declared.Side.TheVariants.{Outside}
-use Rattle.napt_sequential.specs.Inputs.{Arrival}
-use Rattle.napt_sequential.specs.Sequential.{last_clock}
+use Rattle.napt_rules.specs.Prelude.{Arrival, last_clock}
 use Rattle.napt_account.specs.Attribution.{IsBeforeNext}
 
 -- with no bytes, at a time: no packet, so it is dropped

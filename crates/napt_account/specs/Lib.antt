@@ -3,4 +3,4 @@ pub mod Ends
 pub mod Fronts
 pub mod Log
 pub mod Passages
-pub use Rattle.napt_sequential.specs.Sequential
+pub use Rattle.napt_rules.specs.Prelude

@@ -11,17 +11,12 @@ use Rattle.napt_wire.specs.declared.Cause.TheVariants.{OverQuota, NoPort}
 use Rattle.napt_wire.specs.Fields.{source, kind}
 use Rattle.napt_config.specs.Rules.{Rules}
 use Rattle.napt_config.specs.declared.settings.Timers.{Timers}
-use Rattle.napt_binding.specs.declared.Binding.{Binding}
-use Rattle.napt_binding.specs.Life.{is_live}
-use Rattle.napt_table.specs.declared.Row.{Row}
-use Rattle.napt_table.specs.Rows.{row}
-use Rattle.napt_table.specs.Opening.{opening}
+use Rattle.napt_rules.specs.Prelude.{Binding, is_live, opening, Arrival, row, Act, Course, step, run}
+use Rattle.napt_rules.specs.declared.Row.{Row}
 use Rattle.napt_translate.specs.Carried.{carried_by}
-use Rattle.napt_translate.specs.declared.translator.Leg.{Leg}
-use Rattle.napt_translate.specs.declared.translator.End.{End}
-use Rattle.napt_translate.specs.declared.translator.End.TheVariants.{ToOutside, ToInside, Onward, Dropped}
-use Rattle.napt_sequential.specs.Inputs.{Arrival}
-use Rattle.napt_sequential.specs.Sequential.{Act, Course, step, run}
+use Rattle.napt_rules.specs.declared.Leg.{Leg}
+use Rattle.napt_rules.specs.declared.End.{End}
+use Rattle.napt_rules.specs.declared.End.TheVariants.{ToOutside, ToInside, Onward, Dropped}
 use Rattle.napt_account.specs.declared.log.Entry.{Entry}
 use Rattle.napt_account.specs.declared.log.Shortage.{Shortage}
 use Rattle.napt_account.specs.Ends.{end_of, is_before}

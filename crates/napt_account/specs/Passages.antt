@@ -7,12 +7,11 @@ use Rattle.std.specs.Prelude.{ℕ, Bool, false, ◌&&◌, List, length, filter, 
 use Rattle.napt_wire.specs.declared.Protocol.{Protocol}
 use Rattle.napt_wire.specs.declared.Endpoint.{Endpoint}
 use Rattle.napt_wire.specs.Fields.{source, destination, kind}
-use Rattle.napt_binding.specs.Bindings.{same_protocol, same_endpoint}
-use Rattle.napt_table.specs.declared.Row.{Row}
+use Rattle.napt_rules.specs.Prelude.{same_protocol, same_endpoint, Act}
+use Rattle.napt_rules.specs.declared.Row.{Row}
 use Rattle.napt_translate.specs.Carried.{carried_by}
-use Rattle.napt_translate.specs.declared.translator.End.{End}
-use Rattle.napt_translate.specs.declared.translator.End.TheVariants.{ToOutside, ToInside, Onward, Dropped}
-use Rattle.napt_sequential.specs.Sequential.{Act}
+use Rattle.napt_rules.specs.declared.End.{End}
+use Rattle.napt_rules.specs.declared.End.TheVariants.{ToOutside, ToInside, Onward, Dropped}
 
 -- the row of a binding of these
 abbrev pub has_ends : Protocol → Endpoint → Endpoint → Row → Bool

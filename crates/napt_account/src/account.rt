@@ -1,7 +1,7 @@
 //! The run over the inputs, with what each packet did to the bindings.
 
 ghost use Rattle.std.specs.Prelude.{◌≡◌, IfOk, length, option_map, slice_get};
-ghost use Rattle.napt_sequential.specs.Sequential as model;
+ghost use Rattle.napt_rules.specs.Sequential as model;
 
 use napt_config::Config;
 use napt_sequential::{Input, Outcome, Run, RunFault, run_plain};

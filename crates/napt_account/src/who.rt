@@ -4,8 +4,7 @@ ghost use Rattle.std.specs.Prelude.{◌≡◌, ◌≤◌, length, take, drop, fi
 ghost use Rattle.std.specs.List.{list_any};
 ghost use Rattle.napt_wire.specs.declared.Protocol.{Protocol};
 ghost use Rattle.napt_wire.specs.declared.Endpoint.{Endpoint};
-ghost use Rattle.napt_binding.specs.Bindings.{same_endpoint};
-ghost use Rattle.napt_sequential.specs.Sequential.{last_clock};
+ghost use Rattle.napt_rules.specs.Prelude.{same_endpoint, last_clock};
 ghost use Rattle.napt_account.specs.Fronts.{IsFrontAt};
 ghost use Rattle.napt_account.specs.Passages.{has_ends};
 ghost use Rattle.napt_account.specs.Log.{log_of};

@@ -6,13 +6,11 @@ use Rattle.std.proofs.lemmas.Bool.{or_parts, true≢false}
 use Rattle.napt_wire.specs.declared.Endpoint.{Endpoint}
 use Rattle.napt_wire.specs.declared.Protocol.{Protocol}
 use Rattle.napt_config.specs.declared.settings.Timers.{Timers}
-use Rattle.napt_binding.specs.Bindings.{is_tcp, same_endpoint}
-use Rattle.napt_binding.specs.Life.{is_live_flow, live_flows}
-use Rattle.napt_binding.specs.declared.Flow.{Flow}
+use Rattle.napt_rules.specs.Prelude.{is_tcp, same_endpoint, is_live_flow, live_flows, is_flow_of}
+use Rattle.napt_rules.specs.declared.Flow.{Flow}
 use Rattle.napt_binding.specs.declared.flows.many.Many.{Many}
 use Rattle.napt_binding.specs.Many.{place_at, IsMany}
 use Rattle.napt_binding.specs.Slots.{somes, Stands, AreDistinct}
-use Rattle.napt_binding.specs.Traffic.{is_flow_of}
 use Rattle.napt_binding.proofs.Lists.{any_index, any_last}
 use Rattle.napt_binding.proofs.Manys.{endpoint_is, endpoint_same, no_place}
 use Rattle.napt_binding.proofs.Slots.{any_none, somes_pushed}

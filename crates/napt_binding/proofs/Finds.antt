@@ -4,7 +4,7 @@ use Rattle.std.specs.Prelude.{filter, find}
 use Rattle.std.specs.Option.{option_map}
 use Rattle.std.specs.List.{list_any}
 use Rattle.std.proofs.lemmas.Option.{same_Some}
-use Rattle.napt_binding.specs.Lists.{change_first}
+use Rattle.napt_rules.specs.Prelude.{change_first}
 use Rattle.napt_binding.proofs.Lists.{find_nowhere}
 use Rattle.std.proofs.lemmas.Bool.{true≢false}
 

@@ -9,19 +9,14 @@ use Rattle.napt_wire.specs.declared.Way.{Way}
 use Rattle.napt_wire.specs.declared.Way.TheVariants.{Outgoing, Incoming}
 use Rattle.napt_wire.specs.declared.Endpoint.{Endpoint}
 use Rattle.napt_wire.specs.declared.Flags.{Flags}
-use Rattle.napt_binding.specs.declared.Marks.{Marks}
-use Rattle.napt_binding.specs.declared.Flow.{Flow}
+use Rattle.napt_rules.specs.declared.Marks.{Marks}
+use Rattle.napt_rules.specs.declared.Flow.{Flow}
 use Rattle.napt_config.specs.Rules.{AreTimers}
 use Rattle.napt_config.specs.declared.settings.Refresh.{Refresh}
 use Rattle.napt_config.specs.declared.settings.Refresh.TheVariants.{Outbound, Both}
-use Rattle.napt_binding.specs.declared.inbound.Inbound.{Inbound}
+use Rattle.napt_rules.specs.declared.Inbound.{Inbound}
 use Rattle.napt_config.specs.declared.settings.Timers.{Timers}
-use Rattle.napt_binding.specs.declared.Binding.{Binding}
-use Rattle.napt_binding.specs.Lists.{change_first, Each}
-use Rattle.napt_binding.specs.Marks.{is_closing, no_marks, idle}
-use Rattle.napt_binding.specs.Bindings.{is_tcp}
-use Rattle.napt_binding.specs.Life.{is_live_flow, is_live, with_live_flows, purge}
-use Rattle.napt_binding.specs.Traffic.{is_flow_of, used, with_flow, sent, refreshed, received}
+use Rattle.napt_rules.specs.Prelude.{Binding, change_first, Each, is_tcp, no_marks, is_closing, idle, is_live_flow, is_live, with_live_flows, purge, is_flow_of, used, with_flow, sent, refreshed, received}
 use Rattle.napt_binding.proofs.Lists.{each_filter, filter_all, each_changed, each_pushed, any_of, some_any, long_changed, long_pushed}
 use Rattle.napt_binding.proofs.Purges.{live_same}
 

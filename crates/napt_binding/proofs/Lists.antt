@@ -5,7 +5,7 @@ use Rattle.std.specs.List.{position_or_len, list_any}
 use Rattle.std.proofs.lemmas.Bool.{or_parts}
 use Rattle.std.proofs.lemmas.Bool.Decides.{nat_tests}
 use Rattle.std.proofs.lemmas.List.Quantifiers.{position-Some}
-use Rattle.napt_binding.specs.Lists.{change_first, Each}
+use Rattle.napt_rules.specs.Prelude.{change_first, Each}
 
 -- two filters in either order
 pub filter_swap : {X : Type 0} (p q : X → Bool) (xs : List X) → filter p (filter q xs) ≡ filter q (filter p xs)

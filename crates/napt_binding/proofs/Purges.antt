@@ -5,11 +5,9 @@ use Rattle.std.specs.List.{list_any}
 use Rattle.std.proofs.lemmas.Bool.Decides.{nat_tests}
 use Rattle.napt_wire.specs.declared.Protocol.{Protocol}
 use Rattle.napt_wire.specs.declared.Protocol.TheVariants.{Icmp, Tcp, Udp}
-use Rattle.napt_binding.specs.declared.Flow.{Flow}
+use Rattle.napt_rules.specs.declared.Flow.{Flow}
 use Rattle.napt_config.specs.declared.settings.Timers.{Timers}
-use Rattle.napt_binding.specs.declared.Binding.{Binding}
-use Rattle.napt_binding.specs.Bindings.{is_tcp, of, is_at}
-use Rattle.napt_binding.specs.Life.{is_live_flow, is_live_by, is_live, with_live_flows, purge}
+use Rattle.napt_rules.specs.Prelude.{Binding, is_tcp, is_at, of, is_live_flow, is_live_by, is_live, with_live_flows, purge}
 use Rattle.napt_binding.proofs.Lists.{filter_swap, filter_map, filter_narrow, any_narrow}
 
 pub of_purge : (timers : Timers) (now address : ℕ) (list : List Binding) → of address (purge timers now list)

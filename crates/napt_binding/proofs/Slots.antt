@@ -6,10 +6,8 @@ use Rattle.std.proofs.lemmas.Bool.Decides.{nat_tests}
 use Rattle.std.proofs.lemmas.Option.{same_Some}
 use Rattle.std.proofs.lemmas.List.Sums.{sum_by-cons}
 use Rattle.napt_config.specs.declared.settings.Timers.{Timers}
-use Rattle.napt_binding.specs.declared.Flow.{Flow}
-use Rattle.napt_binding.specs.Lists.{change_first}
-use Rattle.napt_binding.specs.Marks.{is_established}
-use Rattle.napt_binding.specs.Life.{is_recent, is_live_flow}
+use Rattle.napt_rules.specs.declared.Flow.{Flow}
+use Rattle.napt_rules.specs.Prelude.{change_first, is_established, is_recent, is_live_flow}
 use Rattle.napt_binding.specs.Slots.{somes, Stands, established_time, other_time, is_recent_time, of_address, count_of}
 
 module _ {X : Type 0} where

@@ -12,11 +12,9 @@ use Rattle.napt_wire.specs.declared.Endpoint.{Endpoint}
 use Rattle.napt_wire.specs.declared.Flags.{Flags}
 use Rattle.napt_config.specs.Rules.{AreTimers}
 use Rattle.napt_config.specs.declared.settings.Timers.{Timers}
-use Rattle.napt_binding.specs.declared.Flow.{Flow}
-use Rattle.napt_binding.specs.Lists.{change_first}
-use Rattle.napt_binding.specs.Marks.{no_marks}
-use Rattle.napt_binding.specs.Life.{is_live_flow, is_standing, live_flows}
-use Rattle.napt_binding.specs.Traffic.{is_flow_of, used, with_flow, standing_flow_of}
+use Rattle.napt_rules.specs.declared.Flow.{Flow}
+use Rattle.napt_rules.specs.Prelude.{change_first, no_marks, is_live_flow, live_flows, is_flow_of, used, with_flow}
+use Rattle.napt_binding.specs.Standing.{is_standing, standing_flow_of}
 use Rattle.napt_binding.proofs.Lists.{any_at, any_seen, set_seen, change_pushed, filter_pushed, map_same, any_set, any_pushed}
 use Rattle.napt_binding.proofs.Fresh.{used_live, flows_all, flows_kept}
 use Rattle.napt_binding.specs.Slots.{somes, Stands}

@@ -5,9 +5,8 @@ use Rattle.std.specs.List.{list_any}
 use Rattle.std.proofs.lemmas.Bool.Decides.{nat_tests}
 use Rattle.std.proofs.lemmas.Option.{same_Some}
 use Rattle.napt_config.specs.declared.settings.Timers.{Timers}
-use Rattle.napt_binding.specs.declared.Flow.{Flow}
-use Rattle.napt_binding.specs.Marks.{is_established}
-use Rattle.napt_binding.specs.Life.{is_recent, is_live_flow}
+use Rattle.napt_rules.specs.declared.Flow.{Flow}
+use Rattle.napt_rules.specs.Prelude.{is_established, is_recent, is_live_flow}
 use Rattle.napt_binding.specs.Slots.{somes, Stands, established_time, other_time, is_recent_time}
 use Rattle.napt_binding.proofs.Slots.{any_live}
 use Rattle.napt_binding.proofs.Purges.{any_weaker, lived_flow}

@@ -1,6 +1,6 @@
 -- How the flows of a binding are kept: one as it is, few in a list, many behind maps.
 use Rattle.std.specs.Prelude.{List, [], ◌∷◌}
-use Rattle.napt_binding.specs.declared.Flow.{Flow}
+use Rattle.napt_rules.specs.declared.Flow.{Flow}
 use Rattle.napt_binding.specs.declared.flows.Kept.{Kept}
 use Rattle.napt_binding.specs.declared.flows.Kept.TheVariants.{Empty, One, Few, Many}
 use Rattle.napt_binding.specs.Slots.{somes, AreDistinct}

@@ -1,10 +1,4 @@
 pub mod Lists
-pub mod Marks
-pub mod Bindings
-pub mod Life
-pub mod Filtering
-pub mod Inbound
-pub mod Traffic
 pub mod Ends
 pub mod Slots
 pub mod SlotsShown
@@ -13,3 +7,5 @@ pub mod Counts
 pub mod Many
 pub mod Kept
 pub mod Sent
+pub mod Standing
+pub mod Entering

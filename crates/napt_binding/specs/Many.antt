@@ -2,7 +2,7 @@
 use Rattle.std.specs.Prelude.{◌≡◌, ℕ, ◌<◌, Option, Some}
 use Rattle.std.specs.HashMap.{get, spare}
 use Rattle.napt_wire.specs.declared.Endpoint.{Endpoint}
-use Rattle.napt_binding.specs.declared.Flow.{Flow}
+use Rattle.napt_rules.specs.declared.Flow.{Flow}
 use Rattle.napt_binding.specs.Lists.{pair_eq}
 use Rattle.napt_binding.specs.Counts.{count_at, room_of}
 use Rattle.napt_binding.specs.Slots.{Stands, count_of}

@@ -2,12 +2,9 @@
 use Rattle.std.specs.Prelude.{List}
 use Rattle.napt_wire.specs.declared.Way.TheVariants.{Outgoing}
 use Rattle.napt_config.specs.declared.settings.Timers.{Timers}
-use Rattle.napt_binding.specs.declared.Flow.{Flow}
-use Rattle.napt_binding.specs.declared.sent.Sent.{Sent}
-use Rattle.napt_binding.specs.Lists.{change_first}
-use Rattle.napt_binding.specs.Marks.{no_marks}
-use Rattle.napt_binding.specs.Life.{live_flows}
-use Rattle.napt_binding.specs.Traffic.{is_flow_of, used, with_flow}
+use Rattle.napt_rules.specs.declared.Flow.{Flow}
+use Rattle.napt_rules.specs.declared.Sent.{Sent}
+use Rattle.napt_rules.specs.Prelude.{change_first, no_marks, live_flows, is_flow_of, used, with_flow}
 
 -- the flow that begins with the packet
 abbrev pub begun_by : Sent → Flow

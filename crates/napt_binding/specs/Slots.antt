@@ -1,10 +1,8 @@
 -- Flows in slots, in the order in which they began; a flow that goes leaves its slot empty.
 use Rattle.std.specs.Prelude.{◌≡◌, ℕ, ◌==◌, Bool, false, cond, List, [], ◌∷◌, slice_get, sum_by, Option, Some, None}
 use Rattle.std.specs.List.{list_any}
-use Rattle.napt_binding.specs.declared.Flow.{Flow}
-use Rattle.napt_binding.specs.Marks.{is_established}
-use Rattle.napt_binding.specs.Life.{is_recent}
-use Rattle.napt_binding.specs.Traffic.{is_flow_of}
+use Rattle.napt_rules.specs.declared.Flow.{Flow}
+use Rattle.napt_rules.specs.Prelude.{is_established, is_recent, is_flow_of}
 
 -- what stands in the slots
 abbrev pub somes : {X : Type 0} → List (Option X) → List X

@@ -5,13 +5,13 @@
 ghost use Rattle.std.specs.Prelude.{◌≡◌, ◌==◌, ◌≤◌, ℕ, Bool, true, filter, OnOk, OnErr, IfOk, [], ◌∷◌};
 ghost use Rattle.std.specs.List.{list_any};
 ghost use Rattle.napt_config.specs.Rules.{AreTimers};
-ghost use Rattle.napt_binding.specs.Life as life;
+ghost use Rattle.napt_rules.specs.Life as life;
 ghost use Rattle.napt_binding.specs.Kept.{flows_of, IsKept};
-ghost use Rattle.napt_binding.specs.Lists.{change_first};
+ghost use Rattle.napt_rules.specs.Prelude.{change_first};
 ghost use Rattle.napt_binding.specs.Sent as packets;
 ghost use Rattle.napt_binding.specs.Slots.{AreDistinct, somes};
 ghost use Rattle.napt_binding.specs.Many.{IsMany};
-ghost use Rattle.napt_binding.specs.Traffic as traffic;
+ghost use Rattle.napt_rules.specs.Traffic as traffic;
 
 mod few;
 mod many;
@@ -45,7 +45,7 @@ pub struct Flows {
 
 impl Model for Flows {
     ghost use Rattle.std.specs.Prelude.{List};
-    ghost use Rattle.napt_binding.specs.declared.Flow.{Flow};
+    ghost use Rattle.napt_rules.specs.declared.Flow.{Flow};
 
     ghost Value = { List Flow };
 

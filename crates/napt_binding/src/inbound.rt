@@ -1,7 +1,7 @@
 //! What a table does with packets that come in.
 
 ghost use Rattle.std.specs.Prelude.{◌≡◌};
-ghost use Rattle.napt_binding.specs.Inbound.{inbound_of};
+ghost use Rattle.napt_rules.specs.Prelude.{inbound_of};
 
 use napt_config::{Config, Filter, Refresh};
 

@@ -3,7 +3,8 @@
 ghost use Rattle.std.specs.Prelude.{◌≡◌, ◌≤◌, ◌<◌, ◌+◌, ◌*◌, ℕ, true, filter};
 ghost use Rattle.std.specs.List.{list_any};
 ghost use Rattle.napt_config.specs.Rules.{AreTimers};
-ghost use Rattle.napt_binding.specs.Life as life;
+ghost use Rattle.napt_rules.specs.Life as life;
+ghost use Rattle.napt_binding.specs.Standing.{is_standing};
 ghost use Rattle.napt_binding.specs.Ends.{least_timer};
 
 use crate::{Binding, Flow};
@@ -52,7 +53,7 @@ impl Flow {
     /// Whether a flow of the protocol counts: one outside TCP lives as long as its binding.
     pub(crate) fn is_standing(&self, timers: Timers, now: u64, protocol: Protocol) -> bool
         requires { AreTimers timers }
-        ensures { result ≡ life.is_standing timers now protocol self.now }
+        ensures { result ≡ is_standing timers now protocol self.now }
     {
         match protocol {
             Protocol::Tcp => self.is_live(timers, now),

@@ -2,7 +2,7 @@
 
 ghost use Rattle.std.specs.Prelude.{◌≡◌};
 ghost use Rattle.napt_binding.specs.Sent as packets;
-ghost use Rattle.napt_binding.specs.Traffic as traffic;
+ghost use Rattle.napt_rules.specs.Traffic as traffic;
 
 use crate::Flow;
 use napt_wire::{Endpoint, Flags, Protocol, Way};

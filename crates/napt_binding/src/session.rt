@@ -1,7 +1,7 @@
 //! The marks of a TCP flow (RFC 5382, REQ-2 and REQ-5).
 
 ghost use Rattle.std.specs.Prelude.{◌≡◌};
-ghost use Rattle.napt_binding.specs.Marks as marks;
+ghost use Rattle.napt_rules.specs.Marks as marks;
 
 use crate::Marks;
 use napt_config::Timers;

@@ -2,11 +2,12 @@
 
 ghost use Rattle.std.specs.Prelude.{◌≡◌, true, OnOk, OnErr};
 ghost use Rattle.napt_config.specs.Rules.{AreTimers};
-ghost use Rattle.napt_binding.specs.Bindings.{same_endpoint};
-ghost use Rattle.napt_binding.specs.Filtering as filtering;
-ghost use Rattle.napt_binding.specs.Life as life;
-ghost use Rattle.napt_binding.specs.Marks as marks;
-ghost use Rattle.napt_binding.specs.Traffic as traffic;
+ghost use Rattle.napt_rules.specs.Prelude.{same_endpoint};
+ghost use Rattle.napt_rules.specs.Filtering as filtering;
+ghost use Rattle.napt_rules.specs.Life as life;
+ghost use Rattle.napt_rules.specs.Marks as marks;
+ghost use Rattle.napt_rules.specs.Traffic as traffic;
+ghost use Rattle.napt_binding.specs.Entering.{left_by, entered};
 
 use crate::sent::Sent;
 use crate::session::NO_MARKS;
@@ -137,9 +138,9 @@ impl Binding {
         flags: Flags,
     ) -> Result<Endpoint, Cause>
         requires { AreTimers timers }
-        ensures answer { result ≡ traffic.entered inbound remote
+        ensures answer { result ≡ entered inbound remote
             (life.with_live_flows timers now self.old) }
-        ensures left { self.new ≡ traffic.left_by inbound remote flags now
+        ensures left { self.new ≡ left_by inbound remote flags now
             (life.with_live_flows timers now self.old) }
     {
         self.purge_flows(timers, now);

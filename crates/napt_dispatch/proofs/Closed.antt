@@ -4,24 +4,19 @@ use Rattle.std.proofs.lemmas.List.{length-map}
 use Rattle.std.proofs.lemmas.List.Folds.{flat_map-map}
 use Rattle.std.specs.Prelude.{slice_index, slice_index_or, flat_map, IfErr, OnOk}
 use Rattle.napt_config.specs.Rules.{Rules}
-use Rattle.napt_table.specs.declared.Row.{Row}
-use Rattle.napt_binding.specs.Bindings.{of}
-use Rattle.napt_table.specs.Opening.{opening}
-use Rattle.napt_table.specs.Rows.{rows, rows_of}
-use Rattle.napt_translate.specs.declared.translator.Leg.{Leg}
-use Rattle.napt_translate.specs.declared.translator.Answer.{Answer}
-use Rattle.napt_translate.specs.Legs.{Kept, kept_after_all}
+use Rattle.napt_rules.specs.declared.Row.{Row}
+use Rattle.napt_rules.specs.Prelude.{of, opening, Arrival, rows_of, rows, Course, run, last_clock, legs_at, Ran, ran, Kept, kept_after_all}
+use Rattle.napt_rules.specs.declared.Leg.{Leg}
+use Rattle.napt_rules.specs.declared.Answer.{Answer}
 use Rattle.napt_translate.specs.Translators.{TranslatorState, begun, kept_of, with_kept, left_by}
 use Rattle.napt_pool.specs.declared.closing.Ended.{Ended}
 use Rattle.napt_pool.specs.declared.machine.Machine.{Ghosts}
 use Rattle.napt_pool.specs.Histories.{after}
 use Rattle.napt_pool.specs.Pools.{zip_with}
-use Rattle.napt_sequential.specs.declared.outcome.Outcome.{Outcome}
+use Rattle.napt_rules.specs.declared.Outcome.{Outcome}
 use Rattle.napt_sequential.specs.declared.fault.RunFault.{RunFault}
 use Rattle.napt_sequential.specs.declared.fault.RunFault.TheVariants as faults
-use Rattle.napt_sequential.specs.Inputs.{Arrival}
 use Rattle.napt_sequential.specs.CountedTranslators.{IsAtOnce}
-use Rattle.napt_sequential.specs.Sequential.{Course, run, last_clock, legs_at, Ran, ran}
 use Rattle.napt_dispatch.specs.Dispatch.{started, of_worker, fresh, rows_after, IsFaultUnder, is_gate_fault, IsDispatched, first_fault}
 use Rattle.napt_pool.specs.declared.fault.PoolFault.{PoolFault}
 use Rattle.napt_sequential.proofs.RunsLocal.{seen}

@@ -5,14 +5,14 @@ use Rattle.std.proofs.lemmas.Bool.{cases_eq}
 use Rattle.std.proofs.Math.ListN.{get_or-append}
 use Rattle.std.proofs.Math.Seq.{get_or-append_seam}
 use Rattle.napt_config.specs.Rules.{Rules}
-use Rattle.napt_translate.specs.declared.translator.Leg.{Leg}
-use Rattle.napt_translate.specs.declared.translator.Answer.{Answer}
-use Rattle.napt_translate.specs.Legs.{kept_answer, kept_replies}
+use Rattle.napt_rules.specs.declared.Leg.{Leg}
+use Rattle.napt_rules.specs.declared.Answer.{Answer}
+use Rattle.napt_rules.specs.Prelude.{kept_answer, kept_replies}
 use Rattle.napt_translate.specs.Translators.{TranslatorState, begun, kept_of, left_by}
 use Rattle.napt_pool.specs.declared.machine.Machine.{Ghosts}
 use Rattle.napt_pool.specs.Histories.{replies}
 use Rattle.napt_pool.specs.Pools.{zip_with}
-use Rattle.napt_sequential.specs.declared.outcome.Outcome.{Outcome}
+use Rattle.napt_rules.specs.declared.Outcome.{Outcome}
 use Rattle.napt_dispatch.specs.Dispatch.{started, of_worker, fresh, Right}
 
 -- LISTS

@@ -3,12 +3,11 @@ use Rattle.std.proofs.Common.{◌≡◌, ◌≢◌, ℕ, suc, ◌<◌, ◌≤◌
 use Rattle.std.specs.Prelude.{slice_index}
 use Rattle.std.proofs.lemmas.Bool.{cases_eq}
 use Rattle.napt_config.specs.Rules.{Rules}
-use Rattle.napt_translate.specs.declared.translator.Leg.{Leg}
-use Rattle.napt_translate.specs.declared.translator.Answer.{Answer}
-use Rattle.napt_translate.specs.declared.translator.End.{End}
-use Rattle.napt_translate.specs.declared.translator.End.TheVariants as ends
-use Rattle.napt_translate.specs.Legs.{Acted, Kept, kept_after, kept_answer, kept_replies}
-use Rattle.napt_sequential.specs.Sequential.{Act, follow_by}
+use Rattle.napt_rules.specs.declared.Leg.{Leg}
+use Rattle.napt_rules.specs.declared.Answer.{Answer}
+use Rattle.napt_rules.specs.declared.End.{End}
+use Rattle.napt_rules.specs.declared.End.TheVariants as ends
+use Rattle.napt_rules.specs.Prelude.{Acted, Act, follow_by, Kept, kept_after, kept_answer, kept_replies}
 use Rattle.napt_sequential.specs.Dispatching.{IsFront}
 use Rattle.napt_dispatch.specs.Dispatch.{of_worker, fresh, Right}
 

@@ -3,7 +3,7 @@ use Rattle.std.proofs.Common.{◌≡◌, ◌≢◌, ℕ, ◌+◌, ◌<◌, ◌�
 use Rattle.std.specs.Prelude.{IfSome, MatchOption}
 use Rattle.std.proofs.lemmas.Bool.{cases_eq}
 use Rattle.std.proofs.lemmas.List.{set-set, set_comm}
-use Rattle.napt_translate.specs.declared.translator.Leg.{Leg}
+use Rattle.napt_rules.specs.declared.Leg.{Leg}
 use Rattle.napt_dispatch.specs.declared.dispatcher.held.Held.TheVariants.{Ready, Place}
 use Rattle.napt_dispatch.specs.Dispatch.{of_worker}
 use Rattle.napt_dispatch.specs.Queues.{pushed, put_first, many_in}

@@ -4,8 +4,8 @@ use Rattle.std.proofs.lemmas.List.{set-append_left, length-replicate}
 use Rattle.std.specs.Prelude.{slice_get}
 use Rattle.napt_pool.specs.Pools.{zip_with}
 use Rattle.napt_wire.specs.declared.Cause.TheVariants.{NoBinding}
-use Rattle.napt_sequential.specs.declared.outcome.Outcome.{Outcome}
-use Rattle.napt_sequential.specs.declared.outcome.Outcome.TheVariants.{ToOutside, ToInside, Dropped}
+use Rattle.napt_rules.specs.declared.Outcome.{Outcome}
+use Rattle.napt_rules.specs.declared.Outcome.TheVariants.{ToOutside, ToInside, Dropped}
 use Rattle.napt_dispatch.specs.declared.dispatcher.progress.Progress.{Progress}
 use Rattle.napt_dispatch.specs.declared.dispatcher.progress.Progress.TheVariants.{Awaited}
 use Rattle.napt_dispatch.specs.declared.dispatcher.stage.Stage.{Stage}

@@ -13,29 +13,22 @@ use Rattle.napt_wire.specs.declared.Side.TheVariants.{Inside, Outside}
 use Rattle.napt_wire.specs.Fields.{destination}
 use Rattle.napt_wire.specs.Packet.{IsPacket}
 use Rattle.napt_config.specs.Rules.{Rules, place_of}
-use Rattle.napt_binding.specs.Lists.{Each}
-use Rattle.napt_table.specs.Opening.{opening}
-use Rattle.napt_translate.specs.declared.translator.Leg.{Leg}
-use Rattle.napt_translate.specs.declared.translator.Answer.{Answer}
-use Rattle.napt_translate.specs.declared.translator.End.{End}
-use Rattle.napt_translate.specs.declared.translator.End.TheVariants as ends
-use Rattle.napt_translate.specs.Sides.{way_from, served_at}
-use Rattle.napt_translate.specs.Legs.{Acted, act}
-use Rattle.napt_sequential.specs.declared.outcome.Outcome.{Outcome}
-use Rattle.napt_sequential.specs.declared.outcome.Outcome.TheVariants as outcomes
+use Rattle.napt_rules.specs.Prelude.{Each, opening, way_from, served_at, Acted, act, Arrival, admission, Act, Course, run, last_clock, acts_at, legs_at, answer_of}
+use Rattle.napt_rules.specs.declared.Leg.{Leg}
+use Rattle.napt_rules.specs.declared.Answer.{Answer}
+use Rattle.napt_rules.specs.declared.End.{End}
+use Rattle.napt_rules.specs.declared.End.TheVariants as ends
+use Rattle.napt_rules.specs.declared.Outcome.{Outcome}
+use Rattle.napt_rules.specs.declared.Outcome.TheVariants as outcomes
 use Rattle.napt_dispatch.specs.declared.dispatcher.held.Held.{Held}
 use Rattle.napt_dispatch.specs.declared.dispatcher.held.Held.TheVariants.{Ready, Place}
 use Rattle.napt_dispatch.specs.declared.dispatcher.held.Owed.{Owed}
 use Rattle.napt_dispatch.specs.declared.dispatcher.progress.Progress.{Progress}
 use Rattle.napt_dispatch.specs.declared.dispatcher.progress.Progress.TheVariants.{Awaited, Onward, EndedOut, EndedIn}
 use Rattle.napt_dispatch.specs.declared.dispatcher.second.Second.TheVariants as seconds
-use Rattle.napt_sequential.specs.Inputs.{Arrival}
-use Rattle.napt_sequential.specs.Sequential.{Act, Course, run, last_clock, acts_at, legs_at}
-use Rattle.napt_sequential.specs.Laws.{answer_of}
 use Rattle.napt_sequential.specs.Dispatching.{IsFront, told, IsTold, IsForetold, OnwardIsForetold}
 use Rattle.napt_dispatch.specs.Dispatch.{of_worker, Right, Distinct, IsDispatched}
 use Rattle.napt_sequential.specs.Places.{first_act, second_legs, second_of, IsSeconded}
-use Rattle.napt_sequential.specs.Admission.{admission}
 use Rattle.napt_dispatch.specs.Queues.{pushed, put_first, Popped}
 use Rattle.napt_dispatch.specs.Standing.{Parts, DispatchState, IsSized, owed_of, IsOwed, resolved, next_leg, IsKnown, Reaches, Stands, Keeps, with_held, with_progress, with_first, ended, IsToldBy, Noted, IsSecond, Admits, IsDone, outcome_in}
 use Rattle.napt_dispatch.proofs.Lists.{push_own, push_other, count_push, place_within, no_lengths, of_replicate}

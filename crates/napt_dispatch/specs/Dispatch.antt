@@ -4,22 +4,17 @@
 -- leg. That the answers are right is a premise until the workers are joined, which then tells it.
 use Rattle.std.specs.Prelude.{◌≡◌, ⊤, ℕ, zero, suc, ◌<◌, max, Bool, true, false, List, [], ◌∷◌, ◌++◌, map, length, slice_index, slice_index_or, Result, Ok, Err}
 use Rattle.napt_config.specs.Rules.{Rules}
-use Rattle.napt_binding.specs.Bindings.{of}
-use Rattle.napt_table.specs.Opening.{opening}
-use Rattle.napt_table.specs.declared.Row.{Row}
-use Rattle.napt_table.specs.Rows.{rows}
-use Rattle.napt_translate.specs.declared.translator.Leg.{Leg}
-use Rattle.napt_translate.specs.declared.translator.Answer.{Answer}
-use Rattle.napt_translate.specs.Legs.{Kept, kept_replies}
+use Rattle.napt_rules.specs.Prelude.{of, opening, Arrival, rows, run, last_clock, legs_at, Kept, kept_replies}
+use Rattle.napt_rules.specs.declared.Row.{Row}
+use Rattle.napt_rules.specs.declared.Leg.{Leg}
+use Rattle.napt_rules.specs.declared.Answer.{Answer}
 use Rattle.napt_translate.specs.Translators.{TranslatorState, begun}
 use Rattle.napt_pool.specs.Faults.{IsFaultOf, is_shut}
 use Rattle.napt_pool.specs.declared.fault.PoolFault.{PoolFault}
-use Rattle.napt_sequential.specs.declared.outcome.Outcome.{Outcome}
+use Rattle.napt_rules.specs.declared.Outcome.{Outcome}
 use Rattle.napt_sequential.specs.declared.fault.RunFault.{RunFault}
 use Rattle.napt_sequential.specs.declared.fault.RunFault.TheVariants as faults
-use Rattle.napt_sequential.specs.Inputs.{Arrival}
 use Rattle.napt_dispatch.specs.declared.dispatcher.arrived.Arrived.{Arrived}
-use Rattle.napt_sequential.specs.Sequential.{run, last_clock, legs_at}
 use Rattle.napt_sequential.specs.Dispatching.{IsFront}
 
 -- WORKERS

@@ -7,16 +7,16 @@ use Rattle.std.specs.Prelude.{◌≡◌, ◌≢◌, ◌⊎◌, ◌||◌, ℕ, �
 use Rattle.napt_wire.specs.declared.Way.{Way}
 use Rattle.napt_wire.specs.declared.Way.TheVariants.{Outgoing, Incoming}
 use Rattle.napt_config.specs.Rules.{Rules}
-use Rattle.napt_table.specs.Opening.{opening}
-use Rattle.napt_translate.specs.declared.translator.Leg.{Leg}
-use Rattle.napt_translate.specs.declared.translator.Answer.{Answer}
-use Rattle.napt_translate.specs.declared.translator.End.{End}
-use Rattle.napt_translate.specs.declared.translator.End.TheVariants as ends
+use Rattle.napt_rules.specs.Prelude.{opening, Arrival, Act, Course, run, last_clock, legs_at}
+use Rattle.napt_rules.specs.declared.Leg.{Leg}
+use Rattle.napt_rules.specs.declared.Answer.{Answer}
+use Rattle.napt_rules.specs.declared.End.{End}
+use Rattle.napt_rules.specs.declared.End.TheVariants as ends
 use Rattle.napt_pool.specs.declared.pool.Pool.{Pool}
 use Rattle.napt_pool.specs.Pools.{starts, accepts, takes, capacity_of}
 use Rattle.napt_sequential.specs.declared.fault.RunFault.{RunFault}
-use Rattle.napt_sequential.specs.declared.outcome.Outcome.{Outcome}
-use Rattle.napt_sequential.specs.declared.outcome.Outcome.TheVariants as outcomes
+use Rattle.napt_rules.specs.declared.Outcome.{Outcome}
+use Rattle.napt_rules.specs.declared.Outcome.TheVariants as outcomes
 use Rattle.napt_dispatch.specs.declared.dispatcher.Dispatcher.{Dispatcher}
 use Rattle.napt_dispatch.specs.declared.dispatcher.holding.First.{First}
 use Rattle.napt_dispatch.specs.declared.dispatcher.holding.First.TheVariants as firsts
@@ -27,8 +27,6 @@ use Rattle.napt_dispatch.specs.declared.dispatcher.progress.Progress.{Progress}
 use Rattle.napt_dispatch.specs.declared.dispatcher.progress.Progress.TheVariants.{Awaited, Onward, EndedOut, EndedIn}
 use Rattle.napt_dispatch.specs.declared.dispatcher.second.Second.{Second}
 use Rattle.napt_dispatch.specs.declared.dispatcher.second.Second.TheVariants as seconds
-use Rattle.napt_sequential.specs.Inputs.{Arrival}
-use Rattle.napt_sequential.specs.Sequential.{Act, Course, run, last_clock, legs_at}
 use Rattle.napt_dispatch.specs.Dispatch.{of_worker, IsDispatchFault, Right}
 use Rattle.napt_dispatch.specs.Queues.{pushed, put_first, Popped, many_in}
 use Rattle.napt_dispatch.specs.Stages.{is_unknown}

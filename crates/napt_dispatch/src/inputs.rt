@@ -1,7 +1,7 @@
 //! The inputs of a run that stand in a list.
 
 ghost use Rattle.std.specs.Prelude.{◌≡◌, IfOk};
-ghost use Rattle.napt_sequential.specs.Sequential as model;
+ghost use Rattle.napt_rules.specs.Sequential as model;
 
 use napt_sequential::Input;
 use std::alloc::{AllocError, Global};

@@ -33,7 +33,7 @@ impl Worker {
 }
 
 impl Machine for Worker {
-    ghost use Rattle.napt_translate.specs.Legs.{kept_answer};
+    ghost use Rattle.napt_rules.specs.Prelude.{kept_answer};
     ghost use Rattle.napt_translate.specs.Translators.{kept_of, left_by};
 
     type Item = Leg;

@@ -6,8 +6,8 @@ use Rattle.std.proofs.Math.Nat.{mod-eq_of_lt, add-mod_left}
 use Rattle.napt_bits.specs.Sets.{IsFirstAbsent}
 use Rattle.napt_wire.specs.declared.Protocol.{Protocol}
 use Rattle.napt_wire.specs.declared.Protocol.TheVariants.{Icmp, Tcp, Udp}
-use Rattle.napt_numbers.specs.declared.class.Class.{Class}
-use Rattle.napt_numbers.specs.Candidates.{port_class, class_of, candidate, counted, candidates}
+use Rattle.napt_rules.specs.declared.Class.{Class}
+use Rattle.napt_rules.specs.Prelude.{port_class, class_of, candidate, counted, candidates}
 use Rattle.napt_numbers.specs.Places.{port_place, place_of}
 use Rattle.napt_numbers.proofs.Ports.{by_class}
 

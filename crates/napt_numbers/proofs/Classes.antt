@@ -6,9 +6,8 @@ use Rattle.std.proofs.lemmas.Bool.Decides.{nat_tests}
 use Rattle.std.specs.List.{AllPairs, Contains}
 use Rattle.napt_wire.specs.declared.Protocol.{Protocol}
 use Rattle.napt_wire.specs.declared.Protocol.TheVariants.{Icmp, Tcp, Udp}
-use Rattle.napt_numbers.specs.declared.class.Class.{Class}
-use Rattle.napt_numbers.specs.Candidates.{port_class, class_of, candidate, counted, candidates}
-use Rattle.napt_numbers.specs.Classes.{IsPortFor, IsNumberFor}
+use Rattle.napt_rules.specs.declared.Class.{Class}
+use Rattle.napt_rules.specs.Prelude.{IsPortFor, IsNumberFor, port_class, class_of, candidate, counted, candidates}
 use Rattle.napt_numbers.proofs.Ports.{by_class}
 
 length-counted : (g : ℕ → ℕ) (first many : ℕ) → length (map g (counted first many)) ≡ many

@@ -3,8 +3,8 @@ use Rattle.std.proofs.Common.{◌≡◌, ◌≢◌, ℕ, ◌%◌, ◌^◌, ◌<�
 use Rattle.std.proofs.lemmas.Bool.Decides.{nat_tests}
 use Rattle.napt_wire.specs.declared.Protocol.{Protocol}
 use Rattle.napt_wire.specs.declared.Protocol.TheVariants.{Icmp, Tcp, Udp}
-use Rattle.napt_numbers.specs.declared.class.Class.{Class}
-use Rattle.napt_numbers.specs.Candidates.{port_class, class_of, candidate}
+use Rattle.napt_rules.specs.declared.Class.{Class}
+use Rattle.napt_rules.specs.Prelude.{port_class, class_of, candidate}
 
 odd : (p : ℕ) → (p % 2 == 1) ≡ true → p % 2 ≡ 1
 odd p e = grind (arith, nat_tests, e)

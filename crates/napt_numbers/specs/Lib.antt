@@ -1,3 +1,1 @@
-pub mod Candidates
-pub mod Classes
 pub mod Places

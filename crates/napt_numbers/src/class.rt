@@ -1,7 +1,7 @@
 //! The classes of external numbers (RFC 4787, REQ-3 (a) and REQ-4; RFC 5508, section 3.1).
 
 ghost use Rattle.std.specs.Prelude.{◌≡◌, ◌+◌, ◌-◌, ◌*◌, ◌^◌, ◌<◌, ◌≤◌};
-ghost use Rattle.napt_numbers.specs.Candidates.{class_of};
+ghost use Rattle.napt_rules.specs.Prelude.{class_of};
 ghost use Rattle.napt_numbers.specs.Places.{place_of};
 
 use napt_wire::Protocol;

@@ -3,7 +3,7 @@
 //! The rules are those of RFC 4787 and RFC 5508; `specs/` states them, each with its sections.
 #![tactic(auto)]
 
-ghost use Rattle.napt_numbers.specs.Classes.{CandidatesBegin, CandidatesAreThose, CandidatesDiffer};
+ghost use Rattle.napt_rules.specs.Prelude.{CandidatesBegin, CandidatesAreThose, CandidatesDiffer};
 
 mod class;
 mod numbers;

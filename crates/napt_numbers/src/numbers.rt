@@ -2,7 +2,7 @@
 //! section 3.1).
 
 ghost use Rattle.std.specs.Prelude.{◌≡◌, ℕ, ◌+◌, ◌-◌, ◌*◌, ◌^◌, ◌<◌, ◌≤◌, ◌==◌, false, not, ◌&&◌, ◌||◌, find, IfOk, Bool};
-ghost use Rattle.napt_numbers.specs.Candidates.{candidates};
+ghost use Rattle.napt_rules.specs.Prelude.{candidates};
 ghost use Rattle.napt_numbers.specs.Places.{place_of, is_used};
 
 use crate::class::Class;

@@ -10,7 +10,8 @@ use Rattle.std.proofs.lemmas.Bool.{ltb-false, ltb-true}
 use Rattle.napt_wire.specs.declared.Side.{Side}
 use Rattle.napt_wire.specs.declared.Side.TheVariants.{Inside, Outside}
 use Rattle.napt_capture.specs.Contents.{Entry}
-use Rattle.napt_sequential.specs.Inputs.{Arrival, Hands}
+use Rattle.napt_rules.specs.Prelude.{Arrival}
+use Rattle.napt_sequential.specs.Inputs.{Hands}
 use Rattle.napt_capture.specs.Text.{IsWritable}
 use Rattle.napt_records.specs.Output.{IsTimely}
 use Rattle.napt_records.specs.Taking.{Takes, input_of, is_outside_next}

@@ -7,7 +7,7 @@ use Rattle.std.proofs.lemmas.List.{same_from_push, length_push}
 use Rattle.napt_wire.specs.declared.Side.{Side}
 use Rattle.napt_wire.specs.declared.Side.TheVariants.{Inside, Outside}
 use Rattle.napt_capture.specs.Contents.{Entry}
-use Rattle.napt_sequential.specs.Inputs.{Arrival}
+use Rattle.napt_rules.specs.Prelude.{Arrival}
 use Rattle.napt_records.specs.Merge.{Timed, of_input, same_side, is_from, latest, reach, AreInOrder, HaveClocks, IsMerged}
 use Rattle.napt_records.specs.MergeLaws.{MergeIsOne}
 use Rattle.napt_records.proofs.Merges.{MayFollow, whole, whole-own, whole-other, latest-push, take-within, take-last, within-reach, last-reach, own_from, held, held-push, held-other, filter-other}

@@ -8,7 +8,7 @@ use Rattle.std.proofs.lemmas.Bool.{cases_Bool}
 use Rattle.napt_wire.specs.declared.Side.{Side}
 use Rattle.napt_wire.specs.declared.Side.TheVariants.{Inside, Outside}
 use Rattle.napt_capture.specs.Contents.{Entry}
-use Rattle.napt_sequential.specs.Inputs.{Arrival}
+use Rattle.napt_rules.specs.Prelude.{Arrival}
 use Rattle.napt_records.specs.Taking.{Takes, input_of, is_outside_next, inputs_by, inputs_from}
 use Rattle.napt_records.specs.Merge.{IsMerged}
 use Rattle.napt_records.specs.MergeLaws.{MergeIsThere}

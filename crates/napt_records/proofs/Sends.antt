@@ -9,8 +9,8 @@ use Rattle.napt_capture.specs.Contents.{Entry}
 use Rattle.napt_capture.specs.Text.{entry_of_packet, file_header, record_header, record_text, text}
 use Rattle.napt_capture.specs.Writing.{Puts, PutsAll, PutsFront}
 use Rattle.napt_capture.proofs.Puts.{PutsAll-append, PutsAll-same, PutsFront-append, PutsFront-fault, PutsFront-longer, PutsFront-same}
-use Rattle.napt_sequential.specs.declared.outcome.Outcome.{Outcome}
-use Rattle.napt_sequential.specs.Inputs.{Arrival}
+use Rattle.napt_rules.specs.declared.Outcome.{Outcome}
+use Rattle.napt_rules.specs.Prelude.{Arrival}
 use Rattle.napt_records.specs.Output.{IsTime, IsTimely, packet_to, record_at, records_at, records_to, text_of_record}
 
 -- by the times of the inputs alone

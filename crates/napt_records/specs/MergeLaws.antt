@@ -1,7 +1,7 @@
 -- What makes a run over two captures one: of two lists of records there is one merged list.
 use Rattle.std.specs.Prelude.{◌≡◌, List}
 use Rattle.napt_capture.specs.Contents.{Entry}
-use Rattle.napt_sequential.specs.Inputs.{Arrival}
+use Rattle.napt_rules.specs.Prelude.{Arrival}
 use Rattle.napt_records.specs.Merge.{IsMerged}
 
 -- two lists of records have at most one merged list

@@ -7,10 +7,10 @@ use Rattle.napt_wire.specs.declared.Endpoint.{Endpoint}
 use Rattle.napt_wire.specs.declared.Protocol.{Protocol}
 use Rattle.napt_wire.specs.declared.Protocol.TheVariants.{Icmp, Tcp, Udp}
 use Rattle.napt_config.specs.Text.{address_text}
-use Rattle.napt_table.specs.declared.Row.{Row}
-use Rattle.napt_sequential.specs.declared.outcome.Outcome.{Outcome}
-use Rattle.napt_sequential.specs.declared.outcome.Outcome.TheVariants.{ToOutside, ToInside, Dropped}
-use Rattle.napt_sequential.specs.Sequential.{Ran}
+use Rattle.napt_rules.specs.declared.Row.{Row}
+use Rattle.napt_rules.specs.declared.Outcome.{Outcome}
+use Rattle.napt_rules.specs.declared.Outcome.TheVariants.{ToOutside, ToInside, Dropped}
+use Rattle.napt_rules.specs.Prelude.{Ran}
 
 abbrev pub Text : Type 0
 Text = List ℕ

@@ -52,7 +52,7 @@ pub struct Merged {
 
 impl Model for Merged {
     ghost use Rattle.std.specs.Prelude.{List};
-    ghost use Rattle.napt_sequential.specs.Inputs.{Arrival};
+    ghost use Rattle.napt_rules.specs.Prelude.{Arrival};
     ghost use Rattle.napt_records.specs.Taking.{inputs_from};
 
     ghost Value = { List Arrival };

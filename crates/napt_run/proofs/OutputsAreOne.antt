@@ -8,7 +8,7 @@ use Rattle.napt_config.specs.Rules.{Rules}
 use Rattle.napt_run.specs.declared.captures.Captures.{Captures}
 use Rattle.napt_records.specs.declared.Which.{Which}
 use Rattle.napt_run.specs.Captures.{IsOutsideCapture, AreRead, Share, whole, front, nothing, Receives, GetsOf, text_of}
-use Rattle.napt_sequential.specs.Inputs.{Arrival}
+use Rattle.napt_rules.specs.Prelude.{Arrival}
 use Rattle.napt_records.specs.Merge.{IsMerged}
 use Rattle.napt_run.specs.Replay.{OutputsAreOne}
 use Rattle.napt_records.proofs.MergesAreOne.{merge_one}

@@ -12,7 +12,7 @@ use Rattle.napt_sequential.specs.declared.fault.RunFault.TheVariants.{TooMany}
 use Rattle.napt_run.specs.declared.captures.Outputs.{Outputs}
 use Rattle.napt_config.specs.Rules.{Rules}
 use Rattle.napt_run.specs.Captures.{AreOutputs, AreTooMany, IsReadAsOutside, IsReadFrom, TellsTooMany, TooManyAreTold}
-use Rattle.napt_sequential.specs.Inputs.{Arrival}
+use Rattle.napt_rules.specs.Prelude.{Arrival}
 use Rattle.napt_records.specs.Merge.{IsMerged, is_from, of_input, of_record}
 use Rattle.napt_run.proofs.OutputsAreOne.{HaveOneAnswer, captures-one}
 

@@ -16,8 +16,7 @@ use Rattle.napt_records.specs.declared.Which.{Which}
 use Rattle.napt_records.specs.declared.Which.TheVariants.{Outside, Inside, Report}
 use Rattle.napt_run.specs.declared.captures.Captures.{Captures}
 use Rattle.napt_run.specs.declared.captures.Outputs.{Outputs}
-use Rattle.napt_sequential.specs.Inputs.{Arrival}
-use Rattle.napt_sequential.specs.Sequential.{ran}
+use Rattle.napt_rules.specs.Prelude.{Arrival, ran}
 use Rattle.napt_records.specs.Merge.{IsMerged}
 use Rattle.napt_records.specs.Output.{records_to}
 use Rattle.napt_records.specs.Report.{report_text}

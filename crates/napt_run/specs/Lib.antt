@@ -1,9 +1,6 @@
+pub use Rattle.napt_rules.specs.Prelude
 pub use Rattle.napt_sequential.specs.Inputs
-pub use Rattle.napt_sequential.specs.Sequential
 pub use Rattle.napt_sequential.specs.Faults
-pub use Rattle.napt_sequential.specs.Sound
-pub use Rattle.napt_sequential.specs.QuotaKept
-pub use Rattle.napt_sequential.specs.Laws
 pub use Rattle.napt_sequential.specs.Dispatching
 pub use Rattle.napt_sequential.specs.Places
 pub use Rattle.napt_dispatch.specs.Dispatch

@@ -2,14 +2,9 @@
 use Rattle.std.proofs.Common.{◌≡◌, ℕ, true, false, cond, List, [], ◌∷◌, map, refl, sym, ◌∙◌, ap, subst, eqb}
 use Rattle.std.proofs.lemmas.Bool.{eqb-true, eqb-false}
 use Rattle.napt_config.specs.Rules.{Rules}
-use Rattle.napt_binding.specs.declared.Binding.{Binding}
-use Rattle.napt_binding.specs.Bindings.{of}
-use Rattle.napt_translate.specs.declared.translator.Answer.{Answer}
-use Rattle.napt_translate.specs.declared.translator.End.{End}
-use Rattle.napt_translate.specs.Legs.{Acted, act}
-use Rattle.napt_sequential.specs.Inputs.{Arrival}
-use Rattle.napt_sequential.specs.Sequential.{Act, run, last_clock, acts_at, legs_at}
-use Rattle.napt_sequential.specs.Laws.{answer_of, replies, after, LegsAnswerAlone, LegsLeaveTheirOwn}
+use Rattle.napt_rules.specs.Prelude.{Binding, of, Acted, act, Arrival, Act, run, last_clock, acts_at, legs_at, answer_of, replies, after, LegsAnswerAlone, LegsLeaveTheirOwn}
+use Rattle.napt_rules.specs.declared.Answer.{Answer}
+use Rattle.napt_rules.specs.declared.End.{End}
 use Rattle.napt_sequential.specs.CountedTranslators.{Agrees}
 use Rattle.napt_sequential.proofs.LegsLocal.{ActsAlike, agrees_later, alike, kept}
 use Rattle.napt_sequential.proofs.RunsLocal.{InTurn, run_turn}

@@ -3,11 +3,7 @@ use Rattle.std.proofs.Common.{ℕ, List, Result, Ok, Err}
 use Rattle.napt_wire.specs.declared.Side.{Side}
 use Rattle.napt_wire.specs.declared.Cause.{Cause}
 use Rattle.napt_config.specs.Rules.{Rules}
-use Rattle.napt_binding.specs.declared.Binding.{Binding}
-use Rattle.napt_translate.specs.Sides.{way_from, served_at}
-use Rattle.napt_sequential.specs.Inputs.{Arrival}
-use Rattle.napt_sequential.specs.Admission.{admission}
-use Rattle.napt_sequential.specs.Sequential.{Course, refused, admitted, first_leg, step_as, step}
+use Rattle.napt_rules.specs.Prelude.{Binding, way_from, served_at, Arrival, admission, Course, refused, admitted, first_leg, step_as, step}
 
 module _ (rules : Rules) (number now : ℕ) (list : List Binding) (P : Course → Type 0)
     (of_refused : (cause : Cause) → P (refused cause list))

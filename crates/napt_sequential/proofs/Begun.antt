@@ -4,10 +4,8 @@ use Rattle.std.specs.List.{slice_get}
 use Rattle.std.proofs.lemmas.Option.{slice_get_within, get_or_from_slice_get}
 use Rattle.std.proofs.lemmas.Bool.{cases_lt}
 use Rattle.napt_config.specs.Rules.{Rules}
-use Rattle.napt_binding.specs.Bindings.{of}
-use Rattle.napt_table.specs.Opening.{opening}
+use Rattle.napt_rules.specs.Prelude.{of, opening, Kept}
 use Rattle.napt_translate.specs.Translators.{begun, with_kept}
-use Rattle.napt_translate.specs.Legs.{Kept}
 use Rattle.napt_sequential.specs.declared.counted_translator.CountedTranslator.{CountedTranslator}
 use Rattle.napt_sequential.specs.CountedTranslators.{AreCountedTranslators, state_of}
 use Rattle.napt_sequential.proofs.Lists.{get_before, get_last, same_some}

@@ -5,11 +5,10 @@ use Rattle.std.proofs.lemmas.Bool.{ne_eqb, eqb-true, eqb-false}
 use Rattle.std.proofs.lemmas.List.Elements.{filter-append}
 use Rattle.std.proofs.lemmas.Option.{slice_get_within, get_or_from_slice_get}
 use Rattle.napt_config.specs.Rules.{Rules, KeepsRules}
-use Rattle.napt_translate.specs.declared.translator.Leg.{Leg}
-use Rattle.napt_translate.specs.Legs.{act, kept_act, kept_after}
+use Rattle.napt_rules.specs.declared.Leg.{Leg}
+use Rattle.napt_rules.specs.Prelude.{act, Act, acts_at, legs_at, kept_act, kept_after}
 use Rattle.napt_translate.specs.Translators.{TranslatorState, begun, with_kept, left_by}
 use Rattle.napt_sequential.specs.declared.counted_translator.CountedTranslator.{CountedTranslator}
-use Rattle.napt_sequential.specs.Sequential.{Act, legs_at, acts_at}
 use Rattle.napt_sequential.specs.CountedTranslators.{RunState, IsCountedTranslator, AreCountedTranslators, state_after, end_at, counted_after}
 use Rattle.napt_sequential.proofs.Lists.{get_set, get_set_other, long_set, same_some}
 use Rattle.napt_sequential.proofs.RunsLocal.{StaysAtOnce, leg_at_once, other_at_once}

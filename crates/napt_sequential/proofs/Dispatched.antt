@@ -5,19 +5,13 @@ use Rattle.napt_wire.specs.declared.Way.TheVariants.{Incoming}
 use Rattle.napt_wire.specs.Fields.{destination, kind}
 use Rattle.napt_wire.specs.Laws.{SourcesLeaveDestinations, ErrorsLeaveDestinations}
 use Rattle.napt_config.specs.Rules.{Rules, place_of}
-use Rattle.napt_binding.specs.declared.Binding.{Binding}
-use Rattle.napt_binding.specs.Bindings.{of}
-use Rattle.napt_binding.specs.Lists.{Each}
+use Rattle.napt_rules.specs.Prelude.{Binding, Each, of, Acted, act, Arrival, Act, Course, outcome_of, follow_by, first_leg, step, run_from, run, Kept, kept_after, kept_answer, kept_replies, answers_at}
 use Rattle.napt_binding.proofs.Lists.{each_weaker}
-use Rattle.napt_translate.specs.declared.translator.Leg.{Leg}
-use Rattle.napt_translate.specs.declared.translator.Answer.{Answer}
-use Rattle.napt_translate.specs.declared.translator.End.{End}
-use Rattle.napt_translate.specs.declared.translator.End.TheVariants.{ToOutside, ToInside, Onward, Dropped}
-use Rattle.napt_translate.specs.Legs.{Acted, act, Kept, kept_after, kept_answer, kept_replies}
-use Rattle.napt_sequential.specs.declared.outcome.Outcome.{Outcome}
-use Rattle.napt_sequential.specs.Inputs.{Arrival}
-use Rattle.napt_sequential.specs.Sequential.{Act, Course, outcome_of, follow_by, first_leg, step, run_from, run}
-use Rattle.napt_sequential.specs.Laws.{answers_at}
+use Rattle.napt_rules.specs.declared.Leg.{Leg}
+use Rattle.napt_rules.specs.declared.Answer.{Answer}
+use Rattle.napt_rules.specs.declared.End.{End}
+use Rattle.napt_rules.specs.declared.End.TheVariants.{ToOutside, ToInside, Onward, Dropped}
+use Rattle.napt_rules.specs.declared.Outcome.{Outcome}
 use Rattle.napt_sequential.specs.Dispatching.{IsFront, RightAnswersAreTheRuns, RunsGrow, told, IsTold, AnswersTellOutcomes, OnwardIsForetold}
 use Rattle.napt_sequential.proofs.AnyStep.{of_step}
 use Rattle.napt_sequential.proofs.Grown.{grows, step_one}

@@ -10,20 +10,15 @@ use Rattle.napt_wire.specs.declared.Kind.{Kind}
 use Rattle.napt_wire.specs.declared.Kind.TheVariants.{Udp, Tcp, Echo, ErrorOf}
 use Rattle.napt_wire.specs.Fields.{kind}
 use Rattle.napt_config.specs.Rules.{Rules}
-use Rattle.napt_binding.specs.Inbound.{inbound_of}
-use Rattle.napt_binding.specs.declared.Binding.{Binding}
-use Rattle.napt_binding.specs.declared.sent.Sent.{Sent}
-use Rattle.napt_table.specs.declared.received.Received.{Received}
-use Rattle.napt_binding.specs.Bindings.{same_protocol, same_endpoint, of, is_at, is_of_inside, has_number}
-use Rattle.napt_binding.specs.Life.{purge}
-use Rattle.napt_table.specs.Steps.{Out, In, out_purged, in_purged, step_out, step_in}
+use Rattle.napt_rules.specs.Prelude.{Binding, same_protocol, same_endpoint, is_at, of, is_of_inside, has_number, purge, inbound_of, Out, out_purged, step_out, In, in_purged, step_in, no_flags, Acted, end_out, end_in, error_out, error_in, sent_of, received_of, act_out, act_in, act_by, act}
+use Rattle.napt_rules.specs.declared.Sent.{Sent}
+use Rattle.napt_rules.specs.declared.Received.{Received}
 use Rattle.napt_binding.proofs.Lists.{find_filter}
 use Rattle.napt_binding.proofs.Purges.{of_purge, purge_purge}
 use Rattle.napt_table.proofs.StepsLocal.{out_local, out_other, in_local, in_other}
-use Rattle.napt_translate.specs.declared.translator.Leg.{Leg}
+use Rattle.napt_rules.specs.declared.Leg.{Leg}
 use Rattle.napt_sequential.specs.CountedTranslators.{Agrees}
 use Rattle.napt_translate.proofs.Acts.{of_act}
-use Rattle.napt_translate.specs.Legs.{no_flags, Acted, end_out, end_in, error_out, error_in, sent_of, received_of, act_out, act_in, act_by, act}
 
 -- what a leg gives on the one and on the other
 pub record ActsAlike (rules : Rules) (address now : ℕ) (own whole : Acted) : Type 0 where

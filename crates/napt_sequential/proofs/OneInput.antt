@@ -4,13 +4,9 @@ use Rattle.std.proofs.lemmas.List.{take_more, take-append-drop}
 use Rattle.std.specs.Prelude.{slice_get}
 use Rattle.napt_wire.specs.declared.Cause.{Cause}
 use Rattle.napt_config.specs.Rules.{Rules}
-use Rattle.napt_binding.specs.declared.Binding.{Binding}
-use Rattle.napt_table.specs.Opening.{opening}
-use Rattle.napt_sequential.specs.declared.outcome.Outcome.{Outcome}
-use Rattle.napt_sequential.specs.Inputs.{Arrival}
-use Rattle.napt_sequential.specs.Sequential.{Course, ahead, first_leg, step_as, step, run_from, run, last_clock}
+use Rattle.napt_rules.specs.Prelude.{Binding, opening, Arrival, admission, Course, ahead, first_leg, step_as, step, run_from, run, last_clock}
+use Rattle.napt_rules.specs.declared.Outcome.{Outcome}
 use Rattle.napt_sequential.specs.Dispatching.{IsFront}
-use Rattle.napt_sequential.specs.Admission.{admission}
 use Rattle.napt_sequential.proofs.Grown.{run_append, clock_more}
 use Rattle.napt_sequential.proofs.Dispatched.{runs_grow}
 

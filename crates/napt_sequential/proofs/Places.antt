@@ -8,19 +8,12 @@ use Rattle.napt_wire.specs.declared.Way.TheVariants.{Outgoing}
 use Rattle.napt_wire.specs.Fields.{destination}
 use Rattle.napt_wire.specs.Packet.{IsPacket}
 use Rattle.napt_config.specs.Rules.{Rules}
-use Rattle.napt_binding.specs.declared.Binding.{Binding}
-use Rattle.napt_binding.specs.Lists.{Each}
+use Rattle.napt_rules.specs.Prelude.{Binding, Each, opening, way_from, served_at, Acted, act, Arrival, admission, Act, Course, follow_by, first_leg, step, run_from, run, last_clock, acts_at, legs_at}
 use Rattle.napt_binding.proofs.Lists.{each_weaker}
-use Rattle.napt_table.specs.Opening.{opening}
-use Rattle.napt_translate.specs.declared.translator.Leg.{Leg}
-use Rattle.napt_translate.specs.declared.translator.End.{End}
-use Rattle.napt_translate.specs.declared.translator.End.TheVariants.{ToOutside, ToInside, Onward, Dropped}
-use Rattle.napt_translate.specs.Sides.{way_from, served_at}
-use Rattle.napt_translate.specs.Legs.{Acted, act}
-use Rattle.napt_sequential.specs.Inputs.{Arrival}
-use Rattle.napt_sequential.specs.Sequential.{Act, Course, follow_by, first_leg, step, run_from, run, last_clock, acts_at, legs_at}
+use Rattle.napt_rules.specs.declared.Leg.{Leg}
+use Rattle.napt_rules.specs.declared.End.{End}
+use Rattle.napt_rules.specs.declared.End.TheVariants.{ToOutside, ToInside, Onward, Dropped}
 use Rattle.napt_sequential.specs.Dispatching.{IsFront, OnwardIsForetold}
-use Rattle.napt_sequential.specs.Admission.{admission}
 use Rattle.napt_sequential.specs.Places.{first_act, acts_of, numbered, all_but_first, second_legs, second_of, IsSeconded, AnswersFillPlaces, PlacesStandForLegs}
 use Rattle.napt_sequential.proofs.AnyStep.{of_step}
 use Rattle.napt_sequential.proofs.Lists.{each_append}

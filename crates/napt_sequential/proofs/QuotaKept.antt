@@ -8,21 +8,12 @@ use Rattle.napt_wire.specs.declared.Kind.{Kind}
 use Rattle.napt_wire.specs.Fields.{destination, kind}
 use Rattle.napt_config.specs.Rules.{Rules, pair_of}
 use Rattle.napt_config.specs.declared.settings.Redirect.{Redirect}
-use Rattle.napt_binding.specs.Inbound.{inbound_of}
-use Rattle.napt_binding.specs.declared.Binding.{Binding}
-use Rattle.napt_binding.specs.declared.sent.Sent.{Sent}
-use Rattle.napt_table.specs.Opening.{redirected, opening}
-use Rattle.napt_table.specs.Quota.{count_for}
-use Rattle.napt_table.specs.QuotaKept.{OutKeepsQuota, InKeepsQuota}
-use Rattle.napt_table.specs.Steps.{step_out}
-use Rattle.napt_translate.specs.declared.translator.Leg.{Leg}
-use Rattle.napt_translate.specs.declared.translator.End.{End}
-use Rattle.napt_translate.specs.declared.translator.End.TheVariants.{ToOutside, ToInside, Onward, Dropped}
-use Rattle.napt_translate.specs.Legs.{Acted, sent_of, received_of, act_out, act_in, act_by, act}
+use Rattle.napt_rules.specs.Prelude.{Binding, inbound_of, count_for, redirected, opening, step_out, Acted, sent_of, received_of, act_out, act_in, act_by, act, Arrival, Course, follow_by, first_leg, step, run_from, OutKeepsQuota, InKeepsQuota, RunsKeepQuota}
+use Rattle.napt_rules.specs.declared.Sent.{Sent}
+use Rattle.napt_rules.specs.declared.Leg.{Leg}
+use Rattle.napt_rules.specs.declared.End.{End}
+use Rattle.napt_rules.specs.declared.End.TheVariants.{ToOutside, ToInside, Onward, Dropped}
 use Rattle.napt_translate.proofs.Acts.{of_act}
-use Rattle.napt_sequential.specs.Inputs.{Arrival}
-use Rattle.napt_sequential.specs.Sequential.{Course, follow_by, first_leg, step, run_from}
-use Rattle.napt_sequential.specs.QuotaKept.{RunsKeepQuota}
 use Rattle.napt_sequential.proofs.AnyStep.{of_step}
 
 -- redirects do not count

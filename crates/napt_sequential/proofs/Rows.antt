@@ -4,18 +4,9 @@ use Rattle.std.specs.Prelude.{AllPairs, filter, flat_map, nat_le}
 use Rattle.std.proofs.lemmas.Bool.{eqb-true}
 use Rattle.napt_config.specs.Rules.{Rules, KeepsRules}
 use Rattle.napt_config.specs.declared.settings.Timers.{Timers}
-use Rattle.napt_binding.specs.declared.Binding.{Binding}
-use Rattle.napt_table.specs.declared.Row.{Row}
-use Rattle.napt_binding.specs.Lists.{Each}
+use Rattle.napt_rules.specs.Prelude.{Binding, Each, is_at, of, is_live, with_live_flows, purge, opening, Arrival, row, rank, put, in_order, rows, Course, run, last_clock, ran, AreRowsApart, AreApart, RunsStayApart}
+use Rattle.napt_rules.specs.declared.Row.{Row}
 use Rattle.napt_binding.proofs.Lists.{each_true, each_weaker}
-use Rattle.napt_binding.specs.Bindings.{is_at, of}
-use Rattle.napt_binding.specs.Life.{is_live, with_live_flows, purge}
-use Rattle.napt_table.specs.Endpoints.{AreRowsApart, AreApart}
-use Rattle.napt_table.specs.Rows.{row, rank, put, in_order, rows}
-use Rattle.napt_table.specs.Opening.{opening}
-use Rattle.napt_sequential.specs.Inputs.{Arrival}
-use Rattle.napt_sequential.specs.Sequential.{Course, run, last_clock, ran}
-use Rattle.napt_sequential.specs.Sound.{RunsStayApart}
 use Rattle.napt_sequential.proofs.Lists.{each_append}
 
 -- each stands in the relation to all that come after it

@@ -5,16 +5,11 @@ use Rattle.napt_wire.specs.declared.Kind.{Kind}
 use Rattle.napt_wire.specs.declared.Kind.TheVariants.{Udp, Tcp, Echo, ErrorOf}
 use Rattle.napt_wire.specs.Fields.{kind}
 use Rattle.napt_config.specs.Rules.{Rules}
-use Rattle.napt_binding.specs.declared.Binding.{Binding}
-use Rattle.napt_binding.specs.Bindings.{of}
-use Rattle.napt_translate.specs.declared.translator.Leg.{Leg}
-use Rattle.napt_translate.specs.declared.translator.Answer.{Answer}
-use Rattle.napt_translate.specs.declared.translator.End.{End}
-use Rattle.napt_translate.specs.declared.translator.End.TheVariants.{ToOutside, ToInside, Onward, Dropped}
-use Rattle.napt_translate.specs.Legs.{Acted, act, Kept, time_after, kept_act, kept_after, kept_replies, kept_after_all}
-use Rattle.napt_sequential.specs.Inputs.{Arrival}
-use Rattle.napt_sequential.specs.Sequential.{Act, Course, follow_by, first_leg, step, run_from, run, last_clock, acts_at, legs_at}
-use Rattle.napt_sequential.specs.Laws.{answer_of, TranslatorsAnswerAlone, TranslatorsKeepTheirOwn}
+use Rattle.napt_rules.specs.Prelude.{Binding, of, Acted, act, Arrival, Act, Course, follow_by, first_leg, step, run_from, run, last_clock, acts_at, legs_at, Kept, time_after, kept_act, kept_after, kept_replies, kept_after_all, answer_of, TranslatorsAnswerAlone, TranslatorsKeepTheirOwn}
+use Rattle.napt_rules.specs.declared.Leg.{Leg}
+use Rattle.napt_rules.specs.declared.Answer.{Answer}
+use Rattle.napt_rules.specs.declared.End.{End}
+use Rattle.napt_rules.specs.declared.End.TheVariants.{ToOutside, ToInside, Onward, Dropped}
 use Rattle.napt_sequential.specs.CountedTranslators.{IsAtOnce, Agrees}
 use Rattle.napt_sequential.proofs.AnyStep.{of_step}
 use Rattle.napt_sequential.proofs.LegsLocal.{ActsAlike, agrees_later, alike, kept}

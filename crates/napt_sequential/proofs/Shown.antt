@@ -2,15 +2,11 @@
 use Rattle.std.proofs.Common.{◌≡◌, ℕ, ◌≤◌, max, List, length, map, refl, sym, ◌∙◌, ap, arith}
 use Rattle.std.specs.Prelude.{flat_map}
 use Rattle.napt_config.specs.Rules.{Rules}
-use Rattle.napt_table.specs.declared.Row.{Row}
-use Rattle.napt_binding.specs.Bindings.{of}
-use Rattle.napt_table.specs.Opening.{opening}
-use Rattle.napt_table.specs.Rows.{rows, rows_of}
+use Rattle.napt_rules.specs.declared.Row.{Row}
+use Rattle.napt_rules.specs.Prelude.{of, opening, Arrival, rows_of, rows, run, last_clock, legs_at, Ran, ran}
 use Rattle.napt_translate.specs.Translators.{TranslatorState}
-use Rattle.napt_sequential.specs.declared.outcome.Outcome.{Outcome}
+use Rattle.napt_rules.specs.declared.Outcome.{Outcome}
 use Rattle.napt_sequential.specs.declared.counted_translator.CountedTranslator.{CountedTranslator}
-use Rattle.napt_sequential.specs.Inputs.{Arrival}
-use Rattle.napt_sequential.specs.Sequential.{Ran, ran, run, last_clock, legs_at}
 use Rattle.napt_sequential.specs.CountedTranslators.{RunState, IsCountedTranslator, AreCountedTranslators, rows_at, state_of}
 use Rattle.napt_sequential.proofs.Grown.{outcomes_long}
 use Rattle.napt_sequential.proofs.Lists.{map_alike, flat_alike}

@@ -11,19 +11,10 @@ use Rattle.napt_wire.specs.Fields.{source, destination, kind, local_of, local_en
 use Rattle.napt_wire.specs.Reading.{reading}
 use Rattle.napt_wire.specs.Laws.{PacketsCarryNumbers}
 use Rattle.napt_config.specs.Rules.{Rules, pair_of}
-use Rattle.napt_binding.specs.Inbound.{inbound_of}
-use Rattle.napt_binding.specs.declared.Binding.{Binding}
-use Rattle.napt_table.specs.Endpoints.{IsSound, OutStaysSound, InStaysSound, SoundIsApart}
-use Rattle.napt_table.specs.Opening.{opening, OpeningIsSound}
-use Rattle.napt_translate.specs.declared.translator.Leg.{Leg}
-use Rattle.napt_translate.specs.declared.translator.End.{End}
-use Rattle.napt_translate.specs.declared.translator.End.TheVariants.{ToOutside, ToInside, Onward, Dropped}
-use Rattle.napt_translate.specs.Sides.{refusal, served_at}
-use Rattle.napt_translate.specs.Legs.{no_flags, Acted, sent_of, received_of, act_by, act}
-use Rattle.napt_sequential.specs.Inputs.{Arrival}
-use Rattle.napt_sequential.specs.Admission.{judged_by, admission_as}
-use Rattle.napt_sequential.specs.Sequential.{follow_by, first_leg, step_as, step, run_from, run}
-use Rattle.napt_sequential.specs.Sound.{RunsAreSound, RunsStayApart}
+use Rattle.napt_rules.specs.Prelude.{Binding, inbound_of, opening, refusal, served_at, no_flags, Acted, sent_of, received_of, act_by, act, Arrival, judged_by, admission_as, follow_by, first_leg, step_as, step, run_from, run, IsSound, OpeningIsSound, OutStaysSound, InStaysSound, SoundIsApart, RunsAreSound, RunsStayApart}
+use Rattle.napt_rules.specs.declared.Leg.{Leg}
+use Rattle.napt_rules.specs.declared.End.{End}
+use Rattle.napt_rules.specs.declared.End.TheVariants.{ToOutside, ToInside, Onward, Dropped}
 
 module _ (carry : PacketsCarryNumbers) (out_sound : OutStaysSound) (in_sound : InStaysSound) (rules : Rules) where
   -- an incoming leg, whatever the packet

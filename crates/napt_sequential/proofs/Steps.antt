@@ -18,19 +18,14 @@ use Rattle.napt_wire.specs.Fields.{destination, kind, is_error, local_end}
 use Rattle.napt_wire.specs.Rewriting.{with_source, reverted}
 use Rattle.napt_config.specs.Rules.{Rules, KeepsRules, pair_of, place_of}
 use Rattle.napt_config.proofs.Pools.{paired_in_pool, position_of_member}
-use Rattle.napt_binding.specs.declared.Binding.{Binding}
-use Rattle.napt_translate.specs.declared.translator.Leg.{Leg}
-use Rattle.napt_translate.specs.declared.translator.End.{End}
-use Rattle.napt_translate.specs.declared.translator.End.TheVariants.{Onward}
-use Rattle.napt_translate.specs.Sides.{is_spoofed, is_not_ours, is_unsupported, refusal, way_from, served_at, routed, route}
-use Rattle.napt_translate.specs.Legs.{Acted, onward_by, end_out, end_in, error_out, error_in, act_by, act}
-use Rattle.napt_sequential.specs.declared.outcome.Outcome.{Outcome}
-use Rattle.napt_sequential.specs.declared.outcome.Outcome.TheVariants.{Dropped}
+use Rattle.napt_rules.specs.Prelude.{Binding, is_spoofed, is_not_ours, is_unsupported, refusal, way_from, served_at, routed, route, Acted, onward_by, end_out, end_in, error_out, error_in, act_by, act, Arrival, judged_by, admission_as, Act, Course, ahead, outcome_of, once, follow_by, refused, admitted, first_leg, step_as, step, legs_at}
+use Rattle.napt_rules.specs.declared.Leg.{Leg}
+use Rattle.napt_rules.specs.declared.End.{End}
+use Rattle.napt_rules.specs.declared.End.TheVariants.{Onward}
+use Rattle.napt_rules.specs.declared.Outcome.{Outcome}
+use Rattle.napt_rules.specs.declared.Outcome.TheVariants.{Dropped}
 use Rattle.napt_sequential.specs.declared.counted_translator.CountedTranslator.{CountedTranslator}
-use Rattle.napt_sequential.specs.Sequential.{Act, Course, ahead, legs_at, outcome_of, once, follow_by, refused, admitted, first_leg, step_as, step}
 use Rattle.napt_sequential.specs.declared.input.Input.TheInside as fields
-use Rattle.napt_sequential.specs.Inputs.{Arrival}
-use Rattle.napt_sequential.specs.Admission.{judged_by, admission_as}
 use Rattle.napt_wire.specs.Reading.{reading}
 use Rattle.napt_sequential.specs.CountedTranslators.{RunState, IsCountedTranslator, AreCountedTranslators, state_after, Follows}
 use Rattle.napt_sequential.proofs.RunsLocal.{later_at_once}

@@ -3,20 +3,13 @@
 use Rattle.std.specs.Prelude.{◌≡◌, ℕ, ◌+◌, ◌<◌, ◌≤◌, ◌^◌, max, length, List, [], ◌∷◌, ◌++◌, Some}
 use Rattle.std.specs.List.{slice_get}
 use Rattle.napt_config.specs.Rules.{Rules}
-use Rattle.napt_binding.specs.declared.Binding.{Binding}
-use Rattle.napt_table.specs.declared.Row.{Row}
-use Rattle.napt_binding.specs.Bindings.{of}
-use Rattle.napt_binding.specs.Life.{purge}
-use Rattle.napt_table.specs.Opening.{opening}
-use Rattle.napt_table.specs.Rows.{rows}
-use Rattle.napt_translate.specs.declared.translator.Leg.{Leg}
-use Rattle.napt_translate.specs.declared.translator.End.{End}
-use Rattle.napt_translate.specs.Legs.{Acted, act, Kept, kept_answer}
+use Rattle.napt_rules.specs.Prelude.{Binding, of, purge, opening, Acted, act, Arrival, rows, Act, Course, run, last_clock, legs_at, Kept, kept_answer}
+use Rattle.napt_rules.specs.declared.Row.{Row}
+use Rattle.napt_rules.specs.declared.Leg.{Leg}
+use Rattle.napt_rules.specs.declared.End.{End}
 use Rattle.napt_translate.specs.Translators.{begun, kept_of, with_kept, left_by}
-use Rattle.napt_sequential.specs.declared.outcome.Outcome.{Outcome}
+use Rattle.napt_rules.specs.declared.Outcome.{Outcome}
 use Rattle.napt_sequential.specs.declared.counted_translator.CountedTranslator.{CountedTranslator}
-use Rattle.napt_sequential.specs.Inputs.{Arrival}
-use Rattle.napt_sequential.specs.Sequential.{Act, Course, run, last_clock, legs_at}
 
 -- a run at some time: the time of the last leg, the legs that acted, and the bindings
 pub record RunState : Type 0 where

@@ -7,19 +7,13 @@ use Rattle.napt_wire.specs.declared.Way.TheVariants.{Outgoing}
 use Rattle.napt_wire.specs.Fields.{destination}
 use Rattle.napt_wire.specs.Reading.{reading}
 use Rattle.napt_config.specs.Rules.{Rules, place_of}
-use Rattle.napt_binding.specs.declared.Binding.{Binding}
-use Rattle.napt_binding.specs.Bindings.{of}
-use Rattle.napt_binding.specs.Lists.{Each}
-use Rattle.napt_translate.specs.declared.translator.Leg.{Leg}
-use Rattle.napt_translate.specs.declared.translator.Answer.{Answer}
-use Rattle.napt_translate.specs.declared.translator.End.{End}
-use Rattle.napt_translate.specs.declared.translator.End.TheVariants.{ToOutside, ToInside, Onward, Dropped}
-use Rattle.napt_translate.specs.Legs.{act, kept_replies}
-use Rattle.napt_sequential.specs.declared.outcome.Outcome.{Outcome}
-use Rattle.napt_sequential.specs.declared.outcome.Outcome.TheVariants as outcomes
-use Rattle.napt_sequential.specs.Inputs.{Arrival}
-use Rattle.napt_sequential.specs.Sequential.{Act, Course, ahead, step, run, last_clock, legs_at}
-use Rattle.napt_sequential.specs.Laws.{answers_at}
+use Rattle.napt_rules.specs.Prelude.{Binding, Each, of, act, Arrival, Act, Course, ahead, step, run, last_clock, legs_at, kept_replies, answers_at}
+use Rattle.napt_rules.specs.declared.Leg.{Leg}
+use Rattle.napt_rules.specs.declared.Answer.{Answer}
+use Rattle.napt_rules.specs.declared.End.{End}
+use Rattle.napt_rules.specs.declared.End.TheVariants.{ToOutside, ToInside, Onward, Dropped}
+use Rattle.napt_rules.specs.declared.Outcome.{Outcome}
+use Rattle.napt_rules.specs.declared.Outcome.TheVariants as outcomes
 
 -- xs begins ys
 abbrev pub IsFront : {X : Type 0} → List X → List X → Type 0

@@ -1,14 +1,6 @@
 -- What contracts see of an input of a run: everything but where it lies in memory. Its number is its place, from 0.
-use Rattle.std.specs.Prelude.{◌≡◌, ℕ, List, [], ◌∷◌, Option, Some, None}
-use Rattle.napt_wire.specs.declared.Side.{Side}
-
-pub record Arrival : Type 0 where
-  pub side : Side
-  -- the arrival time of its record, in ns
-  pub time : ℕ
-  -- the greatest arrival time so far
-  pub clock : ℕ
-  pub bytes : List ℕ
+use Rattle.std.specs.Prelude.{◌≡◌, List, [], ◌∷◌, Option, Some, None}
+use Rattle.napt_rules.specs.Prelude.{Arrival}
 
 -- the first of those that were still to come was handed out; at the end there was none
 abbrev pub Hands : List Arrival → Option Arrival → List Arrival → Type 0

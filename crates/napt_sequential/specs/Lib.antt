@@ -1,10 +1,5 @@
 pub mod Inputs
-pub mod Sequential
 pub mod Faults
 pub mod CountedTranslators
-pub mod Sound
-pub mod QuotaKept
-pub mod Laws
 pub mod Dispatching
-pub mod Admission
 pub mod Places

@@ -6,17 +6,10 @@ use Rattle.napt_wire.specs.declared.Side.TheVariants.{Inside}
 use Rattle.napt_wire.specs.Fields.{destination}
 use Rattle.napt_wire.specs.Packet.{IsPacket}
 use Rattle.napt_config.specs.Rules.{Rules}
-use Rattle.napt_binding.specs.declared.Binding.{Binding}
-use Rattle.napt_binding.specs.Lists.{Each}
-use Rattle.napt_table.specs.Opening.{opening}
-use Rattle.napt_translate.specs.declared.translator.Leg.{Leg}
-use Rattle.napt_translate.specs.declared.translator.End.{End}
-use Rattle.napt_translate.specs.declared.translator.End.TheVariants.{ToOutside, ToInside, Onward, Dropped}
-use Rattle.napt_translate.specs.Sides.{served_at}
-use Rattle.napt_translate.specs.Legs.{act}
-use Rattle.napt_sequential.specs.Inputs.{Arrival}
-use Rattle.napt_sequential.specs.Sequential.{Act, Course, admitted, run, last_clock, legs_at}
-use Rattle.napt_sequential.specs.Admission.{admission}
+use Rattle.napt_rules.specs.Prelude.{Binding, Each, opening, served_at, act, Arrival, admission, Act, Course, admitted, run, last_clock, legs_at}
+use Rattle.napt_rules.specs.declared.Leg.{Leg}
+use Rattle.napt_rules.specs.declared.End.{End}
+use Rattle.napt_rules.specs.declared.End.TheVariants.{ToOutside, ToInside, Onward, Dropped}
 
 -- a first leg
 abbrev pub first_act : Rules → ℕ → Leg → List Binding → Act

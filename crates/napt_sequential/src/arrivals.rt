@@ -1,7 +1,8 @@
 //! What hands a run its inputs.
 
 ghost use Rattle.std.specs.Prelude.{◌≡◌, List, length};
-ghost use Rattle.napt_sequential.specs.Inputs.{Arrival, Hands};
+ghost use Rattle.napt_rules.specs.Prelude.{Arrival};
+ghost use Rattle.napt_sequential.specs.Inputs.{Hands};
 
 use crate::input::Input;
 use std::collections::VecDeque;

@@ -15,7 +15,7 @@ pub struct Input {
 }
 
 impl Model for Input {
-    ghost use Rattle.napt_sequential.specs.Inputs.{Arrival};
+    ghost use Rattle.napt_rules.specs.Prelude.{Arrival};
 
     ghost Value = { Arrival };
 

@@ -1,10 +1,8 @@
 //! Laws of runs.
 
 ghost use Rattle.napt_sequential.specs.Dispatching.{RightAnswersAreTheRuns, RunsGrow, AnswersTellOutcomes, OnwardIsForetold};
-ghost use Rattle.napt_sequential.specs.Laws.{LegsAnswerAlone, LegsLeaveTheirOwn, TranslatorsAnswerAlone, TranslatorsKeepTheirOwn};
+ghost use Rattle.napt_rules.specs.Prelude.{RunsAreSound, RunsStayApart, RunsKeepQuota, LegsAnswerAlone, LegsLeaveTheirOwn, TranslatorsAnswerAlone, TranslatorsKeepTheirOwn};
 ghost use Rattle.napt_sequential.specs.Places.{AnswersFillPlaces, PlacesStandForLegs};
-ghost use Rattle.napt_sequential.specs.QuotaKept.{RunsKeepQuota};
-ghost use Rattle.napt_sequential.specs.Sound.{RunsAreSound, RunsStayApart};
 
 use napt_table::{no_host_exceeds_its_quota, opening_is_sound, steps_stay_sound};
 use napt_wire::{packets_carry_numbers, packets_keep_their_way};

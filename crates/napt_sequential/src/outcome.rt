@@ -27,7 +27,7 @@ pub struct Run {
 }
 
 impl Model for Run {
-    ghost use Rattle.napt_sequential.specs.Sequential.{Ran};
+    ghost use Rattle.napt_rules.specs.Prelude.{Ran};
 
     ghost Value = { Ran };
 

@@ -3,11 +3,9 @@
 ghost use Rattle.std.specs.Prelude.{◌≡◌, ◌↔◌, ◌+◌, ◌*◌, ◌^◌, ◌<◌, ◌≤◌, ℕ, [], length, map, flat_map, AllPairs, IfOk, IfErr, OnOk, Some, Err};
 ghost use Rattle.std.specs.List.{slice_get};
 ghost use Rattle.napt_config.specs.Rules.{KeepsRules};
-ghost use Rattle.napt_table.specs.Opening.{opening};
-ghost use Rattle.napt_translate.specs.Legs.{act};
-ghost use Rattle.napt_sequential.specs.Sequential as model;
+ghost use Rattle.napt_rules.specs.Prelude.{opening, act, AreRowsApart};
+ghost use Rattle.napt_rules.specs.Sequential as model;
 ghost use Rattle.napt_sequential.specs.CountedTranslators.{RunState, AreCountedTranslators, CanTake, Follows, state_after, state_of, rows_at};
-ghost use Rattle.napt_table.specs.Endpoints.{AreRowsApart};
 ghost use Rattle.napt_sequential.specs.Faults.{IsOneThreadFault};
 
 use crate::counted_translator::CountedTranslator;
@@ -198,7 +196,7 @@ fn legs(alloc: Global, translators: &[CountedTranslator]) -> Result<Vec<u64>, Al
 }
 
 /// The run over so many inputs as their numbers can count.
-#[tactic(auto, unfolding(crate::specs::Sequential::ran))]
+#[tactic(auto, unfolding(napt_rules::specs::Sequential::ran))]
 fn run(alloc: Global, config: &Config, inputs: &[Input]) -> Result<Run, AllocError>
     requires { length inputs.now < 2 ^ 32 }
     ensures run { IfOk result (λ run. run ≡ model.ran config.now inputs.now) }

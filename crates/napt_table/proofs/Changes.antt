@@ -8,16 +8,14 @@ use Rattle.napt_due.specs.Queue.{Queue}
 use Rattle.napt_wire.specs.declared.Protocol.{Protocol}
 use Rattle.napt_wire.specs.declared.Endpoint.{Endpoint}
 use Rattle.napt_config.specs.Rules.{AreTimers}
-use Rattle.napt_binding.specs.declared.Binding.{Binding}
+use Rattle.napt_rules.specs.Prelude.{Binding, second, is_live, row}
 use Rattle.napt_binding.specs.Ends.{least_timer}
-use Rattle.napt_binding.specs.Life.{second, is_live}
 use Rattle.napt_binding.specs.Lists.{pair_eq}
 use Rattle.napt_binding.proofs.Purges.{lived}
 use Rattle.napt_table.specs.declared.part.Part.{Part}
 use Rattle.napt_table.specs.declared.host_counts.HostCounts.{HostCounts}
 use Rattle.napt_table.specs.Counts.{are_counted, count_in}
-use Rattle.napt_table.specs.declared.Row.{Row}
-use Rattle.napt_table.specs.Rows.{row}
+use Rattle.napt_rules.specs.declared.Row.{Row}
 use Rattle.napt_table.specs.Hosts.{held_for}
 use Rattle.napt_table.specs.Part.{held, number_at, IsDue, IsPart, AreDue, IsSamePlace, HoldsSame, ChangesOne, StaysPart, entries_of, wanted_by}
 use Rattle.napt_numbers.specs.Places.{is_used}

@@ -8,21 +8,15 @@ use Rattle.napt_wire.specs.declared.Cause.{Cause}
 use Rattle.napt_wire.specs.declared.Cause.TheVariants.{OverQuota, NoPort}
 use Rattle.napt_wire.specs.declared.Endpoint.{Endpoint}
 use Rattle.napt_config.specs.declared.settings.Timers.{Timers}
-use Rattle.napt_binding.specs.declared.Binding.{Binding}
-use Rattle.napt_binding.specs.declared.sent.Sent.{Sent}
+use Rattle.napt_rules.specs.Prelude.{Binding, is_live, with_live_flows, choice, count_for, reaches, of_source, sent_by, Out, out_made, out_found, out_purged, row, Apart}
+use Rattle.napt_rules.specs.declared.Sent.{Sent}
 use Rattle.napt_table.specs.declared.part.Part.{Part}
 use Rattle.napt_table.specs.declared.parts.Parts.{Parts as AllParts}
-use Rattle.napt_table.specs.Choice.{choice}
 use Rattle.napt_table.specs.Counts.{count_in}
-use Rattle.napt_table.specs.Endpoints.{Apart}
-use Rattle.napt_table.specs.Rows.{row}
 use Rattle.napt_table.specs.Held.{seen, Shows}
 use Rattle.napt_table.specs.Hosts.{count_held}
-use Rattle.napt_binding.specs.Life.{is_live, with_live_flows}
 use Rattle.napt_table.specs.Part.{held, number_at, HoldsSame, StaysPart, WentThrough, HasNone, WentOut, IsPurged}
 use Rattle.napt_table.specs.Parts.{part_of, IsOf, AreOf, AreCounted, AllShow}
-use Rattle.napt_table.specs.Quota.{count_for, reaches}
-use Rattle.napt_table.specs.Steps.{Out, out_made, out_found, out_purged, of_source, sent_by}
 use Rattle.napt_table.proofs.Hosts.{count_is_held}
 use Rattle.napt_table.proofs.PartSteps.{by_protocol, out_others, all_of, all_counted, protocols_of, externals_of}
 use Rattle.napt_table.proofs.Changes.{same_then}

@@ -5,13 +5,8 @@ use Rattle.std.proofs.lemmas.Bool.{eq-eqb, true≢false}
 use Rattle.napt_wire.specs.declared.Protocol.{Protocol}
 use Rattle.napt_wire.specs.declared.Protocol.TheVariants.{Icmp, Tcp, Udp}
 use Rattle.napt_config.specs.declared.settings.Timers.{Timers}
-use Rattle.napt_binding.specs.declared.Binding.{Binding}
-use Rattle.napt_binding.specs.Bindings.{same_protocol, is_at, has_number}
-use Rattle.napt_table.specs.Endpoints.{Apart}
-use Rattle.napt_table.specs.Rows.{row}
+use Rattle.napt_rules.specs.Prelude.{Binding, same_protocol, is_at, has_number, is_live, with_live_flows, counts_for, count_for, row, Apart}
 use Rattle.napt_table.specs.Held.{seen, Shows}
-use Rattle.napt_binding.specs.Life.{is_live, with_live_flows}
-use Rattle.napt_table.specs.Quota.{counts_for, count_for}
 use Rattle.napt_table.specs.Hosts.{held_for, count_below, count_held, CountIsHeld}
 use Rattle.napt_binding.proofs.Lists.{find_nowhere}
 use Rattle.napt_binding.proofs.Finds.{Once}

@@ -16,19 +16,14 @@ use Rattle.napt_wire.specs.declared.Endpoint.{Endpoint}
 use Rattle.napt_wire.specs.declared.Protocol.{Protocol}
 use Rattle.napt_wire.specs.declared.Protocol.TheVariants.{Icmp, Tcp, Udp}
 use Rattle.napt_config.specs.declared.settings.Timers.{Timers}
-use Rattle.napt_binding.specs.declared.Binding.{Binding}
-use Rattle.napt_table.specs.declared.Row.{Row}
+use Rattle.napt_rules.specs.Prelude.{Binding, Each, same_protocol, has_number, is_live, with_live_flows, row, protocol_rank, rank, in_order, rows, IsPaired}
+use Rattle.napt_rules.specs.declared.Row.{Row}
 use Rattle.napt_table.specs.declared.part.Part.{Part}
-use Rattle.napt_binding.specs.Lists.{Each}
-use Rattle.napt_binding.specs.Bindings.{same_protocol, has_number}
-use Rattle.napt_table.specs.Endpoints.{IsPaired}
 use Rattle.napt_table.specs.Held.{seen}
-use Rattle.napt_binding.specs.Life.{is_live, with_live_flows}
 use Rattle.napt_table.specs.Listing.{part_rows, IsSmall, AreRead}
 use Rattle.napt_table.specs.Part.{held, IsPart}
 use Rattle.napt_table.specs.Parts.{part_of}
 use Rattle.napt_table.specs.Shown.{list_of, KeepsItsList}
-use Rattle.napt_table.specs.Rows.{row, protocol_rank, rank, in_order, rows}
 use Rattle.napt_table.specs.declared.table.Table.TheInside.{Inside}
 use Rattle.napt_table.proofs.TableSteps.{live, live_sound, show_now}
 use Rattle.napt_table.proofs.Seen.{once_number}

@@ -12,20 +12,15 @@ use Rattle.napt_wire.specs.declared.Endpoint.{Endpoint}
 use Rattle.napt_config.specs.Rules.{Rules, KeepsRules, AreSingle, is_double, pair_of}
 use Rattle.napt_config.specs.declared.settings.Redirect.{Redirect}
 use Rattle.napt_config.specs.declared.settings.Timers.{Timers}
-use Rattle.napt_binding.specs.Inbound.{inbound_of}
-use Rattle.napt_binding.specs.declared.Binding.{Binding}
+use Rattle.napt_rules.specs.Prelude.{Binding, same_protocol, is_at, of, is_of_inside, has_number, inbound_of, protocol_of, redirected, opening, row, Apart}
 use Rattle.napt_table.specs.declared.part.Part.{Part}
 use Rattle.napt_table.specs.declared.parts.Parts.{Parts as AllParts}
-use Rattle.napt_binding.specs.Bindings.{same_protocol, is_at, of, has_number, is_of_inside}
-use Rattle.napt_table.specs.Endpoints.{Apart}
-use Rattle.napt_table.specs.Rows.{row}
 use Rattle.napt_table.specs.Held.{redirect_of, seen}
 use Rattle.napt_table.specs.Parts.{part_of, IsOf, AreOf, AreCounted, AllShow}
 use Rattle.std.specs.Option.{is_some}
 use Rattle.napt_table.specs.declared.event.Event.{Event}
 use Rattle.napt_table.specs.declared.event.Event.TheVariants.{Redirected}
 use Rattle.napt_table.specs.Events.{played_all}
-use Rattle.napt_table.specs.Opening.{protocol_of, redirected, opening}
 use Rattle.napt_table.specs.Part.{held, number_at, IsDue, IsPart, AreDue, IsSamePlace, entries_of, wanted_by}
 use Rattle.napt_table.specs.Shown.{list_of, shown, KeepsItsList}
 use Rattle.napt_table.specs.Tables.{TableState, IsTable, opened}

@@ -4,20 +4,16 @@ use Rattle.std.specs.Prelude.{find}
 use Rattle.napt_wire.specs.declared.Protocol.{Protocol}
 use Rattle.napt_wire.specs.declared.Protocol.TheVariants.{Icmp, Tcp, Udp}
 use Rattle.napt_wire.specs.declared.Endpoint.{Endpoint}
-use Rattle.napt_binding.specs.declared.inbound.Inbound.{Inbound}
+use Rattle.napt_rules.specs.declared.Inbound.{Inbound}
 use Rattle.napt_config.specs.declared.settings.Timers.{Timers}
-use Rattle.napt_binding.specs.declared.Binding.{Binding}
-use Rattle.napt_binding.specs.declared.sent.Sent.{Sent}
-use Rattle.napt_table.specs.declared.received.Received.{Received}
+use Rattle.napt_rules.specs.Prelude.{Binding, same_protocol, has_number, permits, granted, of_source, sent_by, fresh, out_made, out_found, out_purged, of_destination, received_by, in_found, in_purged}
+use Rattle.napt_rules.specs.declared.Sent.{Sent}
+use Rattle.napt_rules.specs.declared.Received.{Received}
 use Rattle.napt_table.specs.declared.part.Part.{Part}
 use Rattle.napt_table.specs.declared.event.Event.{Event}
-use Rattle.napt_binding.specs.Bindings.{has_number, same_protocol}
-use Rattle.napt_binding.specs.Filtering.{permits}
-use Rattle.napt_table.specs.Steps.{fresh, in_found, in_purged, out_made, out_found, out_purged, of_source, sent_by, of_destination, received_by}
-use Rattle.napt_table.specs.Quota.{granted}
 use Rattle.napt_table.specs.Counts.{are_counted}
 use Rattle.napt_table.specs.declared.parts.Parts.{Parts as AllParts}
-use Rattle.napt_table.specs.declared.Row.{Row}
+use Rattle.napt_rules.specs.declared.Row.{Row}
 use Rattle.napt_binding.proofs.Finds.{find_other, find_passed_over}
 use Rattle.napt_table.proofs.Passes.{in_passed}
 use Rattle.napt_table.proofs.Sound.{sent_row, received_row}

@@ -1,11 +1,9 @@
 -- What comes in to a binding that was found, by whether the filter lets it through.
 use Rattle.std.proofs.Common.{ℕ, Bool, cond, List, Ok, Err}
 use Rattle.napt_wire.specs.declared.Cause.TheVariants.{Filtered}
-use Rattle.napt_binding.specs.declared.inbound.Inbound.{Inbound}
-use Rattle.napt_binding.specs.declared.Binding.{Binding}
-use Rattle.napt_binding.specs.Lists.{change_first}
-use Rattle.napt_table.specs.declared.received.Received.{Received}
-use Rattle.napt_table.specs.Steps.{In, of_destination, received_by}
+use Rattle.napt_rules.specs.declared.Inbound.{Inbound}
+use Rattle.napt_rules.specs.Prelude.{Binding, change_first, of_destination, received_by, In}
+use Rattle.napt_rules.specs.declared.Received.{Received}
 
 abbrev pub in_passed : Inbound → List Binding → ℕ → Received → Binding → Bool → In
 in_passed inbound list address packet binding passes =

@@ -9,22 +9,15 @@ use Rattle.napt_wire.specs.declared.Endpoint.{Endpoint}
 use Rattle.napt_wire.specs.declared.Flags.{Flags}
 use Rattle.napt_config.specs.declared.settings.Refresh.{Refresh}
 use Rattle.napt_config.specs.declared.settings.Timers.{Timers}
-use Rattle.napt_binding.specs.declared.inbound.Inbound.{Inbound}
-use Rattle.napt_binding.specs.declared.Binding.{Binding}
-use Rattle.napt_binding.specs.declared.sent.Sent.{Sent as Packet}
-use Rattle.napt_table.specs.declared.received.Received.{Received}
+use Rattle.napt_rules.specs.declared.Inbound.{Inbound}
+use Rattle.napt_rules.specs.Prelude.{Binding, change_first, is_tcp, is_live, with_live_flows, purge, permits, is_flow_of, used, with_flow, sent, refreshes, refreshed, received, counts_for, count_for, granted, of_source, sent_by, fresh, out_made, out_found, of_destination, received_by, in_found, PurgeKeepsQuota, OutKeepsQuota, InKeepsQuota}
+use Rattle.napt_rules.specs.declared.Sent.{Sent as Packet}
+use Rattle.napt_rules.specs.declared.Received.{Received}
 use Rattle.napt_table.specs.declared.event.Event.{Event}
 use Rattle.napt_table.specs.declared.event.Event.TheVariants.{Redirected, Sent, Entered}
-use Rattle.napt_binding.specs.Lists.{change_first}
-use Rattle.napt_binding.specs.Bindings.{is_tcp}
-use Rattle.napt_binding.specs.Life.{is_live, with_live_flows, purge}
-use Rattle.napt_table.specs.Quota.{counts_for, count_for, granted}
-use Rattle.napt_binding.specs.Filtering.{permits}
 use Rattle.napt_table.specs.Held.{redirect_of}
-use Rattle.napt_binding.specs.Traffic.{is_flow_of, used, with_flow, sent, refreshes, refreshed, received}
-use Rattle.napt_table.specs.Steps.{fresh, out_made, out_found, in_found, of_source, sent_by, of_destination, received_by}
 use Rattle.napt_table.specs.Events.{played, played_all}
-use Rattle.napt_table.specs.QuotaKept.{PurgeKeepsQuota, OutKeepsQuota, InKeepsQuota, PlayedKeepsQuota}
+use Rattle.napt_table.specs.QuotaKept.{PlayedKeepsQuota}
 use Rattle.napt_table.proofs.Passes.{in_passed}
 use Rattle.napt_table.proofs.Quotas.{granted_is_within}
 

@@ -5,12 +5,8 @@ use Rattle.std.proofs.lemmas.Bool.{and_parts}
 use Rattle.napt_wire.specs.declared.Protocol.{Protocol}
 use Rattle.napt_wire.specs.declared.Cause.{Cause}
 use Rattle.napt_wire.specs.declared.Cause.TheVariants.{OverQuota, NoPort}
-use Rattle.napt_binding.specs.declared.Binding.{Binding}
-use Rattle.napt_binding.specs.declared.sent.Sent.{Sent}
-use Rattle.napt_binding.specs.Bindings.{same_protocol, of, is_at}
-use Rattle.napt_numbers.specs.Candidates.{candidates}
-use Rattle.napt_table.specs.Choice.{is_free, choice}
-use Rattle.napt_table.specs.Quota.{counts_for, count_for, reaches, granted}
+use Rattle.napt_rules.specs.Prelude.{Binding, same_protocol, is_at, of, candidates, is_free, choice, counts_for, count_for, reaches, granted}
+use Rattle.napt_rules.specs.declared.Sent.{Sent}
 use Rattle.napt_binding.proofs.Lists.{find_agree, any_filter, filter_narrow}
 
 -- WHERE A NUMBER IS GRANTED

@@ -1,13 +1,12 @@
 -- What happened to a table, and the list that it leaves.
 use Rattle.std.specs.Prelude.{ℕ, List, [], ◌∷◌, ◌++◌, Option}
-use Rattle.napt_binding.specs.declared.inbound.Inbound.{Inbound}
-use Rattle.napt_binding.specs.declared.sent.Sent.{Sent as Packet}
-use Rattle.napt_table.specs.declared.received.Received.{Received}
+use Rattle.napt_rules.specs.declared.Inbound.{Inbound}
+use Rattle.napt_rules.specs.declared.Sent.{Sent as Packet}
+use Rattle.napt_rules.specs.declared.Received.{Received}
 use Rattle.napt_config.specs.declared.settings.Timers.{Timers}
-use Rattle.napt_binding.specs.declared.Binding.{Binding}
+use Rattle.napt_rules.specs.Prelude.{Binding, step_out, step_in}
 use Rattle.napt_table.specs.declared.event.Event.{Event}
 use Rattle.napt_table.specs.declared.event.Event.TheVariants.{Redirected, Sent, Entered}
-use Rattle.napt_table.specs.Steps.{step_out, step_in}
 use Rattle.napt_table.specs.Held.{redirect_of}
 
 abbrev pub played : Timers → Option ℕ → Inbound → ℕ → ℕ → Event → List Binding → List Binding

@@ -3,12 +3,8 @@ use Rattle.std.specs.Prelude.{◌≡◌, ℕ, zero, suc, ◌+◌, ◌==◌, ◌<
 use Rattle.napt_wire.specs.declared.Protocol.{Protocol}
 use Rattle.napt_wire.specs.declared.Protocol.TheVariants.{Icmp, Tcp, Udp}
 use Rattle.napt_config.specs.declared.settings.Timers.{Timers}
-use Rattle.napt_binding.specs.declared.Binding.{Binding}
-use Rattle.napt_table.specs.Endpoints.{Apart}
-use Rattle.napt_table.specs.Rows.{row}
+use Rattle.napt_rules.specs.Prelude.{Binding, is_live, count_for, row, Apart}
 use Rattle.napt_table.specs.Held.{Shows}
-use Rattle.napt_binding.specs.Life.{is_live}
-use Rattle.napt_table.specs.Quota.{count_for}
 
 -- whether what is held counts for the host
 abbrev pub held_for : ℕ → Option Binding → Bool

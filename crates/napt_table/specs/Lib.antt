@@ -1,12 +1,4 @@
-pub mod Choice
-pub mod Quota
-pub mod Steps
-pub mod Endpoints
-pub mod Live
-pub mod Local
-pub mod Opening
 pub mod Tables
-pub mod Rows
 pub mod Held
 pub mod Hosts
 pub mod Part

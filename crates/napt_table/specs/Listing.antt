@@ -1,10 +1,9 @@
 -- The rows of what a part of a table holds, in no order.
 use Rattle.std.specs.Prelude.{ℕ, ◌<◌, ◌^◌, All, List, map, filter, nat_eq}
 use Rattle.std.specs.HashMap.{IsUnique, values}
-use Rattle.napt_table.specs.declared.Row.{Row}
+use Rattle.napt_rules.specs.declared.Row.{Row}
 use Rattle.napt_table.specs.declared.part.Part.{Part}
-use Rattle.napt_binding.specs.Life.{is_live}
-use Rattle.napt_table.specs.Rows.{row}
+use Rattle.napt_rules.specs.Prelude.{is_live, row}
 
 -- those of the bindings that are live at the time
 abbrev pub part_rows : ℕ → Part → List Row

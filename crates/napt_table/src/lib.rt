@@ -4,12 +4,8 @@
 #![tactic(auto)]
 
 ghost use Rattle.std.specs.Prelude.{◌≡◌, ℕ, List};
-ghost use Rattle.napt_table.specs.Local.{PurgeIsLocal, LaterPurgeCounts, OutIsLocal, OutLeavesOthers, InIsLocal, InLeavesOthers};
-ghost use Rattle.napt_table.specs.Endpoints.{PurgeStaysSound, OutStaysSound, InStaysSound, SoundIsApart};
-ghost use Rattle.napt_table.specs.Live.{OutLeavesLive, InLeavesLive};
-ghost use Rattle.napt_table.specs.QuotaKept.{PurgeKeepsQuota, OutKeepsQuota, InKeepsQuota, PlayedKeepsQuota};
-ghost use Rattle.napt_table.specs.Opening.{OpeningIsSound};
-ghost use Rattle.napt_table.specs.Rows.{RowsAreInOrder};
+ghost use Rattle.napt_rules.specs.Prelude.{RowsAreInOrder, OpeningIsSound, PurgeStaysSound, OutStaysSound, InStaysSound, SoundIsApart, OutLeavesLive, InLeavesLive, PurgeIsLocal, LaterPurgeCounts, OutIsLocal, OutLeavesOthers, InIsLocal, InLeavesOthers, PurgeKeepsQuota, OutKeepsQuota, InKeepsQuota};
+ghost use Rattle.napt_table.specs.QuotaKept.{PlayedKeepsQuota};
 ghost use Rattle.napt_table.specs.Tables.{TablesShareNothing, TablesAreNumbered};
 
 mod event;

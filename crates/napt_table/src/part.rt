@@ -8,7 +8,7 @@
 ghost use Rattle.std.specs.Prelude.{◌≡◌, ◌≢◌, ℕ, ◌+◌, ◌-◌, ◌≤◌, ◌<◌, ◌^◌, true, false, not, Some, None, Ok, Err, OnOk, IfSome, cond, ◌==◌, ◌&&◌};
 ghost use Rattle.std.specs.Option.{option_map};
 ghost use Rattle.napt_wire.specs.declared.Cause.TheVariants.{NoBinding};
-ghost use Rattle.napt_binding.specs.Traffic.{entered, left_by};
+ghost use Rattle.napt_binding.specs.Entering.{entered, left_by};
 ghost use Rattle.napt_table.specs.Held.{seen, HeldIsPurgedLater};
 ghost use Rattle.napt_table.specs.Counts.{are_counted, count_in, HasPlace};
 
@@ -46,11 +46,10 @@ impl Part {
     ghost use Rattle.std.specs.Prelude.{All, IfOk};
     ghost use Rattle.std.specs.HashMap.{spare};
     ghost use Rattle.napt_config.specs.Rules.{AreTimers};
-    ghost use Rattle.napt_binding.specs.Life.{is_live};
+    ghost use Rattle.napt_rules.specs.Prelude.{Binding, is_live};
     ghost use Rattle.napt_numbers.specs.Places.{is_used};
     ghost use Rattle.napt_table.specs.Hosts.{held_for};
     ghost use Rattle.napt_table.specs.Part.{held, number_at, pair_eq, IsPart, AreDue, AreDueBut, IsSamePlace, HoldsSame, ChangesOne, StaysPart, KeepsSeen, IsPurged, IsNew, HasRoom, come_up};
-    ghost use Rattle.napt_binding.specs.declared.Binding.{Binding};
 
     /// Nothing is held; whether bindings are counted by host is said.
     pub(crate) fn new(
@@ -307,13 +306,8 @@ impl Part {
     ghost use Rattle.napt_wire.specs.declared.Way.TheVariants.{Outgoing as WayOut};
     ghost use Rattle.napt_wire.specs.declared.Cause.TheVariants.{NoPort};
     ghost use Rattle.napt_config.specs.Rules.{AreTimers};
-    ghost use Rattle.napt_binding.specs.declared.Binding.{Binding};
-    ghost use Rattle.napt_table.specs.Choice.{choice};
+    ghost use Rattle.napt_rules.specs.Prelude.{Binding, change_first, is_live, live_flows, with_live_flows, is_flow_of, used, with_flow, sent, choice, out_made};
     ghost use Rattle.napt_table.specs.Held.{Shows, redirect_of};
-    ghost use Rattle.napt_binding.specs.Life.{is_live, live_flows, with_live_flows};
-    ghost use Rattle.napt_binding.specs.Lists.{change_first};
-    ghost use Rattle.napt_binding.specs.Traffic.{is_flow_of, used, with_flow, sent};
-    ghost use Rattle.napt_table.specs.Steps.{out_made};
     ghost use Rattle.napt_table.specs.Part.{held, number_at, IsPart, AreDue, HoldsSame, StaysPart, WentOut, HasRoom};
 
     /// A redirect, neither of whose ends is taken. It never expires, so it has no entry in the queue. Where memory is

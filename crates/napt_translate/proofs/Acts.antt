@@ -8,10 +8,9 @@ use Rattle.napt_wire.specs.declared.Flags.{Flags}
 use Rattle.napt_wire.specs.declared.Kind.{Kind}
 use Rattle.napt_wire.specs.declared.Kind.TheVariants.{Udp, Tcp, Echo, ErrorOf}
 use Rattle.napt_config.specs.Rules.{Rules}
-use Rattle.napt_binding.specs.declared.Binding.{Binding}
-use Rattle.napt_translate.specs.declared.translator.Leg.{Leg}
-use Rattle.napt_translate.specs.declared.translator.End.{End}
-use Rattle.napt_translate.specs.Legs.{no_flags, Acted, act_out, act_in, act_by}
+use Rattle.napt_rules.specs.Prelude.{Binding, no_flags, Acted, act_out, act_in, act_by}
+use Rattle.napt_rules.specs.declared.Leg.{Leg}
+use Rattle.napt_rules.specs.declared.End.{End}
 
 module _ (rules : Rules) (address : ℕ) (leg : Leg) (list : List Binding) (P : Acted → Type 0)
     (goes : (protocol : Protocol) (flags : Flags) → P (act_out rules address leg list protocol flags))

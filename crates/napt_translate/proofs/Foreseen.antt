@@ -11,11 +11,9 @@ use Rattle.napt_wire.specs.Rewriting.{with_source, reverted}
 use Rattle.napt_wire.specs.Packet.{IsPacket}
 use Rattle.napt_wire.specs.Laws.{SourcesLeaveDestinations, ErrorsLeaveDestinations}
 use Rattle.napt_config.specs.Rules.{Rules, place_of}
-use Rattle.napt_binding.specs.declared.Binding.{Binding}
-use Rattle.napt_translate.specs.declared.translator.Leg.{Leg}
-use Rattle.napt_translate.specs.declared.translator.End.TheVariants.{Dropped}
-use Rattle.napt_translate.specs.Ends.{IsForeseen, Foresees}
-use Rattle.napt_translate.specs.Legs.{act_by, onward_by, gone_out, end_out, error_out}
+use Rattle.napt_rules.specs.Prelude.{Binding, onward_by, gone_out, end_out, error_out, act_by, IsForeseen, Foresees}
+use Rattle.napt_rules.specs.declared.Leg.{Leg}
+use Rattle.napt_rules.specs.declared.End.TheVariants.{Dropped}
 
 by_place : (packet : List ℕ) (found : Option ℕ) → IsForeseen found (onward_by found packet)
 by_place packet None = tt

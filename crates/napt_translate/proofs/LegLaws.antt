@@ -8,10 +8,8 @@ use Rattle.napt_wire.specs.declared.Kind.{Kind}
 use Rattle.napt_wire.specs.declared.Kind.TheVariants.{Udp, Tcp, Echo, ErrorOf}
 use Rattle.napt_wire.specs.Fields.{destination, kind, is_error}
 use Rattle.napt_config.specs.Rules.{Rules, place_of}
-use Rattle.napt_binding.specs.declared.Binding.{Binding}
-use Rattle.napt_translate.specs.declared.translator.Leg.{Leg}
-use Rattle.napt_translate.specs.Ends.{ErrorsChangeNothing, IsToItsSide, LegsEndAtTheirSide, is_in_or_dropped, InStaysIn}
-use Rattle.napt_translate.specs.Legs.{Kept, act_by, onward_by, gone_out, end_out, end_in, error_out, error_in, time_after}
+use Rattle.napt_rules.specs.Prelude.{Binding, onward_by, gone_out, end_out, end_in, error_out, error_in, act_by, Kept, time_after, ErrorsChangeNothing, IsToItsSide, LegsEndAtTheirSide, is_in_or_dropped, InStaysIn}
+use Rattle.napt_rules.specs.declared.Leg.{Leg}
 
 -- ERRORS
 

@@ -2,12 +2,10 @@
 use Rattle.std.specs.Prelude.{◌≡◌, ℕ, ◌<◌, List, length, slice_index}
 use Rattle.napt_wire.specs.declared.Protocol.{Protocol}
 use Rattle.napt_wire.specs.declared.Flags.{Flags}
-use Rattle.napt_binding.specs.Inbound.{inbound_of}
-use Rattle.napt_table.specs.Steps.{Out, In, step_out, step_in}
+use Rattle.napt_rules.specs.Prelude.{inbound_of, Out, step_out, In, step_in, sent_of, received_of, Kept, kept_after}
 use Rattle.napt_config.specs.Rules.{Rules, KeepsRules}
 use Rattle.napt_table.specs.Tables.{TableState, opened}
-use Rattle.napt_translate.specs.Legs.{Kept, kept_after, sent_of, received_of}
-use Rattle.napt_translate.specs.declared.translator.Leg.{Leg}
+use Rattle.napt_rules.specs.declared.Leg.{Leg}
 
 pub record TranslatorState : Type 0 where
   -- the place of its external address in the pool, from 0

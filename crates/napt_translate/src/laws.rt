@@ -1,6 +1,6 @@
 //! What legs keep to, whatever the bindings.
 
-ghost use Rattle.napt_translate.specs.Ends.{ErrorsChangeNothing, InStaysIn, LegsEndAtTheirSide};
+ghost use Rattle.napt_rules.specs.Prelude.{ErrorsChangeNothing, LegsEndAtTheirSide, InStaysIn};
 
 /// An ICMP error changes no binding and no time; what leaves goes to no external address of the pool, and what goes
 /// onward to the one at that place; what comes in reaches the inside or is dropped.

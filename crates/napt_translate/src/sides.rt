@@ -3,8 +3,8 @@
 ghost use Rattle.std.specs.Prelude.{◌≡◌, IfOk, Some, slice_get};
 ghost use Rattle.napt_wire.specs.Fields.{destination};
 ghost use Rattle.napt_config.specs.Rules.{place_of};
-ghost use Rattle.napt_translate.specs.Ends.{Foresees};
-ghost use Rattle.napt_translate.specs.Sides as sides;
+ghost use Rattle.napt_rules.specs.Prelude.{Foresees};
+ghost use Rattle.napt_rules.specs.Sides as sides;
 
 use napt_config::Config;
 use napt_wire::{Cause, Kind, Packet, Protocol, Side, Way, packets_keep_their_way};
@@ -13,7 +13,7 @@ use napt_wire::{Cause, Kind, Packet, Protocol, Side, Way, packets_keep_their_way
 /// the pairing of its inside host, or the one that it came to. `Spoofed` where its source belongs to the other side,
 /// `NotOurs` where its destination is not beyond the translator, `Unsupported` for an echo of the inside, or an error
 /// about one, to an external address. It takes no memory.
-#[tactic(auto, unfolding(crate::specs::Sides::route))]
+#[tactic(auto, unfolding(napt_rules::specs::Sides::route))]
 pub fn route(config: &Config, side: Side, packet: &Packet) -> Result<u32, Cause>
     ensures place { result ≡ sides.route config.now side packet.now }
     ensures in_pool { IfOk result (λ place. slice_get config.now.pool place

@@ -2,10 +2,10 @@
 
 ghost use Rattle.std.specs.Prelude.{◌≡◌, ◌≤◌, ◌<◌, ℕ, max, length, slice_index, Some, IfOk, OnOk, OnErr};
 ghost use Rattle.napt_wire.specs.Fields.{source, destination, kind};
-ghost use Rattle.napt_table.specs.Rows.{rows};
-ghost use Rattle.napt_table.specs.Steps as steps;
+ghost use Rattle.napt_rules.specs.Prelude.{rows, kept_answer};
+ghost use Rattle.napt_rules.specs.Steps as steps;
 ghost use Rattle.napt_translate.specs.Carried.{carried_by};
-ghost use Rattle.napt_translate.specs.Legs as legs;
+ghost use Rattle.napt_rules.specs.Legs as legs;
 ghost use Rattle.napt_translate.specs.Translators as translators;
 
 use napt_config::Config;
@@ -94,7 +94,7 @@ impl Translator {
     /// Where memory is refused nothing is changed, and the leg is spent.
     pub fn translate(&mut self, alloc: Global, leg: Leg) -> Result<Answer, AllocError>
         ensures answer { IfOk result (λ answer.
-            answer ≡ legs.kept_answer self.old.rules self.old.table.address
+            answer ≡ kept_answer self.old.rules self.old.table.address
             leg (translators.kept_of self.old.table)) }
         ensures left { OnOk result (self.new ≡ translators.left_by leg self.old) }
         ensures refused { OnErr result (self.new ≡ self.old) }

@@ -3,12 +3,12 @@
 ghost use Rattle.std.specs.Prelude.{◌≡◌, ◌==◌, ◌≤◌, ℕ, Bool, true, false, position, filter, vec_len, vec_capacity, OnOk, OnErr};
 ghost use Rattle.std.specs.List.{list_any};
 ghost use Rattle.napt_config.specs.Rules.{AreTimers};
-ghost use Rattle.napt_binding.specs.Lists.{change_first};
-ghost use Rattle.napt_binding.specs.Life as life;
-ghost use Rattle.napt_binding.specs.Traffic.{standing_flow_of};
+ghost use Rattle.napt_rules.specs.Prelude.{change_first};
+ghost use Rattle.napt_rules.specs.Life as life;
+ghost use Rattle.napt_binding.specs.Standing.{standing_flow_of};
 ghost use Rattle.napt_binding.specs.Sent as packets;
 ghost use Rattle.napt_binding.specs.Slots.{AreDistinct};
-ghost use Rattle.napt_binding.specs.Traffic as traffic;
+ghost use Rattle.napt_rules.specs.Traffic as traffic;
 
 use crate::Flow;
 use crate::sent::Sent;

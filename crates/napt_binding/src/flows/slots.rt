@@ -3,8 +3,8 @@
 ghost use Rattle.std.specs.Prelude.{◌≡◌, ◌<◌, ◌≤◌, ◌+◌, ◌++◌, ◌^◌, ℕ, [], ◌∷◌, Some, true, false, length, slice_set, filter, OnOk, IfSome, IfNone};
 ghost use Rattle.std.specs.List.{list_any};
 ghost use Rattle.napt_config.specs.Rules.{AreTimers};
-ghost use Rattle.napt_binding.specs.declared.Flow.{Flow};
-ghost use Rattle.napt_binding.specs.Life as life;
+ghost use Rattle.napt_rules.specs.declared.Flow.{Flow};
+ghost use Rattle.napt_rules.specs.Life as life;
 ghost use Rattle.napt_binding.specs.Slots as slots;
 ghost use Rattle.napt_binding.specs.Slots.{somes, Stands, is_recent_time};
 

@@ -1,7 +1,7 @@
 //! When the inputs of a run arrived.
 
 ghost use Rattle.std.specs.Prelude.{◌∷◌, ◌++◌, [], List, IfOk, OnOk};
-ghost use Rattle.napt_sequential.specs.Inputs.{Arrival};
+ghost use Rattle.napt_rules.specs.Prelude.{Arrival};
 ghost use Rattle.napt_dispatch.specs.Dispatch.{HaveArrived};
 
 use napt_sequential::Input;

@@ -2,7 +2,7 @@
 
 ghost use Rattle.std.specs.Prelude.{◌≡◌, map, length, slice_set, slice_get, replicate, Some, IfOk, OnOk, IfSome};
 ghost use Rattle.napt_wire.specs.declared.Cause.TheVariants.{NoBinding};
-ghost use Rattle.napt_sequential.specs.declared.outcome.Outcome.TheVariants.{Dropped};
+ghost use Rattle.napt_rules.specs.declared.Outcome.TheVariants.{Dropped};
 ghost use Rattle.napt_dispatch.specs.declared.dispatcher.progress.Progress.TheVariants.{Awaited};
 ghost use Rattle.napt_dispatch.specs.Stages.{is_unknown};
 ghost use Rattle.napt_dispatch.specs.Standing.{IsSecond, outcome_in};

@@ -1,6 +1,5 @@
 use Rattle.std.proofs.Common.{◌≡◌, ℕ, suc, ◌+◌, max, List, take, get_or, ◌∙◌, ap, arith}
-use Rattle.napt_sequential.specs.Inputs.{Arrival}
-use Rattle.napt_sequential.specs.Sequential.{last_clock}
+use Rattle.napt_rules.specs.Prelude.{Arrival, last_clock}
 use Rattle.napt_account.proofs.Told.{clock_more}
 use Rattle.napt_account.proofs.who.count_by.Goals as goal
 

@@ -1,5 +1,5 @@
 use Rattle.std.proofs.Common.{◌≤◌, take}
-use Rattle.napt_sequential.specs.Sequential.{last_clock}
+use Rattle.napt_rules.specs.Prelude.{last_clock}
 use Rattle.napt_account.proofs.who.count_by.Given as goal
 
 -- those that were passed came by the time

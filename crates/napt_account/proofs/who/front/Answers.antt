@@ -1,7 +1,6 @@
 use Rattle.std.proofs.Common.{ℕ, ◌≤◌, List, [], ◌∷◌, ◌++◌, take, drop, ◌∙◌, ap, subst}
 use Rattle.napt_wire.specs.declared.Side.TheVariants.{Outside}
-use Rattle.napt_sequential.specs.Inputs.{Arrival}
-use Rattle.napt_sequential.specs.Sequential.{last_clock}
+use Rattle.napt_rules.specs.Prelude.{Arrival, last_clock}
 use Rattle.napt_account.specs.Attribution.{IsBeforeNext}
 use Rattle.napt_account.proofs.Told.{split_at}
 use Rattle.napt_account.proofs.who.front.Goals as goal

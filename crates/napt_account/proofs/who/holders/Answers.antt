@@ -1,8 +1,8 @@
 use Rattle.std.proofs.Common.{filter, ◌∙◌, ap}
 use Rattle.std.specs.List.{list_any}
 use Rattle.napt_wire.specs.declared.Endpoint.{Endpoint}
-use Rattle.napt_binding.specs.Bindings.{same_endpoint}
-use Rattle.napt_table.specs.declared.Row.{Row}
+use Rattle.napt_rules.specs.Prelude.{same_endpoint}
+use Rattle.napt_rules.specs.declared.Row.{Row}
 use Rattle.napt_account.specs.Passages.{has_ends}
 use Rattle.napt_account.proofs.Told.{any_of_external}
 use Rattle.napt_account.proofs.who.holders.Goals as goal

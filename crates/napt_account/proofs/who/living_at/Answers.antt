@@ -1,7 +1,6 @@
 use Rattle.std.proofs.Common.{List, ◌∙◌, ap}
 use Rattle.std.specs.List.{list_any}
-use Rattle.napt_sequential.specs.Inputs.{Arrival}
-use Rattle.napt_sequential.specs.Sequential.{Ran, ran}
+use Rattle.napt_rules.specs.Prelude.{Arrival, Ran, ran}
 use Rattle.napt_account.specs.Passages.{has_ends}
 use Rattle.napt_account.proofs.Told.{told_is_named}
 use Rattle.napt_account.proofs.who.living_at.Goals as goal

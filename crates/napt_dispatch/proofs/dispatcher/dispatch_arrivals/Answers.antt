@@ -1,7 +1,7 @@
 use Rattle.std.proofs.Common.{◌≡◌, List, [], length, Some, refl, sym, ap, ◌∙◌, arith, rules}
 use Rattle.napt_config.specs.Rules.{Rules}
 use Rattle.napt_pool.specs.Pools.{starts, accepts, takes}
-use Rattle.napt_sequential.specs.Inputs.{Arrival}
+use Rattle.napt_rules.specs.Prelude.{Arrival}
 use Rattle.napt_dispatch.specs.Dispatch.{started}
 use Rattle.napt_dispatch.specs.Standing.{DispatchState, state_of, Stands}
 use Rattle.napt_dispatch.specs.contracts.worker.WorkerMachine.TheImpl.{ghosts}

@@ -1,5 +1,5 @@
 use Rattle.std.proofs.Common.{◌≡◌, take}
-use Rattle.napt_sequential.specs.Sequential.{last_clock}
+use Rattle.napt_rules.specs.Prelude.{last_clock}
 use Rattle.napt_dispatch.proofs.inputs.last_clock.Given as goal
 
 abbrev pub invariant-loop-input : goal.invariant-loop-input

@@ -2,7 +2,7 @@ use Rattle.std.proofs.Common.{◌≡◌, List, length, map, refl, ◌∙◌}
 use Rattle.std.proofs.lemmas.Result.{IfOk-at_ok}
 use Rattle.napt_config.specs.Rules.{Rules}
 use Rattle.napt_pool.specs.Pools.{starts, accepts}
-use Rattle.napt_sequential.specs.Inputs.{Arrival}
+use Rattle.napt_rules.specs.Prelude.{Arrival}
 use Rattle.napt_dispatch.specs.Dispatch.{started}
 use Rattle.napt_dispatch.specs.contracts.worker.WorkerMachine.TheImpl.{ghosts}
 use Rattle.napt_dispatch.proofs.Closed.{on_ok_at, rows_shown, workers_shown}

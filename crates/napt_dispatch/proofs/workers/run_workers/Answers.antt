@@ -2,10 +2,8 @@ use Rattle.std.proofs.Common.{◌≡◌, List, length, map, refl, sym, ap, subst
 use Rattle.std.specs.Prelude.{AllPairs}
 use Rattle.std.proofs.lemmas.Result.{IfOk-at_ok}
 use Rattle.napt_config.specs.Rules.{Rules}
-use Rattle.napt_table.specs.Endpoints.{AreRowsApart}
+use Rattle.napt_rules.specs.Prelude.{Arrival, Ran, AreRowsApart}
 use Rattle.napt_pool.specs.Pools.{starts, accepts}
-use Rattle.napt_sequential.specs.Inputs.{Arrival}
-use Rattle.napt_sequential.specs.Sequential.{Ran}
 use Rattle.napt_sequential.proofs.Rows.{rows_apart}
 use Rattle.napt_sequential.proofs.Shown.{ran_long}
 use Rattle.napt_dispatch.specs.Dispatch.{started}

@@ -1,7 +1,7 @@
 use Rattle.std.proofs.Common.{◌≡◌, ℕ, List, [], ◌++◌, ◌∙◌, ap, flat_map, string_bytes}
-use Rattle.napt_table.specs.declared.Row.{Row}
-use Rattle.napt_sequential.specs.declared.outcome.Outcome.{Outcome}
-use Rattle.napt_sequential.specs.Sequential.{Ran}
+use Rattle.napt_rules.specs.declared.Row.{Row}
+use Rattle.napt_rules.specs.declared.Outcome.{Outcome}
+use Rattle.napt_rules.specs.Prelude.{Ran}
 use Rattle.napt_records.specs.Report as model
 use Rattle.napt_records.specs.Report.{report_text}
 use Rattle.napt_records.proofs.Texts.{three_pieces}

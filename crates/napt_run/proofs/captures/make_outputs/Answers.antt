@@ -3,7 +3,7 @@ use Rattle.std.proofs.lemmas.Bool.{true≢false}
 use Rattle.std.proofs.lemmas.List.{length-map}
 use Rattle.napt_capture.specs.Text.{IsWritable}
 use Rattle.napt_capture.specs.Contents.{Contents}
-use Rattle.napt_sequential.specs.Inputs.{Arrival}
+use Rattle.napt_rules.specs.Prelude.{Arrival}
 use Rattle.napt_records.specs.Output.{IsTime, IsTimely}
 use Rattle.napt_records.proofs.Sends.{times_timely}
 use Rattle.napt_run.proofs.TooMany.{merged_few}

@@ -1,4 +1,4 @@
-use Rattle.napt_sequential.specs.Sound.{RunsAreSound}
+use Rattle.napt_rules.specs.Prelude.{RunsAreSound}
 use Rattle.napt_sequential.proofs.Sound.{runs_sound, runs_apart}
 use Rattle.napt_sequential.proofs.laws.runs_are_sound.Goals as goal
 

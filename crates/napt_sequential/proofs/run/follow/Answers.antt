@@ -2,10 +2,9 @@ use Rattle.std.proofs.Common.{◌≡◌, ℕ, ◌+◌, ◌<◌, ◌^◌, length,
 use Rattle.std.specs.List.{slice_get}
 use Rattle.std.proofs.lemmas.Option.{slice_get-get_or, slice_get_within}
 use Rattle.napt_wire.specs.Fields.{destination}
-use Rattle.napt_translate.specs.declared.translator.End.TheVariants.{ToOutside, ToInside, Onward, Dropped}
-use Rattle.napt_translate.specs.Legs.{act}
-use Rattle.napt_sequential.specs.declared.outcome.Outcome.TheVariants as outcomes
-use Rattle.napt_sequential.specs.Sequential.{outcome_of}
+use Rattle.napt_rules.specs.declared.End.TheVariants.{ToOutside, ToInside, Onward, Dropped}
+use Rattle.napt_rules.specs.Prelude.{act, outcome_of}
+use Rattle.napt_rules.specs.declared.Outcome.TheVariants as outcomes
 use Rattle.napt_sequential.specs.CountedTranslators.{RunState, AreCountedTranslators, state_after}
 use Rattle.napt_sequential.proofs.Steps.{stands_at, onward_place, follows_once, follows_twice}
 use Rattle.napt_sequential.proofs.run.follow.Goals as goal

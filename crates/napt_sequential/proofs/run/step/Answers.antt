@@ -4,10 +4,8 @@ use Rattle.std.proofs.lemmas.Option.{slice_get_within}
 use Rattle.napt_wire.specs.Reading.{reading}
 use Rattle.napt_wire.specs.declared.Side.{Side}
 use Rattle.napt_wire.specs.declared.Way.{Way}
-use Rattle.napt_translate.specs.Sides.{way_from, served_at, refusal, route}
-use Rattle.napt_sequential.specs.Inputs.{Arrival}
-use Rattle.napt_sequential.specs.declared.outcome.Outcome.TheVariants.{Dropped}
-use Rattle.napt_sequential.specs.Sequential.{Course, refused, admitted, step}
+use Rattle.napt_rules.specs.Prelude.{refusal, way_from, served_at, route, Arrival, Course, refused, admitted, step}
+use Rattle.napt_rules.specs.declared.Outcome.TheVariants.{Dropped}
 use Rattle.napt_sequential.specs.CountedTranslators.{Follows}
 use Rattle.napt_sequential.proofs.Steps.{arrival_of, route_ok, route_err, follows_none, step_unread, step_refused, step_admitted, reads_as, side_as}
 use Rattle.napt_sequential.proofs.run.step.Goals as goal

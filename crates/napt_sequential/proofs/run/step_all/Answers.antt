@@ -1,9 +1,7 @@
 use Rattle.std.proofs.Common.{◌≡◌, ℕ, ◌+◌, ◌≤◌, max, List, length, take, sym, ◌∙◌, ap, subst, arith}
 use Rattle.std.proofs.lemmas.List.{length-take-le}
-use Rattle.napt_table.specs.Opening.{opening}
-use Rattle.napt_sequential.specs.Inputs.{Arrival}
-use Rattle.napt_sequential.specs.declared.outcome.Outcome.{Outcome}
-use Rattle.napt_sequential.specs.Sequential.{last_clock, step}
+use Rattle.napt_rules.specs.Prelude.{opening, Arrival, step, last_clock}
+use Rattle.napt_rules.specs.declared.Outcome.{Outcome}
 use Rattle.napt_sequential.specs.CountedTranslators.{Follows, state_of}
 use Rattle.napt_sequential.proofs.Grown.{RunSoFar, outcomes_long, after_next, can_take}
 use Rattle.napt_sequential.proofs.run.step_all.Goals as goal

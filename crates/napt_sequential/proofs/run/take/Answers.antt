@@ -1,8 +1,8 @@
 use Rattle.std.proofs.Common.{◌≡◌, ◌+◌, ◌<◌, ◌≤◌, ◌^◌, length, Some, sym, ◌∙◌, subst, arith, get_or, set}
 use Rattle.std.specs.List.{slice_get}
 use Rattle.std.proofs.lemmas.Option.{slice_get-get_or}
-use Rattle.napt_translate.specs.declared.translator.End.{End}
-use Rattle.napt_translate.specs.Legs.{act}
+use Rattle.napt_rules.specs.declared.End.{End}
+use Rattle.napt_rules.specs.Prelude.{act}
 use Rattle.napt_sequential.specs.declared.counted_translator.CountedTranslator.{CountedTranslator}
 use Rattle.napt_sequential.specs.CountedTranslators.{RunState, AreCountedTranslators, state_after, end_at, counted_after}
 use Rattle.napt_sequential.proofs.Results.{if_ok, on_ok}

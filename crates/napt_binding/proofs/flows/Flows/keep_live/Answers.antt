@@ -1,6 +1,6 @@
 use Rattle.std.proofs.Common.{subst}
 use Rattle.napt_binding.specs.Kept.{IsKept}
-use Rattle.napt_binding.specs.Life as life
+use Rattle.napt_rules.specs.Life as life
 use Rattle.napt_binding.proofs.Distinct.{distinct_kept}
 use Rattle.napt_binding.proofs.flows.Flows.keep_live.Goals as goal
 

@@ -1,7 +1,7 @@
 use Rattle.std.proofs.Common.{◌≡◌, ◌≤◌, ◌<◌, true, false, ltb, refl, arith}
 use Rattle.std.specs.List.{list_any}
 use Rattle.std.proofs.lemmas.Bool.Decides.{nat_tests}
-use Rattle.napt_binding.specs.Life as life
+use Rattle.napt_rules.specs.Life as life
 use Rattle.napt_binding.proofs.Lists.{any_index}
 use Rattle.napt_binding.proofs.Purges.{any_weaker, lived_flow}
 use Rattle.napt_binding.proofs.flows.few.last_moment_of.Goals as goal

@@ -1,6 +1,6 @@
 use Rattle.std.proofs.Common.{◌≡◌, ℕ, ◌≤◌, true}
 use Rattle.std.specs.List.{list_any}
-use Rattle.napt_binding.specs.Life as life
+use Rattle.napt_rules.specs.Life as life
 use Rattle.napt_binding.proofs.flows.few.last_moment_of.Given as goal
 
 abbrev pub invariant-loop-flow : goal.invariant-loop-flow

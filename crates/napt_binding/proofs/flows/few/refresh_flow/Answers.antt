@@ -1,8 +1,8 @@
 use Rattle.std.proofs.Common.{ap, sym}
 use Rattle.napt_wire.specs.declared.Protocol.TheVariants.{Tcp}
 use Rattle.napt_wire.specs.declared.Way.TheVariants.{Incoming}
-use Rattle.napt_binding.specs.declared.Flow.{Flow}
-use Rattle.napt_binding.specs.Traffic as traffic
+use Rattle.napt_rules.specs.declared.Flow.{Flow}
+use Rattle.napt_rules.specs.Traffic as traffic
 use Rattle.napt_binding.proofs.Distinct.{distinct_set}
 use Rattle.napt_binding.proofs.Lists.{change_at, change_nowhere, any_nowhere}
 use Rattle.napt_binding.proofs.flows.few.refresh_flow.Goals as goal

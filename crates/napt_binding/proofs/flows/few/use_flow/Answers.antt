@@ -1,8 +1,8 @@
 use Rattle.std.proofs.Common.{◌≡◌, ◌∙◌, ap, List, false}
 use Rattle.std.specs.List.{list_any}
-use Rattle.napt_binding.specs.declared.Flow.{Flow}
-use Rattle.napt_binding.specs.Life.{live_flows}
-use Rattle.napt_binding.specs.Traffic.{standing_flow_of}
+use Rattle.napt_rules.specs.declared.Flow.{Flow}
+use Rattle.napt_rules.specs.Prelude.{live_flows}
+use Rattle.napt_binding.specs.Standing.{standing_flow_of}
 use Rattle.napt_binding.proofs.Distinct.{distinct_set, distinct_pushed, distinct_live}
 use Rattle.napt_binding.proofs.Lists.{any_nowhere}
 use Rattle.napt_binding.proofs.Standing.{flow_set, flow_begun, none_left, live_set}

@@ -1,9 +1,7 @@
 use Rattle.std.proofs.Common.{◌≡◌, Ok, Some, slice_get}
 use Rattle.std.proofs.lemmas.Result.{IfOk-at_ok}
 use Rattle.napt_config.specs.Rules.{Rules}
-use Rattle.napt_translate.specs.Sides.{way_from, served_at}
-use Rattle.napt_sequential.specs.Inputs.{Arrival}
-use Rattle.napt_sequential.specs.Admission.{admission}
+use Rattle.napt_rules.specs.Prelude.{way_from, served_at, Arrival, admission}
 use Rattle.napt_dispatch.specs.Offers.{with_offer}
 use Rattle.napt_dispatch.specs.Standing.{parts_of}
 use Rattle.napt_dispatch.proofs.Standing.{admitted_admits, refused_admits}

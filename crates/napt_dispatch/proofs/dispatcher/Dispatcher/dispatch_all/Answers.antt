@@ -3,8 +3,7 @@ use Rattle.std.proofs.lemmas.List.{take_more, drop_more, take-append-drop}
 use Rattle.std.proofs.lemmas.Result.{err_from_is_err_and}
 use Rattle.napt_config.specs.Rules.{Rules}
 use Rattle.napt_pool.specs.Pools.{accepts, takes}
-use Rattle.napt_sequential.specs.Inputs.{Arrival}
-use Rattle.napt_sequential.specs.Sequential.{last_clock}
+use Rattle.napt_rules.specs.Prelude.{Arrival, last_clock}
 use Rattle.napt_dispatch.specs.Offers.{with_offered}
 use Rattle.napt_dispatch.specs.Dispatch.{HaveArrived}
 use Rattle.napt_dispatch.specs.Standing.{parts_of, state_of, Stands}

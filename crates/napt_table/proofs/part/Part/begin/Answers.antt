@@ -2,8 +2,8 @@ use Rattle.std.proofs.Common.{◌≡◌, ◌∙◌, ◌^◌, ◌<◌, refl, sym,
 use Rattle.std.specs.Prelude.{ok_or}
 use Rattle.std.proofs.lemmas.Bool.{not-true}
 use Rattle.napt_wire.specs.declared.Cause.TheVariants.{NoPort}
-use Rattle.napt_binding.specs.declared.sent.Sent.{Sent}
-use Rattle.napt_numbers.specs.Candidates.{candidates}
+use Rattle.napt_rules.specs.declared.Sent.{Sent}
+use Rattle.napt_rules.specs.Prelude.{candidates}
 use Rattle.napt_numbers.specs.Places.{is_used}
 use Rattle.napt_table.specs.Part.{held}
 use Rattle.napt_binding.proofs.Finds.{passes}

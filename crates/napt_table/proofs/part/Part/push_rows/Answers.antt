@@ -3,10 +3,8 @@ use Rattle.std.specs.Map.Iter.{deref}
 use Rattle.std.proofs.lemmas.List.{append_assoc}
 use Rattle.std.proofs.lemmas.List.Elements.{All-push}
 use Rattle.std.proofs.lemmas.Map.Iter.{rest_more}
-use Rattle.napt_binding.specs.declared.Binding.{Binding}
-use Rattle.napt_table.specs.declared.Row.{Row}
-use Rattle.napt_binding.specs.Life.{is_live}
-use Rattle.napt_table.specs.Rows.{row}
+use Rattle.napt_rules.specs.Prelude.{Binding, is_live, row}
+use Rattle.napt_rules.specs.declared.Row.{Row}
 use Rattle.napt_table.specs.Listing.{IsSmall}
 use Rattle.napt_table.proofs.part.Part.push_rows.Goals as goal
 

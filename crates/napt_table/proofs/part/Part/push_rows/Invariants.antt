@@ -1,7 +1,6 @@
 use Rattle.std.proofs.Common.{◌≡◌, ◌++◌, All, List, map, filter}
-use Rattle.napt_table.specs.declared.Row.{Row}
-use Rattle.napt_binding.specs.Life.{is_live}
-use Rattle.napt_table.specs.Rows.{row}
+use Rattle.napt_rules.specs.declared.Row.{Row}
+use Rattle.napt_rules.specs.Prelude.{is_live, row}
 use Rattle.napt_table.specs.Listing.{part_rows, IsSmall}
 use Rattle.napt_table.proofs.part.Part.push_rows.Given as goal
 

@@ -1,5 +1,5 @@
 use Rattle.std.proofs.Common.{rules}
-use Rattle.napt_binding.specs.Life.{with_live_flows}
+use Rattle.napt_rules.specs.Prelude.{with_live_flows}
 use Rattle.napt_table.proofs.part.Part.send_held.Goals as goal
 
 pub returns-clause-went : goal.returns-clause-went

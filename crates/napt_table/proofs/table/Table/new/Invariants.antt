@@ -1,5 +1,5 @@
 use Rattle.std.proofs.Common.{◌≡◌, []}
-use Rattle.napt_binding.specs.Inbound.{inbound_of}
+use Rattle.napt_rules.specs.Prelude.{inbound_of}
 use Rattle.napt_table.specs.Events.{played_all}
 use Rattle.std.specs.Option.{is_some}
 use Rattle.napt_table.specs.Parts.{AreOf, AreCounted}

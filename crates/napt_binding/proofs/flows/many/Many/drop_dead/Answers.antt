@@ -1,5 +1,5 @@
 use Rattle.std.proofs.Common.{sym}
-use Rattle.napt_binding.specs.Life as life
+use Rattle.napt_rules.specs.Life as life
 use Rattle.napt_binding.proofs.Slots.{all_kept, kept_emptied, one_fewer}
 use Rattle.napt_binding.proofs.flows.many.Many.drop_dead.Goals as goal
 

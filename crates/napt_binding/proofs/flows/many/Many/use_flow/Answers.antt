@@ -1,10 +1,8 @@
 use Rattle.std.proofs.Common.{◌≡◌, ◌∙◌, ap, refl, List, [], ◌∷◌, ◌++◌, false}
 use Rattle.std.specs.List.{list_any}
-use Rattle.napt_binding.specs.declared.Flow.{Flow}
-use Rattle.napt_binding.specs.Marks.{no_marks}
-use Rattle.napt_binding.specs.Life.{live_flows, is_live_flow}
+use Rattle.napt_rules.specs.declared.Flow.{Flow}
+use Rattle.napt_rules.specs.Prelude.{no_marks, is_live_flow, live_flows, is_flow_of}
 use Rattle.napt_binding.specs.Slots.{somes}
-use Rattle.napt_binding.specs.Traffic.{is_flow_of}
 use Rattle.napt_binding.proofs.Manys.{no_place}
 use Rattle.napt_binding.proofs.Distinct.{put_next}
 use Rattle.napt_binding.proofs.Standing.{none_left, flow_begun, live_begun}

@@ -1,6 +1,6 @@
 use Rattle.std.proofs.Common.{◌≡◌, ◌∙◌, ap, true, arith}
 use Rattle.std.specs.List.{list_any}
-use Rattle.napt_binding.specs.Life as life
+use Rattle.napt_rules.specs.Life as life
 use Rattle.napt_binding.specs.Slots.{somes}
 use Rattle.napt_binding.specs.SlotsShown.{Shown}
 use Rattle.napt_binding.proofs.Timed.{lives_until}

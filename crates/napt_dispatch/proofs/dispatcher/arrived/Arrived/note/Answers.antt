@@ -1,6 +1,6 @@
 use Rattle.std.proofs.Common.{ℕ, refl}
 use Rattle.std.proofs.lemmas.List.{map-append}
-use Rattle.napt_sequential.specs.Inputs.{Arrival}
+use Rattle.napt_rules.specs.Prelude.{Arrival}
 use Rattle.napt_sequential.proofs.Grown.{clock_more}
 use Rattle.napt_dispatch.proofs.dispatcher.arrived.Arrived.note.Goals as goal
 

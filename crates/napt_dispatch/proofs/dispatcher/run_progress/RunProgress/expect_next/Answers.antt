@@ -1,7 +1,7 @@
 use Rattle.std.proofs.Common.{◌≡◌, ℕ, suc, ◌-◌, List, ap, ◌∙◌, arith}
 use Rattle.napt_wire.specs.declared.Cause.TheVariants.{NoBinding}
-use Rattle.napt_sequential.specs.declared.outcome.Outcome.{Outcome}
-use Rattle.napt_sequential.specs.declared.outcome.Outcome.TheVariants.{Dropped}
+use Rattle.napt_rules.specs.declared.Outcome.{Outcome}
+use Rattle.napt_rules.specs.declared.Outcome.TheVariants.{Dropped}
 use Rattle.napt_dispatch.specs.declared.dispatcher.stage.Stage.{Stage}
 use Rattle.napt_dispatch.specs.Stages.{known}
 use Rattle.napt_dispatch.proofs.Stages.{known_more}

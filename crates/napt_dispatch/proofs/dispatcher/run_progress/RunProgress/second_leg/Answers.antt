@@ -1,8 +1,8 @@
 use Rattle.std.proofs.Common.{◌<◌, ◌≤◌, List, length, get_or, refl, ◌∙◌, arith}
 use Rattle.std.proofs.lemmas.List.{set-set, set-get_or}
 use Rattle.napt_wire.specs.declared.Cause.TheVariants.{NoBinding}
-use Rattle.napt_sequential.specs.declared.outcome.Outcome.{Outcome}
-use Rattle.napt_sequential.specs.declared.outcome.Outcome.TheVariants.{Dropped}
+use Rattle.napt_rules.specs.declared.Outcome.{Outcome}
+use Rattle.napt_rules.specs.declared.Outcome.TheVariants.{Dropped}
 use Rattle.napt_dispatch.specs.declared.dispatcher.stage.Stage.{Stage}
 use Rattle.napt_dispatch.specs.declared.dispatcher.stage.Stage.TheVariants as stages
 use Rattle.napt_dispatch.proofs.Stages.{known_set, known_get, known_not, known_past, onward_lost}

@@ -7,7 +7,12 @@ use Rattle.std.specs.Prelude.{ℕ, ◌==◌, Bool, true, false, ◌&&◌, List, 
 use Rattle.napt_wire.specs.declared.Protocol.{Protocol}
 use Rattle.napt_wire.specs.declared.Protocol.TheVariants.{Icmp, Tcp, Udp}
 use Rattle.napt_wire.specs.declared.Endpoint.{Endpoint}
-use Rattle.napt_binding.specs.declared.Binding.{Binding}
+use Rattle.napt_rules.specs.declared.Flow.{Flow}
+use Rattle.napt_rules.specs.declared.Binding.{Binding as BindingOf}
+
+-- with its flows as a list, in the order in which they began
+abbrev pub Binding : Type 0
+Binding = BindingOf (List Flow)
 
 abbrev pub same_protocol : Protocol → Protocol → Bool
 same_protocol Icmp Icmp = true

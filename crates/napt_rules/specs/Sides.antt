@@ -14,7 +14,7 @@ use Rattle.napt_wire.specs.declared.Kind.{Kind}
 use Rattle.napt_wire.specs.declared.Kind.TheVariants.{Udp, Tcp, Echo, ErrorOf}
 use Rattle.napt_wire.specs.Fields.{source, destination, kind, local_end}
 use Rattle.napt_config.specs.Rules.{Rules, pair_of, is_inside, place_of}
-use Rattle.napt_binding.specs.Bindings.{same_protocol}
+use Rattle.napt_rules.specs.Bindings.{same_protocol}
 
 abbrev pub is_in_pool : Rules → ℕ → Bool
 is_in_pool rules address = is_some (place_of rules address)

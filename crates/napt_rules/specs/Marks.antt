@@ -7,7 +7,7 @@ use Rattle.napt_wire.specs.declared.Way.{Way}
 use Rattle.napt_wire.specs.declared.Way.TheVariants.{Outgoing, Incoming}
 use Rattle.napt_wire.specs.declared.Flags.{Flags}
 use Rattle.napt_config.specs.declared.settings.Timers.{Timers}
-use Rattle.napt_binding.specs.declared.Marks.{Marks}
+use Rattle.napt_rules.specs.declared.Marks.{Marks}
 
 -- a flow begins without marks
 abbrev pub no_marks : Marks

@@ -3,7 +3,7 @@ use Rattle.std.specs.Prelude.{◌≡◌, ◌≢◌, ℕ, ◌<◌, ◌%◌, nat_l
 use Rattle.std.specs.List.{AllPairs, Contains}
 use Rattle.napt_wire.specs.declared.Protocol.{Protocol}
 use Rattle.napt_wire.specs.declared.Protocol.TheVariants.{Icmp, Tcp, Udp}
-use Rattle.napt_numbers.specs.Candidates.{candidates}
+use Rattle.napt_rules.specs.Candidates.{candidates}
 
 -- a port that may stand for a port: it is not 0, on the same side of 1024 (REQ-3, a) and of the same parity (REQ-4)
 pub record IsPortFor (port number : ℕ) : Type 0 where

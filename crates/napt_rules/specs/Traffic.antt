@@ -2,26 +2,20 @@
 --
 -- RFC 4787, REQ-6, and RFC 5382, REQ-5: UDP and echo are refreshed by outbound packets, UDP by inbound ones too where
 -- the configuration says so, a TCP flow by its segments in both directions.
-use Rattle.std.specs.Prelude.{ℕ, Bool, false, not, ◌&&◌, cond, List, [], ◌∷◌, ◌++◌, Result, Ok, Err}
+use Rattle.std.specs.Prelude.{ℕ, Bool, false, not, ◌&&◌, cond, List, [], ◌∷◌, ◌++◌}
 use Rattle.std.specs.List.{list_any}
 use Rattle.napt_wire.specs.declared.Protocol.{Protocol}
 use Rattle.napt_wire.specs.declared.Way.{Way}
 use Rattle.napt_wire.specs.declared.Way.TheVariants.{Outgoing, Incoming}
-use Rattle.napt_wire.specs.declared.Cause.{Cause}
-use Rattle.napt_wire.specs.declared.Cause.TheVariants.{Filtered}
 use Rattle.napt_wire.specs.declared.Endpoint.{Endpoint}
 use Rattle.napt_wire.specs.declared.Flags.{Flags}
 use Rattle.napt_config.specs.declared.settings.Refresh.{Refresh}
 use Rattle.napt_config.specs.declared.settings.Refresh.TheVariants.{Outbound, Both}
-use Rattle.napt_config.specs.declared.settings.Timers.{Timers}
-use Rattle.napt_binding.specs.declared.inbound.Inbound.{Inbound}
-use Rattle.napt_binding.specs.declared.Flow.{Flow}
-use Rattle.napt_binding.specs.declared.Binding.{Binding}
-use Rattle.napt_binding.specs.Lists.{change_first}
-use Rattle.napt_binding.specs.Marks.{no_marks, marked}
-use Rattle.napt_binding.specs.Bindings.{is_tcp, is_udp, same_endpoint}
-use Rattle.napt_binding.specs.Life.{is_standing}
-use Rattle.napt_binding.specs.Filtering.{permits}
+use Rattle.napt_rules.specs.declared.Inbound.{Inbound}
+use Rattle.napt_rules.specs.declared.Flow.{Flow}
+use Rattle.napt_rules.specs.Bindings.{Binding, is_tcp, is_udp, same_endpoint}
+use Rattle.napt_rules.specs.Lists.{change_first}
+use Rattle.napt_rules.specs.Marks.{no_marks, marked}
 
 -- FLOWS
 
@@ -45,10 +39,6 @@ with_flow remote now flows = cond (list_any (is_flow_of remote) flows) flows (fl
       no_marks;
   last = now;
 } ∷ [])
-
--- it is of the remote, and counts
-abbrev pub standing_flow_of : Timers → ℕ → Protocol → Endpoint → Flow → Bool
-standing_flow_of timers now protocol remote flow = is_standing timers now protocol flow && is_flow_of remote flow
 
 -- BINDINGS
 
@@ -78,12 +68,3 @@ received inbound remote flags now binding =
       flows = change_first (is_flow_of remote) (used binding.protocol Incoming flags now) binding.flows;
     })
     (refreshed inbound.refresh now binding)
-
--- what a packet that comes in is told of the binding with its number
-abbrev pub entered : Inbound → Endpoint → Binding → Result Endpoint Cause
-entered inbound remote binding = cond (permits inbound binding remote) (Ok binding.inside) (Err Filtered)
-
--- the binding that it leaves
-abbrev pub left_by : Inbound → Endpoint → Flags → ℕ → Binding → Binding
-left_by inbound remote flags now binding = cond (permits inbound binding remote)
-    (received inbound remote flags now binding) binding

@@ -7,7 +7,7 @@ use Rattle.std.specs.Prelude.{ℕ, ◌+◌, ◌-◌, ◌*◌, ◌/◌, ◌%◌, 
 use Rattle.std.proofs.Common.{zero, suc}
 use Rattle.napt_wire.specs.declared.Protocol.{Protocol}
 use Rattle.napt_wire.specs.declared.Protocol.TheVariants.{Icmp, Tcp, Udp}
-use Rattle.napt_numbers.specs.declared.class.Class.{Class}
+use Rattle.napt_rules.specs.declared.Class.{Class}
 
 -- odd from 1 to 1023, even from 2 to 1022, odd from 1025 to 65535, even from 1024 to 65534: never 0
 abbrev pub port_class : ℕ → Class

@@ -3,14 +3,14 @@
 use Rattle.std.specs.Prelude.{◌≡◌, ℕ, ◌≤◌, List, map}
 use Rattle.std.specs.List.{fold, scan}
 use Rattle.napt_config.specs.Rules.{Rules}
-use Rattle.napt_binding.specs.declared.Binding.{Binding}
-use Rattle.napt_binding.specs.Bindings.{of}
-use Rattle.napt_binding.specs.Life.{purge}
-use Rattle.napt_translate.specs.declared.translator.Answer.{Answer}
-use Rattle.napt_translate.specs.declared.translator.Leg.{Leg}
-use Rattle.napt_translate.specs.Legs.{act, kept_replies, kept_after_all}
-use Rattle.napt_sequential.specs.Inputs.{Arrival}
-use Rattle.napt_sequential.specs.Sequential.{Act, Course, run, last_clock, acts_at, legs_at}
+use Rattle.napt_rules.specs.Bindings.{Binding, of}
+use Rattle.napt_rules.specs.Life.{purge}
+use Rattle.napt_rules.specs.declared.Answer.{Answer}
+use Rattle.napt_rules.specs.declared.Leg.{Leg}
+use Rattle.napt_rules.specs.Legs.{act}
+use Rattle.napt_rules.specs.OwnTime.{kept_replies, kept_after_all}
+use Rattle.napt_rules.specs.Inputs.{Arrival}
+use Rattle.napt_rules.specs.Sequential.{Act, Course, run, last_clock, acts_at, legs_at}
 
 abbrev pub answer_of : Act → Answer
 answer_of a = record { number = a.leg.number; end = a.end }

@@ -9,20 +9,19 @@ use Rattle.napt_wire.specs.declared.Way.TheVariants.{Incoming}
 use Rattle.napt_wire.specs.declared.Cause.{Cause}
 use Rattle.napt_wire.specs.Fields.{destination}
 use Rattle.napt_config.specs.Rules.{Rules}
-use Rattle.napt_binding.specs.declared.Binding.{Binding}
-use Rattle.napt_table.specs.declared.Row.{Row}
-use Rattle.napt_binding.specs.Bindings.{of}
-use Rattle.napt_table.specs.Opening.{opening}
-use Rattle.napt_table.specs.Rows.{rows}
-use Rattle.napt_translate.specs.declared.translator.Leg.{Leg}
-use Rattle.napt_translate.specs.declared.translator.End.{End}
-use Rattle.napt_translate.specs.declared.translator.End.TheVariants as ends
-use Rattle.napt_translate.specs.Sides.{way_from, served_at}
-use Rattle.napt_translate.specs.Legs.{Acted, act}
-use Rattle.napt_sequential.specs.declared.outcome.Outcome.{Outcome}
-use Rattle.napt_sequential.specs.declared.outcome.Outcome.TheVariants.{ToOutside, ToInside, Dropped}
-use Rattle.napt_sequential.specs.Inputs.{Arrival}
-use Rattle.napt_sequential.specs.Admission.{admission}
+use Rattle.napt_rules.specs.Bindings.{Binding, of}
+use Rattle.napt_rules.specs.declared.Row.{Row}
+use Rattle.napt_rules.specs.Opening.{opening}
+use Rattle.napt_rules.specs.Rows.{rows}
+use Rattle.napt_rules.specs.declared.Leg.{Leg}
+use Rattle.napt_rules.specs.declared.End.{End}
+use Rattle.napt_rules.specs.declared.End.TheVariants as ends
+use Rattle.napt_rules.specs.Sides.{way_from, served_at}
+use Rattle.napt_rules.specs.Legs.{Acted, act}
+use Rattle.napt_rules.specs.declared.Outcome.{Outcome}
+use Rattle.napt_rules.specs.declared.Outcome.TheVariants.{ToOutside, ToInside, Dropped}
+use Rattle.napt_rules.specs.Inputs.{Arrival}
+use Rattle.napt_rules.specs.Admission.{admission}
 
 -- ONE INPUT
 

@@ -4,8 +4,8 @@ use Rattle.napt_wire.specs.declared.Cause.{Cause}
 use Rattle.napt_wire.specs.declared.Side.{Side}
 use Rattle.napt_wire.specs.Reading.{reading}
 use Rattle.napt_config.specs.Rules.{Rules}
-use Rattle.napt_translate.specs.Sides.{refusal}
-use Rattle.napt_sequential.specs.Inputs.{Arrival}
+use Rattle.napt_rules.specs.Sides.{refusal}
+use Rattle.napt_rules.specs.Inputs.{Arrival}
 
 -- the packet that an input is, or why it is refused
 abbrev pub judged_by : List ℕ → Option Cause → Result (List ℕ) Cause

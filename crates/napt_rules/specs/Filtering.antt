@@ -8,10 +8,10 @@ use Rattle.std.specs.List.{list_any}
 use Rattle.napt_wire.specs.declared.Endpoint.{Endpoint}
 use Rattle.napt_config.specs.declared.settings.Filter.{Filter}
 use Rattle.napt_config.specs.declared.settings.Filter.TheVariants.{Independent, Address, AddressPort}
-use Rattle.napt_binding.specs.declared.Flow.{Flow}
-use Rattle.napt_binding.specs.declared.Binding.{Binding}
-use Rattle.napt_binding.specs.declared.inbound.Inbound.{Inbound}
-use Rattle.napt_binding.specs.Bindings.{same_endpoint}
+use Rattle.napt_rules.specs.declared.Flow.{Flow}
+use Rattle.napt_rules.specs.Bindings.{Binding, same_endpoint}
+use Rattle.napt_rules.specs.declared.Inbound.{Inbound}
+use Rattle.napt_config.specs.Rules.{Rules}
 
 abbrev pub permits_by : Filter → List Flow → Endpoint → Bool
 permits_by Independent flows remote = true
@@ -20,3 +20,6 @@ permits_by AddressPort flows remote = list_any (λ flow. same_endpoint flow.remo
 
 abbrev pub permits : Inbound → Binding → Endpoint → Bool
 permits inbound binding remote = binding.fixed || permits_by inbound.filter binding.flows remote
+
+abbrev pub inbound_of : Rules → Inbound
+inbound_of rules = record { filter = rules.filter; refresh = rules.refresh }

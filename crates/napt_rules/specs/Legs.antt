@@ -4,8 +4,7 @@
 -- destination becomes the inside endpoint. RFC 5508, REQ-3 to REQ-6: an ICMP error is translated by the datagram that
 -- it quotes and changes no binding. RFC 4787, REQ-9: a packet that goes out to an external address of the pool goes
 -- back in at that address.
-use Rattle.std.specs.Prelude.{ℕ, max, false, List, Option, Some, None, Result, Ok, Err}
-use Rattle.std.specs.List.{fold, scan}
+use Rattle.std.specs.Prelude.{ℕ, false, List, Option, Some, None, Result, Ok, Err}
 use Rattle.napt_wire.specs.declared.Protocol.{Protocol}
 use Rattle.napt_wire.specs.declared.Protocol.TheVariants as protocols
 use Rattle.napt_wire.specs.declared.Way.{Way}
@@ -19,15 +18,14 @@ use Rattle.napt_wire.specs.declared.Kind.TheVariants.{Udp, Tcp, Echo, ErrorOf}
 use Rattle.napt_wire.specs.Fields.{source, destination, kind}
 use Rattle.napt_wire.specs.Rewriting.{with_source, with_destination, reverted}
 use Rattle.napt_config.specs.Rules.{Rules, place_of}
-use Rattle.napt_binding.specs.Inbound.{inbound_of}
-use Rattle.napt_binding.specs.declared.Binding.{Binding}
-use Rattle.napt_binding.specs.declared.sent.Sent.{Sent}
-use Rattle.napt_table.specs.declared.received.Received.{Received}
-use Rattle.napt_table.specs.Steps.{Out, In, step_out, step_in, by_inside, by_number}
-use Rattle.napt_translate.specs.declared.translator.Leg.{Leg}
-use Rattle.napt_translate.specs.declared.translator.Answer.{Answer}
-use Rattle.napt_translate.specs.declared.translator.End.{End}
-use Rattle.napt_translate.specs.declared.translator.End.TheVariants.{ToOutside, ToInside, Onward, Dropped}
+use Rattle.napt_rules.specs.Filtering.{inbound_of}
+use Rattle.napt_rules.specs.Bindings.{Binding}
+use Rattle.napt_rules.specs.declared.Sent.{Sent}
+use Rattle.napt_rules.specs.declared.Received.{Received}
+use Rattle.napt_rules.specs.Steps.{Out, In, step_out, step_in, by_inside, by_number}
+use Rattle.napt_rules.specs.declared.Leg.{Leg}
+use Rattle.napt_rules.specs.declared.End.{End}
+use Rattle.napt_rules.specs.declared.End.TheVariants.{ToOutside, ToInside, Onward, Dropped}
 
 abbrev pub no_flags : Flags
 no_flags = record { fin = false; syn = false; rst = false; ack = false }
@@ -108,35 +106,3 @@ act_by rules address leg list Incoming (ErrorOf inner) = record {
 -- a leg at an address
 abbrev pub act : Rules → ℕ → Leg → List Binding → Acted
 act rules address leg list = act_by rules address leg list leg.way (kind leg.packet)
-
--- A TRANSLATOR BY ITS LIST AND ITS TIME: a leg before that time acts at that time, and an error moves neither
-
-pub record Kept : Type 0 where
-  pub list : List Binding
-  pub at : ℕ
-
-abbrev pub time_after : Kind → ℕ → ℕ → ℕ
-time_after (ErrorOf inner) at now = at
-time_after Udp at now = now
-time_after (Tcp flags) at now = now
-time_after Echo at now = now
-
-abbrev pub kept_act : Rules → ℕ → Leg → Kept → Acted
-kept_act rules address leg kept = act rules address (record leg { now = max leg.now kept.at }) kept.list
-
-abbrev pub kept_after : Rules → ℕ → Leg → Kept → Kept
-kept_after rules address leg kept = record {
-  list = (kept_act rules address leg kept).list;
-  at =
-      time_after (kind leg.packet) kept.at (max leg.now kept.at);
-}
-
-abbrev pub kept_answer : Rules → ℕ → Leg → Kept → Answer
-kept_answer rules address leg kept = record { number = leg.number; end = (kept_act rules address leg kept).end }
-
-abbrev pub kept_replies : Rules → ℕ → List Leg → Kept → List Answer
-kept_replies rules address legs kept =
-    scan (λ own leg. kept_after rules address leg own) (λ own leg. kept_answer rules address leg own) kept legs
-
-abbrev pub kept_after_all : Rules → ℕ → List Leg → Kept → Kept
-kept_after_all rules address legs kept = fold (λ own leg. kept_after rules address leg own) kept legs

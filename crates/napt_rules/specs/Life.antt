@@ -3,15 +3,14 @@
 -- RFC 4787, REQ-5: a UDP mapping does not expire in less than the timer, and REQ-6: outbound packets refresh it. RFC
 -- 5382, REQ-5: a TCP session that was idle for its timeout may be given up. RFC 5508, REQ-2: the same of a query's
 -- mapping. Redirects never expire. What is not live has no effect: its number is free at once.
-use Rattle.std.specs.Prelude.{ℕ, ◌-◌, ◌*◌, nat_lt, Bool, not, ◌||◌, cond, List, map, filter}
+use Rattle.std.specs.Prelude.{ℕ, ◌-◌, ◌*◌, nat_lt, Bool, ◌||◌, cond, List, map, filter}
 use Rattle.std.specs.List.{list_any}
 use Rattle.napt_wire.specs.declared.Protocol.{Protocol}
 use Rattle.napt_wire.specs.declared.Protocol.TheVariants.{Icmp, Tcp, Udp}
 use Rattle.napt_config.specs.declared.settings.Timers.{Timers}
-use Rattle.napt_binding.specs.declared.Flow.{Flow}
-use Rattle.napt_binding.specs.declared.Binding.{Binding}
-use Rattle.napt_binding.specs.Marks.{idle}
-use Rattle.napt_binding.specs.Bindings.{is_tcp}
+use Rattle.napt_rules.specs.declared.Flow.{Flow}
+use Rattle.napt_rules.specs.Bindings.{Binding, is_tcp}
+use Rattle.napt_rules.specs.Marks.{idle}
 
 -- in nanoseconds
 abbrev pub second : ℕ
@@ -35,10 +34,6 @@ is_live timers now binding = binding.fixed || is_live_by binding.protocol timers
 -- the flows of TCP that live; those of other protocols live as long as their binding
 abbrev pub live_flows : Timers → ℕ → Protocol → List Flow → List Flow
 live_flows timers now protocol flows = cond (is_tcp protocol) (filter (is_live_flow timers now) flows) flows
-
--- the same of one flow
-abbrev pub is_standing : Timers → ℕ → Protocol → Flow → Bool
-is_standing timers now protocol flow = not (is_tcp protocol) || is_live_flow timers now flow
 
 -- a binding without its dead flows
 abbrev pub with_live_flows : Timers → ℕ → Binding → Binding

@@ -6,10 +6,9 @@
 use Rattle.std.specs.Prelude.{ℕ, ◌==◌, nat_le, Bool, false, not, ◌&&◌, cond, List, length, filter, Option, Some, None, Result, Err, ok_or}
 use Rattle.napt_wire.specs.declared.Cause.{Cause}
 use Rattle.napt_wire.specs.declared.Cause.TheVariants.{OverQuota, NoPort}
-use Rattle.napt_binding.specs.declared.Binding.{Binding}
-use Rattle.napt_binding.specs.declared.sent.Sent.{Sent}
-use Rattle.napt_binding.specs.Bindings.{is_at}
-use Rattle.napt_table.specs.Choice.{choice}
+use Rattle.napt_rules.specs.Bindings.{Binding, is_at}
+use Rattle.napt_rules.specs.declared.Sent.{Sent}
+use Rattle.napt_rules.specs.Choice.{choice}
 
 -- whether the binding counts for the host: it is at the address, of any protocol, and no redirect
 abbrev pub counts_for : ℕ → ℕ → Binding → Bool

@@ -1,0 +1,137 @@
+//! The rules of a run: all that its theorem says, and no code.
+//!
+//! `specs/` has the definition in reading order, with a legend on its first page, `Lib`; here are the plain structs that it speaks of.
+//! The sources are RFC 3022, RFC 4787, RFC 5382, RFC 5508 and RFC 6888; each file names its sections.
+#![tactic(auto)]
+
+use napt_config::{Filter, Refresh};
+use napt_wire::{Cause, Endpoint, Flags, Packet, Protocol, Way};
+
+/// What a TCP flow was seen to do: a SYN and a FIN of each side, and a reset (RFC 5382, REQ-2 and REQ-5).
+#[derive(Clone, Copy, Debug, PartialEq, Eq)]
+pub struct Marks {
+    pub syn_out: bool,
+    pub syn_in: bool,
+    pub fin_out: bool,
+    pub fin_in: bool,
+    pub reset: bool,
+}
+
+/// The packets between a binding's inside endpoint and one remote endpoint.
+#[derive(Clone, Copy, Debug, PartialEq, Eq)]
+pub struct Flow {
+    pub remote: Endpoint,
+    /// Outside TCP there are none.
+    pub marks: Marks,
+    /// The time at which it was last used, in ns.
+    pub last: u64,
+}
+
+/// An inside endpoint and the external endpoint that stands for it under one protocol (RFC 3022, section 2.2), with its flows kept in
+/// an `F`; contracts see these as a list.
+#[derive(Drop)]
+pub struct Binding<F> {
+    pub protocol: Protocol,
+    pub inside: Endpoint,
+    pub external: Endpoint,
+    /// A static redirect: it never expires, passes every remote and keeps no flows.
+    pub fixed: bool,
+    /// The time of the last outgoing packet, in ns; 0 for a redirect.
+    pub last: u64,
+    /// One for each remote endpoint to which a packet went out.
+    pub flows: F,
+}
+
+/// What a table tells of one binding.
+#[derive(Clone, Copy, Debug, PartialEq, Eq)]
+pub struct Row {
+    pub protocol: Protocol,
+    pub inside: Endpoint,
+    pub external: Endpoint,
+    /// A static redirect.
+    pub fixed: bool,
+}
+
+/// A class of external numbers: the least one, how many, and how far apart.
+#[derive(Clone, Copy)]
+pub struct Class {
+    pub least: u32,
+    pub many: u32,
+    pub apart: u32,
+}
+
+/// Whom a binding lets in, and which of those packets keep it alive (RFC 4787, REQ-8 and REQ-6).
+#[derive(Clone, Copy, Debug, PartialEq, Eq)]
+pub struct Inbound {
+    pub filter: Filter,
+    pub refresh: Refresh,
+}
+
+/// A packet that goes out, and when.
+#[derive(Clone, Copy)]
+pub struct Sent {
+    pub protocol: Protocol,
+    /// Its source.
+    pub inside: Endpoint,
+    /// Its destination.
+    pub remote: Endpoint,
+    /// Outside TCP they do not count.
+    pub flags: Flags,
+    /// The time, in ns.
+    pub now: u64,
+}
+
+/// A packet that comes in, and when.
+#[derive(Clone, Copy)]
+pub struct Received {
+    pub protocol: Protocol,
+    /// The external number to which it goes.
+    pub number: u16,
+    /// Its source.
+    pub remote: Endpoint,
+    /// Outside TCP they do not count.
+    pub flags: Flags,
+    /// The time, in ns.
+    pub now: u64,
+}
+
+/// One packet on one way through the bindings of an external address.
+#[derive(Drop)]
+pub struct Leg {
+    /// What the answer is known by.
+    pub number: u64,
+    /// The time, in ns.
+    pub now: u64,
+    pub way: Way,
+    pub packet: Packet,
+}
+
+/// What becomes of a leg's packet.
+#[derive(Drop)]
+pub struct Answer {
+    /// The number of the leg.
+    pub number: u64,
+    pub end: End,
+}
+
+/// How a leg ends.
+#[derive(Drop)]
+pub enum End {
+    /// The packet leaves to the outside.
+    ToOutside(Packet),
+    /// The packet goes to an inside host.
+    ToInside(Packet),
+    /// The packet went out to the external address at this place of the pool, from 0: there it comes in again.
+    Onward(u32, Packet),
+    Dropped(Cause),
+}
+
+/// What became of an input.
+#[derive(Drop)]
+pub enum Outcome {
+    /// The packet leaves to the outside.
+    ToOutside(Packet),
+    /// The packet goes to an inside host.
+    ToInside(Packet),
+    Dropped(Cause),
+}
