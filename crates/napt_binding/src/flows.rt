@@ -17,10 +17,12 @@ mod few;
 mod many;
 mod slots;
 
-use crate::Flow;
-use crate::sent::Sent;
+use crate::life::{flow_moment, is_live_flow, is_standing};
+use crate::sent::{begun_by, used_by};
+use crate::traffic::{is_flow_of, used};
 use many::Many;
 use napt_config::Timers;
+use napt_rules::{Flow, Sent};
 use napt_wire::{Endpoint, Flags, Protocol, Way};
 use std::alloc::{AllocError, Global};
 use std::marker::Model;
@@ -65,7 +67,7 @@ fn is_full(flows: &[Flow], timers: Timers, sent: Sent) -> bool
     }
     let standing = flows
         .iter()
-        .filter(|flow| flow.is_standing(timers, sent.now, sent.protocol));
+        .filter(|flow| is_standing(flow, timers, sent.now, sent.protocol));
     FEW <= standing.count() && few::standing_place(flows, timers, sent).is_none()
 }
 
@@ -78,15 +80,15 @@ fn after_one(alloc: Global, timers: Timers, sent: Sent, flow: Flow) -> Result<Ke
     ensures live { IfOk result (λ kept.
         list_any (life.is_live_flow timers sent.now) (flows_of kept) ≡ true) }
 {
-    if !flow.is_standing(timers, sent.now, sent.protocol) {
-        return Ok(Kept::One(sent.begun()));
+    if !is_standing(&flow, timers, sent.now, sent.protocol) {
+        return Ok(Kept::One(begun_by(sent)));
     }
-    if flow.is_of(sent.remote) {
-        return Ok(Kept::One(sent.used(flow)));
+    if is_flow_of(&flow, sent.remote) {
+        return Ok(Kept::One(used_by(sent, flow)));
     }
     let mut flows = Vec::new(alloc);
     flows.push(flow)?;
-    flows.push(sent.begun())?;
+    flows.push(begun_by(sent))?;
     Ok(Kept::Few(flows))
 }
 
@@ -105,7 +107,7 @@ impl Flows {
             ≡ packets.used_by sent []) }
     {
         Ok(Flows {
-            kept: Kept::One(sent.begun()),
+            kept: Kept::One(begun_by(sent)),
         })
     }
 
@@ -119,7 +121,7 @@ impl Flows {
     {
         match &self.kept {
             Kept::Empty => now,
-            Kept::One(flow) => flow.last_moment(timers).max(now),
+            Kept::One(flow) => flow_moment(flow, timers).max(now),
             Kept::Few(flows) => few::last_moment_of(flows, timers, now),
             Kept::Many(many) => many.last_moment(timers, now),
         }
@@ -132,8 +134,8 @@ impl Flows {
     {
         match &self.kept {
             Kept::Empty => false,
-            Kept::One(flow) => flow.is_live(timers, now),
-            Kept::Few(flows) => flows.iter().any(|flow| flow.is_live(timers, now)),
+            Kept::One(flow) => is_live_flow(flow, timers, now),
+            Kept::Few(flows) => flows.iter().any(|flow| is_live_flow(flow, timers, now)),
             Kept::Many(many) => many.has_live(timers, now),
         }
     }
@@ -146,7 +148,7 @@ impl Flows {
         match &mut self.kept {
             Kept::Empty => {}
             Kept::One(flow) => {
-                if !flow.is_live(timers, now) {
+                if !is_live_flow(flow, timers, now) {
                     self.kept = Kept::Empty;
                 }
             }
@@ -173,8 +175,8 @@ impl Flows {
     {
         match &self.kept {
             Kept::Empty => false,
-            Kept::One(flow) => flow.is_of(remote),
-            Kept::Few(flows) => flows.iter().any(|flow| flow.is_of(remote)),
+            Kept::One(flow) => is_flow_of(flow, remote),
+            Kept::Few(flows) => flows.iter().any(|flow| is_flow_of(flow, remote)),
             Kept::Many(many) => many.has_remote(remote),
         }
     }
@@ -194,7 +196,7 @@ impl Flows {
     {
         match &mut self.kept {
             Kept::Empty => {
-                self.kept = Kept::One(sent.begun());
+                self.kept = Kept::One(begun_by(sent));
                 return Ok(());
             }
             Kept::One(flow) => {
@@ -222,8 +224,8 @@ impl Flows {
         match &mut self.kept {
             Kept::Empty => {}
             Kept::One(flow) => {
-                if flow.is_of(remote) {
-                    *flow = flow.used(Protocol::Tcp, Way::Incoming, flags, now);
+                if is_flow_of(flow, remote) {
+                    *flow = used(*flow, Protocol::Tcp, Way::Incoming, flags, now);
                 }
             }
             Kept::Few(flows) => few::refresh_flow(flows, now, remote, flags),

@@ -7,8 +7,10 @@ ghost use Rattle.napt_rules.specs.Life as life;
 ghost use Rattle.napt_binding.specs.Standing.{is_standing};
 ghost use Rattle.napt_binding.specs.Ends.{least_timer};
 
-use crate::{Binding, Flow};
+use crate::Binding;
+use crate::session::idle;
 use napt_config::Timers;
+use napt_rules::Flow;
 use napt_wire::Protocol;
 
 /// In nanoseconds.
@@ -33,91 +35,87 @@ pub(crate) fn last_moment(last: u64, seconds: u64) -> u64
     last.saturating_add(seconds * SECOND - 1)
 }
 
-impl Flow {
-    /// The last moment at which a TCP flow is live.
-    pub(crate) fn last_moment(&self, timers: Timers) -> u64
-        requires { AreTimers timers }
-        ensures { (t : ℕ) → t ≤ result → life.is_live_flow timers t self.now ≡ true }
-    {
-        last_moment(self.last, self.marks.idle(timers))
-    }
+/// The last moment at which a TCP flow is live.
+pub(crate) fn flow_moment(flow: &Flow, timers: Timers) -> u64
+    requires { AreTimers timers }
+    ensures { (t : ℕ) → t ≤ result → life.is_live_flow timers t flow.now ≡ true }
+{
+    last_moment(flow.last, idle(flow.marks, timers))
+}
 
-    /// Whether a TCP flow is live.
-    pub(crate) fn is_live(&self, timers: Timers, now: u64) -> bool
-        requires { AreTimers timers }
-        ensures { result ≡ life.is_live_flow timers now self.now }
-    {
-        is_recent(now, self.last, self.marks.idle(timers))
-    }
+/// Whether a TCP flow is live.
+pub(crate) fn is_live_flow(flow: &Flow, timers: Timers, now: u64) -> bool
+    requires { AreTimers timers }
+    ensures { result ≡ life.is_live_flow timers now flow.now }
+{
+    is_recent(now, flow.last, idle(flow.marks, timers))
+}
 
-    /// Whether a flow of the protocol counts: one outside TCP lives as long as its binding.
-    pub(crate) fn is_standing(&self, timers: Timers, now: u64, protocol: Protocol) -> bool
-        requires { AreTimers timers }
-        ensures { result ≡ is_standing timers now protocol self.now }
-    {
-        match protocol {
-            Protocol::Tcp => self.is_live(timers, now),
-            Protocol::Icmp | Protocol::Udp => true,
+/// Whether a flow of the protocol counts: one outside TCP lives as long as its binding.
+pub(crate) fn is_standing(flow: &Flow, timers: Timers, now: u64, protocol: Protocol) -> bool
+    requires { AreTimers timers }
+    ensures { result ≡ is_standing timers now protocol flow.now }
+{
+    match protocol {
+        Protocol::Tcp => is_live_flow(flow, timers, now),
+        Protocol::Icmp | Protocol::Udp => true,
+    }
+}
+
+/// Whether the binding is live at `now` (ns): it was used less than its timer ago (RFC 4787, REQ-5 and REQ-6; RFC 5508, REQ-2),
+/// in TCP one of its flows was (RFC 5382, REQ-5). A redirect always is.
+pub fn is_live(binding: &Binding, timers: Timers, now: u64) -> bool
+    requires { AreTimers timers }
+    ensures { result ≡ life.is_live timers now binding.now }
+{
+    if binding.fixed {
+        return true;
+    }
+    match binding.protocol {
+        Protocol::Icmp => is_recent(now, binding.last, timers.icmp),
+        Protocol::Udp => is_recent(now, binding.last, timers.udp),
+        Protocol::Tcp => binding.flows.has_live(timers, now),
+    }
+}
+
+/// Up to when (ns) a binding that is live now lives for sure, whatever packets come: at least now, and no longer than a packet
+/// now would keep it.
+pub fn until(binding: &Binding, timers: Timers, now: u64) -> u64
+    requires timers { AreTimers timers }
+    requires live { life.is_live timers now binding.now ≡ true }
+    ensures later { now ≤ result }
+    ensures near { result < now + least_timer binding.now.protocol timers * life.second }
+    ensures lives { (t : ℕ) → t ≤ result → life.is_live timers t binding.now ≡ true }
+{
+    if binding.fixed {
+        return now;
+    }
+    match binding.protocol {
+        Protocol::Icmp => {
+            last_moment(binding.last, timers.icmp)
+                .min(last_moment(now, timers.icmp))
+                .max(now)
+        }
+        Protocol::Udp => {
+            last_moment(binding.last, timers.udp)
+                .min(last_moment(now, timers.udp))
+                .max(now)
+        }
+        Protocol::Tcp => {
+            let least = timers.established.min(timers.transitory);
+            binding.flows
+                .last_moment(timers, now)
+                .min(last_moment(now, least))
         }
     }
 }
 
-impl Binding {
-    /// Whether the binding is live at `now` (ns): it was used less than its timer ago (RFC 4787, REQ-5 and REQ-6; RFC 5508, REQ-2),
-    /// in TCP one of its flows was (RFC 5382, REQ-5). A redirect always is.
-    pub fn is_live(&self, timers: Timers, now: u64) -> bool
-        requires { AreTimers timers }
-        ensures { result ≡ life.is_live timers now self.now }
-    {
-        if self.fixed {
-            return true;
-        }
-        match self.protocol {
-            Protocol::Icmp => is_recent(now, self.last, timers.icmp),
-            Protocol::Udp => is_recent(now, self.last, timers.udp),
-            Protocol::Tcp => self.flows.has_live(timers, now),
-        }
-    }
-
-    /// Up to when (ns) a binding that is live now lives for sure, whatever packets come: at least now, and no longer than a packet
-    /// now would keep it.
-    pub fn until(&self, timers: Timers, now: u64) -> u64
-        requires timers { AreTimers timers }
-        requires live { life.is_live timers now self.now ≡ true }
-        ensures later { now ≤ result }
-        ensures near { result < now + least_timer self.now.protocol timers * life.second }
-        ensures lives { (t : ℕ) → t ≤ result → life.is_live timers t self.now ≡ true }
-    {
-        if self.fixed {
-            return now;
-        }
-        match self.protocol {
-            Protocol::Icmp => {
-                last_moment(self.last, timers.icmp)
-                    .min(last_moment(now, timers.icmp))
-                    .max(now)
-            }
-            Protocol::Udp => {
-                last_moment(self.last, timers.udp)
-                    .min(last_moment(now, timers.udp))
-                    .max(now)
-            }
-            Protocol::Tcp => {
-                let least = timers.established.min(timers.transitory);
-                self.flows
-                    .last_moment(timers, now)
-                    .min(last_moment(now, least))
-            }
-        }
-    }
-
-    /// A TCP binding loses its dead flows.
-    pub(crate) fn purge_flows(&mut self, timers: Timers, now: u64)
-        requires { AreTimers timers }
-        ensures { self.new ≡ life.with_live_flows timers now self.old }
-    {
-        if let Protocol::Tcp = self.protocol {
-            self.flows.keep_live(timers, now);
-        }
+/// A TCP binding loses its dead flows.
+pub(crate) fn purge_flows(binding: &mut Binding, timers: Timers, now: u64)
+    requires { AreTimers timers }
+    ensures { binding.new ≡ life.with_live_flows timers now binding.old }
+{
+    if let Protocol::Tcp = binding.protocol {
+        binding.flows.keep_live(timers, now);
     }
 }

@@ -1,38 +1,23 @@
-//! A packet that goes out.
+//! A packet that goes out, and the flow of its remote.
 
 ghost use Rattle.std.specs.Prelude.{◌≡◌};
+ghost use Rattle.napt_rules.specs.Prelude as rules;
 ghost use Rattle.napt_binding.specs.Sent as packets;
-ghost use Rattle.napt_rules.specs.Traffic as traffic;
 
-use crate::Flow;
-use napt_wire::{Endpoint, Flags, Protocol, Way};
+use crate::traffic::{fresh_flow, used};
+use napt_rules::{Flow, Sent};
+use napt_wire::Way;
 
-/// A packet that goes out, and when.
-#[derive(Clone, Copy)]
-pub struct Sent {
-    pub protocol: Protocol,
-    /// Its source.
-    pub inside: Endpoint,
-    /// Its destination.
-    pub remote: Endpoint,
-    /// Outside TCP they do not count.
-    pub flags: Flags,
-    /// The time, in ns.
-    pub now: u64,
+/// The flow, used by the packet.
+pub(crate) fn used_by(sent: Sent, flow: Flow) -> Flow
+    ensures { result ≡ rules.used sent.protocol Way.Outgoing sent.flags sent.now flow }
+{
+    used(flow, sent.protocol, Way::Outgoing, sent.flags, sent.now)
 }
 
-impl Sent {
-    /// The flow, used by the packet.
-    pub(crate) fn used(self, flow: Flow) -> Flow
-        ensures { result ≡ traffic.used self.protocol Way.Outgoing self.flags self.now flow }
-    {
-        flow.used(self.protocol, Way::Outgoing, self.flags, self.now)
-    }
-
-    /// The flow that begins with the packet.
-    pub(crate) fn begun(self) -> Flow
-        ensures { result ≡ packets.begun_by self }
-    {
-        self.used(Flow::fresh(self.remote, self.now))
-    }
+/// The flow that begins with the packet.
+pub(crate) fn begun_by(sent: Sent) -> Flow
+    ensures { result ≡ packets.begun_by sent }
+{
+    used_by(sent, fresh_flow(sent.remote, sent.now))
 }

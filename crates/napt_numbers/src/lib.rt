@@ -8,7 +8,7 @@ ghost use Rattle.napt_rules.specs.Prelude.{CandidatesBegin, CandidatesAreThose, 
 mod class;
 mod numbers;
 
-pub use class::Class;
+pub use napt_rules::Class;
 pub use numbers::Numbers;
 
 /// The candidates of a number are the numbers that may stand for it, each once, beginning with itself: a port is mapped on its

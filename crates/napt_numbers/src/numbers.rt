@@ -5,7 +5,7 @@ ghost use Rattle.std.specs.Prelude.{◌≡◌, ℕ, ◌+◌, ◌-◌, ◌*◌, �
 ghost use Rattle.napt_rules.specs.Prelude.{candidates};
 ghost use Rattle.napt_numbers.specs.Places.{place_of, is_used};
 
-use crate::class::Class;
+use crate::class::class_of;
 use napt_bits::Bits;
 use napt_wire::Protocol;
 use std::alloc::{AllocError, Global};
@@ -65,7 +65,7 @@ impl Numbers {
         ensures { result ≡ find (λ n. not (is_used self.now n))
             (candidates self.now.protocol number) }
     {
-        let class = Class::of(self.protocol, number);
+        let class = class_of(self.protocol, number);
         let start = u32::from(place_of(self.protocol, class.least as u16));
         let first = start + u32::from(number).saturating_sub(class.least) / class.apart;
         let end = start + class.many;

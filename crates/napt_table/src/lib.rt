@@ -12,25 +12,13 @@ mod event;
 mod host_counts;
 mod part;
 mod parts;
-mod received;
 mod rows;
 mod table;
 
 pub use napt_binding::{Binding, Flow, Flows, Inbound, Marks};
 pub use napt_numbers::{Class, Numbers, candidates_are_the_class};
-use napt_wire::{Endpoint, Protocol};
-pub use received::Received;
+pub use napt_rules::{Received, Row};
 pub use table::Table;
-
-/// What a table tells of one binding.
-#[derive(Clone, Copy, Debug, PartialEq, Eq)]
-pub struct Row {
-    pub protocol: Protocol,
-    pub inside: Endpoint,
-    pub external: Endpoint,
-    /// A static redirect.
-    pub fixed: bool,
-}
 
 /// A step at one address is a step on that address's bindings alone, and a purge changes no later one.
 pub fn steps_are_local()

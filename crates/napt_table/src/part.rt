@@ -12,13 +12,13 @@ ghost use Rattle.napt_binding.specs.Entering.{entered, left_by};
 ghost use Rattle.napt_table.specs.Held.{seen, HeldIsPurgedLater};
 ghost use Rattle.napt_table.specs.Counts.{are_counted, count_in, HasPlace};
 
-use crate::Row;
 use crate::host_counts::HostCounts;
-use crate::received::Received;
-use napt_binding::{Binding, Flows, Inbound, Sent};
+use crate::rows::row_of;
+use napt_binding::{Binding, Flows, is_live, send, take_in, until};
 use napt_config::Timers;
 use napt_due::Due;
 use napt_numbers::Numbers;
+use napt_rules::{Inbound, Received, Row, Sent};
 use napt_wire::{Cause, Endpoint, Protocol};
 use std::alloc::{AllocError, Global};
 use std::collections::HashMap;
@@ -88,7 +88,7 @@ impl Part {
             (seen self.now.timers now (held self.now number)) }
     {
         match self.by_number.get(&number) {
-            Some(binding) if binding.is_live(self.timers, now) => Some(binding.inside),
+            Some(binding) if is_live(binding, self.timers, now) => Some(binding.inside),
             _ => None,
         }
     }
@@ -102,7 +102,7 @@ impl Part {
     {
         let number = *self.by_inside.get(&(inside.address, inside.number))?;
         match self.by_number.get(&number) {
-            Some(binding) if binding.is_live(self.timers, now) => Some(number),
+            Some(binding) if is_live(binding, self.timers, now) => Some(number),
             _ => None,
         }
     }
@@ -123,10 +123,10 @@ impl Part {
         let Some(binding) = self.by_number.get_mut(&packet.number) else {
             return Err(Cause::NoBinding);
         };
-        if !binding.is_live(timers, packet.now) {
+        if !is_live(binding, timers, packet.now) {
             return Err(Cause::NoBinding);
         }
-        binding.take_in(timers, inbound, packet.now, packet.remote, packet.flags)
+        take_in(binding, timers, inbound, packet.now, packet.remote, packet.flags)
     }
 
     /// Makes room for one more binding.
@@ -191,10 +191,10 @@ impl Part {
         if binding.fixed {
             return;
         }
-        if binding.is_live(timers, at) {
-            let until = binding.until(timers, at);
+        if is_live(binding, timers, at) {
+            let end = until(binding, timers, at);
             let due = &mut self.due;
-            due.put(until, number);
+            due.put(end, number);
         } else {
             self.remove(number);
         }
@@ -265,10 +265,10 @@ impl Part {
         ensures held { (n : ℕ) → held self.new n ≡ cond (number == n) (Some binding)
             (held self.old n) }
     {
-        let until = binding.until(self.timers, self.at);
+        let end = until(&binding, self.timers, self.at);
         self.hold(number, binding);
         let due = &mut self.due;
-        due.put(until, number);
+        due.put(end, number);
     }
 
     /// A new binding, where there is room and neither of its ends is taken. The queue stays as it is.
@@ -364,10 +364,10 @@ impl Part {
         let Some(binding) = self.by_number.get_mut(&number) else {
             return Ok(None);
         };
-        if !binding.is_live(timers, packet.now) {
+        if !is_live(binding, timers, packet.now) {
             return Ok(None);
         }
-        binding.send(alloc, timers, packet.now, packet.remote, packet.flags)?;
+        send(binding, alloc, timers, packet.now, packet.remote, packet.flags)?;
         Ok(Some(number))
     }
 
@@ -456,8 +456,8 @@ impl Part {
         ensures read { OnOk result (AreRead now self.now) }
     {
         for binding in self.by_number.values() {
-            if binding.is_live(self.timers, now) {
-                made.push(Row::of(binding))?;
+            if is_live(binding, self.timers, now) {
+                made.push(row_of(binding))?;
             }
         }
         Ok(())

@@ -10,9 +10,11 @@ ghost use Rattle.napt_binding.specs.Sent as packets;
 ghost use Rattle.napt_binding.specs.Slots.{AreDistinct};
 ghost use Rattle.napt_rules.specs.Traffic as traffic;
 
-use crate::Flow;
-use crate::sent::Sent;
+use crate::life::{flow_moment, is_live_flow, is_standing};
+use crate::sent::{begun_by, used_by};
+use crate::traffic::{is_flow_of, used};
 use napt_config::Timers;
+use napt_rules::{Flow, Sent};
 use napt_wire::{Endpoint, Flags, Protocol, Way};
 use std::alloc::AllocError;
 
@@ -25,7 +27,7 @@ pub(super) fn last_moment_of(flows: &[Flow], timers: Timers, now: u64) -> u64
 {
     let mut last = now;
     for flow in flows {
-        last = last.max(flow.last_moment(timers));
+        last = last.max(flow_moment(flow, timers));
     }
     last
 }
@@ -33,7 +35,7 @@ pub(super) fn last_moment_of(flows: &[Flow], timers: Timers, now: u64) -> u64
 pub(super) fn flow_place(flows: &[Flow], remote: Endpoint) -> Option<usize>
     ensures { result ≡ position (traffic.is_flow_of remote) flows.now }
 {
-    flows.iter().position(|flow| flow.is_of(remote))
+    flows.iter().position(|flow| is_flow_of(flow, remote))
 }
 
 pub(super) fn standing_place(flows: &[Flow], timers: Timers, sent: Sent) -> Option<usize>
@@ -41,8 +43,8 @@ pub(super) fn standing_place(flows: &[Flow], timers: Timers, sent: Sent) -> Opti
     ensures { result
         ≡ position (standing_flow_of timers sent.now sent.protocol sent.remote) flows.now }
 {
-    flows.iter().position(|flow| flow.is_standing(timers, sent.now, sent.protocol)
-        && flow.is_of(sent.remote))
+    flows.iter().position(|flow| is_standing(flow, timers, sent.now, sent.protocol)
+        && is_flow_of(flow, sent.remote))
 }
 
 /// The dead ones of these TCP flows go.
@@ -52,7 +54,7 @@ pub(super) fn keep_live(flows: &mut Vec<Flow>, timers: Timers, now: u64)
     ensures capacity { vec_capacity flows.new ≡ vec_capacity flows.old }
     ensures bound { vec_len flows.new ≤ vec_len flows.old }
 {
-    flows.retain(|flow| flow.is_live(timers, now));
+    flows.retain(|flow| is_live_flow(flow, timers, now));
 }
 
 /// The flows of TCP that are dead go.
@@ -79,12 +81,12 @@ pub(super) fn use_flow(flows: &mut Vec<Flow>, timers: Timers, sent: Sent) -> Res
     ensures err { OnErr result (flows.new.items ≡ flows.old.items) }
 {
     if let Some(i) = standing_place(flows, timers, sent) {
-        flows[i] = sent.used(flows[i]);
+        flows[i] = used_by(sent, flows[i]);
         return Ok(());
     }
     flows.reserve(1)?;
     keep_standing(flows, timers, sent.now, sent.protocol);
-    match flows.push(sent.begun()) {
+    match flows.push(begun_by(sent)) {
         Ok(()) => {}
         Err(_) => unreachable!(),
     }
@@ -99,6 +101,6 @@ pub(super) fn refresh_flow(flows: &mut [Flow], now: u64, remote: Endpoint, flags
         (traffic.used Protocol.Tcp Way.Incoming flags now) flows.old }
 {
     if let Some(i) = flow_place(flows, remote) {
-        flows[i] = flows[i].used(Protocol::Tcp, Way::Incoming, flags, now);
+        flows[i] = used(flows[i], Protocol::Tcp, Way::Incoming, flags, now);
     }
 }

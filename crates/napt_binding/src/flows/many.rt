@@ -12,10 +12,12 @@ ghost use Rattle.napt_binding.specs.Slots.{somes, Stands, AreDistinct};
 ghost use Rattle.napt_rules.specs.Traffic as traffic;
 
 use super::slots::Slots;
-use crate::Flow;
 use crate::addresses::Addresses;
-use crate::sent::Sent;
+use crate::life::is_standing;
+use crate::sent::{begun_by, used_by};
+use crate::traffic::used;
 use napt_config::Timers;
+use napt_rules::{Flow, Sent};
 use napt_wire::{Endpoint, Flags, Protocol, Way};
 use std::alloc::{AllocError, Global};
 use std::collections::HashMap;
@@ -278,10 +280,10 @@ impl Many {
         let Some(flow) = self.slots.get(place) else {
             return false;
         };
-        if !flow.is_standing(timers, sent.now, sent.protocol) {
+        if !is_standing(&flow, timers, sent.now, sent.protocol) {
             return false;
         }
-        self.change(place, sent.used(flow));
+        self.change(place, used_by(sent, flow));
         true
     }
 
@@ -306,7 +308,7 @@ impl Many {
         }
         self.make_room(alloc)?;
         self.keep_standing(timers, sent.now, sent.protocol);
-        self.put(sent.begun());
+        self.put(begun_by(sent));
         Ok(())
     }
 
@@ -323,6 +325,6 @@ impl Many {
         let Some(flow) = self.slots.get(place) else {
             return;
         };
-        self.change(place, flow.used(Protocol::Tcp, Way::Incoming, flags, now));
+        self.change(place, used(flow, Protocol::Tcp, Way::Incoming, flags, now));
     }
 }

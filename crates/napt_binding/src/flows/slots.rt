@@ -8,9 +8,10 @@ ghost use Rattle.napt_rules.specs.Life as life;
 ghost use Rattle.napt_binding.specs.Slots as slots;
 ghost use Rattle.napt_binding.specs.Slots.{somes, Stands, is_recent_time};
 
-use crate::Flow;
 use crate::life::{is_recent, last_moment};
+use crate::session::is_established;
 use napt_config::Timers;
+use napt_rules::Flow;
 use napt_times::Times;
 use std::alloc::{AllocError, Global};
 use std::marker::Model;
@@ -43,7 +44,7 @@ fn established_time(slot: Option<Flow>) -> Option<u64>
     ensures { result ≡ slots.established_time slot }
 {
     match slot {
-        Some(flow) if flow.marks.is_established() => Some(flow.last),
+        Some(flow) if is_established(flow.marks) => Some(flow.last),
         _ => None,
     }
 }
@@ -53,7 +54,7 @@ fn other_time(slot: Option<Flow>) -> Option<u64>
     ensures { result ≡ slots.other_time slot }
 {
     match slot {
-        Some(flow) if !flow.marks.is_established() => Some(flow.last),
+        Some(flow) if !is_established(flow.marks) => Some(flow.last),
         _ => None,
     }
 }

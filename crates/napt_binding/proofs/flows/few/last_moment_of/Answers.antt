@@ -22,9 +22,9 @@ loop-flow-preserved c =
           list_any (life.is_live_flow c.args.timers t) c.args.flows.now ≡ true) [
             | true ↦ λ s.
                 let past : c.loop-flow.last < t = grind (arith, nat_tests) in
-                let within : t ≤ c.last_moment.result = omega arith in
+                let within : t ≤ c.flow_moment.result = omega arith in
                 any_index (life.is_live_flow c.args.timers t) c.args.flows.now c.loop-flow.flow-index _
-                c.loop-flow-test.true (c.last_moment.ensures t within)
+                c.loop-flow-test.true (c.flow_moment.ensures t within)
             | false ↦ λ s. let within : t ≤ c.loop-flow.last = grind (arith, nat_tests) in inv.1 t within
           ] refl,
     )

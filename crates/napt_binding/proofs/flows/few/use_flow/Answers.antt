@@ -10,20 +10,20 @@ use Rattle.napt_binding.proofs.flows.few.use_flow.Goals as goal
 
 pub returns-in-Some-clause-distinct : goal.returns-in-Some-clause-distinct
 returns-in-Some-clause-distinct c =
-    let remotes = ap (λ (f : Flow). f.remote) c.used.ensures ∙ ap (λ (f : Flow). f.remote) c.index.ensures in
-    distinct_set c.args.flows.now.items c.in-Some.i c.index.result.now c.used.result remotes c.requires.distinct
+    let remotes = ap (λ (f : Flow). f.remote) c.used_by.ensures ∙ ap (λ (f : Flow). f.remote) c.index.ensures in
+    distinct_set c.args.flows.now.items c.in-Some.i c.index.result.now c.used_by.result remotes c.requires.distinct
 
 pub returns-in-Some-clause-ok : goal.returns-in-Some-clause-ok
 returns-in-Some-clause-ok c =
     let sent = c.args.sent in
-    rw (c.used.ensures, c.index.ensures)
+    rw (c.used_by.ensures, c.index.ensures)
     (flow_set c.args.timers c.requires.timers sent.now sent.protocol sent.remote sent.flags
     c.args.flows.now.items c.in-Some.i c.index.result.now (cc))
 
 pub returns-in-Some-clause-live : goal.returns-in-Some-clause-live
 returns-in-Some-clause-live c =
     let sent = c.args.sent in
-    rw c.used.ensures
+    rw c.used_by.ensures
     (live_set c.args.timers c.requires.timers sent.now sent.protocol sent.remote sent.flags
     c.args.flows.now.items c.in-Some.i c.index.result.now (cc))
 
@@ -33,7 +33,7 @@ returns-clause-distinct c =
     let old : List Flow = c.args.flows.now.items in
     let none : list_any (standing_flow_of c.args.timers sent.now sent.protocol sent.remote) old ≡ false =
     any_nowhere (standing_flow_of c.args.timers sent.now sent.protocol sent.remote) old (cc) in
-    rw (c.in-Ok.ensures.items, c.keep_standing.ensures.flows, c.in_ok-reserve.ensures.items, c.begun.ensures)
+    rw (c.in-Ok.ensures.items, c.keep_standing.ensures.flows, c.in_ok-reserve.ensures.items, c.begun_by.ensures)
     (distinct_pushed (live_flows c.args.timers sent.now sent.protocol old) _
     (none_left c.args.timers c.requires.timers sent.now sent.protocol sent.remote sent.flags old none)
     (distinct_live c.args.timers sent.now sent.protocol old c.requires.distinct))
@@ -44,5 +44,5 @@ returns-clause-ok c =
     let old : List Flow = c.args.flows.now.items in
     let none : list_any (standing_flow_of c.args.timers sent.now sent.protocol sent.remote) old ≡ false =
     any_nowhere (standing_flow_of c.args.timers sent.now sent.protocol sent.remote) old (cc) in
-    rw (c.in-Ok.ensures.items, c.keep_standing.ensures.flows, c.in_ok-reserve.ensures.items, c.begun.ensures)
+    rw (c.in-Ok.ensures.items, c.keep_standing.ensures.flows, c.in_ok-reserve.ensures.items, c.begun_by.ensures)
     (flow_begun c.args.timers c.requires.timers sent.now sent.protocol sent.remote sent.flags old none)

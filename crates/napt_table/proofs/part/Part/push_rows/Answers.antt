@@ -14,7 +14,7 @@ loop-binding-preserved-in-Continue-1 c =
     let live : Binding → Bool = is_live c.args.self.now.timers c.args.now in
     let binding : Binding = c.in-Some.binding.now in
     let next : List Binding = c.next.new.self in
-    let made : Row = c.of.result in
+    let made : Row = c.row_of.result in
     let step : c.loop-binding.binding-iterator ≡ binding ∷ next =
     rest_more deref _ _ c.next.result c.in-Some.binding c.in-Some.is c.next.ensures.steps in
     let lives : live binding ≡ true = sym c.is_live.ensures ∙ c.if-is_live.true in
@@ -22,11 +22,11 @@ loop-binding-preserved-in-Continue-1 c =
     ∷ map row (filter live next) =
     ap (λ (l : List Binding). before.added ++ map row (filter live l)) step
     ∙ (ap (λ v. before.added ++ map row (cond v (binding ∷ filter live next) (filter live next))) lives
-    ∙ ap (λ (r : Row). before.added ++ r ∷ map row (filter live next)) (sym c.of.ensures.row)) in
+    ∙ ap (λ (r : Row). before.added ++ r ∷ map row (filter live next)) (sym c.row_of.ensures.row)) in
     record {
       added = before.added ++ made ∷ [];
       is = c.in_ok-push.ensures.items ∙ (ap (λ (l : List Row). l ++ made ∷ []) before.is
           ∙ append_assoc c.args.made.now.items before.added (made ∷ []));
       rest = append_assoc before.added (made ∷ []) (map row (filter live next)) ∙ (sym left ∙ before.rest);
-      small = All-push IsSmall before.added made before.small c.of.ensures.small;
+      small = All-push IsSmall before.added made before.small c.row_of.ensures.small;
     }

@@ -22,7 +22,7 @@ returns-clause-used c given =
     let sent = c.args.sent in
     let at : place_at c.args.self.now sent.remote ≡ Some c.in-Some.place = cc in
     let is = c.in-Some-get.ensures.stands in
-    rw (c.change.ensures.slots, c.used.ensures)
+    rw (c.change.ensures.slots, c.used_by.ensures)
     (flow_stood c.args.timers c.requires.timers sent.now sent.protocol sent.remote sent.flags
     c.args.self.now.slots.slots c.in-Some.place c.in-Some-get.flow is (search rules)
     (place_of_is c.args.self.now sent.remote c.in-Some.place c.in-Some-get.flow c.requires.many at is)
@@ -31,10 +31,10 @@ returns-clause-used c given =
 pub returns-clause-live : goal.returns-clause-live
 returns-clause-live c given =
     let sent = c.args.sent in
-    rw (c.change.ensures.slots, c.used.ensures)
+    rw (c.change.ensures.slots, c.used_by.ensures)
     (live_stood c.args.timers c.requires.timers sent.now sent.protocol sent.remote sent.flags
     c.args.self.now.slots.slots c.in-Some.place c.in-Some-get.flow c.in-Some-get.ensures.stands)
 
 pub change-requires-clause-stands : goal.change-requires-clause-stands
 change-requires-clause-stands c =
-    (c.in-Some-get.flow, c.in-Some-get.ensures.stands, rw c.used.ensures (refl))
+    (c.in-Some-get.flow, c.in-Some-get.ensures.stands, rw c.used_by.ensures (refl))
