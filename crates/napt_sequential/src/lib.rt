@@ -19,6 +19,7 @@ pub use laws::{
     legs_are_local, places_stand_for_legs, right_answers, runs_are_sound, runs_keep_the_quota,
     translators_are_local,
 };
+pub use napt_rules::Outcome;
 pub use napt_translate::way_from;
-pub use outcome::{Outcome, Run};
+pub use outcome::Run;
 pub use run::run_plain;

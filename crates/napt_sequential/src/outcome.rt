@@ -1,18 +1,7 @@
 //! What a run gives.
 
-use napt_table::Row;
-use napt_wire::{Cause, Packet};
+use napt_rules::{Outcome, Row};
 use std::marker::Model;
-
-/// What became of an input.
-#[derive(Drop)]
-pub enum Outcome {
-    /// The packet leaves to the outside.
-    ToOutside(Packet),
-    /// The packet goes to an inside host.
-    ToInside(Packet),
-    Dropped(Cause),
-}
 
 /// What a run over a list of inputs gives.
 #[derive(Drop)]

@@ -10,10 +10,10 @@ ghost use Rattle.napt_sequential.specs.Faults.{IsOneThreadFault};
 
 use crate::counted_translator::CountedTranslator;
 use crate::laws::runs_are_sound;
-use crate::{Input, Outcome, Run, RunFault};
+use crate::{Input, Run, RunFault};
 use napt_config::Config;
-use napt_table::Row;
-use napt_translate::{End, Leg, Translator, route, way_from};
+use napt_rules::{End, Leg, Outcome, Row};
+use napt_translate::{Translator, route, way_from};
 use napt_wire::{Packet, Way};
 use std::alloc::{AllocError, Global};
 

@@ -10,5 +10,6 @@ mod sides;
 mod translator;
 
 pub use laws::legs_keep_to_their_way;
+pub use napt_rules::{Answer, End, Leg};
 pub use sides::{onward, route, way_from};
-pub use translator::{Answer, End, Leg, Translator};
+pub use translator::Translator;

@@ -9,41 +9,11 @@ ghost use Rattle.napt_rules.specs.Legs as legs;
 ghost use Rattle.napt_translate.specs.Translators as translators;
 
 use napt_config::Config;
-use napt_table::{Row, Table};
+use napt_rules::{Answer, End, Leg, Row};
+use napt_table::Table;
 use napt_wire::{Cause, Endpoint, Flags, Inner, Kind, Packet, Protocol, Way};
 use std::alloc::{AllocError, Global};
 use std::marker::Model;
-
-/// One packet on one way through the bindings of an external address.
-#[derive(Drop)]
-pub struct Leg {
-    /// What the answer is known by.
-    pub number: u64,
-    /// The time, in ns.
-    pub now: u64,
-    pub way: Way,
-    pub packet: Packet,
-}
-
-/// What becomes of a leg's packet.
-#[derive(Drop)]
-pub struct Answer {
-    /// The number of the leg.
-    pub number: u64,
-    pub end: End,
-}
-
-/// How a leg ends.
-#[derive(Drop)]
-pub enum End {
-    /// The packet leaves to the outside.
-    ToOutside(Packet),
-    /// The packet goes to an inside host.
-    ToInside(Packet),
-    /// The packet went out to the external address at this place of the pool, from 0: there it comes in again.
-    Onward(u32, Packet),
-    Dropped(Cause),
-}
 
 /// Flags count for TCP alone.
 const NO_FLAGS: Flags = Flags {
