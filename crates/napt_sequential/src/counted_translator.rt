@@ -2,8 +2,8 @@
 
 ghost use Rattle.std.specs.Prelude.{◌≡◌, ◌-◌, ◌^◌, ◌<◌, IfOk, OnOk};
 
-use napt_table::Row;
-use napt_translate::{End, Leg, Translator};
+use napt_rules::{End, Leg, Row};
+use napt_translate::Translator;
 use std::alloc::{AllocError, Global};
 
 /// A translator of one external address, and how many legs acted there.
