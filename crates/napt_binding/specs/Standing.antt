@@ -6,7 +6,7 @@ use Rattle.napt_rules.specs.declared.Flow.{Flow}
 use Rattle.napt_rules.specs.Prelude.{is_tcp, is_live_flow, is_flow_of}
 use Rattle.napt_wire.specs.declared.Endpoint.{Endpoint}
 
--- the same of one flow
+-- one of TCP that lives, or one of another protocol
 abbrev pub is_standing : Timers → ℕ → Protocol → Flow → Bool
 is_standing timers now protocol flow = not (is_tcp protocol) || is_live_flow timers now flow
 

@@ -1,7 +1,6 @@
 -- A translator by its list and its time: a leg before that time acts at that time, and an error moves neither.
 use Rattle.std.specs.Prelude.{ℕ, max, List}
 use Rattle.std.specs.List.{fold, scan}
-use Rattle.napt_wire.specs.declared.Protocol.TheVariants as protocols
 use Rattle.napt_wire.specs.declared.Kind.{Kind}
 use Rattle.napt_wire.specs.declared.Kind.TheVariants.{Udp, Tcp, Echo, ErrorOf}
 use Rattle.napt_wire.specs.Fields.{kind}

@@ -11,12 +11,14 @@ pub use Rattle.napt_rules.specs.Choice.{is_free, choice}
 pub use Rattle.napt_rules.specs.Quota.{counts_for, count_for, reaches, granted}
 pub use Rattle.napt_rules.specs.Opening.{protocol_of, redirected, opening}
 pub use Rattle.napt_rules.specs.Steps.{of_source, sent_by, fresh, Out, out_made, out_found, out_purged, step_out, of_destination, received_by, In, in_found, in_purged, step_in, by_inside, by_number}
-pub use Rattle.napt_rules.specs.Sides.{is_in_pool, is_about_echo, is_spoofed, is_not_ours, is_unsupported, refusal, way_from, served_at, routed, route}
+pub use Rattle.napt_rules.specs.Sides.{is_in_pool, is_about_echo, is_spoofed, is_not_ours, is_unsupported, refusal, way_from, served_at, routed}
+unfoldable pub use Rattle.napt_rules.specs.Sides.{route}
 pub use Rattle.napt_rules.specs.Legs.{no_flags, Acted, onward_by, gone_out, end_out, end_in, error_out, error_in, sent_of, received_of, act_out, act_in, act_by, act}
 pub use Rattle.napt_rules.specs.Inputs.{Arrival}
 pub use Rattle.napt_rules.specs.Admission.{judged_by, admission_as, admission}
 pub use Rattle.napt_rules.specs.Rows.{row, protocol_rank, rank, put, in_order, rows_of, rows, RowsAreInOrder}
-pub use Rattle.napt_rules.specs.Sequential.{Act, Course, ahead, outcome_of, once, follow_by, refused, admitted, first_leg, step_as, step, run_from, run, last_clock, acts_at, legs_at, Ran, ran_of, ran}
+pub use Rattle.napt_rules.specs.Sequential.{Act, Course, ahead, outcome_of, once, follow_by, refused, admitted, first_leg, step_as, step, run_from, run, last_clock, acts_at, legs_at, Ran, ran_of}
+unfoldable pub use Rattle.napt_rules.specs.Sequential.{ran}
 pub use Rattle.napt_rules.specs.Endpoints.{AreRowsApart, AreApart, Apart, IsNumber, IsPaired, IsSound}
 pub use Rattle.napt_rules.specs.SoundSteps.{OpeningIsSound, PurgeStaysSound, OutStaysSound, InStaysSound, SoundIsApart}
 pub use Rattle.napt_rules.specs.LiveSteps.{OutLeavesLive, InLeavesLive}

@@ -11,12 +11,9 @@ use Rattle.napt_config.specs.declared.settings.Timers.{Timers}
 use Rattle.napt_rules.specs.Life.{purge}
 use Rattle.napt_rules.specs.Steps.{step_out, step_in}
 
--- LAW: of a configuration that keeps its rules
-
+-- what a configuration that keeps its rules opens with
 abbrev pub OpeningIsSound : Type 0
 OpeningIsSound = (rules : Rules) → KeepsRules rules → IsSound (pair_of rules) (opening rules)
-
--- LAWS
 
 abbrev pub PurgeStaysSound : Type 0
 PurgeStaysSound = (pair : ℕ → ℕ) (timers : Timers) (now : ℕ) (list : List Binding) → IsSound pair list →
