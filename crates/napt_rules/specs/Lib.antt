@@ -1,6 +1,6 @@
--- The rules of a run, in reading order. `ran rules inputs`, at the end of `Sequential`, is what a run over inputs gives:
--- what became of each, the bindings that live at the end, and how many packets each external address served. A run on
--- one thread and a run over workers are both proved to give exactly this.
+-- The rules of a run, in reading order. `ran rules inputs`, at the end of `Sequential`, is what a run over inputs
+-- gives: what became of each, the bindings that live at the end, and how many legs acted at each external address. A
+-- run on one thread and a run over workers are both proved to give exactly this.
 --
 -- LEGEND
 --
