@@ -17,7 +17,7 @@ use crate::host_counts::HostCounts;
 use crate::received::Received;
 use napt_binding::{Binding, Flows, Inbound, Sent};
 use napt_config::Timers;
-use napt_due::Due;
+use napt_collections::Due;
 use napt_numbers::Numbers;
 use napt_wire::{Cause, Endpoint, Protocol};
 use std::alloc::{AllocError, Global};

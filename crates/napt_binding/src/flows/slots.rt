@@ -11,7 +11,7 @@ ghost use Rattle.napt_binding.specs.Slots.{somes, Stands, is_recent_time};
 use crate::Flow;
 use crate::life::{is_recent, last_moment};
 use napt_config::Timers;
-use napt_times::Times;
+use napt_collections::Times;
 use std::alloc::{AllocError, Global};
 use std::marker::Model;
 
