@@ -10,7 +10,7 @@ use Rattle.napt_rules.specs.Prelude.{is_established, is_recent, is_live_flow}
 use Rattle.napt_binding.specs.Slots.{somes, Stands, established_time, other_time, is_recent_time}
 use Rattle.napt_binding.proofs.Slots.{any_live}
 use Rattle.napt_binding.proofs.Purges.{any_weaker, lived_flow}
-use Rattle.napt_times.specs.Bounds.{IsLatest, HasNoTime}
+use Rattle.napt_collections.specs.Bounds.{IsLatest, HasNoTime}
 
 -- ANY
 

@@ -103,7 +103,8 @@ pub fn until(binding: &Binding, timers: Timers, now: u64) -> u64
         }
         Protocol::Tcp => {
             let least = timers.established.min(timers.transitory);
-            binding.flows
+            binding
+                .flows
                 .last_moment(timers, now)
                 .min(last_moment(now, least))
         }

@@ -114,13 +114,7 @@ fn is_refreshed(binding: &Binding, refresh: Refresh) -> bool
 }
 
 /// A packet came in through the binding.
-fn receive(
-    binding: &mut Binding,
-    inbound: Inbound,
-    now: u64,
-    remote: Endpoint,
-    flags: Flags,
-)
+fn receive(binding: &mut Binding, inbound: Inbound, now: u64, remote: Endpoint, flags: Flags)
     ensures { binding.new ≡ traffic.received inbound remote flags now binding.old }
 {
     if let Protocol::Tcp = binding.protocol {

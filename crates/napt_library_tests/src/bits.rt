@@ -1,6 +1,6 @@
 //! Sets at the borders of their words.
 
-use napt_bits::Bits;
+use napt_collections::Bits;
 use std::alloc::{AllocError, Global};
 use std::test::Fail;
 

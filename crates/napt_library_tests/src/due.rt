@@ -1,6 +1,6 @@
 //! In which order entries come out.
 
-use napt_due::Due;
+use napt_collections::Due;
 use std::alloc::{AllocError, Global};
 use std::test::Fail;
 

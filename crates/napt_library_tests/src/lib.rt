@@ -1,6 +1,6 @@
-//! The tests of the crates napt_wire, napt_capture, napt_config, napt_bits, napt_due, napt_times, napt_table and napt_translate, over
-//! what they make public. They stand in one crate of their own, so that the gate does not prove those again for them, and reads them
-//! once. What a run of the program shows is in `tests/runs`.
+//! The tests of the crates napt_wire, napt_capture, napt_config, napt_collections, napt_table and napt_translate, over what they make
+//! public. They stand in one crate of their own, so that the gate does not prove those again for them, and reads them once. What a run of the
+//! program shows is in `tests/runs`.
 #![tactic(auto)]
 
 #[cfg(test)]

@@ -1,6 +1,6 @@
 //! An earliest and the latest time, as places are added and changed.
 
-use napt_times::Times;
+use napt_collections::Times;
 use std::alloc::{AllocError, Global};
 use std::process::Abort;
 use std::test::Fail;

@@ -1,6 +1,6 @@
 -- Where a number stands among the bits of its protocol: each class is a run of places.
 use Rattle.std.specs.Prelude.{ℕ, ◌+◌, ◌*◌, ◌/◌, ◌%◌, Bool, List}
-use Rattle.napt_bits.specs.Sets.{has}
+use Rattle.napt_collections.specs.Sets.{has}
 use Rattle.napt_wire.specs.declared.Protocol.{Protocol}
 use Rattle.napt_wire.specs.declared.Protocol.TheVariants.{Icmp, Tcp, Udp}
 

@@ -6,7 +6,7 @@ ghost use Rattle.napt_rules.specs.Prelude.{candidates};
 ghost use Rattle.napt_numbers.specs.Places.{place_of, is_used};
 
 use crate::class::class_of;
-use napt_bits::Bits;
+use napt_collections::Bits;
 use napt_wire::Protocol;
 use std::alloc::{AllocError, Global};
 use std::marker::Model;

@@ -1,7 +1,7 @@
 -- Which output is a file that an option before it names.
 use Rattle.std.specs.Prelude.{◌≡◌, ◌||◌, Bool, false, Option, Some, None, is_some, if◌then◌else◌}
-use Rattle.napt_files.specs.Place.{is_same}
-use Rattle.napt_files.specs.declared.place.Place.{Place}
+use Rattle.napt_options.specs.Place.{is_same}
+use Rattle.napt_options.specs.declared.place.Place.{Place}
 use Rattle.napt_options.specs.declared.options.Options.{Options}
 use Rattle.napt_options.specs.declared.places.Places.{Places}
 use Rattle.napt_options.specs.declared.role.Role.{Role}

@@ -1,10 +1,13 @@
-//! The command line of the program: which files it reads and writes, and which output would destroy one of the others.
+//! The command line of the program: which files it reads and writes, where they are, and which output would destroy one of the
+//! others.
 #![tactic(auto)]
 
 mod options;
+mod place;
 mod places;
 mod role;
 
 pub use crate::options::{LineFault, Options, parse_words};
+pub use crate::place::{Node, Place, is_same, place_of};
 pub use crate::places::lost_file;
 pub use crate::role::Role;

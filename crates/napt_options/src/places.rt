@@ -4,8 +4,8 @@ ghost use Rattle.napt_options.specs.CommandLine.{is_named};
 ghost use Rattle.napt_options.specs.Places.{ArePlacesOf, is_again, is_input, is_placed, is_there, output_named_again};
 
 use crate::options::Options;
+use crate::place::{Place, is_same, place_of};
 use crate::role::Role;
-use napt_files::{Place, is_same, place_of};
 use std::rt::Files;
 
 /// The place of the file that each option names, and of the standard streams that stand for absent ones.

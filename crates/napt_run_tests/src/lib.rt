@@ -1,5 +1,5 @@
 //! The tests of runs, of workers on threads, and of the parts of the program, over what the crates napt_run, napt_capture, napt_pool,
-//! napt_files, napt_options and napt_program make public. They stand in a crate of their own, so that the gate does not prove those
+//! napt_options and napt_program make public. They stand in a crate of their own, so that the gate does not prove those
 //! again for them.
 #![tactic(auto)]
 

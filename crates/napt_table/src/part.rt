@@ -16,7 +16,7 @@ use crate::host_counts::HostCounts;
 use crate::rows::row_of;
 use napt_binding::{Binding, Flows, is_live, send, take_in, until};
 use napt_config::Timers;
-use napt_due::Due;
+use napt_collections::Due;
 use napt_numbers::Numbers;
 use napt_rules::{Inbound, Received, Row, Sent};
 use napt_wire::{Cause, Endpoint, Protocol};

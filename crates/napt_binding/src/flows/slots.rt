@@ -10,9 +10,9 @@ ghost use Rattle.napt_binding.specs.Slots.{somes, Stands, is_recent_time};
 
 use crate::life::{is_recent, last_moment};
 use crate::session::is_established;
+use napt_collections::Times;
 use napt_config::Timers;
 use napt_rules::Flow;
-use napt_times::Times;
 use std::alloc::{AllocError, Global};
 use std::marker::Model;
 

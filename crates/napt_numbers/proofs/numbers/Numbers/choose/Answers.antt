@@ -1,6 +1,6 @@
 use Rattle.std.proofs.Common.{◌∙◌, ap, ℕ}
 use Rattle.std.specs.Prelude.{◌-◌}
-use Rattle.napt_bits.specs.Sets.{has}
+use Rattle.napt_collections.specs.Sets.{has}
 use Rattle.napt_numbers.proofs.Choices.{near_choice, far_choice, no_choice}
 use Rattle.napt_numbers.proofs.numbers.Numbers.choose.Goals as goal
 

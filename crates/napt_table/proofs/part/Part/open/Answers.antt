@@ -1,5 +1,5 @@
 use Rattle.std.proofs.Common.{refl, ◌∙◌, ap, true, Option, Some, cond, eqb}
-use Rattle.napt_due.specs.Queue.{Queue}
+use Rattle.napt_collections.specs.Queue.{Queue}
 use Rattle.napt_rules.specs.Prelude.{Binding}
 use Rattle.napt_table.proofs.Changes.{place_then}
 use Rattle.napt_table.proofs.Opening.{fixed_due}

@@ -1,6 +1,0 @@
-use Rattle.std.proofs.Common.{◌≡◌, ℕ, ◌+◌, ◌*◌, ◌<◌, ◌≤◌, true}
-use Rattle.napt_bits.specs.Sets.{has}
-use Rattle.napt_bits.proofs.word.first_clear_of.Given as goal
-
-abbrev pub invariant-loop-i : goal.invariant-loop-i
-invariant-loop-i l = (l.start + 1 ≤ l.i) × ((j : ℕ) → l.from ≤ j → j < 64 * l.i → has l.words j ≡ true)

@@ -1,0 +1,6 @@
+pub mod Words
+pub mod Rows
+pub mod Least
+pub mod Same
+pub mod Trees
+pub mod Bounded

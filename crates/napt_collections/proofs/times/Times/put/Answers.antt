@@ -1,0 +1,37 @@
+use Rattle.std.proofs.Common.{◌≡◌, length, ◌∙◌, arith}
+use Rattle.std.proofs.lemmas.List.{with_items_is}
+use Rattle.napt_collections.proofs.Trees.{pushed}
+use Rattle.napt_collections.proofs.times.Times.put.Goals as goal
+
+pub mend-requires-clause-others : goal.mend-requires-clause-others
+mend-requires-clause-others c =
+    let place : length c.self.inside.times.items ≡ c.len-place.result =
+    omega (arith, c.len-place.ensures, c.self.inside.times.ok.0) in
+    rw (
+      c.deref.ensures.value,
+      c.in-Ok.ensures.items,
+      c.deref_mut.ensures.value,
+      c.in-Ok-push.ensures.items,
+      c.no_times.ensures,
+    )
+    (λ i ne. pushed c.self.inside.times.items c.self.inside.spans.items c.args.time c.self.invariant.right i
+    (λ e. ne (e ∙ place)))
+
+pub invariant_of-self : goal.invariant_of-self
+invariant_of-self c =
+    let kept : length c.mend.new.spans ≡ c.push-2.new.self.len =
+    omega (arith, c.mend.auto.spans, c.deref_mut.ensures.len) in record {
+      lengths = rw (with_items_is c.push-2.new.self c.mend.new.spans kept)
+          (omega (
+            arith,
+            kept,
+            c.push.new.self.ok.0,
+            c.in-Ok.ensures.len,
+            c.in-Ok-push.ensures.len,
+            c.self.inside.times.ok.0,
+            c.self.inside.spans.ok.0,
+            c.self.invariant.lengths,
+          ));
+      right = λ i. rw (with_items_is c.push-2.new.self c.mend.new.spans kept, ← c.deref.ensures.value)
+          (c.mend.ensures i);
+    }

@@ -1,0 +1,8 @@
+pub mod Sets
+pub mod SetKept
+pub mod Queue
+pub mod QueueKept
+pub mod Bounds
+pub mod PlacedTimes
+pub mod Spans
+pub mod TimesKept

@@ -1,0 +1,84 @@
+//! The queue.
+
+ghost use Rattle.std.specs.Prelude.{◌≡◌, ◌+◌, ◌-◌, ◌<◌, ◌≤◌, [], ◌∷◌, All, Contains, IfOk, IfSome, IfNone, OnOk, OnErr};
+ghost use Rattle.std.specs.List.Sorted.{IsPermutation};
+
+use std::alloc::{AllocError, Global};
+use std::cmp::Reverse;
+use std::collections::BinaryHeap;
+use std::marker::Model;
+
+/// A queue of entries, each a time (in any unit) and a number, of which an entry of the least time is taken first; contracts see
+/// the entries in no particular order, each as often as it was put in, and how many more fit without a growth (`room`).
+///
+/// A growth is a call of its own, `reserve`, so that a caller can make sure of its memory before it changes anything.
+#[derive(Drop)]
+pub struct Due {
+    heap: BinaryHeap<Reverse<(u64, u16)>>,
+}
+
+impl Model for Due {
+    ghost use Rattle.napt_collections.specs.Queue.{Queue};
+
+    ghost Value = { Queue };
+
+    ghost use Rattle.napt_collections.specs.QueueKept.{queue_of, InOrder};
+
+    ghost view = { queue_of };
+
+    ghost invariant = { InOrder };
+}
+
+impl Due {
+    /// The empty queue. It takes no memory.
+    pub fn new(alloc: Global) -> Due
+        ensures { result.entries ≡ [] }
+    {
+        Due {
+            heap: BinaryHeap::new(alloc),
+        }
+    }
+
+    /// Makes room for one more entry, which changes no entry; `AllocError` where the memory is refused.
+    pub fn reserve(&mut self) -> Result<(), AllocError>
+        ensures entries { self.new.entries ≡ self.old.entries }
+        ensures room { OnOk result (0 < self.new.room) }
+    {
+        self.heap.reserve(1)
+    }
+
+    /// Puts an entry in, where there is room for it. It takes no memory.
+    pub fn put(&mut self, time: u64, number: u16)
+        requires { 0 < self.old.room }
+        ensures entries { IsPermutation ((time, number) ∷ self.old.entries) self.new.entries }
+        ensures room { self.old.room ≤ self.new.room + 1 }
+    {
+        match self.heap.push(Reverse((time, number))) {
+            Ok(()) => {}
+            Err(_) => unreachable!(),
+        }
+    }
+
+    /// An entry of the least time, which stays; `None` where there are none.
+    pub fn first(&self) -> Option<(u64, u16)>
+        ensures some { IfSome result (λ e. Contains self.now.entries e) }
+        ensures least { IfSome result (λ e. All (λ other. e.0 ≤ other.0) self.now.entries) }
+        ensures none { IfNone result (self.now.entries ≡ []) }
+    {
+        match self.heap.peek() {
+            Some(top) => Some(top.0),
+            None => None,
+        }
+    }
+
+    /// Takes out an entry of the least time, whose room is free from then on; `None` where there are none. It takes no memory.
+    pub fn take_first(&mut self) -> Option<(u64, u16)>
+        ensures some { IfSome result (λ e. IsPermutation self.old.entries (e ∷ self.new.entries)) }
+        ensures least { IfSome result (λ e. All (λ other. e.0 ≤ other.0) self.old.entries) }
+        ensures room { IfSome result (λ e. self.old.room < self.new.room) }
+        ensures none { IfNone result ((self.old.entries ≡ []) × (self.new ≡ self.old)) }
+    {
+        let Reverse(entry) = self.heap.pop()?;
+        Some(entry)
+    }
+}

@@ -1,0 +1,99 @@
+//! What is known of the times under each node of the tree of places.
+//!
+//! The places are the nodes of a binary tree: under place `i` are the places `2 i + 1` and `2 i + 2`, where there are such.
+
+ghost use Rattle.std.specs.Prelude.{◌≡◌, ◌≢◌, ℕ, ◌+◌, ◌*◌, ◌<◌, length, slice_set, false};
+ghost use Rattle.napt_collections.specs.Spans.{earlier, later, no_times, span_at, joined, joined_at, IsRight};
+
+/// An earliest time, with its place, and the latest time of those at a place and at all places under it.
+#[derive(Clone, Copy, PartialEq, Eq)]
+pub(crate) struct Span {
+    pub(crate) earliest: Option<(u64, usize)>,
+    pub(crate) latest: Option<u64>,
+}
+
+/// The span of no times.
+pub(crate) fn no_times() -> Span
+    ensures { result ≡ no_times }
+{
+    Span {
+        earliest: None,
+        latest: None,
+    }
+}
+
+/// The earlier of two times with their places, the first where they are equal.
+fn earlier(first: Option<(u64, usize)>, second: Option<(u64, usize)>) -> Option<(u64, usize)>
+    ensures { result ≡ earlier first second }
+{
+    match (first, second) {
+        (Some(a), Some(b)) => { if b.0 < a.0 { Some(b) } else { Some(a) } }
+        (Some(a), None) => Some(a),
+        (None, other) => other,
+    }
+}
+
+/// The later of two times.
+fn later(first: Option<u64>, second: Option<u64>) -> Option<u64>
+    ensures { result ≡ later first second }
+{
+    match (first, second) {
+        (Some(a), Some(b)) => { if a < b { Some(b) } else { Some(a) } }
+        (Some(a), None) => Some(a),
+        (None, other) => other,
+    }
+}
+
+/// The span at a place whose own time is `time`, over the spans of the two places under it.
+fn joined(place: usize, time: Option<u64>, left: Span, right: Span) -> Span
+    ensures { result ≡ joined place time left right }
+{
+    let own = match time {
+        Some(time) => Some((time, place)),
+        None => None,
+    };
+    Span {
+        earliest: earlier(own, earlier(left.earliest, right.earliest)),
+        latest: later(time, later(left.latest, right.latest)),
+    }
+}
+
+/// The span at the place; past the end that of no times.
+pub(crate) fn span_at(spans: &[Span], place: usize) -> Span
+    ensures { result ≡ span_at spans.now place }
+{
+    if place < spans.len() {
+        spans[place]
+    } else {
+        no_times()
+    }
+}
+
+/// Makes the span at a place right by what stands at the place and under it. Says whether that changed it.
+fn mend_at(times: &[Option<u64>], spans: &mut [Span], place: usize) -> bool
+    requires lengths { length times.now ≡ length spans.old }
+    requires within { place < length times.now }
+    ensures mended { spans.new ≡ slice_set spans.old place (joined_at times.now spans.old place) }
+    ensures unchanged { result ≡ false →
+        joined_at times.now spans.old place ≡ span_at spans.old place }
+{
+    let left = span_at(spans, 2 * place + 1);
+    let right = span_at(spans, 2 * place + 2);
+    let span = joined(place, times[place], left, right);
+    let changes = span != spans[place];
+    spans[place] = span;
+    changes
+}
+
+/// Makes all spans right where at most that at one place is not. It goes no further up than to a span that does not change.
+pub(crate) fn mend(times: &[Option<u64>], spans: &mut [Span], from: usize)
+    requires lengths { length times.now ≡ length spans.old }
+    requires within { from < length times.now }
+    requires others { (i : ℕ) → i ≢ from → IsRight times.now spans.old i }
+    ensures { (i : ℕ) → IsRight times.now spans.new i }
+{
+    let mut place = from;
+    while mend_at(times, spans, place) && place > 0 {
+        place = (place - 1) / 2;
+    }
+}

@@ -1,0 +1,90 @@
+//! The bits of words.
+
+ghost use Rattle.std.specs.Prelude.{◌≡◌, ◌≢◌, ℕ, true, false, ◌*◌, ◌^◌, ◌<◌, ◌≤◌, length};
+ghost use Rattle.napt_collections.specs.Sets.{has_bit, has, IsFirstAbsent, IsMarked};
+
+/// The first clear bit of the word from `from` on.
+pub(crate) fn first_clear(word: u64, from: u32) -> Option<u32>
+    requires { from < 64 }
+    ensures { IsFirstAbsent (has_bit word) from 64 result }
+{
+    let filled = word | ((1 << from) - 1);
+    if filled == u64::MAX {
+        None
+    } else {
+        Some(filled.trailing_ones())
+    }
+}
+
+/// The first clear bit from `from` on, counted over all words.
+pub(crate) fn first_clear_of(words: &[u64], from: usize) -> Option<usize>
+    requires { length words.now ≤ 1024 }
+    ensures { IsFirstAbsent (has words.now) from (64 * length words.now) result }
+{
+    let start = from / 64;
+    if start >= words.len() {
+        return None;
+    }
+    if let Some(k) = first_clear(words[start], (from % 64) as u32) {
+        return Some(64 * start + k as usize);
+    }
+    for i in start + 1..words.len() {
+        if let Some(k) = first_clear(words[i], 0) {
+            return Some(64 * i + k as usize);
+        }
+    }
+    None
+}
+
+/// The first clear bit from `from` on, by a bit for each word that is full: no word that is full is looked at.
+pub(crate) fn first_clear_over(words: &[u64], full: &[u64], from: usize) -> Option<usize>
+    requires marked { IsMarked words.now full.now }
+    requires within { from < 65536 }
+    ensures { IsFirstAbsent (has words.now) from 65536 result }
+{
+    let word = from / 64;
+    if let Some(k) = first_clear(words[word], (from % 64) as u32) {
+        return Some(64 * word + k as usize);
+    }
+    let next = first_clear_of(full, word + 1)?;
+    Some(64 * next + words[next].trailing_ones() as usize)
+}
+
+/// Whether the bit is set.
+pub(crate) fn has_bit(word: u64, k: u32) -> bool
+    requires { k < 64 }
+    ensures { result ≡ has_bit word k }
+{
+    (word >> k) & 1 == 1
+}
+
+/// The word with the bit set.
+pub(crate) fn with_bit(word: u64, k: u32) -> u64
+    requires { k < 64 }
+    ensures set { has_bit result k ≡ true }
+    ensures others { (i : ℕ) → i ≢ k → has_bit result i ≡ has_bit word i }
+{
+    word | (1 << k)
+}
+
+/// The word with the bit clear.
+pub(crate) fn without_bit(word: u64, k: u32) -> u64
+    requires { k < 64 }
+    ensures clear { has_bit result k ≡ false }
+    ensures others { (i : ℕ) → i < 64 → i ≢ k → has_bit result i ≡ has_bit word i }
+{
+    word & !(1 << k)
+}
+
+/// The word with the bit set where `is_set` says so, else clear.
+pub(crate) fn with_mark(word: u64, k: u32, is_set: bool) -> u64
+    requires { k < 64 }
+    ensures here { has_bit result k ≡ is_set }
+    ensures others { (i : ℕ) → i < 64 → i ≢ k → has_bit result i ≡ has_bit word i }
+{
+    if is_set {
+        with_bit(word, k)
+    } else {
+        without_bit(word, k)
+    }
+}

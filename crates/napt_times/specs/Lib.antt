@@ -1,4 +1,0 @@
-pub mod Bounds
-pub mod Shown
-pub mod Spans
-pub mod Kept
