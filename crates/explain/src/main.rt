@@ -27,7 +27,7 @@ use crate::reading::{Given, read_given};
 use crate::scene::{Shown, scene_of};
 use crate::stop::Stop;
 use crate::summary::{Told, Widths};
-use napt_account::{Account, Ends, account_of};
+use napt_account::{Account, account_of};
 use napt_config::Config;
 use napt_picture::drawing_of;
 use napt_program::Streams;
@@ -101,13 +101,9 @@ fn run<R: Files + Print + Eprint + AllocGlobal>(
     config: &Config,
     inputs: &[napt_sequential::Input],
 ) -> Result<(), Stop> {
-    let ends = match options.svg {
-        Some(_) => Ends(usize::MAX),
-        None => Ends(0),
-    };
     let progress = Progress::of(rt, inputs.len());
     progress.tell_begin(rt);
-    let account = account_of(rt.alloc(), config, inputs, ends)?;
+    let account = account_of(rt.alloc(), config, inputs)?;
     tell_run(rt, options, inputs, &account, progress)?;
     let shown = Shown {
         config,

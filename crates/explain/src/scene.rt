@@ -3,7 +3,7 @@
 use crate::names::Seconds;
 use crate::summary::count_dropped;
 use jiff::Timestamp;
-use napt_account::{Account, Life};
+use napt_account::{Account, Entry};
 use napt_config::{Address, Config};
 use napt_picture::{Binding, BindingKind, MOST_BARS, Pass, Scene};
 use napt_records::{EndpointText, cause_name, protocol_name};
@@ -41,20 +41,20 @@ impl<'a> Shown<'a> {
     }
 
     /// Whether a binding lives in the part that is shown; a redirect always does.
-    fn has(self, life: &Life) -> bool {
+    fn has(self, entry: &Entry) -> bool {
         let begins = self
             .moment(self.part.until)
-            .is_none_or(|until| life.made <= until);
+            .is_none_or(|until| entry.made <= until);
         let ends = self
             .moment(self.part.from)
-            .is_none_or(|from| from < life.end);
-        life.fixed || (begins && ends)
+            .is_none_or(|from| from < end_of(entry));
+        entry.binding.fixed || (begins && ends)
     }
 
     /// Whether few enough bindings are shown for each to have a bar.
     fn has_bars(self) -> bool {
-        let lives = self.account.lives.iter();
-        lives.filter(|life| self.has(*life)).count() <= MOST_BARS
+        let entries = self.account.log.entries.iter();
+        entries.filter(|entry| self.has(*entry)).count() <= MOST_BARS
     }
 }
 
@@ -79,7 +79,7 @@ pub fn scene_of(alloc: Global, shown: Shown<'_>) -> Result<Scene, AllocError> {
 fn head_of(alloc: Global, shown: Shown<'_>) -> Result<String, AllocError> {
     let packets = shown.account.uses.len();
     let addresses = shown.config.pool().len();
-    let bindings = shown.account.lives.len();
+    let bindings = shown.account.log.entries.len();
     let head = format!(in alloc;
         "packets: {packets}, external addresses: {addresses}, bindings: {bindings}"
     )?;
@@ -105,11 +105,11 @@ fn add_bindings(
     shown: Shown<'_>,
 ) -> Result<(), AllocError> {
     let has_bars = shown.has_bars();
-    for life in &shown.account.lives {
-        let mut binding = binding_of(alloc, shown.config, life);
-        if has_bars && shown.has(life) {
-            binding.label = label_of(alloc, life)?;
-            binding.title = title_of(alloc, life, &binding.label, shown.zero())?;
+    for entry in &shown.account.log.entries {
+        let mut binding = binding_of(alloc, shown.config, entry);
+        if has_bars && shown.has(entry) {
+            binding.label = label_of(alloc, entry)?;
+            binding.title = title_of(alloc, entry, &binding.label, shown.zero())?;
         }
         bindings.push(binding)?;
     }
@@ -117,27 +117,35 @@ fn add_bindings(
 }
 
 /// A binding without words.
-fn binding_of(alloc: Global, config: &Config, life: &Life) -> Binding {
-    let lane = match config.pool_index(life.external.address) {
+fn binding_of(alloc: Global, config: &Config, entry: &Entry) -> Binding {
+    let lane = match config.pool_index(entry.binding.external.address) {
         Some(lane) => lane as usize,
         None => usize::MAX,
     };
     Binding {
-        kind: kind_of(life),
+        kind: kind_of(entry),
         lane,
         label: String::new(alloc),
         title: String::new(alloc),
-        made: life.made,
-        used: life.used,
-        end: life.end,
+        made: entry.made,
+        used: entry.last,
+        end: end_of(entry),
     }
 }
 
-fn kind_of(life: &Life) -> BindingKind {
-    if life.fixed {
+/// When a binding ended, or would end; the greatest time where that is later, or it lives on.
+fn end_of(entry: &Entry) -> u64 {
+    match entry.end {
+        Some(end) => u64::try_from(end).unwrap_or(u64::MAX),
+        None => u64::MAX,
+    }
+}
+
+fn kind_of(entry: &Entry) -> BindingKind {
+    if entry.binding.fixed {
         return BindingKind::Redirect;
     }
-    match life.protocol {
+    match entry.binding.protocol {
         Protocol::Icmp => BindingKind::Icmp,
         Protocol::Tcp => BindingKind::Tcp,
         Protocol::Udp => BindingKind::Udp,
@@ -145,22 +153,22 @@ fn kind_of(life: &Life) -> BindingKind {
 }
 
 /// A binding as `udp 10.0.0.2:5000 > :5000`.
-fn label_of(alloc: Global, life: &Life) -> Result<String, AllocError> {
-    let name = protocol_name(life.protocol);
-    let inside = EndpointText(life.inside);
-    let kind = if life.fixed { ", a redirect" } else { "" };
-    format!(in alloc; "{name} {inside} > :{}{kind}", life.external.number)
+fn label_of(alloc: Global, entry: &Entry) -> Result<String, AllocError> {
+    let name = protocol_name(entry.binding.protocol);
+    let inside = EndpointText(entry.binding.inside);
+    let kind = if entry.binding.fixed { ", a redirect" } else { "" };
+    format!(in alloc; "{name} {inside} > :{}{kind}", entry.binding.external.number)
 }
 
 /// A binding of a label with its external address, and with its times since the first packet where it is no redirect.
-fn title_of(alloc: Global, life: &Life, label: &str, zero: u64) -> Result<String, AllocError> {
-    let external = Address(life.external.address);
-    if life.fixed {
+fn title_of(alloc: Global, entry: &Entry, label: &str, zero: u64) -> Result<String, AllocError> {
+    let external = Address(entry.binding.external.address);
+    if entry.binding.fixed {
         return format!(in alloc; "{label} at {external}");
     }
-    let made = Seconds(life.made.saturating_sub(zero));
-    let used = Seconds(life.used.saturating_sub(zero));
-    let end = Seconds(life.end.saturating_sub(zero));
+    let made = Seconds(entry.made.saturating_sub(zero));
+    let used = Seconds(entry.last.saturating_sub(zero));
+    let end = Seconds(end_of(entry).saturating_sub(zero));
     format!(in alloc;
         "{label} at {external}: made at {made}, last packet at {used}, expires at {end}"
     )

@@ -119,16 +119,17 @@ impl<'a> Told<'a> {
 
     /// Writes the binding at a place, through which a packet went this way.
     fn tell_used<R: Print>(self, rt: &R, way: &str, at: Option<usize>) -> Result<(), Stop> {
-        let Some(life) = at.and_then(|at| self.account.lives.get(at)) else {
+        let Some(entry) = at.and_then(|at| self.account.log.entries.get(at)) else {
             return Ok(());
         };
-        let name = protocol_name(life.protocol);
-        let (inside, external) = (EndpointText(life.inside), EndpointText(life.external));
+        let binding = entry.binding;
+        let name = protocol_name(binding.protocol);
+        let (inside, external) = (EndpointText(binding.inside), EndpointText(binding.external));
         print!(rt; "  {way} through {name} {inside} at {external}")?;
-        if life.fixed {
+        if binding.fixed {
             println!(rt; ", a redirect")?;
         } else {
-            let (made, used) = (Seconds(life.made), Seconds(life.used));
+            let (made, used) = (Seconds(entry.made), Seconds(entry.last));
             println!(rt; ", made at {made}, last packet at {used}")?;
         }
         Ok(())
@@ -247,10 +248,10 @@ fn tell_binding<R: Print>(rt: &R, now: u64, row: &Row, account: &Account) -> Res
         println!(rt; ", a redirect")?;
         return Ok(());
     }
-    match account.life_of(row.protocol, row.external) {
-        Some(life) => {
-            let made = Seconds(now.saturating_sub(life.made));
-            let used = Seconds(now.saturating_sub(life.sent));
+    match account.entry_of(row.protocol, row.external) {
+        Some(entry) => {
+            let made = Seconds(now.saturating_sub(entry.made));
+            let used = Seconds(now.saturating_sub(entry.last_sent));
             println!(rt; ", made {made} s ago, last used from inside {used} s ago")?;
         }
         None => println!(rt; "")?,

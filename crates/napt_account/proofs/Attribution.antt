@@ -7,11 +7,11 @@ use Rattle.napt_config.specs.Rules.{Rules, KeepsRules, pair_of}
 use Rattle.napt_rules.specs.Prelude.{Binding, is_live, opening, Arrival, row, Course, step, run_from, last_clock, IsSound, OpeningIsSound, OutStaysSound, InStaysSound, OutLeavesLive, InLeavesLive}
 use Rattle.napt_sequential.proofs.Sound.{run_sound}
 use Rattle.napt_account.specs.declared.log.Entry.{Entry}
-use Rattle.napt_account.specs.Ends.{end_of, is_before}
+use Rattle.napt_binding.specs.Ends.{end_of, is_before}
 use Rattle.napt_account.specs.Passages.{has_ends}
 use Rattle.napt_account.specs.Log.{living, begun, logged, entries_from, log_of, stands_at}
 use Rattle.napt_account.specs.Attribution.{IsBeforeNext, LogNamesTheHolders, LogListsTheLiving}
-use Rattle.napt_account.proofs.FirstEnds.{ends_are_first}
+use Rattle.napt_binding.proofs.FirstEnds.{ends_are_first}
 use Rattle.napt_account.proofs.Lists.{any_seen_of, any_among, filter_seen, filter_agrees, map_twice, each_mapped, each_every}
 use Rattle.napt_account.proofs.Steps.{grows_step}
 use Rattle.napt_account.proofs.Entries.{Tells, hold, hold_of, named, tells_later, named_now, tells_step, named_before}
@@ -67,7 +67,7 @@ module _ (carry : PacketsCarryNumbers) (out_sound : OutStaysSound) (in_sound : I
       (grows_step out_live in_live rules keeps.timers number now list input) left.apart)
 
   -- what a list begins with
-  begins : (list : List Binding) → Tells rules.timers 0 list (map (begun rules.timers 0) list)
+  pub begins : (list : List Binding) → Tells rules.timers 0 list (map (begun rules.timers 0) list)
   begins list = record {
     made = each_mapped (λ (e : Entry). e.made ≤ 0) (begun rules.timers 0) list
         (each_every (λ (b : Binding). 0 ≤ 0) list (λ b. omega arith));

@@ -14,10 +14,10 @@ use Rattle.napt_binding.proofs.Purges.{lived}
 use Rattle.napt_table.proofs.Seen.{protocol_is, same_itself, end_itself, end_is}
 use Rattle.napt_table.proofs.Sound.{apart_kept}
 use Rattle.napt_account.specs.declared.log.Entry.{Entry}
-use Rattle.napt_account.specs.Ends.{end_of, is_before, EndsAreFirst}
+use Rattle.napt_binding.specs.Ends.{end_of, is_before, EndsAreFirst}
 use Rattle.napt_account.specs.Passages.{has_ends}
 use Rattle.napt_account.specs.Log.{living, has_row, begun, made_between, end_by_found, end_told, counted, told, logged, stands_at}
-use Rattle.napt_account.proofs.FirstEnds.{before_sooner}
+use Rattle.napt_binding.proofs.FirstEnds.{before_sooner}
 use Rattle.napt_account.proofs.Lists.{filter_seen, filter_agrees, filter_agrees_each, filter_none, filter_joined, map_joined, map_twice, map_agrees, any_seen_of, each_joined, each_mapped, each_every, each_among, each_both, each_shown, each_behind}
 use Rattle.napt_account.proofs.Steps.{Grows}
 
@@ -28,10 +28,10 @@ hold_of timers binding = (row binding, end_of timers binding)
 abbrev pub hold : Entry → Row × Option ℕ
 hold entry = (entry.binding, entry.end)
 
-abbrev binding_of : Entry → Row
+abbrev pub binding_of : Entry → Row
 binding_of entry = entry.binding
 
-abbrev is_open : ℕ → Entry → Bool
+abbrev pub is_open : ℕ → Entry → Bool
 is_open now entry = is_before now entry.end
 
 -- the rows of the entries that stand at a time
@@ -45,10 +45,10 @@ pub record Tells (timers : Timers) (now : ℕ) (list : List Binding) (entries : 
 
 -- ROWS
 
-abbrev is_row : Row → Row → Bool
+abbrev pub is_row : Row → Row → Bool
 is_row wanted other = has_ends wanted.protocol wanted.inside wanted.external other
 
-row_itself : (r : Row) → is_row r r ≡ true
+pub row_itself : (r : Row) → is_row r r ≡ true
 row_itself r = and_from (same_protocol r.protocol r.protocol)
     (same_endpoint r.inside r.inside && same_endpoint r.external r.external) (same_itself r.protocol)
     (and_from (same_endpoint r.inside r.inside) (same_endpoint r.external r.external) (end_itself r.inside)
@@ -86,7 +86,7 @@ none_behind (x ∷ rs) added h =
     (each_behind (AreRowsApart x) rs added h.0)) (none_behind rs added h.1))
 
 -- each binding of a list is found by its row
-each_found : (xs : List Binding) → Apart (map row xs) → Each (λ b. find (has_row (row b)) xs ≡ Some b) xs
+pub each_found : (xs : List Binding) → Apart (map row xs) → Each (λ b. find (has_row (row b)) xs ≡ Some b) xs
 each_found [] h = tt
 each_found (x ∷ xs) h = (
   ap (λ v. cond v (Some x) (find (has_row (row x)) xs)) (row_itself (row x)),
@@ -99,7 +99,7 @@ each_found (x ∷ xs) h = (
 )
 
 -- what was made is what was added
-made_added : (timers : Timers) (now : ℕ) (before after : List Binding) (added : List Row) →
+pub made_added : (timers : Timers) (now : ℕ) (before after : List Binding) (added : List Row) →
     map row (living timers now after) ≡ map row (living timers now before) ++ added →
     Apart (map row (living timers now after)) → map row (made_between timers now before after) ≡ added
 made_added timers now before after added rows apart =
@@ -138,7 +138,7 @@ module _ (ends : EndsAreFirst) (timers : Timers) (t : AreTimers timers) where
   }
 
   -- the rows of the entries that are open are those of the bindings that live
-  open_rows : (now : ℕ) (list : List Binding) (entries : List Entry) → Tells timers now list entries →
+  pub open_rows : (now : ℕ) (list : List Binding) (entries : List Entry) → Tells timers now list entries →
       map binding_of (filter (is_open now) entries) ≡ map row (living timers now list)
   open_rows now list entries tells =
       sym (map_twice (λ (h : Row × Option ℕ). h.0) hold (filter (is_open now) entries))

@@ -1,6 +1,12 @@
 pub mod Attribution
 pub mod Entries
-pub mod FirstEnds
+pub mod Legs
+pub mod Telling
+pub mod Retold
+pub mod Shortages
+pub mod Books
+pub mod Placed
+pub mod Begun
 pub mod Told
 pub mod Lists
 pub mod Steps

@@ -1,7 +1,7 @@
 -- The rows that a run tells, one nanosecond or more after its last input, are those that the log of all inputs names
 -- then.
-use Rattle.std.proofs.Common.{◌≡◌, ℕ, ◌+◌, ◌≤◌, max, Bool, true, false, ◌&&◌, ◌||◌, ◌==◌, zero, suc, ◌<◌, length, take, drop, get_or, List, [], ◌∷◌, ◌++◌, map, Result, Err, refl, sym, ◌∙◌, ap, arith}
-use Rattle.std.specs.Prelude.{filter, flat_map}
+use Rattle.std.proofs.Common.{◌≡◌, ℕ, ◌+◌, ◌≤◌, max, Bool, true, false, ◌&&◌, ◌||◌, cond, ◌==◌, zero, suc, ◌<◌, length, take, drop, get_or, List, [], ◌∷◌, ◌++◌, map, Result, Err, refl, sym, ◌∙◌, ap, arith}
+use Rattle.std.specs.Prelude.{filter, flat_map, nat_le}
 use Rattle.std.specs.List.{list_any}
 use Rattle.std.proofs.lemmas.Bool.Decides.{nat_tests}
 use Rattle.napt_wire.specs.declared.Side.TheVariants.{Outside}
@@ -16,18 +16,14 @@ use Rattle.napt_config.proofs.Pools.{paired_in_pool}
 use Rattle.napt_rules.specs.Prelude.{Binding, Each, same_protocol, same_endpoint, is_at, of, is_live, purge, opening, Arrival, admission_as, row, put, in_order, rows, first_leg, step_as, step, run_from, run, last_clock, ran, IsPaired, IsSound, RunsAreSound}
 use Rattle.napt_binding.proofs.Lists.{any_narrow, each_weaker}
 use Rattle.napt_rules.specs.declared.Row.{Row}
-use Rattle.napt_account.specs.Fronts.{nothing_at, IsFrontAt}
+use Rattle.napt_account.specs.Fronts.{nothing_at, came_by, IsFrontAt}
 use Rattle.napt_account.specs.Log.{living, log_of}
 use Rattle.napt_account.specs.Passages.{has_ends}
 use Rattle.napt_account.specs.Attribution.{is_held, is_named, LogNamesTheHolders}
-use Rattle.napt_account.proofs.Lists.{any_seen_of, any_among, each_shown}
+use Rattle.napt_account.proofs.Lists.{any_joined, any_seen_of, any_among, each_shown}
 use Rattle.napt_account.proofs.Steps.{rows_purge}
 
 -- SEARCHES
-
-any_joined : {X : Type 0} (p : X → Bool) (xs ys : List X) → list_any p (xs ++ ys) ≡ (list_any p xs || list_any p ys)
-any_joined p [] ys = refl
-any_joined p (x ∷ xs) ys = grind (arith, any_joined p xs ys)
 
 any_never : {X : Type 0} (p : X → Bool) (xs : List X) → list_any (λ x. p x && false) xs ≡ false
 any_never p [] = refl
@@ -182,3 +178,17 @@ split_at [] zero = refl
 split_at [] (suc n) = refl
 split_at (input ∷ inputs) zero = refl
 split_at (input ∷ inputs) (suc n) = ap (λ (rest : List Arrival). input ∷ rest) (split_at inputs n)
+
+-- HOW MANY CAME
+
+pub came_next : (at : ℕ) (inputs : List Arrival) (n : ℕ) (d : Arrival) → n < length inputs →
+    came_by at (drop n inputs) ≡ cond (nat_le (get_or inputs n d).clock at) (came_by at (drop (suc n) inputs) + 1) 0
+came_next at [] n d lt = absurd (omega arith)
+came_next at (i ∷ inputs) zero d lt = refl
+came_next at (i ∷ inputs) (suc n) d lt = came_next at inputs n d (omega arith)
+
+pub came_end : (at : ℕ) (inputs : List Arrival) (n : ℕ) → length inputs ≤ n → came_by at (drop n inputs) ≡ 0
+came_end at [] zero le = refl
+came_end at [] (suc n) le = refl
+came_end at (i ∷ inputs) zero le = absurd (omega arith)
+came_end at (i ∷ inputs) (suc n) le = came_end at inputs n (omega arith)

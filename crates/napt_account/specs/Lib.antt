@@ -1,5 +1,7 @@
 pub mod Attribution
-pub mod Ends
+pub mod Book
+pub mod Kept
+pub mod Places
 pub mod Fronts
 pub mod Log
 pub mod Passages

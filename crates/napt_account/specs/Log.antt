@@ -19,7 +19,7 @@ use Rattle.napt_rules.specs.declared.End.{End}
 use Rattle.napt_rules.specs.declared.End.TheVariants.{ToOutside, ToInside, Onward, Dropped}
 use Rattle.napt_account.specs.declared.log.Entry.{Entry}
 use Rattle.napt_account.specs.declared.log.Shortage.{Shortage}
-use Rattle.napt_account.specs.Ends.{end_of, is_before}
+use Rattle.napt_binding.specs.Ends.{end_of, is_before}
 use Rattle.napt_account.specs.Passages.{has_ends, count_out, count_in}
 
 -- ENTRIES
@@ -41,6 +41,7 @@ begun timers made binding = record {
   sent = 0;
   received = 0;
   last = made;
+  last_sent = made;
 }
 
 -- the bindings that live after a step at a time and did not before it
@@ -65,6 +66,7 @@ counted now acts entry =
       sent = entry.sent + out;
       received = entry.received + came;
       last = cond (nat_lt 0 (out + came)) now entry.last;
+      last_sent = cond (nat_lt 0 out) now entry.last_sent;
     }
 
 -- an entry after a step at a time: one that has ended stays as it is

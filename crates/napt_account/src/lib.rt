@@ -3,9 +3,11 @@
 #![tactic(auto)]
 
 mod account;
+mod book;
 mod log;
+mod places;
 mod who;
 
-pub use crate::account::{Account, Ends, Life, Note, Use, account_of};
-pub use crate::log::{Entry, Shortage, log_attributes};
+pub use crate::account::{Account, Note, Use, account_of};
+pub use crate::log::{Entry, Log, Shortage, log_attributes, log_of};
 pub use crate::who::holders;

@@ -1,10 +1,17 @@
 //! The log of a run: who had which external endpoint, from when and until when (RFC 6888, REQ-12).
 
+ghost use Rattle.std.specs.Prelude.{◌≡◌, ◌↔◌, ◌≤◌, ◌^◌, IfOk, IfErr, Err, length};
+ghost use Rattle.napt_sequential.specs.Faults.{IsOneThreadFault};
+ghost use Rattle.napt_account.specs.Log.{log_of};
 ghost use Rattle.napt_account.specs.Attribution.{LogNamesTheHolders, LogListsTheLiving};
-ghost use Rattle.napt_account.specs.Ends.{EndsAreFirst};
+ghost use Rattle.napt_binding.specs.Ends.{EndsAreFirst};
 
+use crate::account::account_of;
+use napt_config::Config;
+use napt_sequential::{Input, RunFault};
 use napt_table::{Row, opening_is_sound, steps_leave_live, steps_stay_sound};
 use napt_wire::{Cause, Protocol, packets_carry_numbers};
+use std::alloc::Global;
 
 /// A binding of a run, from when it was made until it ended, with times in ns.
 #[derive(Clone, Copy, Debug, PartialEq, Eq)]
@@ -22,6 +29,8 @@ pub struct Entry {
     pub received: u64,
     /// When a packet last went through it, either way; 0 for a redirect that none went through.
     pub last: u64,
+    /// When a packet last went out through it; 0 for a redirect that none went out through.
+    pub last_sent: u64,
 }
 
 /// An outgoing packet for which no binding could be made: its host has its quota, or each number of
@@ -35,6 +44,30 @@ pub struct Shortage {
     pub protocol: Protocol,
     /// The address of the inside host that sent it.
     pub host: u32,
+}
+
+/// The log of a run.
+#[derive(Drop)]
+pub struct Log {
+    /// One for each binding that was ever made, redirects too, in the order in which they were made.
+    pub entries: Vec<Entry>,
+    /// One for each packet for which no binding could be made, in their order.
+    pub shortages: Vec<Shortage>,
+}
+
+/// The log of the run over the inputs.
+///
+/// `RunFault::TooMany` comes exactly where there are more than 4,294,967,295 inputs, `RunFault::Memory` only where
+/// memory is refused, and `RunFault::Pool` never.
+pub fn log_of(alloc: Global, config: &Config, inputs: &[Input]) -> Result<Log, RunFault>
+    ensures entries { IfOk result (λ log.
+        log.entries.items ≡ (log_of config.now inputs.now).entries) }
+    ensures shortages { IfOk result (λ log.
+        log.shortages.items ≡ (log_of config.now inputs.now).shortages) }
+    ensures too_many { (result ≡ Err RunFault.TooMany) ↔ (2 ^ 32 ≤ length inputs.now) }
+    ensures never_pool { IfErr result IsOneThreadFault }
+{
+    Ok(account_of(alloc, config, inputs)?.log)
 }
 
 /// At each moment of a run the log of the whole run names exactly the bindings that live: whom it

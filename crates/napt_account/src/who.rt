@@ -1,11 +1,11 @@
 //! Who had an external endpoint at a time (RFC 6888, REQ-12; RFC 6269, section 12).
 
-ghost use Rattle.std.specs.Prelude.{◌≡◌, ◌≤◌, length, take, drop, filter, IfOk};
+ghost use Rattle.std.specs.Prelude.{◌≡◌, ◌≢◌, ◌↔◌, ◌+◌, ◌<◌, ◌≤◌, ◌^◌, length, take, drop, filter, IfOk, Err};
 ghost use Rattle.std.specs.List.{list_any};
 ghost use Rattle.napt_wire.specs.declared.Protocol.{Protocol};
 ghost use Rattle.napt_wire.specs.declared.Endpoint.{Endpoint};
 ghost use Rattle.napt_rules.specs.Prelude.{same_endpoint, last_clock};
-ghost use Rattle.napt_account.specs.Fronts.{IsFrontAt};
+ghost use Rattle.napt_account.specs.Fronts.{IsFrontAt, came_by};
 ghost use Rattle.napt_account.specs.Passages.{has_ends};
 ghost use Rattle.napt_account.specs.Log.{log_of};
 ghost use Rattle.napt_account.specs.Attribution.{IsBeforeNext, is_named};
@@ -19,6 +19,7 @@ use std::alloc::{AllocError, Global};
 
 /// How many inputs came by a time, in ns, before the first one that came later.
 fn count_by(inputs: &[Input], at: u64) -> usize
+    ensures count { result ≡ came_by at inputs.now }
     ensures within { result ≤ length inputs.now }
     ensures by { last_clock 0 (take result inputs.now) ≤ at }
     ensures next { IsBeforeNext at (drop result inputs.now) }
@@ -44,11 +45,19 @@ fn with_external(alloc: Global, rows: &[Row], external: Endpoint) -> Result<Vec<
         .collect(alloc)
 }
 
-/// The inputs that came by a time, in ns, and behind them one with no bytes at that time.
-fn front(alloc: Global, inputs: Vec<Input>, at: u64) -> Result<Vec<Input>, AllocError>
-    ensures { IfOk result (λ front. IsFrontAt at inputs.items front.items) }
+/// The first inputs, as many as came by a time, in ns, and behind them one with no bytes at that time.
+fn front(
+    alloc: Global,
+    inputs: Vec<Input>,
+    came: usize,
+    at: u64,
+) -> Result<Vec<Input>, AllocError>
+    requires within { came ≤ length inputs.items }
+    requires by { last_clock 0 (take came inputs.items) ≤ at }
+    requires next { IsBeforeNext at (drop came inputs.items) }
+    ensures front { IfOk result (λ front. IsFrontAt at inputs.items front.items) }
+    ensures long { IfOk result (λ front. length front.items ≡ came + 1) }
 {
-    let came = count_by(&inputs, at);
     let mut front = inputs;
     front.truncate(came);
     front.push(Input {
@@ -65,17 +74,23 @@ fn living_at(
     alloc: Global,
     config: &Config,
     inputs: Vec<Input>,
+    came: usize,
     at: u64,
 ) -> Result<Vec<Row>, RunFault>
-    ensures { IfOk result (λ rows. (protocol : Protocol) (inside external : Endpoint) →
+    requires within { came ≤ length inputs.items }
+    requires by { last_clock 0 (take came inputs.items) ≤ at }
+    requires next { IsBeforeNext at (drop came inputs.items) }
+    requires few { came + 1 < 2 ^ 32 }
+    ensures named { IfOk result (λ rows. (protocol : Protocol) (inside external : Endpoint) →
         list_any (has_ends protocol inside external) rows.items
         ≡ is_named at protocol inside external (log_of config.now inputs.items).entries) }
+    ensures few { result ≢ Err RunFault.TooMany }
 {
     log_attributes();
     runs_are_sound();
     // a configuration keeps its rules, as each of its calls says
     let _kept = config.pool();
-    let front = front(alloc, inputs, at)?;
+    let front = front(alloc, inputs, came, at)?;
     let run = run_plain(alloc, config, &front)?;
     Ok(run.bindings)
 }
@@ -85,7 +100,7 @@ fn living_at(
 /// names then: whoever had the endpoint is told, and nobody else. Only the inputs that came by that
 /// time are run through, once.
 ///
-/// `RunFault::TooMany` comes only where more than 4,294,967,294 inputs came by then,
+/// `RunFault::TooMany` comes exactly where more than 4,294,967,294 inputs came by then,
 /// `RunFault::Memory` only where memory is refused, and `RunFault::Pool` never.
 pub fn holders(
     alloc: Global,
@@ -94,10 +109,15 @@ pub fn holders(
     external: Endpoint,
     at: u64,
 ) -> Result<Vec<Row>, RunFault>
-    ensures { IfOk result (λ holders. (protocol : Protocol) (inside : Endpoint) →
+    ensures named { IfOk result (λ holders. (protocol : Protocol) (inside : Endpoint) →
         list_any (has_ends protocol inside external) holders.items
         ≡ is_named at protocol inside external (log_of config.now inputs.items).entries) }
+    ensures too_many { (result ≡ Err RunFault.TooMany) ↔ (2 ^ 32 ≤ came_by at inputs.items + 1) }
 {
-    let rows = living_at(alloc, config, inputs, at)?;
+    let came = count_by(&inputs, at);
+    if came > 4_294_967_294 {
+        return Err(RunFault::TooMany);
+    }
+    let rows = living_at(alloc, config, inputs, came, at)?;
     Ok(with_external(alloc, &rows, external)?)
 }

@@ -1,6 +1,7 @@
 pub mod Lists
 pub mod Finds
 pub mod Purges
+pub mod FirstEnds
 pub mod Fresh
 mod Slots
 mod Standing

@@ -5,6 +5,7 @@
 ghost use Rattle.std.specs.Prelude.{◌≡◌, ◌==◌, ◌≤◌, ℕ, Bool, true, filter, OnOk, OnErr, IfOk, [], ◌∷◌};
 ghost use Rattle.std.specs.List.{list_any};
 ghost use Rattle.napt_config.specs.Rules.{AreTimers};
+ghost use Rattle.napt_binding.specs.Ends.{last_end};
 ghost use Rattle.napt_rules.specs.Life as life;
 ghost use Rattle.napt_binding.specs.Kept.{flows_of, IsKept};
 ghost use Rattle.napt_rules.specs.Prelude.{change_first};
@@ -17,7 +18,7 @@ mod few;
 mod many;
 mod slots;
 
-use crate::life::{flow_moment, is_live_flow, is_standing};
+use crate::life::{flow_end, flow_moment, is_live_flow, is_standing};
 use crate::sent::{begun_by, used_by};
 use crate::traffic::{is_flow_of, used};
 use many::Many;
@@ -124,6 +125,19 @@ impl Flows {
             Kept::One(flow) => flow_moment(flow, timers).max(now),
             Kept::Few(flows) => few::last_moment_of(flows, timers, now),
             Kept::Many(many) => many.last_moment(timers, now),
+        }
+    }
+
+    /// When the last of these TCP flows ends, in ns; 0 where there is none.
+    pub(crate) fn last_end(&self, timers: Timers) -> u128
+        requires { AreTimers timers }
+        ensures { result ≡ last_end timers self.now }
+    {
+        match &self.kept {
+            Kept::Empty => 0,
+            Kept::One(flow) => flow_end(flow, timers),
+            Kept::Few(flows) => few::last_end(flows, timers),
+            Kept::Many(many) => many.last_end(timers),
         }
     }
 

@@ -14,7 +14,7 @@ mod traffic;
 pub use addresses::Addresses;
 pub use flows::Flows;
 pub use inbound::inbound_of;
-pub use life::{is_live, until};
+pub use life::{end_of, is_live, until};
 pub use napt_rules::{Flow, Inbound, Marks, Sent};
 pub use traffic::{send, take_in};
 

@@ -5,7 +5,8 @@ ghost use Rattle.std.specs.List.{list_any};
 ghost use Rattle.napt_config.specs.Rules.{AreTimers};
 ghost use Rattle.napt_rules.specs.Life as life;
 ghost use Rattle.napt_binding.specs.Standing.{is_standing};
-ghost use Rattle.napt_binding.specs.Ends.{least_timer};
+ghost use Rattle.napt_binding.specs.Ends.{least_timer, end_after, end_of};
+ghost use Rattle.napt_rules.specs.Marks as marks;
 
 use crate::Binding;
 use crate::session::idle;
@@ -33,6 +34,22 @@ pub(crate) fn last_moment(last: u64, seconds: u64) -> u64
     ensures lives { (t : ℕ) → t ≤ result → life.is_recent t last seconds ≡ true }
 {
     last.saturating_add(seconds * SECOND - 1)
+}
+
+/// So many seconds after `last`, in ns.
+pub(crate) fn end_after(last: u64, seconds: u64) -> u128
+    requires { seconds ≤ 1_000_000_000 }
+    ensures { result ≡ end_after last seconds }
+{
+    u128::from(last) + u128::from(seconds) * u128::from(SECOND)
+}
+
+/// The first time, in ns, at which a TCP flow is no longer live, if it is not used again.
+pub(crate) fn flow_end(flow: &Flow, timers: Timers) -> u128
+    requires { AreTimers timers }
+    ensures { result ≡ end_after flow.now.last (marks.idle timers flow.now.marks) }
+{
+    end_after(flow.last, idle(flow.marks, timers))
 }
 
 /// The last moment at which a TCP flow is live.
@@ -76,6 +93,23 @@ pub fn is_live(binding: &Binding, timers: Timers, now: u64) -> bool
         Protocol::Udp => is_recent(now, binding.last, timers.udp),
         Protocol::Tcp => binding.flows.has_live(timers, now),
     }
+}
+
+/// When the binding ends if no packet goes through it: the first time, in ns, at which it is no longer live. None for a
+/// redirect, which lives on.
+pub fn end_of(binding: &Binding, timers: Timers) -> Option<u128>
+    requires { AreTimers timers }
+    ensures { result ≡ end_of timers binding.now }
+{
+    if binding.fixed {
+        return None;
+    }
+    let end = match binding.protocol {
+        Protocol::Icmp => end_after(binding.last, timers.icmp),
+        Protocol::Udp => end_after(binding.last, timers.udp),
+        Protocol::Tcp => binding.flows.last_end(timers),
+    };
+    Some(end)
 }
 
 /// Up to when (ns) a binding that is live now lives for sure, whatever packets come: at least now, and no longer than a packet

@@ -18,6 +18,8 @@ mod held;
 #[cfg(test)]
 mod large;
 #[cfg(test)]
+mod logged;
+#[cfg(test)]
 mod merging;
 #[cfg(test)]
 mod packets;

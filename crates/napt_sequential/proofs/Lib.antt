@@ -15,3 +15,4 @@ pub mod RunsLocal
 pub mod Shown
 pub mod Sound
 pub mod Steps
+pub mod Passed

@@ -10,6 +10,11 @@ use Rattle.napt_rules.specs.declared.End.{End}
 use Rattle.napt_translate.specs.Translators.{begun, kept_of, with_kept, left_by}
 use Rattle.napt_rules.specs.declared.Outcome.{Outcome}
 use Rattle.napt_sequential.specs.declared.counted_translator.CountedTranslator.{CountedTranslator}
+use Rattle.napt_sequential.specs.declared.passage.Passage.{Passage}
+use Rattle.napt_sequential.specs.declared.passage.Seen.{Seen}
+use Rattle.napt_sequential.specs.declared.passage.Went.{Went}
+use Rattle.napt_sequential.specs.declared.outcome.Stepped.{Stepped}
+use Rattle.napt_sequential.specs.Traces.{passage_at, trace_of}
 
 -- a run at some time: the time of the last leg, the legs that acted, and the bindings
 pub record RunState : Type 0 where
@@ -67,6 +72,11 @@ abbrev pub rows_at : ℕ → CountedTranslator → List Row
 rows_at now counted = rows counted.translator.rules.timers (max now counted.translator.table.at)
     counted.translator.table.list
 
+-- what it tells of a leg at a time
+abbrev pub passage_seen : ℕ → Seen → Went → CountedTranslator → Passage
+passage_seen now seen went counted = passage_at counted.translator.rules.timers (max now counted.translator.table.at)
+    counted.translator.table.list counted.translator.table.address seen went
+
 -- the translators are those of some state up to a time, and so many more legs can be counted
 abbrev pub CanTake : Rules → ℕ → ℕ → List CountedTranslator → Type 0
 CanTake rules now more translators = (state : RunState) × AreCountedTranslators rules state translators
@@ -76,6 +86,11 @@ CanTake rules now more translators = (state : RunState) × AreCountedTranslators
 abbrev pub Follows : Rules → ℕ → Course → RunState → List CountedTranslator → Outcome → Type 0
 Follows rules now course state translators outcome = (course.outcomes ≡ outcome ∷ [])
     × AreCountedTranslators rules (state_then now course state) translators
+
+-- the same, and the trace is that of the step
+abbrev pub Steps : Rules → ℕ → Course → RunState → List CountedTranslator → Stepped → Type 0
+Steps rules now course state translators stepped = Follows rules now course state translators stepped.outcome
+    × (stepped.trace ≡ trace_of rules.timers now course)
 
 -- after these inputs, and before any
 abbrev pub state_of : Rules → List Arrival → RunState

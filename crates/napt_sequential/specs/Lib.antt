@@ -3,3 +3,4 @@ pub mod Faults
 pub mod CountedTranslators
 pub mod Dispatching
 pub mod Places
+pub mod Traces

@@ -2,6 +2,7 @@
 
 ghost use Rattle.std.specs.Prelude.{◌≡◌, ◌-◌, ◌^◌, ◌<◌, IfOk, OnOk};
 
+use crate::passage::{Loss, Passage, Seen, Went, in_through, out_through};
 use napt_rules::{End, Leg, Row};
 use napt_translate::Translator;
 use std::alloc::{AllocError, Global};
@@ -14,7 +15,7 @@ pub(crate) struct CountedTranslator {
 }
 
 impl CountedTranslator {
-    ghost use Rattle.napt_sequential.specs.CountedTranslators.{end_at, counted_after, rows_at};
+    ghost use Rattle.napt_sequential.specs.CountedTranslators.{end_at, counted_after, rows_at, passage_seen};
 
     /// Takes a leg, and answers how it ends.
     pub(crate) fn take(&mut self, alloc: Global, leg: Leg) -> Result<End, AllocError>
@@ -25,6 +26,28 @@ impl CountedTranslator {
         let answer = self.translator.translate(alloc, leg)?;
         self.legs += 1;
         Ok(answer.end)
+    }
+
+    /// What a leg did that went so, of a packet that was this before; with the end of its binding at a time, in ns.
+    pub(crate) fn passage(&self, now: u64, seen: Seen, went: Went) -> Passage
+        ensures { result ≡ passage_seen now seen went self.now }
+    {
+        let Some(protocol) = seen.protocol else {
+            return Passage::Nothing;
+        };
+        match went {
+            Went::Out => out_through(self.translator.timed_by_inside(now, protocol, seen.source)),
+            Went::In => in_through(self.translator.timed_by_number(
+                now,
+                protocol,
+                seen.destination.number,
+            )),
+            Went::Dropped(cause) => Passage::Dropped(Loss {
+                protocol,
+                host: seen.source.address,
+                cause,
+            }),
+        }
     }
 
     /// The bindings that live at a time, in ns.

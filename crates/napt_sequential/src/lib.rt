@@ -10,6 +10,7 @@ mod fault;
 mod input;
 mod laws;
 mod outcome;
+mod passage;
 mod run;
 
 pub use arrivals::Arrivals;
@@ -21,5 +22,6 @@ pub use laws::{
 };
 pub use napt_rules::Outcome;
 pub use napt_translate::way_from;
-pub use outcome::Run;
-pub use run::run_plain;
+pub use outcome::{Run, Traced};
+pub use passage::{Loss, Passage, Trace};
+pub use run::{run_plain, run_traced};

@@ -1,7 +1,23 @@
 //! What a run gives.
 
+use crate::passage::Trace;
 use napt_rules::{Outcome, Row};
 use std::marker::Model;
+
+/// What one input gives.
+#[derive(Drop)]
+pub(crate) struct Stepped {
+    pub(crate) outcome: Outcome,
+    pub(crate) trace: Trace,
+}
+
+/// A run, and beside each of its outcomes what the legs of that input did.
+#[derive(Drop)]
+pub struct Traced {
+    pub run: Run,
+    /// One for each input, in their order.
+    pub traces: Vec<Trace>,
+}
 
 /// What a run over a list of inputs gives.
 #[derive(Drop)]

@@ -1,15 +1,18 @@
 //! The sequential run.
 
-ghost use Rattle.std.specs.Prelude.{◌≡◌, ◌↔◌, ◌+◌, ◌*◌, ◌^◌, ◌<◌, ◌≤◌, ℕ, [], length, map, flat_map, AllPairs, IfOk, IfErr, OnOk, Some, Err};
+ghost use Rattle.std.specs.Prelude.{◌≡◌, ◌↔◌, ◌+◌, ◌*◌, ◌^◌, ◌<◌, ◌≤◌, ◌++◌, ℕ, true, [], ◌∷◌, length, map, flat_map, AllPairs, IfOk, IfErr, OnOk, Some, Err};
 ghost use Rattle.std.specs.List.{slice_get};
-ghost use Rattle.napt_config.specs.Rules.{KeepsRules};
+ghost use Rattle.napt_config.specs.Rules.{Rules, KeepsRules};
 ghost use Rattle.napt_rules.specs.Prelude.{opening, act, AreRowsApart};
 ghost use Rattle.napt_rules.specs.Sequential as model;
-ghost use Rattle.napt_sequential.specs.CountedTranslators.{RunState, AreCountedTranslators, CanTake, Follows, state_after, state_of, rows_at};
+ghost use Rattle.napt_sequential.specs.CountedTranslators.{RunState, AreCountedTranslators, CanTake, Steps, state_after, state_of, rows_at};
+ghost use Rattle.napt_sequential.specs.Traces.{passage_at, traces};
 ghost use Rattle.napt_sequential.specs.Faults.{IsOneThreadFault};
 
 use crate::counted_translator::CountedTranslator;
 use crate::laws::runs_are_sound;
+use crate::outcome::{Stepped, Traced};
+use crate::passage::{Passage, Seen, Trace, Went};
 use crate::{Input, Run, RunFault};
 use napt_config::Config;
 use napt_rules::{End, Leg, Outcome, Row};
@@ -51,6 +54,39 @@ fn outcome_of(end: End) -> Outcome
     }
 }
 
+/// What a leg at a place of the pool did that went so, of a packet that was this before; with the end of its binding at
+/// a time, in ns.
+fn passage(
+    translators: &[CountedTranslator],
+    place: u32,
+    now: u64,
+    seen: Seen,
+    went: Went,
+) -> Passage
+    requires { place < length translators.now }
+    ensures { (rules : Rules) (state : RunState) (address : ℕ) →
+        AreCountedTranslators rules state translators.now → state.clock ≤ now →
+        slice_get rules.pool place ≡ Some address →
+        result ≡ passage_at rules.timers now state.list address seen went }
+{
+    translators[place as usize].passage(now, seen, went)
+}
+
+/// What an input gives that had at most one leg.
+fn stepped(now: u64, outcome: Outcome, first: Passage) -> Stepped
+    ensures outcome { result.outcome ≡ outcome }
+    ensures trace { result.trace ≡ record { now = now; first = first; second = Passage.Nothing } }
+{
+    Stepped {
+        outcome,
+        trace: Trace {
+            now,
+            first,
+            second: Passage::Nothing,
+        },
+    }
+}
+
 /// Takes a first leg at a place of the pool, and where its packet goes onward the second, which comes in there at once.
 fn follow(
     alloc: Global,
@@ -58,19 +94,23 @@ fn follow(
     translators: &mut [CountedTranslator],
     place: u32,
     leg: Leg,
-) -> Result<Outcome, AllocError>
+) -> Result<Stepped, AllocError>
     requires keeps { KeepsRules config.now }
     requires within { place < length config.now.pool }
     requires can_take { CanTake config.now leg.now 2 translators.old }
     ensures { (state : RunState) (address : ℕ) →
         AreCountedTranslators config.now state translators.old → state.clock ≤ leg.now →
         slice_get config.now.pool place ≡ Some address →
-        IfOk result (Follows config.now leg.now
+        IfOk result (Steps config.now leg.now
         (model.admitted config.now address leg state.list) state translators.new) }
 {
     let number = leg.number;
     let now = leg.now;
-    match take(alloc, config, translators, place, leg)? {
+    let seen = Seen::of(&leg.packet);
+    let end = take(alloc, config, translators, place, leg)?;
+    let went = Went::by(&end);
+    let first = passage(translators, place, now, seen, went);
+    match end {
         End::Onward(to, packet) => {
             let next = Leg {
                 number,
@@ -78,16 +118,22 @@ fn follow(
                 way: Way::Incoming,
                 packet,
             };
+            let seen_next = Seen::of(&next.packet);
             let end = take(alloc, config, translators, to, next)?;
-            Ok(outcome_of(end))
+            let first = passage(translators, place, now, seen, went);
+            let second = passage(translators, to, now, seen_next, Went::by(&end));
+            Ok(Stepped {
+                outcome: outcome_of(end),
+                trace: Trace { now, first, second },
+            })
         }
-        End::ToOutside(packet) => Ok(Outcome::ToOutside(packet)),
-        End::ToInside(packet) => Ok(Outcome::ToInside(packet)),
-        End::Dropped(cause) => Ok(Outcome::Dropped(cause)),
+        End::ToOutside(packet) => Ok(stepped(now, Outcome::ToOutside(packet), first)),
+        End::ToInside(packet) => Ok(stepped(now, Outcome::ToInside(packet), first)),
+        End::Dropped(cause) => Ok(stepped(now, Outcome::Dropped(cause), first)),
     }
 }
 
-/// Takes an input through the translators at a time, in ns, and answers what became of it.
+/// Takes an input through the translators at a time, in ns, and answers what became of it and what its legs did.
 fn step(
     alloc: Global,
     config: &Config,
@@ -95,22 +141,24 @@ fn step(
     number: u64,
     now: u64,
     input: &Input,
-) -> Result<Outcome, AllocError>
+) -> Result<Stepped, AllocError>
     requires keeps { KeepsRules config.now }
     requires can_take { CanTake config.now now 2 translators.old }
     ensures { (state : RunState) → AreCountedTranslators config.now state translators.old →
         state.clock ≤ now →
-        IfOk result (Follows config.now now
+        IfOk result (Steps config.now now
         (model.step config.now number now input.now state.list) state translators.new) }
 {
     let bytes = Vec::from_slice(alloc, &input.bytes)?;
     let packet = match Packet::read(input.side, bytes) {
         Ok(packet) => packet,
-        Err((cause, _)) => return Ok(Outcome::Dropped(cause)),
+        Err((cause, _)) => {
+            return Ok(stepped(now, Outcome::Dropped(cause), Passage::Nothing));
+        }
     };
     let place = match route(config, input.side, &packet) {
         Ok(place) => place,
-        Err(cause) => return Ok(Outcome::Dropped(cause)),
+        Err(cause) => return Ok(stepped(now, Outcome::Dropped(cause), Passage::Nothing)),
     };
     let leg = Leg {
         number,
@@ -140,32 +188,59 @@ fn begin(alloc: Global, config: &Config) -> Result<Vec<CountedTranslator>, Alloc
     Ok(translators)
 }
 
-/// Takes all inputs through the translators, and answers what became of each, with the last clock.
+/// What all inputs give, and the last clock.
+#[derive(Drop)]
+struct All {
+    outcomes: Vec<Outcome>,
+    traces: Vec<Trace>,
+    last: u64,
+}
+
+/// Puts a trace behind the others where they are kept.
+fn keep(traces: &mut Vec<Trace>, trace: Trace, traced: bool) -> Result<(), AllocError>
+    ensures { OnOk result (traced ≡ true → traces.new.items ≡ traces.old.items ++ trace ∷ []) }
+{
+    if traced {
+        traces.push(trace)?;
+    }
+    Ok(())
+}
+
+/// Takes all inputs through the translators, and answers what became of each; the traces only where they are asked for.
 fn step_all(
     alloc: Global,
     config: &Config,
     translators: &mut [CountedTranslator],
     inputs: &[Input],
-) -> Result<(Vec<Outcome>, u64), AllocError>
+    traced: bool,
+) -> Result<All, AllocError>
     requires keeps { KeepsRules config.now }
     requires few { length inputs.now < 2 ^ 32 }
     requires fresh { AreCountedTranslators config.now (state_of config.now []) translators.old }
-    ensures outcomes { IfOk result (λ all. all.0.items
+    ensures outcomes { IfOk result (λ all. all.outcomes.items
         ≡ (model.run config.now inputs.now (opening config.now)).outcomes) }
-    ensures last { IfOk result (λ all. all.1 ≡ model.last_clock 0 inputs.now) }
+    ensures traces { IfOk result (λ all. traced ≡ true →
+        all.traces.items ≡ traces config.now inputs.now) }
+    ensures last { IfOk result (λ all. all.last ≡ model.last_clock 0 inputs.now) }
     ensures translators { OnOk result (AreCountedTranslators config.now
         (state_of config.now inputs.now)
         translators.new) }
 {
     let mut outcomes = Vec::new(alloc);
-    let mut clock = 0u64;
+    let mut traces = Vec::new(alloc);
+    let mut last = 0u64;
     for input in inputs {
-        clock = clock.max(input.clock);
+        last = last.max(input.clock);
         let number = outcomes.len() as u64;
-        let outcome = step(alloc, config, translators, number, clock, input)?;
-        outcomes.push(outcome)?;
+        let stepped = step(alloc, config, translators, number, last, input)?;
+        outcomes.push(stepped.outcome)?;
+        keep(&mut traces, stepped.trace, traced)?;
     }
-    Ok((outcomes, clock))
+    Ok(All {
+        outcomes,
+        traces,
+        last,
+    })
 }
 
 /// The bindings that live at a time, in ns, address by address.
@@ -195,21 +270,31 @@ fn legs(alloc: Global, translators: &[CountedTranslator]) -> Result<Vec<u64>, Al
     Ok(made)
 }
 
-/// The run over so many inputs as their numbers can count.
+/// The run over so many inputs as their numbers can count; its traces only where they are asked for.
 #[tactic(auto, unfolding(napt_rules::specs::Sequential::ran))]
-fn run(alloc: Global, config: &Config, inputs: &[Input]) -> Result<Run, AllocError>
+fn run(
+    alloc: Global,
+    config: &Config,
+    inputs: &[Input],
+    traced: bool,
+) -> Result<Traced, AllocError>
     requires { length inputs.now < 2 ^ 32 }
-    ensures run { IfOk result (λ run. run ≡ model.ran config.now inputs.now) }
+    ensures run { IfOk result (λ told. told.run ≡ model.ran config.now inputs.now) }
+    ensures traces { IfOk result (λ told. traced ≡ true →
+        told.traces.items ≡ traces config.now inputs.now) }
     ensures kept { KeepsRules config.now }
 {
     let mut translators = begin(alloc, config)?;
-    let (outcomes, last) = step_all(alloc, config, &mut translators, inputs)?;
-    let bindings = bindings(alloc, &translators, last)?;
+    let all = step_all(alloc, config, &mut translators, inputs, traced)?;
+    let bindings = bindings(alloc, &translators, all.last)?;
     let legs = legs(alloc, &translators)?;
-    Ok(Run {
-        outcomes,
-        bindings,
-        legs,
+    Ok(Traced {
+        run: Run {
+            outcomes: all.outcomes,
+            bindings,
+            legs,
+        },
+        traces: all.traces,
     })
 }
 
@@ -231,5 +316,24 @@ pub fn run_plain(alloc: Global, config: &Config, inputs: &[Input]) -> Result<Run
     if inputs.len() > 4_294_967_295 {
         return Err(RunFault::TooMany);
     }
-    Ok(run(alloc, config, inputs)?)
+    Ok(run(alloc, config, inputs, false)?.run)
+}
+
+/// The same run, with what the legs of each input did to the bindings.
+///
+/// `RunFault::TooMany` comes exactly where there are more than 4,294,967,295 inputs, `RunFault::Memory` only where
+/// memory is refused, and `RunFault::Pool` never.
+pub fn run_traced(alloc: Global, config: &Config, inputs: &[Input]) -> Result<Traced, RunFault>
+    ensures run { IfOk result (λ told. told.run ≡ model.ran config.now inputs.now) }
+    ensures traces { IfOk result (λ told. told.traces.items ≡ traces config.now inputs.now) }
+    ensures too_many { (result ≡ Err RunFault.TooMany) ↔ (2 ^ 32 ≤ length inputs.now) }
+    ensures never_pool { IfErr result IsOneThreadFault }
+    ensures kept { KeepsRules config.now }
+{
+    let few = 4_294_967_296;
+    let _pool = config.pool();
+    if inputs.len() >= few {
+        return Err(RunFault::TooMany);
+    }
+    Ok(run(alloc, config, inputs, true)?)
 }

@@ -8,3 +8,4 @@ pub mod QuotaKept
 pub mod Shown
 pub mod Listing
 pub mod Counts
+pub mod TimedRows

@@ -20,6 +20,14 @@ pub use napt_numbers::{Class, Numbers, candidates_are_the_class};
 pub use napt_rules::{Received, Row};
 pub use table::Table;
 
+/// A binding that lives, and when it ends if no packet goes through it.
+#[derive(Clone, Copy, Debug, PartialEq, Eq)]
+pub struct TimedRow {
+    pub row: Row,
+    /// The first time, in ns, at which it is no longer live; none for a redirect, which lives on.
+    pub end: Option<u128>,
+}
+
 /// A step at one address is a step on that address's bindings alone, and a purge changes no later one.
 pub fn steps_are_local()
     ensures purge { PurgeIsLocal }

@@ -10,11 +10,13 @@ ghost use Rattle.std.specs.Option.{option_map};
 ghost use Rattle.napt_wire.specs.declared.Cause.TheVariants.{NoBinding};
 ghost use Rattle.napt_binding.specs.Entering.{entered, left_by};
 ghost use Rattle.napt_table.specs.Held.{seen, HeldIsPurgedLater};
+ghost use Rattle.napt_table.specs.TimedRows.{timed};
 ghost use Rattle.napt_table.specs.Counts.{are_counted, count_in, HasPlace};
 
+use crate::TimedRow;
 use crate::host_counts::HostCounts;
 use crate::rows::row_of;
-use napt_binding::{Binding, Flows, is_live, send, take_in, until};
+use napt_binding::{Binding, Flows, end_of, is_live, send, take_in, until};
 use napt_config::Timers;
 use napt_collections::Due;
 use napt_numbers::Numbers;
@@ -103,6 +105,21 @@ impl Part {
         let number = *self.by_inside.get(&(inside.address, inside.number))?;
         match self.by_number.get(&number) {
             Some(binding) if is_live(binding, self.timers, now) => Some(number),
+            _ => None,
+        }
+    }
+
+    /// The live binding with the number, with its end.
+    pub(crate) fn timed(&self, now: u64, number: u16) -> Option<TimedRow>
+        requires { AreTimers self.now.timers }
+        ensures { result ≡ option_map (timed self.now.timers)
+            (seen self.now.timers now (held self.now number)) }
+    {
+        match self.by_number.get(&number) {
+            Some(binding) if is_live(binding, self.timers, now) => Some(TimedRow {
+                row: row_of(binding),
+                end: end_of(binding, self.timers),
+            }),
             _ => None,
         }
     }

@@ -1,16 +1,18 @@
 //! The translator of one external address.
 
 ghost use Rattle.std.specs.Prelude.{◌≡◌, ◌≤◌, ◌<◌, ℕ, max, length, slice_index, Some, IfOk, OnOk, OnErr};
+ghost use Rattle.std.specs.Option.{option_map};
 ghost use Rattle.napt_wire.specs.Fields.{source, destination, kind};
 ghost use Rattle.napt_rules.specs.Prelude.{rows, kept_answer};
 ghost use Rattle.napt_rules.specs.Steps as steps;
+ghost use Rattle.napt_table.specs.TimedRows.{timed};
 ghost use Rattle.napt_translate.specs.Carried.{carried_by};
 ghost use Rattle.napt_rules.specs.Legs as legs;
 ghost use Rattle.napt_translate.specs.Translators as translators;
 
 use napt_config::Config;
 use napt_rules::{Answer, End, Leg, Row};
-use napt_table::Table;
+use napt_table::{Table, TimedRow};
 use napt_wire::{Cause, Endpoint, Flags, Inner, Kind, Packet, Protocol, Way};
 use std::alloc::{AllocError, Global};
 use std::marker::Model;
@@ -102,6 +104,33 @@ impl Translator {
             (max now self.now.table.at) self.now.table.list) }
     {
         self.table.bindings(alloc, now.max(self.table.at()))
+    }
+
+    /// The binding of an inside endpoint at a time, in ns, with its end; a time before that of the last leg counts as
+    /// that one.
+    pub fn timed_by_inside(
+        &self,
+        now: u64,
+        protocol: Protocol,
+        inside: Endpoint,
+    ) -> Option<TimedRow>
+        ensures { result ≡ option_map (timed self.now.rules.timers)
+            (steps.by_inside self.now.rules.timers self.now.table.address
+            (max now self.now.table.at) protocol inside self.now.table.list) }
+    {
+        self.table
+            .timed_by_inside(now.max(self.table.at()), protocol, inside)
+    }
+
+    /// The binding with an external number at a time, in ns, with its end; a time before that of the last leg counts as
+    /// that one.
+    pub fn timed_by_number(&self, now: u64, protocol: Protocol, number: u16) -> Option<TimedRow>
+        ensures { result ≡ option_map (timed self.now.rules.timers)
+            (steps.by_number self.now.rules.timers self.now.table.address
+            (max now self.now.table.at) protocol number self.now.table.list) }
+    {
+        self.table
+            .timed_by_number(now.max(self.table.at()), protocol, number)
     }
 
     /// A packet that is no error goes out.

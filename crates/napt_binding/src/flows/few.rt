@@ -6,11 +6,12 @@ ghost use Rattle.napt_config.specs.Rules.{AreTimers};
 ghost use Rattle.napt_rules.specs.Prelude.{change_first};
 ghost use Rattle.napt_rules.specs.Life as life;
 ghost use Rattle.napt_binding.specs.Standing.{standing_flow_of};
+ghost use Rattle.napt_binding.specs.Ends.{last_end};
 ghost use Rattle.napt_binding.specs.Sent as packets;
 ghost use Rattle.napt_binding.specs.Slots.{AreDistinct};
 ghost use Rattle.napt_rules.specs.Traffic as traffic;
 
-use crate::life::{flow_moment, is_live_flow, is_standing};
+use crate::life::{flow_end, flow_moment, is_live_flow, is_standing};
 use crate::sent::{begun_by, used_by};
 use crate::traffic::{is_flow_of, used};
 use napt_config::Timers;
@@ -28,6 +29,18 @@ pub(super) fn last_moment_of(flows: &[Flow], timers: Timers, now: u64) -> u64
     let mut last = now;
     for flow in flows {
         last = last.max(flow_moment(flow, timers));
+    }
+    last
+}
+
+/// When the last of these flows ends, in ns; 0 where there is none.
+pub(super) fn last_end(flows: &[Flow], timers: Timers) -> u128
+    requires { AreTimers timers }
+    ensures { result ≡ last_end timers flows.now }
+{
+    let mut last = 0;
+    for flow in flows {
+        last = flow_end(flow, timers).max(last);
     }
     last
 }

@@ -7,6 +7,7 @@ ghost use Rattle.napt_rules.specs.declared.Flow.{Flow};
 ghost use Rattle.napt_rules.specs.Life as life;
 ghost use Rattle.napt_binding.specs.Standing.{standing_flow_of};
 ghost use Rattle.napt_rules.specs.Prelude.{change_first};
+ghost use Rattle.napt_binding.specs.Ends.{last_end};
 ghost use Rattle.napt_binding.specs.Sent as packets;
 ghost use Rattle.napt_binding.specs.Slots.{somes, Stands, AreDistinct};
 ghost use Rattle.napt_rules.specs.Traffic as traffic;
@@ -184,6 +185,14 @@ impl Many {
             (somes self.now.slots.slots) ≡ true }
     {
         self.slots.last_moment(timers, now)
+    }
+
+    /// When the last of these TCP flows ends, in ns; 0 where there is none.
+    pub(super) fn last_end(&self, timers: Timers) -> u128
+        requires { AreTimers timers }
+        ensures { result ≡ last_end timers (somes self.now.slots.slots) }
+    {
+        self.slots.last_end(timers)
     }
 
     /// Whether one of the flows is of the address.

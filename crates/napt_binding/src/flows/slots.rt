@@ -1,14 +1,15 @@
 //! The flows of a binding in slots, with the times of their last use at hand.
 
-ghost use Rattle.std.specs.Prelude.{◌≡◌, ◌<◌, ◌≤◌, ◌+◌, ◌++◌, ◌^◌, ℕ, [], ◌∷◌, Some, true, false, length, slice_set, filter, OnOk, IfSome, IfNone};
+ghost use Rattle.std.specs.Prelude.{◌≡◌, ◌<◌, ◌≤◌, ◌+◌, ◌++◌, ◌^◌, ℕ, [], ◌∷◌, Some, true, false, nat_lt, length, slice_set, filter, OnOk, IfSome, IfNone};
 ghost use Rattle.std.specs.List.{list_any};
 ghost use Rattle.napt_config.specs.Rules.{AreTimers};
 ghost use Rattle.napt_rules.specs.declared.Flow.{Flow};
 ghost use Rattle.napt_rules.specs.Life as life;
+ghost use Rattle.napt_binding.specs.Ends.{last_end};
 ghost use Rattle.napt_binding.specs.Slots as slots;
 ghost use Rattle.napt_binding.specs.Slots.{somes, Stands, is_recent_time};
 
-use crate::life::{is_recent, last_moment};
+use crate::life::{end_after, is_recent, last_moment};
 use crate::session::is_established;
 use napt_collections::Times;
 use napt_config::Timers;
@@ -97,6 +98,18 @@ fn last_moment_of(times: &Times, now: u64, seconds: u64) -> u64
     match times.latest() {
         Some(time) => last_moment(time, seconds).max(now),
         None => now,
+    }
+}
+
+/// When the last of the times is so many seconds ago, in ns; 0 where there is none.
+fn end_of_times(times: &Times, seconds: u64) -> u128
+    requires some { 0 < seconds }
+    requires few { seconds ≤ 1_000_000_000 }
+    ensures { (t : ℕ) → list_any (is_recent_time t seconds) times.now.times ≡ nat_lt t result }
+{
+    match times.latest() {
+        Some(time) => end_after(time, seconds),
+        None => 0,
     }
 }
 
@@ -204,5 +217,14 @@ impl Slots {
     {
         let established = last_moment_of(&self.established, now, timers.established);
         established.max(last_moment_of(&self.others, now, timers.transitory))
+    }
+
+    /// When the last of the TCP flows ends, in ns; 0 where there is none. It takes two looks.
+    pub(crate) fn last_end(&self, timers: Timers) -> u128
+        requires { AreTimers timers }
+        ensures { result ≡ last_end timers (somes self.now.slots) }
+    {
+        let established = end_of_times(&self.established, timers.established);
+        established.max(end_of_times(&self.others, timers.transitory))
     }
 }

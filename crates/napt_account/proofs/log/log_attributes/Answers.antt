@@ -1,6 +1,6 @@
 use Rattle.napt_account.specs.Attribution.{LogListsTheLiving}
 use Rattle.napt_account.proofs.Attribution.{log_lists, log_names}
-use Rattle.napt_account.proofs.FirstEnds.{ends_are_first}
+use Rattle.napt_binding.proofs.FirstEnds.{ends_are_first}
 use Rattle.napt_account.proofs.log.log_attributes.Goals as goal
 
 pub returns-clause-ends : goal.returns-clause-ends

@@ -6,8 +6,9 @@ use Rattle.napt_wire.specs.declared.Side.{Side}
 use Rattle.napt_wire.specs.declared.Way.{Way}
 use Rattle.napt_rules.specs.Prelude.{refusal, way_from, served_at, route, Arrival, Course, refused, admitted, step}
 use Rattle.napt_rules.specs.declared.Outcome.TheVariants.{Dropped}
-use Rattle.napt_sequential.specs.CountedTranslators.{Follows}
-use Rattle.napt_sequential.proofs.Steps.{arrival_of, route_ok, route_err, follows_none, step_unread, step_refused, step_admitted, reads_as, side_as}
+use Rattle.napt_sequential.specs.CountedTranslators.{Steps}
+use Rattle.napt_sequential.proofs.Steps.{arrival_of, route_ok, route_err, step_unread, step_refused, step_admitted, reads_as, side_as}
+use Rattle.napt_sequential.proofs.Passed.{steps_none}
 use Rattle.napt_sequential.proofs.run.step.Goals as goal
 
 pub returns-in-Err : goal.returns-in-Err
@@ -19,10 +20,10 @@ returns-in-Err c = λ state are later.
     c.in-Err.ensures.cause in
     let is : step c.args.config.now c.args.number c.args.now input state.list ≡ refused c.in-Err.cause state.list =
     step_unread c.args.config.now c.args.number c.args.now input state.list c.in-Err.cause reads in
-    subst (λ (s : Course). Follows c.args.config.now c.args.now s state c.args.translators.now
-    (Dropped c.in-Err.cause))
+    subst (λ (s : Course). Steps c.args.config.now c.args.now s state c.args.translators.now c.stepped.result)
     (sym is)
-    (follows_none c.args.config.now c.args.now state c.args.translators.now later are c.in-Err.cause)
+    (steps_none c.args.config.now c.args.now state c.args.translators.now later are c.in-Err.cause c.stepped.result
+    c.stepped.ensures.outcome c.stepped.ensures.trace)
 
 pub returns-in-Err-route : goal.returns-in-Err-route
 returns-in-Err-route c = λ state are later.
@@ -39,9 +40,10 @@ returns-in-Err-route c = λ state are later.
     ≡ refused c.in-Err-route.cause state.list =
     step_refused c.args.config.now c.args.number c.args.now input state.list packet reads c.in-Err-route.cause
     against in
-    subst (λ (s : Course). Follows c.args.config.now c.args.now s state c.args.translators.now
-    (Dropped c.in-Err-route.cause)) (sym is)
-    (follows_none c.args.config.now c.args.now state c.args.translators.now later are c.in-Err-route.cause)
+    subst (λ (s : Course). Steps c.args.config.now c.args.now s state c.args.translators.now
+    c.stepped-in-Err-route.result) (sym is)
+    (steps_none c.args.config.now c.args.now state c.args.translators.now later are c.in-Err-route.cause
+    c.stepped-in-Err-route.result c.stepped-in-Err-route.ensures.outcome c.stepped-in-Err-route.ensures.trace)
 
 pub follow-requires-clause-within : goal.follow-requires-clause-within
 follow-requires-clause-within c =
@@ -75,7 +77,7 @@ returns c = λ state are later.
     ap (admitted_at c.input.inside.side) c.way_from.ensures
     ∙ (ap (λ (s : Side). admitted_at s (way_from s)) (side_as input copy c.input.view_is) ∙ sym is) in
     subst (λ (s : Course). IfOk c.follow.result
-    (Follows c.args.config.now c.args.now s state c.follow.new.translators))
+    (Steps c.args.config.now c.args.now s state c.follow.new.translators))
     same
     (c.follow.ensures state (served_at c.args.config.now (way_from c.input.inside.side) packet) are later
     c.in-Ok-route.ensures.in_pool)

@@ -1,0 +1,1 @@
+use Rattle.napt_account.proofs.book.Book.tell.Goals as goal

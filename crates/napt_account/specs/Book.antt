@@ -1,0 +1,76 @@
+-- How entries are told leg by leg: an open entry of the binding that the packet went through changes, and where there is
+-- none, one begins.
+use Rattle.std.specs.Prelude.{ℕ, ◌+◌, Bool, ◌&&◌, cond, List, [], ◌∷◌, ◌++◌, map, Option}
+use Rattle.std.specs.List.{list_any, fold}
+use Rattle.napt_config.specs.Rules.{Rules}
+use Rattle.napt_rules.specs.Prelude.{same_protocol, same_endpoint, opening}
+use Rattle.napt_binding.specs.Ends.{is_before}
+use Rattle.napt_rules.specs.declared.Row.{Row}
+use Rattle.napt_table.specs.declared.TimedRow.{TimedRow}
+use Rattle.napt_sequential.specs.declared.passage.Loss.{Loss}
+use Rattle.napt_sequential.specs.declared.passage.Passage.{Passage}
+use Rattle.napt_sequential.specs.declared.passage.Passage.TheVariants.{Nothing, Out, In, Dropped}
+use Rattle.napt_sequential.specs.declared.passage.Trace.{Trace}
+use Rattle.napt_account.specs.declared.log.Entry.{Entry}
+use Rattle.napt_account.specs.declared.log.Shortage.{Shortage}
+use Rattle.napt_account.specs.Log.{begun, is_shortage}
+
+-- whether a row has the protocol and the external endpoint of another
+abbrev pub shares : Row → Row → Bool
+shares wanted other = same_protocol wanted.protocol other.protocol && same_endpoint wanted.external other.external
+
+-- whether an entry has not ended by a time and has the external endpoint of a row
+abbrev pub is_of : ℕ → Row → Entry → Bool
+is_of now wanted entry = is_before now entry.end && shares wanted entry.binding
+
+abbrev pub through : ℕ → Row → (Entry → Entry) → Entry → Entry
+through now wanted change entry = cond (is_of now wanted entry) (change entry) entry
+
+-- an entry after a packet went out through its binding, which has this end then, and after one came in
+abbrev pub sent_through : ℕ → Option ℕ → Entry → Entry
+sent_through now end entry = record entry { end = end; sent = entry.sent + 1; last = now; last_sent = now }
+
+abbrev pub received_through : ℕ → Option ℕ → Entry → Entry
+received_through now end entry = record entry { end = end; received = entry.received + 1; last = now }
+
+-- the entry that a packet begins
+abbrev pub made_by : ℕ → TimedRow → Entry
+made_by now timed = record {
+  binding = timed.row;
+  made = now;
+  end = timed.end;
+  sent = 1;
+  received = 0;
+  last = now;
+  last_sent = now;
+}
+
+abbrev pub after_out : ℕ → TimedRow → List Entry → List Entry
+after_out now timed entries = cond (list_any (is_of now timed.row) entries)
+    (map (through now timed.row (sent_through now timed.end)) entries) (entries ++ made_by now timed ∷ [])
+
+abbrev pub after_in : ℕ → TimedRow → List Entry → List Entry
+after_in now timed entries = map (through now timed.row (received_through now timed.end)) entries
+
+abbrev pub after : ℕ → Passage → List Entry → List Entry
+after now Nothing entries = entries
+after now (Out timed) entries = after_out now timed entries
+after now (In timed) entries = after_in now timed entries
+after now (Dropped loss) entries = entries
+
+abbrev pub after_trace : List Entry → Trace → List Entry
+after_trace entries trace = after trace.now trace.second (after trace.now trace.first entries)
+
+abbrev pub told_by : Rules → List Trace → List Entry
+told_by rules traces = fold after_trace (map (begun rules.timers 0) (opening rules)) traces
+
+-- shortages
+abbrev pub lost : ℕ → Passage → List Shortage
+lost now Nothing = []
+lost now (Out timed) = []
+lost now (In timed) = []
+lost now (Dropped loss) = cond (is_shortage loss.cause)
+    (record { at = now; cause = loss.cause; protocol = loss.protocol; host = loss.host } ∷ []) []
+
+abbrev pub lost_by : Trace → List Shortage
+lost_by trace = lost trace.now trace.first ++ lost trace.now trace.second

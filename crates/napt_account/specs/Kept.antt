@@ -1,0 +1,30 @@
+-- What the log keeps while a run is told.
+use Rattle.std.specs.Prelude.{◌≡◌, ℕ, ◌+◌, ◌≤◌, true, List, [], ◌∷◌, Some}
+use Rattle.std.specs.List.{slice_get}
+use Rattle.napt_binding.specs.Ends.{is_before}
+use Rattle.napt_sequential.specs.declared.passage.Trace.{Trace}
+use Rattle.napt_account.specs.declared.log.Entry.{Entry}
+use Rattle.napt_account.specs.declared.book.Book.{Book}
+use Rattle.napt_account.specs.declared.places.Places.{Places}
+use Rattle.napt_rules.specs.declared.Row.{Row}
+use Rattle.napt_account.specs.Book.{is_of}
+use Rattle.napt_account.specs.Places.{place_at}
+
+-- an entry that has not ended by a time is the latest of its external endpoint, and none has more than so many packets
+-- either way
+pub record AreKept (now most : ℕ) (entries : List Entry) (places : Places) : Type 0 where
+  pub latest : (i : ℕ) (e : Entry) → slice_get entries i ≡ Some e → is_before now e.end ≡ true →
+      place_at places e.binding.protocol e.binding.external ≡ Some i
+  pub few : (i : ℕ) (e : Entry) → slice_get entries i ≡ Some e → (e.sent ≤ most) × (e.received ≤ most)
+
+abbrev pub IsBook : ℕ → ℕ → Book → Type 0
+IsBook now most book = AreKept now most book.log.entries.items book.latest
+
+-- the entry at a place has not ended and has the external endpoint of a row
+abbrev pub StandsAt : ℕ → Row → ℕ → List Entry → Type 0
+StandsAt now wanted place entries = (e : Entry) × (slice_get entries place ≡ Some e) × (is_of now wanted e ≡ true)
+
+-- the times of the traces do not fall, from a clock on
+abbrev pub AreInTime : ℕ → List Trace → Type 0
+AreInTime clock [] = Unit {0}
+AreInTime clock (trace ∷ traces) = (clock ≤ trace.now) × AreInTime trace.now traces

@@ -1,0 +1,328 @@
+//! The log while a run is told, input by input.
+
+ghost use Rattle.std.specs.Prelude.{◌≡◌, ◌+◌, ◌<◌, ◌≤◌, ◌^◌, ◌++◌, ℕ, [], ◌∷◌, false, length, map, flat_map, IfOk, OnOk, IfSome, IfNone};
+ghost use Rattle.std.specs.List.{list_any, fold};
+ghost use Rattle.napt_config.specs.Rules.{pair_of};
+ghost use Rattle.napt_rules.specs.Prelude.{same_protocol, same_endpoint, redirected, opening, row};
+ghost use Rattle.napt_binding.specs.Ends.{is_before};
+ghost use Rattle.napt_account.specs.Log.{begun, is_shortage};
+ghost use Rattle.napt_account.specs.Book as books;
+ghost use Rattle.napt_account.specs.Kept.{AreInTime};
+
+use crate::account::{Note, Use};
+use crate::log::{Entry, Log, Shortage};
+use crate::places::Places;
+use napt_config::{Config, Redirect};
+use napt_sequential::{Loss, Passage, Trace};
+use napt_table::{Row, TimedRow, opening_is_sound};
+use napt_wire::{Cause, Endpoint, Protocol};
+use std::alloc::{AllocError, Global};
+
+/// The log so far, and where the latest entry of each external endpoint stands.
+#[derive(Drop)]
+pub(crate) struct Book {
+    pub(crate) log: Log,
+    pub(crate) latest: Places,
+}
+
+/// The binding of a redirect.
+fn redirected(config: &Config, redirect: Redirect) -> Row
+    ensures { result ≡ row (redirected (pair_of config.now) redirect) }
+{
+    let protocol = if redirect.tcp {
+        Protocol::Tcp
+    } else {
+        Protocol::Udp
+    };
+    Row {
+        protocol,
+        inside: Endpoint {
+            address: redirect.address,
+            number: redirect.port,
+        },
+        external: Endpoint {
+            address: config.pair(redirect.address),
+            number: redirect.external,
+        },
+        fixed: true,
+    }
+}
+
+fn same_endpoint(a: Endpoint, b: Endpoint) -> bool
+    ensures { result ≡ same_endpoint a b }
+{
+    a.address == b.address && a.number == b.number
+}
+
+fn same_protocol(a: Protocol, b: Protocol) -> bool
+    ensures { result ≡ same_protocol a b }
+{
+    match (a, b) {
+        (Protocol::Icmp, Protocol::Icmp)
+        | (Protocol::Tcp, Protocol::Tcp)
+        | (Protocol::Udp, Protocol::Udp) => true,
+        _ => false,
+    }
+}
+
+/// Whether a time, in ns, is before an end.
+fn is_before(now: u64, end: Option<u128>) -> bool
+    ensures { result ≡ is_before now end }
+{
+    match end {
+        Some(end) => u128::from(now) < end,
+        None => true,
+    }
+}
+
+/// Whether an entry has not ended by a time, in ns, and has the external endpoint of a row.
+fn is_of(now: u64, row: Row, entry: Entry) -> bool
+    ensures { result ≡ books.is_of now row entry }
+{
+    is_before(now, entry.end)
+        && same_protocol(row.protocol, entry.binding.protocol)
+        && same_endpoint(row.external, entry.binding.external)
+}
+
+/// Whether no binding could be made.
+fn is_shortage(cause: Cause) -> bool
+    ensures { result ≡ is_shortage cause }
+{
+    matches!(cause, Cause::OverQuota | Cause::NoPort)
+}
+
+/// What a packet did that found its binding.
+fn found(entry: Entry) -> Note {
+    if entry.binding.fixed {
+        Note::Redirect
+    } else {
+        Note::Found
+    }
+}
+
+/// What a packet did that came in.
+fn came_in(through: Option<(Note, usize)>) -> Use {
+    match through {
+        Some((note, place)) => Use {
+            note,
+            out: None,
+            into: Some(place),
+        },
+        None => NO_USE,
+    }
+}
+
+/// Where no binding was used.
+const NO_USE: Use = Use {
+    note: Note::Nothing,
+    out: None,
+    into: None,
+};
+
+impl Book {
+    ghost use Rattle.napt_account.specs.Kept.{IsBook, StandsAt};
+
+    /// The redirects stand in it.
+    pub(crate) fn begin(alloc: Global, config: &Config) -> Result<Book, AllocError>
+        ensures entries { IfOk result (λ book. book.log.entries.items
+            ≡ map (begun config.now.timers 0) (opening config.now)) }
+        ensures shortages { IfOk result (λ book. book.log.shortages.items ≡ []) }
+        ensures kept { IfOk result (IsBook 0 0) }
+    {
+        opening_is_sound();
+        let mut book = Book {
+            log: Log {
+                entries: Vec::new(alloc),
+                shortages: Vec::new(alloc),
+            },
+            latest: Places::new(alloc),
+        };
+        for redirect in config.redirects() {
+            book.put(Entry {
+                binding: redirected(config, *redirect),
+                made: 0,
+                end: None,
+                sent: 0,
+                received: 0,
+                last: 0,
+                last_sent: 0,
+            })?;
+        }
+        Ok(book)
+    }
+
+    /// An entry more: answers its place.
+    fn put(&mut self, entry: Entry) -> Result<usize, AllocError>
+        ensures place { IfOk result (λ place. place ≡ length self.old.log.entries.items) }
+        ensures entries { OnOk result (self.new.log.entries.items
+            ≡ self.old.log.entries.items ++ entry ∷ []) }
+        ensures shortages { self.new.log.shortages.items ≡ self.old.log.shortages.items }
+        ensures kept { (now most : ℕ) → IsBook now most self.old →
+            list_any (books.is_of now entry.binding) self.old.log.entries.items ≡ false →
+            entry.sent ≤ most → entry.received ≤ most → OnOk result (IsBook now most self.new) }
+    {
+        let place = self.log.entries.len();
+        self.log.entries.push(entry)?;
+        let latest = &mut self.latest;
+        latest.put(entry.binding.protocol, entry.binding.external, place)?;
+        Ok(place)
+    }
+
+    /// The place of the entry of an external endpoint that has not ended by a time, in ns.
+    fn place_of(&self, now: u64, row: Row) -> Option<usize>
+        requires { (most : ℕ) × IsBook now most self.now }
+        ensures some { IfSome result (λ place. StandsAt now row place self.now.log.entries.items) }
+        ensures none { IfNone result
+            (list_any (books.is_of now row) self.now.log.entries.items ≡ false) }
+    {
+        let place = self.latest.get(row.protocol, row.external)?;
+        let entry = self.log.entries.get(place)?;
+        if is_of(now, row, *entry) {
+            Some(place)
+        } else {
+            None
+        }
+    }
+
+    /// A packet went out through the binding, which has this end then: what it did to it, and the place of its entry.
+    fn go_out(&mut self, now: u64, timed: TimedRow) -> Result<(Note, usize), AllocError>
+        requires { (most : ℕ) × IsBook now most self.old × (most + 1 < 2 ^ 64) }
+        ensures entries { OnOk result (self.new.log.entries.items
+            ≡ books.after_out now timed self.old.log.entries.items) }
+        ensures shortages { self.new.log.shortages.items ≡ self.old.log.shortages.items }
+        ensures kept { (most : ℕ) → IsBook now most self.old →
+            OnOk result (IsBook now (most + 1) self.new) }
+    {
+        match self.place_of(now, timed.row) {
+            Some(place) => {
+                let entry = self.log.entries[place];
+                self.log.entries[place] = Entry {
+                    end: timed.end,
+                    sent: entry.sent + 1,
+                    last: now,
+                    last_sent: now,
+                    ..entry
+                };
+                Ok((found(entry), place))
+            }
+            None => {
+                let made = self.put(Entry {
+                    binding: timed.row,
+                    made: now,
+                    end: timed.end,
+                    sent: 1,
+                    received: 0,
+                    last: now,
+                    last_sent: now,
+                })?;
+                Ok((Note::Made, made))
+            }
+        }
+    }
+
+    /// A packet came in through the binding, which has this end then: what it did to it, and the place of its entry.
+    fn come_in(&mut self, now: u64, timed: TimedRow) -> Option<(Note, usize)>
+        requires { (most : ℕ) × IsBook now most self.old × (most + 1 < 2 ^ 64) }
+        ensures entries { self.new.log.entries.items
+            ≡ books.after_in now timed self.old.log.entries.items }
+        ensures shortages { self.new.log.shortages.items ≡ self.old.log.shortages.items }
+        ensures kept { (most : ℕ) → IsBook now most self.old → IsBook now (most + 1) self.new }
+    {
+        let place = self.place_of(now, timed.row)?;
+        let entry = self.log.entries[place];
+        self.log.entries[place] = Entry {
+            end: timed.end,
+            received: entry.received + 1,
+            last: now,
+            ..entry
+        };
+        Some((found(entry), place))
+    }
+
+    /// A packet was dropped: where no binding could be made for it, that is noted.
+    fn lose(&mut self, now: u64, loss: Loss) -> Result<(), AllocError>
+        ensures entries { self.new.log.entries.items ≡ self.old.log.entries.items }
+        ensures latest { self.new.latest ≡ self.old.latest }
+        ensures shortages { OnOk result (self.new.log.shortages.items
+            ≡ self.old.log.shortages.items ++ books.lost now (Passage.Dropped loss)) }
+    {
+        if is_shortage(loss.cause) {
+            self.log.shortages.push(Shortage {
+                at: now,
+                cause: loss.cause,
+                protocol: loss.protocol,
+                host: loss.host,
+            })?;
+        }
+        Ok(())
+    }
+
+    /// A leg passed: what it did to the bindings.
+    fn pass(&mut self, now: u64, passage: Passage) -> Result<Use, AllocError>
+        requires { (most : ℕ) × IsBook now most self.old × (most + 1 < 2 ^ 64) }
+        ensures entries { OnOk result (self.new.log.entries.items
+            ≡ books.after now passage self.old.log.entries.items) }
+        ensures shortages { OnOk result (self.new.log.shortages.items
+            ≡ self.old.log.shortages.items ++ books.lost now passage) }
+        ensures kept { (most : ℕ) → IsBook now most self.old →
+            OnOk result (IsBook now (most + 1) self.new) }
+    {
+        match passage {
+            Passage::Nothing => Ok(NO_USE),
+            Passage::Out(timed) => {
+                let (note, place) = self.go_out(now, timed)?;
+                Ok(Use {
+                    note,
+                    out: Some(place),
+                    into: None,
+                })
+            }
+            Passage::In(timed) => Ok(came_in(self.come_in(now, timed))),
+            Passage::Dropped(loss) => {
+                self.lose(now, loss)?;
+                Ok(NO_USE)
+            }
+        }
+    }
+
+    /// What the legs of an input did to the bindings.
+    fn tell(&mut self, trace: Trace) -> Result<Use, AllocError>
+        requires { (most : ℕ) × IsBook trace.now most self.old × (most + 2 < 2 ^ 64) }
+        ensures entries { OnOk result (self.new.log.entries.items
+            ≡ books.after_trace self.old.log.entries.items trace) }
+        ensures shortages { OnOk result (self.new.log.shortages.items
+            ≡ self.old.log.shortages.items ++ books.lost_by trace) }
+        ensures kept { (most : ℕ) → IsBook trace.now most self.old →
+            OnOk result (IsBook trace.now (most + 2) self.new) }
+    {
+        let first = self.pass(trace.now, trace.first)?;
+        let second = self.pass(trace.now, trace.second)?;
+        Ok(Use {
+            note: first.note,
+            out: first.out,
+            into: first.into.or(second.into),
+        })
+    }
+
+    /// What the legs of all inputs did, input by input.
+    pub(crate) fn tell_all(
+        &mut self,
+        alloc: Global,
+        traces: &[Trace],
+    ) -> Result<Vec<Use>, AllocError>
+        requires kept { IsBook 0 0 self.old }
+        requires in_time { AreInTime 0 traces.now }
+        requires few { length traces.now < 2 ^ 32 }
+        ensures entries { OnOk result (self.new.log.entries.items
+            ≡ fold books.after_trace self.old.log.entries.items traces.now) }
+        ensures shortages { OnOk result (self.new.log.shortages.items
+            ≡ self.old.log.shortages.items ++ flat_map books.lost_by traces.now) }
+    {
+        let mut uses = Vec::new(alloc);
+        for trace in traces {
+            let used = self.tell(*trace)?;
+            uses.push(used)?;
+        }
+        Ok(uses)
+    }
+}

@@ -1,0 +1,22 @@
+use Rattle.std.proofs.Common.{ℕ, ◌||◌, ◌∙◌, ap}
+use Rattle.std.specs.List.{list_any}
+use Rattle.napt_binding.specs.Ends.{last_end}
+use Rattle.napt_rules.specs.Prelude.{is_live_flow}
+use Rattle.napt_binding.specs.Slots.{somes, is_recent_time}
+use Rattle.napt_binding.specs.SlotsShown.{Shown}
+use Rattle.napt_binding.proofs.FirstEnds.{flows_before, max_before}
+use Rattle.napt_binding.proofs.Timed.{live_is}
+use Rattle.napt_binding.proofs.flows.slots.Slots.last_end.Goals as goal
+
+pub returns : goal.returns
+returns c =
+    rw (← c.self.view_is)
+    (c.max.ensures ∙ max_before c.end_of_times-established.result c.end_of_times.result
+    (λ t. list_any (is_recent_time t c.args.timers.established) c.self.inside.established.times)
+    (λ t. list_any (is_recent_time t c.args.timers.transitory) c.self.inside.others.times)
+    (λ t. list_any (is_live_flow c.args.timers t) (somes c.self.inside.flows.items))
+    (last_end c.args.timers (somes c.self.inside.flows.items))
+    c.end_of_times-established.ensures c.end_of_times.ensures
+    (λ t. live_is c.args.timers t c.self.inside.flows.items c.self.inside.established.times
+    c.self.inside.others.times c.self.invariant.established_are c.self.invariant.others_are)
+    (λ t. flows_before c.args.timers c.requires t (somes c.self.inside.flows.items)))

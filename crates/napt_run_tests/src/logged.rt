@@ -1,0 +1,113 @@
+//! Who had an external endpoint, by the log of a run and by the call that tells its holders.
+
+use crate::steps::input;
+use napt_account::{Entry, Note, Shortage, account_of, holders, log_of};
+use napt_config::Config;
+use napt_run::Input;
+use napt_samples::hosts::{CLIENT, RESOLVER, SECOND, SECOND_CLIENT, external, host};
+use napt_samples::settings::ONE_ADDRESS;
+use napt_table::Row;
+use napt_wire::{Cause, Endpoint, Protocol, Side};
+use std::alloc::{AllocError, Global};
+use std::test::Fail;
+
+/// The same host sends at 10 s, and another at 1000 s, when the number is free again.
+fn two_hosts(alloc: Global) -> Result<Vec<Input>, AllocError> {
+    let mut inputs = Vec::new(alloc);
+    inputs.push(input(alloc, Side::Inside, 10 * SECOND, CLIENT, RESOLVER)?)?;
+    inputs.push(input(alloc, Side::Inside, 1000 * SECOND, SECOND_CLIENT, RESOLVER)?)?;
+    Ok(inputs)
+}
+
+fn udp_row(inside: Endpoint) -> Row {
+    Row {
+        protocol: Protocol::Udp,
+        inside,
+        external: external(1, 5000),
+        fixed: false,
+    }
+}
+
+/// At a time 203.0.113.1:5000 has no holder, or this one.
+fn assert_holder(alloc: Global, at: u64, holder: Option<Endpoint>) -> Result<(), Fail> {
+    let config = Config::read(alloc, ONE_ADDRESS.as_bytes())?;
+    let rows = holders(alloc, &config, two_hosts(alloc)?, external(1, 5000), at)?;
+    let told = rows.first().map(|row| row.inside);
+    assert_eq!(rt; told, holder);
+    Ok(())
+}
+
+#[test]
+fn holders_by_time(rt: HostRuntime) -> Result<(), Fail> {
+    let alloc = rt.alloc();
+    assert_holder(alloc, 10 * SECOND - 1, None)?;
+    assert_holder(alloc, 10 * SECOND, Some(CLIENT))?;
+    assert_holder(alloc, 310 * SECOND - 1, Some(CLIENT))?;
+    assert_holder(alloc, 310 * SECOND, None)?;
+    assert_holder(alloc, 1000 * SECOND, Some(SECOND_CLIENT))
+}
+
+/// A binding of one packet out, which no packet followed.
+fn one_packet(binding: Row, at: u64) -> Entry {
+    Entry {
+        binding,
+        made: at,
+        end: Some(u128::from(at + 300 * SECOND)),
+        sent: 1,
+        received: 0,
+        last: at,
+        last_sent: at,
+    }
+}
+
+#[test]
+fn log_of_a_number_used_twice(rt: HostRuntime) -> Result<(), Fail> {
+    let alloc = rt.alloc();
+    let config = Config::read(alloc, ONE_ADDRESS.as_bytes())?;
+    let log = log_of(alloc, &config, &two_hosts(alloc)?)?;
+    let first = one_packet(udp_row(CLIENT), 10 * SECOND);
+    let second = one_packet(udp_row(SECOND_CLIENT), 1000 * SECOND);
+    assert_eq!(rt; log.entries.as_slice(), &[first, second]);
+    assert!(rt; log.shortages.is_empty());
+    Ok(())
+}
+
+/// A host has one binding at most, and 10.0.0.3:7000 stands at port 7000.
+const QUOTA_AND_REDIRECT: &str = "quota = 1\npool = ['203.0.113.1']\ninside = ['10.0.0.0/8']\n\
+[[redirect]]\nprotocol = 'udp'\ninside = '10.0.0.3:7000'\nexternal = 7000\n";
+
+#[test]
+fn log_of_a_hairpin_and_a_shortage(rt: HostRuntime) -> Result<(), Fail> {
+    let alloc = rt.alloc();
+    let config = Config::read(alloc, QUOTA_AND_REDIRECT.as_bytes())?;
+    let mut inputs = Vec::new(alloc);
+    inputs.push(input(alloc, Side::Inside, SECOND, CLIENT, external(1, 7000))?)?;
+    inputs.push(input(alloc, Side::Inside, 2 * SECOND, host(2, 5001), RESOLVER)?)?;
+    let account = account_of(alloc, &config, &inputs)?;
+    let redirect = Entry {
+        binding: Row {
+            protocol: Protocol::Udp,
+            inside: host(3, 7000),
+            external: external(1, 7000),
+            fixed: true,
+        },
+        made: 0,
+        end: None,
+        sent: 0,
+        received: 1,
+        last: SECOND,
+        last_sent: 0,
+    };
+    let made = one_packet(udp_row(CLIENT), SECOND);
+    let shortage = Shortage {
+        at: 2 * SECOND,
+        cause: Cause::OverQuota,
+        protocol: Protocol::Udp,
+        host: CLIENT.address,
+    };
+    assert_eq!(rt; account.log.entries.as_slice(), &[redirect, made]);
+    assert_eq!(rt; account.log.shortages.as_slice(), &[shortage]);
+    let used = account.uses.first().map(|used| (used.note, used.out, used.into));
+    assert_eq!(rt; used, Some((Note::Made, Some(1), Some(0))));
+    Ok(())
+}

@@ -1,0 +1,111 @@
+//! What a leg did to the bindings.
+
+ghost use Rattle.std.specs.Prelude.{◌≡◌};
+ghost use Rattle.napt_sequential.specs.Traces as traces;
+
+use napt_table::TimedRow;
+use napt_translate::End;
+use napt_wire::{Cause, Endpoint, Kind, Packet, Protocol};
+
+/// What a leg did to the bindings of its external address.
+#[derive(Clone, Copy, Debug, PartialEq, Eq)]
+pub enum Passage {
+    /// An ICMP error: it goes through no binding.
+    Nothing,
+    /// It went out through the binding of its source.
+    Out(TimedRow),
+    /// It came in through the binding of its destination.
+    In(TimedRow),
+    /// It was dropped.
+    Dropped(Loss),
+}
+
+/// A packet that a leg dropped, and is no ICMP error.
+#[derive(Clone, Copy, Debug, PartialEq, Eq)]
+pub struct Loss {
+    pub protocol: Protocol,
+    /// The address that it came from.
+    pub host: u32,
+    pub cause: Cause,
+}
+
+/// What the legs of one input did. Each binding has the end that it has after both.
+#[derive(Clone, Copy, Debug, PartialEq, Eq)]
+pub struct Trace {
+    /// The time of the legs, in ns.
+    pub now: u64,
+    pub first: Passage,
+    /// That of the second leg, of a packet from inside to an external address (RFC 4787, REQ-9).
+    pub second: Passage,
+}
+
+/// What a packet is before a leg changes it.
+#[derive(Clone, Copy)]
+pub(crate) struct Seen {
+    /// None of an ICMP error.
+    pub(crate) protocol: Option<Protocol>,
+    pub(crate) source: Endpoint,
+    pub(crate) destination: Endpoint,
+}
+
+/// How a leg went.
+#[derive(Clone, Copy)]
+pub(crate) enum Went {
+    Out,
+    In,
+    Dropped(Cause),
+}
+
+impl Went {
+    ghost use Rattle.napt_sequential.specs.Traces.{went_by};
+
+    pub(crate) fn by(end: &End) -> Went
+        ensures { result ≡ went_by end.now }
+    {
+        match end {
+            End::ToOutside(_) | End::Onward(_, _) => Went::Out,
+            End::ToInside(_) => Went::In,
+            End::Dropped(cause) => Went::Dropped(*cause),
+        }
+    }
+}
+
+impl Seen {
+    ghost use Rattle.napt_sequential.specs.Traces.{seen_of};
+
+    pub(crate) fn of(packet: &Packet) -> Seen
+        ensures { result ≡ seen_of packet.now }
+    {
+        let protocol = match packet.kind() {
+            Kind::Udp => Some(Protocol::Udp),
+            Kind::Tcp(_) => Some(Protocol::Tcp),
+            Kind::Echo => Some(Protocol::Icmp),
+            Kind::ErrorOf(_) => None,
+        };
+        Seen {
+            protocol,
+            source: packet.source(),
+            destination: packet.destination(),
+        }
+    }
+}
+
+/// Out through the binding that was found.
+pub(crate) fn out_through(found: Option<TimedRow>) -> Passage
+    ensures { result ≡ traces.out_through found }
+{
+    match found {
+        Some(row) => Passage::Out(row),
+        None => Passage::Nothing,
+    }
+}
+
+/// In through the binding that was found.
+pub(crate) fn in_through(found: Option<TimedRow>) -> Passage
+    ensures { result ≡ traces.in_through found }
+{
+    match found {
+        Some(row) => Passage::In(row),
+        None => Passage::Nothing,
+    }
+}
