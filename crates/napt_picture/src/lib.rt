@@ -4,11 +4,16 @@
 //! The caller says what is shown (`Scene`), in its own words and with times in ns; `drawing_of` puts it in its place and draws it.
 #![tactic(auto)]
 
+mod bars;
+mod counts;
+mod frame;
 mod layout;
+mod lives;
 mod scene;
+mod shapes;
 mod span;
 mod svg;
+mod tallies;
 
-pub use crate::layout::MOST_BARS;
 pub use crate::scene::{Binding, BindingKind, Pass, Scene};
-pub use crate::svg::drawing_of;
+pub use crate::svg::{MOST_BARS, drawing_of};
