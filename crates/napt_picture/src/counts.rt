@@ -220,7 +220,11 @@ fn open_title(text: &mut String, span: Span, run: Run) -> Result<(), AllocError>
     text.push_str("><title>")?;
     push_moment(text, span, span.start_of(run.first))?;
     text.push_str(" to ")?;
-    push_moment(text, span, span.start_of(run.first.saturating_add(run.many)))?;
+    push_moment(
+        text,
+        span,
+        span.start_of(run.first.saturating_add(run.many)),
+    )?;
     text.push_str(" s: ")
 }
 
@@ -236,7 +240,11 @@ fn draw_tally(text: &mut String, span: Span, row: Row<'_>) -> Result<(), AllocEr
     for (first, many) in row.tally.bins.iter().enumerate() {
         if *many > 0 {
             let run = Run { first, many: 1 };
-            open_area(text, row.class, bar_of(row.lane, run, *many, row.tally.most))?;
+            open_area(
+                text,
+                row.class,
+                bar_of(row.lane, run, *many, row.tally.most),
+            )?;
             open_title(text, span, run)?;
             writeln!(text, "{many}</title></rect>")?;
         }

@@ -280,12 +280,7 @@ impl Layout {
     }
 
     /// A mark at a time, where its top is there.
-    fn add_mark(
-        &mut self,
-        kind: MarkKind,
-        clock: u64,
-        top: Option<u64>,
-    ) -> Result<(), AllocError> {
+    fn add_mark(&mut self, kind: MarkKind, clock: u64, top: Option<u64>) -> Result<(), AllocError> {
         let Some(top) = top else {
             return Ok(());
         };

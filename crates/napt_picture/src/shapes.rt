@@ -31,11 +31,7 @@ pub fn open_area(text: &mut String, class: &str, area: Area) -> Result<(), Alloc
         "<rect class=\"{class}\" x=\"{}\" y=\"{}\"",
         area.left, area.top
     )?;
-    write!(
-        text,
-        " width=\"{}\" height=\"{}\"",
-        area.width, area.height
-    )
+    write!(text, " width=\"{}\" height=\"{}\"", area.width, area.height)
 }
 
 /// Words at a column, on a line.
