@@ -193,26 +193,16 @@ fn add_packets(
     account: &Account,
 ) -> Result<(), AllocError> {
     let causes = causes_of(alloc, &account.run.outcomes)?;
-    add_rows(alloc, &mut scene.causes, &causes, &account.run.outcomes)?;
+    add_rows(alloc, &mut scene.causes, &causes)?;
     add_passes(&mut scene.passes, inputs, account, &causes)
 }
 
-/// A row for each of the causes, with how many packets were dropped for it.
-fn add_rows(
-    alloc: Global,
-    rows: &mut Vec<String>,
-    causes: &[Cause],
-    outcomes: &[Outcome],
-) -> Result<(), AllocError> {
+/// A row for each of the causes.
+fn add_rows(alloc: Global, rows: &mut Vec<String>, causes: &[Cause]) -> Result<(), AllocError> {
     for cause in causes {
-        rows.push(row_of(alloc, *cause, count_dropped(outcomes, *cause))?)?;
+        rows.push(String::from_str(alloc, cause_name(*cause))?)?;
     }
     Ok(())
-}
-
-fn row_of(alloc: Global, cause: Cause, many: usize) -> Result<String, AllocError> {
-    let name = cause_name(cause);
-    format!(in alloc; "{name} ({many})")
 }
 
 /// What each packet did, where those that were dropped have the causes.

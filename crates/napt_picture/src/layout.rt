@@ -1,21 +1,13 @@
-//! Where everything in a picture stands, in pixels.
+//! Where the bars, the packets and the drops of a picture stand, in pixels.
 
+use crate::frame::Lane;
 use crate::scene::{Binding, BindingKind, Pass, Scene};
-use crate::span::{LEFT, RIGHT, Span};
+use crate::span::{HEAD, LEFT, RIGHT, Span};
 use std::alloc::{AllocError, Global};
-use std::collections::{BTreeMap, BTreeSet};
-
-/// The line above the first lane, below the legend and the axis.
-pub const HEAD: u64 = 140;
+use std::collections::BTreeMap;
 
 /// The height of a bar with its label.
 const ROW: u64 = 26;
-
-/// Of so many bindings at most each has a bar; of more it is shown how many live.
-pub const MOST_BARS: usize = 30;
-
-/// The height of a lane that shows how many bindings live.
-const COUNT_LANE: u64 = 70;
 
 /// How far apart arrows stand that would stand in one column, and how many may stand beside the first.
 const BESIDE: u64 = 8;
@@ -33,13 +25,6 @@ const PAD: u64 = 5;
 
 /// The width of a letter of a label.
 const LETTER: u64 = 7;
-
-/// A lane, from a line to a line.
-#[derive(Clone, Copy)]
-pub struct Lane {
-    pub top: u64,
-    pub bottom: u64,
-}
 
 /// The bar of a binding.
 #[derive(Clone, Copy)]
@@ -78,35 +63,33 @@ pub struct Mark {
     pub into: u64,
 }
 
-/// How many bindings of a lane live in a column: the most that do at once, and how many do at its end, up to the next step's.
+/// The packets of a mark: how many, and the times of the first and the last of them.
 #[derive(Clone, Copy)]
-pub struct Step {
-    pub column: u64,
-    pub most: u64,
+pub struct Packets {
+    pub many: u64,
+    pub first: u64,
     pub last: u64,
 }
 
-/// A lane that shows how many of its bindings live.
-#[derive(Drop)]
-pub struct Counts {
-    pub steps: Vec<Step>,
-    /// The most that live at once.
-    pub most: u64,
+/// The row of a cause, with how many packets were dropped for it.
+#[derive(Clone, Copy)]
+pub struct Cause {
+    pub top: u64,
+    pub many: u64,
 }
 
 /// Where everything in a picture stands.
 #[derive(Drop)]
 pub struct Layout {
     pub span: Span,
-    /// One for each lane where it is shown how many bindings live; else none.
-    pub counts: Vec<Counts>,
     /// One for each lane of the scene.
     pub lanes: Vec<Lane>,
     /// The bars, lane by lane.
     pub bars: Vec<Bar>,
-    /// The top of the row of each cause.
-    pub causes: Vec<u64>,
-    pub marks: BTreeSet<Mark>,
+    /// The top of the row of each cause, and how many of the packets that are shown were dropped for it.
+    pub causes: Vec<Cause>,
+    /// The packets of each mark.
+    pub marks: BTreeMap<Mark, Packets>,
     /// The line below all lanes and rows.
     pub bottom: u64,
     /// The tops of the bars, by the places of their bindings.
@@ -160,119 +143,15 @@ fn row_for(taken: &mut Vec<u64>, from: u64, to: u64) -> Result<usize, AllocError
     Ok(at)
 }
 
-/// Whether a binding lives in the time that is shown; a redirect always does.
-fn is_shown(span: Span, binding: &Binding) -> bool {
-    binding.kind == BindingKind::Redirect || span.meets(binding.made, binding.end)
-}
-
-/// By how many the living bindings of a lane become more and fewer at a moment.
-#[derive(Clone, Copy)]
-struct Change {
-    more: u64,
-    fewer: u64,
-}
-
-/// How many bindings of a lane live, over the time that is shown.
-fn counts_of(
-    alloc: Global,
-    span: Span,
-    lane: usize,
-    bindings: &[Binding],
-) -> Result<Counts, AllocError> {
-    let changes = changes_of(alloc, span, lane, bindings)?;
-    let mut counts = Counts {
-        steps: Vec::new(alloc),
-        most: 0,
-    };
-    let mut many = 0u64;
-    for (moment, change) in &changes {
-        many = many
-            .saturating_sub(change.fewer)
-            .saturating_add(change.more);
-        counts.add_step(span.column_of(*moment), many)?;
-    }
-    Ok(counts)
-}
-
-impl Counts {
-    /// So many live from a moment in a column on.
-    fn add_step(&mut self, column: u64, many: u64) -> Result<(), AllocError> {
-        self.most = self.most.max(many);
-        match self.steps.last_mut() {
-            Some(step) if step.column == column => {
-                step.most = step.most.max(many);
-                step.last = many;
-                Ok(())
-            }
-            _ => {
-                self.steps.push(Step {
-                    column,
-                    most: many,
-                    last: many,
-                })?;
-                Ok(())
-            }
-        }
-    }
-}
-
-/// At which moments bindings of a lane begin and end.
-fn changes_of(
-    alloc: Global,
-    span: Span,
-    lane: usize,
-    bindings: &[Binding],
-) -> Result<BTreeMap<u64, Change>, AllocError> {
-    let mut changes = BTreeMap::new(alloc);
-    for binding in bindings {
-        if binding.lane == lane && is_shown(span, binding) {
-            let stands = binding.kind == BindingKind::Redirect;
-            let from = if stands {
-                span.start
-            } else {
-                binding.made.max(span.start)
-            };
-            add_change(&mut changes, from, Change { more: 1, fewer: 0 })?;
-            if !stands && span.has(binding.end) {
-                add_change(&mut changes, binding.end, Change { more: 0, fewer: 1 })?;
-            }
-        }
-    }
-    Ok(changes)
-}
-
-fn add_change(
-    changes: &mut BTreeMap<u64, Change>,
-    moment: u64,
-    change: Change,
-) -> Result<(), AllocError> {
-    let before = match changes.get(&moment) {
-        Some(before) => *before,
-        None => Change { more: 0, fewer: 0 },
-    };
-    let after = Change {
-        more: before.more.saturating_add(change.more),
-        fewer: before.fewer.saturating_add(change.fewer),
-    };
-    changes.insert(moment, after)?;
-    Ok(())
-}
-
 impl Layout {
-    /// Whether the lanes show how many bindings live, in place of bars.
-    pub fn has_counts(&self) -> bool {
-        !self.counts.is_empty()
-    }
-
     /// The places of what a scene shows.
-    pub fn of(alloc: Global, scene: &Scene) -> Result<Layout, AllocError> {
+    pub fn of(alloc: Global, span: Span, scene: &Scene) -> Result<Layout, AllocError> {
         let mut layout = Layout {
-            span: Span::of(scene),
-            counts: Vec::new(alloc),
+            span,
             lanes: Vec::new(alloc),
             bars: Vec::new(alloc),
             causes: Vec::new(alloc),
-            marks: BTreeSet::new(alloc),
+            marks: BTreeMap::new(alloc),
             bottom: HEAD,
             tops: BTreeMap::new(alloc),
             arrows: BTreeMap::new(alloc),
@@ -282,40 +161,9 @@ impl Layout {
     }
 
     fn add_all(&mut self, alloc: Global, scene: &Scene) -> Result<(), AllocError> {
-        let many = scene.lanes.len();
-        if self.shown(&scene.bindings) > MOST_BARS {
-            self.add_count_lanes(alloc, many, &scene.bindings)?;
-        } else {
-            self.add_lanes(alloc, many, &scene.bindings)?;
-        }
+        self.add_lanes(alloc, scene.lanes.len(), &scene.bindings)?;
         self.add_causes(scene.causes.len())?;
         self.add_marks(&scene.passes)
-    }
-
-    /// How many bindings live in the time that is shown.
-    fn shown(&self, bindings: &[Binding]) -> usize {
-        bindings
-            .iter()
-            .filter(|binding| is_shown(self.span, binding))
-            .count()
-    }
-
-    /// So many lanes, each with how many of its bindings live.
-    fn add_count_lanes(
-        &mut self,
-        alloc: Global,
-        many: usize,
-        bindings: &[Binding],
-    ) -> Result<(), AllocError> {
-        for lane in 0..many {
-            let counts = counts_of(alloc, self.span, lane, bindings)?;
-            self.counts.push(counts)?;
-            let top = self.bottom;
-            let bottom = top.saturating_add(COUNT_LANE);
-            self.bottom = bottom;
-            self.lanes.push(Lane { top, bottom })?;
-        }
-        Ok(())
     }
 
     /// So many lanes, with the bars of their bindings.
@@ -341,7 +189,7 @@ impl Layout {
         let top = self.bottom;
         let mut taken = Vec::new(alloc);
         for (place, binding) in bindings.iter().enumerate() {
-            if binding.lane == lane && is_shown(self.span, binding) {
+            if binding.lane == lane && self.span.shows(binding) {
                 self.add_bar(&mut taken, top, place, binding)?;
             }
         }
@@ -373,7 +221,10 @@ impl Layout {
     /// A row for each of so many causes.
     fn add_causes(&mut self, many: usize) -> Result<(), AllocError> {
         for _ in 0..many {
-            self.causes.push(self.bottom)?;
+            self.causes.push(Cause {
+                top: self.bottom,
+                many: 0,
+            })?;
             self.bottom = self.bottom.saturating_add(CAUSE_ROW);
         }
         Ok(())
@@ -390,12 +241,12 @@ impl Layout {
 
     /// The marks of a packet that was dropped, went out through a binding, came in through one, or did both.
     fn add_pass(&mut self, pass: Pass) -> Result<(), AllocError> {
-        let dropped = self.row_of(pass.dropped);
         let out = self.top_of(pass.out);
         let into = self.top_of(pass.into);
-        self.add_mark(MarkKind::Dropped, pass.clock, dropped, dropped)?;
-        self.add_mark(MarkKind::Out, pass.clock, out, out)?;
-        self.add_mark(MarkKind::Into, pass.clock, into, into)?;
+        let dropped = self.count_drop(pass.dropped);
+        self.add_mark(MarkKind::Dropped, pass.clock, dropped)?;
+        self.add_mark(MarkKind::Out, pass.clock, out)?;
+        self.add_mark(MarkKind::Into, pass.clock, into)?;
         match (out, into) {
             (Some(out), Some(into)) => self.add_arrow(pass.clock, out, into),
             _ => Ok(()),
@@ -405,7 +256,14 @@ impl Layout {
     /// The arrow of a hairpin at a time, beside others that stand in its column.
     fn add_arrow(&mut self, clock: u64, top: u64, into: u64) -> Result<(), AllocError> {
         let column = self.column_beside(self.span.column_of(clock), (top, into));
-        self.insert_arrow(column, top, into)
+        self.arrows.insert(column, (top, into))?;
+        let mark = Mark {
+            kind: MarkKind::Hairpin,
+            column,
+            top,
+            into,
+        };
+        self.count_packet(mark, clock)
     }
 
     /// The first column, of this one and those beside it, where no arrow of other tops stands; the last one where there is none.
@@ -421,40 +279,43 @@ impl Layout {
         column
     }
 
-    fn insert_arrow(&mut self, column: u64, top: u64, into: u64) -> Result<(), AllocError> {
-        self.arrows.insert(column, (top, into))?;
-        self.marks.insert(Mark {
-            kind: MarkKind::Hairpin,
-            column,
+    /// A mark at a time, where its top is there.
+    fn add_mark(&mut self, kind: MarkKind, clock: u64, top: Option<u64>) -> Result<(), AllocError> {
+        let Some(top) = top else {
+            return Ok(());
+        };
+        let mark = Mark {
+            kind,
+            column: self.span.column_of(clock),
             top,
-            into,
-        })?;
+            into: top,
+        };
+        self.count_packet(mark, clock)
+    }
+
+    /// One more packet of a mark; those before it came earlier.
+    fn count_packet(&mut self, mark: Mark, clock: u64) -> Result<(), AllocError> {
+        let packets = match self.marks.get(&mark) {
+            Some(before) => Packets {
+                many: before.many.saturating_add(1),
+                first: before.first,
+                last: clock,
+            },
+            None => Packets {
+                many: 1,
+                first: clock,
+                last: clock,
+            },
+        };
+        self.marks.insert(mark, packets)?;
         Ok(())
     }
 
-    /// A mark at a time, where both of its tops are there.
-    fn add_mark(
-        &mut self,
-        kind: MarkKind,
-        clock: u64,
-        top: Option<u64>,
-        into: Option<u64>,
-    ) -> Result<(), AllocError> {
-        if let (Some(top), Some(into)) = (top, into) {
-            let column = self.span.column_of(clock);
-            self.marks.insert(Mark {
-                kind,
-                column,
-                top,
-                into,
-            })?;
-        }
-        Ok(())
-    }
-
-    /// The top of the row of the cause at a place.
-    fn row_of(&self, place: Option<usize>) -> Option<u64> {
-        self.causes.get(place?).copied()
+    /// One more packet that was dropped for the cause at a place, and the top of the cause's row.
+    fn count_drop(&mut self, place: Option<usize>) -> Option<u64> {
+        let cause = self.causes.get_mut(place?)?;
+        cause.many = cause.many.saturating_add(1);
+        Some(cause.top)
     }
 
     /// The top of the bar of the binding at a place, if the picture shows it.

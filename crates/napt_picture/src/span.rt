@@ -1,13 +1,21 @@
 //! The time that a picture shows, and its columns, in pixels.
 
-ghost use Rattle.std.specs.Prelude.{◌≤◌};
+ghost use Rattle.std.specs.Prelude.{◌≤◌, ◌+◌};
 
-use crate::scene::Scene;
+use crate::scene::{Binding, BindingKind, Scene};
+
+/// The line above the first lane, below the legend and the axis.
+pub const HEAD: u64 = 140;
 
 /// The columns between which time passes.
-pub const LEFT: u64 = 150;
+pub const LEFT: u64 = 170;
 
-pub const RIGHT: u64 = 1150;
+pub const RIGHT: u64 = 1170;
+
+/// The columns of a bin, in which things are counted, and how many bins there are.
+pub const BIN_WIDTH: u64 = 2;
+
+pub const BINS: usize = 500;
 
 pub const MICROSECOND: u64 = 1000;
 
@@ -64,6 +72,19 @@ impl Span {
         from <= self.end && self.start < to
     }
 
+    /// Whether a binding lives in the time that is shown; a redirect always does.
+    pub fn shows(self, binding: &Binding) -> bool {
+        binding.kind == BindingKind::Redirect || self.meets(binding.made, binding.end)
+    }
+
+    /// How many bindings live in the time that is shown.
+    pub fn count_shown(self, bindings: &[Binding]) -> usize {
+        bindings
+            .iter()
+            .filter(|binding| self.shows(*binding))
+            .count()
+    }
+
     /// The column of a moment; what is before or after the span is at its edge.
     pub fn column_of(self, moment: u64) -> u64
         ensures left { LEFT ≤ result }
@@ -71,6 +92,25 @@ impl Span {
     {
         let columns = moment.saturating_sub(self.start) / self.column.max(1);
         LEFT + columns.min(RIGHT - LEFT)
+    }
+
+    /// The bin of a moment; what is before or after the span is in the first or the last one.
+    pub fn bin_of(self, moment: u64) -> usize
+        ensures within { result + 1 ≤ 500 }
+    {
+        let columns = moment.saturating_sub(self.start) / self.column.max(1);
+        (columns / BIN_WIDTH).min(BINS as u64 - 1) as usize
+    }
+
+    /// When a bin begins: its time goes on to where the next one begins.
+    pub fn start_of(self, bin: usize) -> u64 {
+        let passed = self.bin_time().saturating_mul(bin as u64);
+        self.start.saturating_add(passed)
+    }
+
+    /// The time of a bin.
+    pub fn bin_time(self) -> u64 {
+        self.column.saturating_mul(BIN_WIDTH)
     }
 
     /// The time between two times of the axis: 1, 2 or 5 of a decimal unit.

@@ -1,4 +1,4 @@
-//! What a capture that is refused seems to be, and the command that turns it into one that napt reads.
+//! What a capture that is refused seems to be, and the command that makes the two captures that napt reads of it.
 
 ghost use Rattle.std.specs.Prelude.{◌≤◌, ◌+◌, IfOk, OnOk, vec_len};
 
@@ -67,13 +67,19 @@ fn pcap(bytes: &[u8], is_big: bool, is_nano: bool) -> Form {
     Form::Pcap(Spelling { is_big, is_nano }, link)
 }
 
-/// The name of a link type, and how many bytes stand before the IP header.
-fn link_name(link: u32) -> Option<(&'static str, u32)> {
+/// The name of a link type whose headers `./split` cuts.
+fn link_name(link: u32) -> Option<&'static str> {
     match link {
-        0 => Some(("BSD loopback", 4)),
-        1 => Some(("Ethernet", 14)),
-        113 => Some(("Linux cooked, version 1", 16)),
-        276 => Some(("Linux cooked, version 2", 20)),
+        0 => Some("BSD loopback"),
+        1 => Some("Ethernet"),
+        9 => Some("PPP"),
+        12 | 14 => Some("raw IP"),
+        50 => Some("PPP with HDLC framing"),
+        51 => Some("PPPoE"),
+        104 => Some("Cisco HDLC"),
+        108 => Some("OpenBSD loopback"),
+        113 => Some("Linux cooked, version 1"),
+        276 => Some("Linux cooked, version 2"),
         _ => None,
     }
 }
@@ -93,7 +99,7 @@ pub fn capture_reasons(
     Ok(reasons)
 }
 
-/// Adds what some bytes seem to be, and the command that makes a capture for napt of them where one is known.
+/// Adds what some bytes seem to be, and the command that makes captures for napt of them where one is known.
 fn add_form(alloc: Global, reasons: &mut Vec<Reason>, form: Form) -> Result<(), AllocError>
     ensures { OnOk result (vec_len reasons.old + 1 ≤ vec_len reasons.new) }
 {
@@ -101,50 +107,26 @@ fn add_form(alloc: Global, reasons: &mut Vec<Reason>, form: Form) -> Result<(), 
     match form {
         Form::Empty | Form::Unread => Ok(()),
         Form::Unknown => {
-            let text = "save it in the format pcap; napt reads libpcap captures of raw IPv4";
+            let text = "save it as pcap or pcapng; ./split makes of it what napt reads";
             add(reasons, "do", String::from_str(alloc, text))
         }
-        Form::Pcapng => {
-            let command = "editcap -F nsecpcap -C 14 -T rawip in.pcapng raw.pcap";
-            add(reasons, "do", String::from_str(alloc, command))?;
-            let more =
-                "14 is for Ethernet, 18 for a VLAN tag, 16 or 20 for Linux cooked, 0 for raw IP";
-            add(reasons, "", String::from_str(alloc, more))
-        }
-        Form::Gzip => {
-            let command = "gunzip < in.pcap.gz > in.pcap";
-            add(reasons, "do", String::from_str(alloc, command))
-        }
-        Form::Pcap(spelling, link) => add_cut(alloc, reasons, spelling, link),
+        Form::Pcapng => add_split(alloc, reasons, "in.pcapng"),
+        Form::Gzip => add_split(alloc, reasons, "in.pcap.gz"),
+        Form::Pcap(_, link) => match link_name(link) {
+            Some(_) => add_split(alloc, reasons, "in.pcap"),
+            None => Ok(()),
+        },
     }
 }
 
-/// Adds the command that cuts the headers of a link type, where these are known.
-fn add_cut(
-    alloc: Global,
-    reasons: &mut Vec<Reason>,
-    spelling: Spelling,
-    link: u32,
-) -> Result<(), AllocError>
+/// Adds the command that makes the two captures that napt reads of one of a name.
+fn add_split(alloc: Global, reasons: &mut Vec<Reason>, name: &str) -> Result<(), AllocError>
     ensures { OnOk result (vec_len reasons.old ≤ vec_len reasons.new) }
 {
-    let Some((_, cut)) = link_name(link) else {
-        return Ok(());
-    };
-    let format = match spelling.is_nano {
-        true => "nsecpcap",
-        false => "pcap",
-    };
-    let command = format!(in alloc; "editcap -F {format} -C {cut} -T rawip in.pcap raw.pcap");
+    let command = format!(in alloc; "./split {name} --inside 10.0.0.0/8 --out DIR");
     add(reasons, "do", command)?;
-    match link {
-        1 => add(
-            reasons,
-            "",
-            String::from_str(alloc, "where the packets have a VLAN tag, -C 18"),
-        ),
-        _ => Ok(()),
-    }
+    let more = "DIR/inside.pcap and DIR/outside.pcap are then what napt reads (docs/CAPTURES.md)";
+    add(reasons, "", String::from_str(alloc, more))
 }
 
 /// A form in words.
@@ -169,7 +151,7 @@ fn pcap_text(alloc: Global, spelling: Spelling, link: u32) -> Result<String, All
         false => "microseconds",
     };
     match link_name(link) {
-        Some((name, _)) => {
+        Some(name) => {
             format!(in alloc; "a libpcap capture of {name} (link type {link}), {order}, {unit}")
         }
         None => format!(in alloc; "a libpcap capture of link type {link}, {order}, {unit}"),
