@@ -2,7 +2,7 @@
 
 use crate::names::{Seconds, side_name};
 use crate::options::Choice;
-use crate::shown::{arrival_text, packet_text};
+use crate::shown::{add_arrival, add_packet};
 use crate::stop::Stop;
 use crate::summary::{count_dropped, count_to_inside, count_to_outside, leaves_with};
 use napt_config::Config;
@@ -10,6 +10,7 @@ use napt_records::cause_name;
 use napt_sequential::{Input, Outcome, run_plain};
 use napt_wire::Cause;
 use std::alloc::{AllocError, Global};
+use std::fmt::Write;
 
 /// What becomes of the same inputs under two configurations.
 #[derive(Clone, Copy)]
@@ -136,24 +137,27 @@ impl<'a> Difference<'a> {
         let (number, input) = (self.number, self.input);
         let time = Seconds(input.time);
         let side = side_name(input.side);
-        let before = arrival_text(alloc, input.side, &input.bytes)?;
-        let first = outcome_text(alloc, self.first)?;
-        let second = outcome_text(alloc, self.second)?;
-        format!(in alloc; "{number} {time} {side:<7} {before} | {first} | {second}")
+        let mut text = format!(in alloc; "{number} {time} {side:<7} ")?;
+        add_arrival(alloc, &mut text, input.side, &input.bytes)?;
+        text.push_str(" | ")?;
+        add_outcome(&mut text, self.first)?;
+        text.push_str(" | ")?;
+        add_outcome(&mut text, self.second)?;
+        Ok(text)
     }
 }
 
-/// What becomes of a packet, as `out: udp 203.0.113.1:5000 > 198.51.100.7:3000`.
-fn outcome_text(alloc: Global, outcome: &Outcome) -> Result<String, AllocError> {
+/// Adds what becomes of a packet to a text, as `out: udp 203.0.113.1:5000 > 198.51.100.7:3000`.
+fn add_outcome(text: &mut String, outcome: &Outcome) -> Result<(), AllocError> {
     match outcome {
-        Outcome::Dropped(cause) => format!(in alloc; "dropped, {}", cause_name(*cause)),
+        Outcome::Dropped(cause) => write!(text, "dropped, {}", cause_name(*cause)),
         Outcome::ToOutside(packet) => {
-            let text = packet_text(alloc, packet)?;
-            format!(in alloc; "out: {text}")
+            text.push_str("out: ")?;
+            add_packet(text, packet)
         }
         Outcome::ToInside(packet) => {
-            let text = packet_text(alloc, packet)?;
-            format!(in alloc; "in: {text}")
+            text.push_str("in: ")?;
+            add_packet(text, packet)
         }
     }
 }

@@ -7,26 +7,39 @@
 #![tactic(auto)]
 
 mod against;
+mod changes;
+mod digits;
+mod ended;
+mod log_file;
+mod measures;
 mod names;
 mod objects;
 mod options;
+mod page;
 mod places;
 mod progress;
 mod reading;
 mod refused;
 mod scene;
 mod shown;
+mod sizes;
 mod stop;
 mod summary;
+mod who;
 
 use crate::against::tell_against;
-use crate::options::Options;
+use crate::ended::Ended;
+use crate::log_file::write_log;
+use crate::measures::tell_sizes;
+use crate::options::{Form, Options};
+use crate::page::Page;
 use crate::places::{picture_stop, tell_failed};
 use crate::progress::Progress;
 use crate::reading::{Given, read_given};
 use crate::scene::{Shown, scene_of};
 use crate::stop::Stop;
 use crate::summary::{Told, Widths};
+use crate::who::tell_holders;
 use napt_account::{Account, account_of};
 use napt_config::Config;
 use napt_picture::drawing_of;
@@ -87,14 +100,14 @@ fn explained_under<R: Files + Input + Print + Eprint + AllocGlobal>(
     if !streams.output {
         return Err(Stop::NoOutput);
     }
-    cuts.tell(rt, options.json)?;
+    cuts.tell(rt, options.form)?;
     match &other {
         Some(other) => tell_against(rt, options.choice, &inputs, [&config, other]),
         None => run(rt, options, &config, &inputs),
     }
 }
 
-/// Makes the run over the inputs, tells it, and draws it where that is asked for.
+/// Makes the run over the inputs, writes its log and draws it where that is asked for, and tells it.
 fn run<R: Files + Print + Eprint + AllocGlobal>(
     rt: &R,
     options: &Options<'_>,
@@ -104,16 +117,30 @@ fn run<R: Files + Print + Eprint + AllocGlobal>(
     let progress = Progress::of(rt, inputs.len());
     progress.tell_begin(rt);
     let account = account_of(rt.alloc(), config, inputs)?;
-    tell_run(rt, options, inputs, &account, progress)?;
-    let shown = Shown {
-        config,
-        inputs,
-        account: &account,
-        part: options.part,
-    };
-    match options.svg {
-        Some(path) => draw(rt, path, shown),
-        None => Ok(()),
+    let log = &account.log;
+    let last = inputs.last().map_or(0, |input| input.clock);
+    if let Some(path) = options.log {
+        write_log(rt, path, config, log, last)?;
+    }
+    if let Some(path) = options.svg {
+        let shown = Shown {
+            config,
+            inputs,
+            account: &account,
+            part: options.part,
+        };
+        draw(rt, path, shown)?;
+    }
+    match options.form {
+        Form::Holders(asked) => {
+            progress.tell_end(rt);
+            tell_holders(rt, asked, config, log, last)
+        }
+        Form::Sizes => {
+            progress.tell_end(rt);
+            tell_sizes(rt, config, log, last)
+        }
+        _ => tell_run(rt, options, inputs, &account, progress),
     }
 }
 
@@ -148,20 +175,35 @@ fn tell_run<R: Print + Eprint + AllocGlobal>(
         account,
         widths: Widths::of(inputs),
     };
-    if options.json {
+    if matches!(options.form, Form::Objects) {
         return tell_in_json(rt, told, progress);
     }
-    if let Some(number) = options.choice.only {
-        progress.tell_end(rt);
-        return told.tell_one(rt, number);
+    match options.choice.only {
+        Some(number) => {
+            progress.tell_end(rt);
+            told.tell_one(rt, number)
+        }
+        None => tell_lines(rt, told, progress),
     }
-    for number in 1..=inputs.len() as u64 {
-        told.tell_line(rt, number)?;
+}
+
+/// Writes the lines of the packets that are asked for and of the bindings that have ended, the live bindings and the summary.
+fn tell_lines<R: Print + Eprint + AllocGlobal>(
+    rt: &R,
+    told: Told<'_>,
+    progress: Progress,
+) -> Result<(), Stop> {
+    let mut page = Page::new(rt.alloc());
+    let mut ended = Ended::of(rt.alloc(), &told.account.log, told.last())?;
+    for number in 1..=told.inputs.len() as u64 {
+        told.add_line(rt.alloc(), &mut page.text, &mut ended, number)?;
+        page.turn(rt)?;
         progress.tell(rt, number);
     }
     progress.tell_end(rt);
-    summary::tell_bindings(rt, told)?;
-    summary::tell_counts(rt, account)
+    summary::tell_bindings(rt, &mut page, told)?;
+    summary::add_counts(&mut page.text, told.account)?;
+    page.end(rt)
 }
 
 /// Writes a JSON object for each packet that is asked for.
@@ -170,10 +212,12 @@ fn tell_in_json<R: Print + Eprint + AllocGlobal>(
     told: Told<'_>,
     progress: Progress,
 ) -> Result<(), Stop> {
+    let mut page = Page::new(rt.alloc());
     for number in 1..=told.inputs.len() as u64 {
-        told.tell_json(rt, number)?;
+        told.add_json(rt.alloc(), &mut page.text, number)?;
+        page.turn(rt)?;
         progress.tell(rt, number);
     }
     progress.tell_end(rt);
-    Ok(())
+    page.end(rt)
 }

@@ -1,5 +1,6 @@
 //! Names of things in the words that users read.
 
+use jiff::Timestamp;
 use napt_wire::Side;
 use std::alloc::{AllocError, Global};
 use std::fmt;
@@ -21,6 +22,27 @@ impl fmt::Display for Seconds {
         let micros = self.0 % 1_000_000_000 / 1000;
         write!(f, "{seconds}.{micros:06}")
     }
+}
+
+/// A time in nanoseconds since 1970, shown in seconds as others, and as a date in UTC (RFC 3339) with all its decimals.
+#[derive(Clone, Copy)]
+pub struct Moment(pub u128);
+
+impl fmt::Display for Moment {
+    fn fmt<W: fmt::Write>(&self, f: &mut fmt::Formatter<W>) -> fmt::Result {
+        let seconds = self.0 / 1_000_000_000;
+        let micros = self.0 % 1_000_000_000 / 1000;
+        write!(f, "{seconds}.{micros:06}")?;
+        match date_of(self.0) {
+            Some(date) => write!(f, " ({date})"),
+            None => Ok(()),
+        }
+    }
+}
+
+/// The date of a time in nanoseconds since 1970, up to the year 9999.
+pub fn date_of(time: u128) -> Option<Timestamp> {
+    Timestamp::from_nanosecond(i128::try_from(time).ok()?).ok()
 }
 
 /// A name in code, as `BadAddress`, as users read it: `bad-address`.

@@ -1,16 +1,16 @@
 //! A JSON object for each packet, for programs. Its fields are told in docs/FORMATS.md.
 
+use crate::digits::address_text;
 use crate::names::side_name;
 use crate::shown::{arrival, is_reply};
-use crate::stop::Stop;
 use crate::summary::Line;
 use napt_account::Note;
-use napt_config::Address;
 use napt_records::{cause_name, protocol_name};
 use napt_sequential::Outcome;
-use napt_wire::{Endpoint, Inner, Kind, Packet, Protocol, Side};
+use napt_wire::{Inner, Kind, Packet, Protocol, Side};
 use serde::Serialize;
 use std::alloc::{AllocError, Global};
+use std::fmt::Write;
 
 /// What became of a packet.
 #[derive(Drop, Serialize)]
@@ -49,15 +49,12 @@ struct Quoted {
     identifier: Option<u16>,
 }
 
-/// Writes the object of a packet, on a line of its own.
-pub fn tell_object<R: Print + AllocGlobal>(rt: &R, line: Line<'_>) -> Result<(), Stop> {
-    let object = object_of(rt.alloc(), line)?;
-    match serde_json::to_string(rt.alloc(), &object) {
-        Ok(text) => {
-            println!(rt; "{text}")?;
-            Ok(())
-        }
-        Err(_) => Err(Stop::from(AllocError)),
+/// Adds the object of a packet to a text, on a line of its own.
+pub fn add_object(alloc: Global, text: &mut String, line: Line<'_>) -> Result<(), AllocError> {
+    let object = object_of(alloc, line)?;
+    match serde_json::to_string(alloc, &object) {
+        Ok(object) => writeln!(text, "{object}"),
+        Err(_) => Err(AllocError),
     }
 }
 
@@ -130,9 +127,9 @@ fn ends_of(alloc: Global, packet: &Packet) -> Result<Ends, AllocError> {
     };
     Ok(Ends {
         kind: kind_name(packet),
-        source: address_text(alloc, source)?,
+        source: address_text(alloc, source.address)?,
         source_port: has_ports.then_some(source.number),
-        destination: address_text(alloc, destination)?,
+        destination: address_text(alloc, destination.address)?,
         destination_port: has_ports.then_some(destination.number),
         identifier: matches!(kind, Kind::Echo).then_some(source.number.max(destination.number)),
         about,
@@ -154,14 +151,10 @@ fn quoted_of(alloc: Global, inner: Inner) -> Result<Quoted, AllocError> {
     let is_query = inner.protocol == Protocol::Icmp;
     Ok(Quoted {
         protocol: protocol_name(inner.protocol),
-        source: address_text(alloc, source)?,
+        source: address_text(alloc, source.address)?,
         source_port: (!is_query).then_some(source.number),
-        destination: address_text(alloc, destination)?,
+        destination: address_text(alloc, destination.address)?,
         destination_port: (!is_query).then_some(destination.number),
         identifier: is_query.then_some(source.number.max(destination.number)),
     })
-}
-
-fn address_text(alloc: Global, endpoint: Endpoint) -> Result<String, AllocError> {
-    format!(in alloc; "{}", Address(endpoint.address))
 }

@@ -3,8 +3,10 @@
 use crate::scene::Part;
 use crate::shown::Party;
 use crate::stop::Stop;
+use crate::who::Asked;
 use clap::error::ErrorKind;
 use clap::{Arg, ArgAction, ArgMatches, Command, Error};
+use jiff::Timestamp;
 use napt_config::Address;
 use std::alloc::{AllocError, Global};
 
@@ -20,15 +22,34 @@ const SVG: &str =
     "Draws the run into this file, none that is named otherwise, in SVG: its bindings, hairpins and \
 drops over time, or how many bindings live where more than 30 are shown";
 
-const NOTES: &str = "Example:
+const LOG: &str =
+    "Writes the log of the run into this file, none that is named otherwise, in CSV: each binding when it \
+is made and when it has ended, and each packet that got none for want of quota or numbers \
+(docs/FORMATS.md)";
+
+const WHO: &str =
+    "Tells which inside endpoints had this external endpoint, or one of this address, and nothing else: a \
+line for each, with its protocol and the times from and until when; the status is 1 where nobody had it";
+
+const AT: &str =
+    "Asks --who for this time alone: in seconds since 1970, as in the lines, or in RFC 3339, as \
+2026-11-26T10:02:07Z";
+
+const SIZES: &str =
+    "Tells how many bindings, numbers and hosts there were at once, what quotas would have refused, and \
+how long bindings lived, and nothing else (docs/FORMATS.md)";
+
+const NOTES: &str = "Examples:
   explain --config napt.toml --inside inside.pcap --outside outside.pcap --dropped
+  explain --config napt.toml --inside inside.pcap --outside outside.pcap --who 203.0.113.1:5000 --at 2.5
 
 A line tells a packet's number, time in seconds, side, the packet, what happened, and the packet as it leaves:
   1 1.000000 inside  udp 10.0.0.2:5000 > 198.51.100.7:3000 | made a binding | udp 203.0.113.1:5000 > 198.51.100.7:3000
 A number that stands for a query of ICMP is its identifier, also in a --host.
 
 The words of a call of napt may stand as they are: no output of napt is written. The statuses are those of napt, and what it
-refuses is explained on standard error. With --against the status is 1 where a packet differs.";
+refuses is explained on standard error. With --against the status is 1 where a packet differs, and with --who where nobody had
+what is asked for.";
 
 // The options that take a value, each with the value's kind and its meaning, in the order of the help text.
 const VALUES: &[(&str, &str, &str)] = &[
@@ -61,6 +82,9 @@ const VALUES: &[(&str, &str, &str)] = &[
         "SECONDS",
         "Ends the picture so long after the first packet [default: behind the last one]",
     ),
+    ("log", "FILE", LOG),
+    ("who", "ADDRESS[:PORT]", WHO),
+    ("at", "TIME", AT),
     (
         "only",
         "N",
@@ -85,6 +109,25 @@ const FLAGS: &[(&str, &str)] = &[
         "json",
         "Writes a JSON object for each packet, on a line of its own, and nothing else (docs/FORMATS.md)",
     ),
+    ("sizes", SIZES),
+];
+
+// What asks for another text on standard output, or for other files, than the second of a pair.
+const APART: &[(&str, &str)] = &[
+    ("against", "json"),
+    ("against", "sizes"),
+    ("against", "who"),
+    ("against", "log"),
+    ("against", "svg"),
+    ("json", "sizes"),
+    ("json", "who"),
+    ("sizes", "who"),
+    ("sizes", "only"),
+    ("sizes", "host"),
+    ("sizes", "dropped"),
+    ("who", "only"),
+    ("who", "host"),
+    ("who", "dropped"),
 ];
 
 /// What is to be explained, and which of its lines are shown.
@@ -96,11 +139,33 @@ pub struct Options<'m> {
     pub svg: Option<&'m str>,
     /// The part of the time that is drawn.
     pub part: Part,
-    /// The configuration to which the first is compared; absent, none is.
-    pub against: Option<&'m str>,
-    /// JSON in place of lines.
-    pub json: bool,
+    /// Where the log is written; absent, it is not.
+    pub log: Option<&'m str>,
+    /// What is written to standard output.
+    pub form: Form<'m>,
     pub choice: Choice,
+}
+
+/// What is written to standard output.
+#[derive(Clone, Copy)]
+pub enum Form<'m> {
+    /// A line for each packet, the bindings and a summary.
+    Lines,
+    /// A JSON object for each packet.
+    Objects,
+    /// Who had what is asked for.
+    Holders(Asked),
+    /// How much there was at once.
+    Sizes,
+    /// What ends otherwise under the configuration of this path.
+    Differences(&'m str),
+}
+
+impl<'m> Form<'m> {
+    /// Whether it is read by programs, so that only what is asked for may stand in it.
+    pub fn is_for_programs(self) -> bool {
+        matches!(self, Form::Objects | Form::Holders(_))
+    }
 }
 
 /// Which packets have a line: those of which all that is given holds.
@@ -187,14 +252,14 @@ pub fn options_of<'m, R: Eprint + AllocGlobal>(
 ) -> Result<Options<'m>, Stop> {
     refuse_mixed(rt, matches)?;
     let only = only_of(rt, matches)?;
-    let host = host_of(rt, matches)?;
+    let host = party_at(rt, matches, "host")?;
     let part = part_of(rt, matches)?;
     Ok(Options {
         files: files_of(rt.alloc(), matches)?,
         svg: matches.get_str("svg"),
         part,
-        against: matches.get_str("against"),
-        json: matches.get_flag("json"),
+        log: matches.get_str("log"),
+        form: form_of(rt, matches)?,
         choice: Choice {
             only,
             host,
@@ -203,14 +268,55 @@ pub fn options_of<'m, R: Eprint + AllocGlobal>(
     })
 }
 
-/// Refuses a comparison that is to be drawn, or written in JSON.
+/// Refuses two words that do not go together.
 fn refuse_mixed<R: Eprint>(rt: &R, matches: &ArgMatches<'_>) -> Result<(), Stop> {
-    let is_compared = matches.get_str("against").is_some();
-    if is_compared && (matches.get_flag("json") || matches.get_str("svg").is_some()) {
-        let _ = eprintln!(rt; "explain: --against goes with neither --json nor --svg");
-        return Err(Stop::Told(napt_program::Stop::Usage));
+    for (one, other) in APART.iter() {
+        if is_given(matches, one) && is_given(matches, other) {
+            let _ = eprintln!(rt; "explain: --{one} and --{other} do not go together");
+            return Err(Stop::Told(napt_program::Stop::Usage));
+        }
     }
     Ok(())
+}
+
+/// Whether an option stands on the command line.
+fn is_given(matches: &ArgMatches<'_>, name: &str) -> bool {
+    let is_flag = FLAGS.iter().any(|(flag, _)| *flag == name);
+    if is_flag {
+        matches.get_flag(name)
+    } else {
+        matches.get_str(name).is_some()
+    }
+}
+
+/// What is to be written to standard output.
+fn form_of<'m, R: Eprint>(rt: &R, matches: &'m ArgMatches<'_>) -> Result<Form<'m>, Stop> {
+    if let Some(asked) = asked_of(rt, matches)? {
+        return Ok(Form::Holders(asked));
+    }
+    if let Some(path) = matches.get_str("against") {
+        return Ok(Form::Differences(path));
+    }
+    Ok(if matches.get_flag("json") {
+        Form::Objects
+    } else if matches.get_flag("sizes") {
+        Form::Sizes
+    } else {
+        Form::Lines
+    })
+}
+
+/// What is asked of the log. A time without it is told.
+fn asked_of<R: Eprint>(rt: &R, matches: &ArgMatches<'_>) -> Result<Option<Asked>, Stop> {
+    let at = moment_of(rt, matches)?;
+    match party_at(rt, matches, "who")? {
+        Some(party) => Ok(Some(Asked { party, at })),
+        None if at.is_some() => {
+            let _ = eprintln!(rt; "explain: --at chooses a time of --who");
+            Err(Stop::Told(napt_program::Stop::Usage))
+        }
+        None => Ok(None),
+    }
 }
 
 /// The files that the options of `napt` name.
@@ -249,15 +355,20 @@ fn only_of<R: Eprint>(rt: &R, matches: &ArgMatches<'_>) -> Result<Option<u64>, S
     }
 }
 
-fn host_of<R: Eprint>(rt: &R, matches: &ArgMatches<'_>) -> Result<Option<Party>, Stop> {
-    let Some(text) = matches.get_str("host") else {
+/// The host or the endpoint that an option names. One that is none is told.
+fn party_at<R: Eprint>(
+    rt: &R,
+    matches: &ArgMatches<'_>,
+    option: &str,
+) -> Result<Option<Party>, Stop> {
+    let Some(text) = matches.get_str(option) else {
         return Ok(None);
     };
     match party_of(text) {
         Some(party) => Ok(Some(party)),
         None => {
             let _ = eprintln!(rt;
-                "explain: --host {text}: expected an IPv4 address, as 10.0.0.2, or an endpoint, as 203.0.113.1:5000"
+                "explain: --{option} {text}: expected an IPv4 address, as 10.0.0.2, or an endpoint, as 203.0.113.1:5000"
             );
             Err(Stop::Told(napt_program::Stop::Usage))
         }
@@ -304,6 +415,28 @@ fn time_of<R: Eprint>(rt: &R, matches: &ArgMatches<'_>, option: &str) -> Result<
             Err(Stop::Told(napt_program::Stop::Usage))
         }
     }
+}
+
+/// The time of which is asked, in ns since 1970. One that is none is told.
+fn moment_of<R: Eprint>(rt: &R, matches: &ArgMatches<'_>) -> Result<Option<u64>, Stop> {
+    let Some(text) = matches.get_str("at") else {
+        return Ok(None);
+    };
+    match nanoseconds_of(text).or_else(|| nanoseconds_of_date(text)) {
+        Some(time) => Ok(Some(time)),
+        None => {
+            let _ = eprintln!(rt;
+                "explain: --at {text}: expected seconds since 1970, as 90 or 1.5, or a date, as 2026-11-26T10:02:07Z"
+            );
+            Err(Stop::Told(napt_program::Stop::Usage))
+        }
+    }
+}
+
+/// The nanoseconds since 1970 of a date in RFC 3339.
+fn nanoseconds_of_date(text: &str) -> Option<u64> {
+    let date = text.parse::<Timestamp>().ok()?;
+    u64::try_from(date.as_nanosecond()).ok()
 }
 
 /// The nanoseconds of a text of seconds, with up to nine decimals.

@@ -1,7 +1,8 @@
 //! The configuration and the captures, read as `napt` reads them. What it refuses is explained.
 
+use crate::log_file::refuse_log;
 use crate::names::side_name;
-use crate::options::Options;
+use crate::options::{Form, Options};
 use crate::places::{refuse_picture, tell_closed, tell_config, tell_file};
 use crate::refused;
 use crate::stop::Stop;
@@ -46,10 +47,10 @@ pub struct Cuts {
 }
 
 impl Cuts {
-    /// Says of a capture that ends inside a record that its last packet is left out; among JSON on standard error.
-    pub fn tell<R: Print + Eprint>(self, rt: &R, json: bool) -> Result<(), Stop> {
+    /// Says of a capture that ends inside a record that its last packet is left out; beside what programs read on standard error.
+    pub fn tell<R: Print + Eprint>(self, rt: &R, form: Form<'_>) -> Result<(), Stop> {
         for (side, cut) in [("inside", self.inside), ("outside", self.outside)] {
-            if cut && json {
+            if cut && form.is_for_programs() {
                 let _ = eprintln!(rt; "explain: the capture {side} {CUT}");
             } else if cut {
                 println!(rt; "the capture {side} {CUT}")?;
@@ -80,6 +81,7 @@ pub fn read_given<R: Files + Input + Eprint + AllocGlobal>(
     )?;
     explain_file(rt, options, refuse_unmade(rt, &options.files))?;
     refuse_picture(rt, options)?;
+    refuse_log(rt, options)?;
     let inside = capture(rt, Side::Inside, inside)?;
     let outside = outside_capture(rt, outside)?;
     let cuts = Cuts {
@@ -126,9 +128,9 @@ fn other_configuration<R: Files + Eprint + AllocGlobal>(
     rt: &R,
     options: &Options<'_>,
 ) -> Result<Option<Config>, Stop> {
-    match options.against {
-        Some(path) => Ok(Some(configuration_at(rt, "against", path)?)),
-        None => Ok(None),
+    match options.form {
+        Form::Differences(path) => Ok(Some(configuration_at(rt, "against", path)?)),
+        _ => Ok(None),
     }
 }
 

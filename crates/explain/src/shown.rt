@@ -1,40 +1,55 @@
 //! Packets in the words of tcpdump's users.
 
+ghost use Rattle.std.specs.Prelude.{◌≡◌};
+ghost use Rattle.explain.specs.Who.{is_meant};
+
+use crate::digits::add_endpoint;
 use napt_config::Address;
-use napt_records::{EndpointText, protocol_name};
+use napt_records::protocol_name;
 use napt_wire::{Endpoint, Flags, Kind, Packet, Side};
 use std::alloc::{AllocError, Global};
 use std::fmt;
+use std::fmt::Write;
 
-/// A packet, as `udp 10.0.0.2:5000 > 198.51.100.7:3000`.
-pub fn packet_text(alloc: Global, packet: &Packet) -> Result<String, AllocError> {
+/// Adds a packet to a text, as `udp 10.0.0.2:5000 > 198.51.100.7:3000`.
+pub fn add_packet(text: &mut String, packet: &Packet) -> Result<(), AllocError> {
     let (source, destination) = (packet.source(), packet.destination());
-    let (from, to) = (Address(source.address), Address(destination.address));
-    let (source_port, destination_port) = (source.number, destination.number);
     match packet.kind() {
-        Kind::Udp => { format!(in alloc; "udp {from}:{source_port} > {to}:{destination_port}") }
+        Kind::Udp => add_ends(text, "udp ", source, destination),
         Kind::Tcp(flags) => {
-            let flags = FlagsText(flags);
-            format!(in alloc; "tcp {from}:{source_port} > {to}:{destination_port} [{flags}]")
+            add_ends(text, "tcp ", source, destination)?;
+            write!(text, " [{}]", FlagsText(flags))
         }
         Kind::Echo => {
-            let number = source_port.max(destination_port);
+            let (from, to) = (Address(source.address), Address(destination.address));
+            let number = source.number.max(destination.number);
             let kind = if is_reply(packet.bytes()) {
                 "reply"
             } else {
                 "request"
             };
-            format!(in alloc; "icmp echo {kind} {from} > {to} id {number}")
+            write!(text, "icmp echo {kind} {from} > {to} id {number}")
         }
         Kind::ErrorOf(inner) => {
+            let (from, to) = (Address(source.address), Address(destination.address));
             let name = protocol_name(inner.protocol);
-            let (quoted_from, quoted_to) = (
-                EndpointText(inner.source),
-                EndpointText(inner.destination),
-            );
-            format!(in alloc; "icmp error {from} > {to} about {name} {quoted_from} > {quoted_to}")
+            write!(text, "icmp error {from} > {to} about {name} ")?;
+            add_ends(text, "", inner.source, inner.destination)
         }
     }
+}
+
+/// Adds what comes first, and the ends of a packet.
+fn add_ends(
+    text: &mut String,
+    first: &str,
+    source: Endpoint,
+    destination: Endpoint,
+) -> Result<(), AllocError> {
+    text.push_str(first)?;
+    add_endpoint(text, source)?;
+    text.push_str(" > ")?;
+    add_endpoint(text, destination)
 }
 
 /// Whether an echo message is a reply, by its ICMP type (RFC 792), which stands behind the IP header.
@@ -65,25 +80,30 @@ pub fn arrival(alloc: Global, side: Side, bytes: &[u8]) -> Result<Option<Packet>
     Ok(Packet::read(side, copy).ok())
 }
 
-/// The same in words; where they are none, what can be said of them.
-pub fn arrival_text(alloc: Global, side: Side, bytes: &[u8]) -> Result<String, AllocError> {
+/// Adds it to a text; where they are none, what can be said of them.
+pub fn add_arrival(
+    alloc: Global,
+    text: &mut String,
+    side: Side,
+    bytes: &[u8],
+) -> Result<(), AllocError> {
     match arrival(alloc, side, bytes)? {
-        Some(packet) => packet_text(alloc, &packet),
-        None => unread_text(alloc, bytes),
+        Some(packet) => add_packet(text, &packet),
+        None => add_unread(text, bytes),
     }
 }
 
-fn unread_text(alloc: Global, bytes: &[u8]) -> Result<String, AllocError> {
+fn add_unread(text: &mut String, bytes: &[u8]) -> Result<(), AllocError> {
     let many = bytes.len();
     if is_arp(bytes) {
-        return format!(in alloc; "arp, {many} bytes");
+        return write!(text, "arp, {many} bytes");
     }
     match (version(bytes), addresses(bytes), bytes.get(9)) {
         (4, Some((from, to)), Some(protocol)) => {
-            format!(in alloc; "ip {from} > {to} protocol {protocol}, {many} bytes")
+            write!(text, "ip {from} > {to} protocol {protocol}, {many} bytes")
         }
-        (6, _, _) => format!(in alloc; "ipv6, {many} bytes"),
-        _ => format!(in alloc; "{many} bytes"),
+        (6, _, _) => write!(text, "ipv6, {many} bytes"),
+        _ => write!(text, "{many} bytes"),
     }
 }
 
@@ -125,9 +145,14 @@ pub struct Party {
 
 impl Party {
     /// Whether an endpoint is this one, or is the host's.
-    pub fn has(self, endpoint: Endpoint) -> bool {
+    pub fn has(self, endpoint: Endpoint) -> bool
+        ensures { result ≡ is_meant self endpoint }
+    {
         endpoint.address == self.address
-            && self.number.is_none_or(|number| number == endpoint.number)
+            && match self.number {
+                Some(number) => number == endpoint.number,
+                None => true,
+            }
     }
 
     /// Whether it is an end of a packet. An error is also of the ends of the packet that it quotes, and an identifier of a query

@@ -19,23 +19,25 @@ pub enum Stop {
     Output(io::Error),
     /// Some packets end otherwise under the other configuration.
     Differ,
+    /// Nobody had what was asked for.
+    Nobody,
 }
 
 impl Stop {
     /// The exit status, which is that of `napt`; 6 where standard output fails, as for a file; 1 where
-    /// packets differ.
+    /// packets differ, and where nobody had what was asked for.
     pub fn status(&self) -> u8 {
         match self {
             Stop::Told(stop) | Stop::As(stop) => stop_status(stop),
             Stop::NoOutput | Stop::Output(_) => 6,
-            Stop::Differ => 1,
+            Stop::Differ | Stop::Nobody => 1,
         }
     }
 
     /// Writes the line that says why, where that was not told before.
     pub fn tell<R: Eprint>(&self, rt: &R) {
         let _ = match self {
-            Stop::Told(_) | Stop::Differ => Ok(()),
+            Stop::Told(_) | Stop::Differ | Stop::Nobody => Ok(()),
             Stop::As(stop) => eprintln!(rt; "explain: {stop}"),
             Stop::NoOutput => eprintln!(rt; "explain: standard output is closed"),
             Stop::Output(error) => eprintln!(rt; "explain: standard output: {error}"),

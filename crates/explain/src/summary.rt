@@ -1,17 +1,21 @@
 //! The lines of an account.
 
-use crate::names::{Seconds, side_name};
-use crate::objects::tell_object;
+use crate::digits::{add_number_within, add_seconds, add_spaces, pad};
+use crate::ended::Ended;
+use crate::names::Seconds;
+use crate::objects::add_object;
 use crate::options::Choice;
-use crate::shown::{Party, arrival_text, packet_text};
+use crate::page::Page;
+use crate::shown::{Party, add_arrival, add_packet};
 use crate::stop::Stop;
-use napt_account::{Account, Note};
+use napt_account::{Account, Entry, Note};
 use napt_reasons::{advice, meaning};
 use napt_records::{EndpointText, cause_name, protocol_name};
 use napt_sequential::{Input, Outcome};
 use napt_table::Row;
 use napt_wire::{Cause, Kind, Packet, Side};
 use std::alloc::{AllocError, Global};
+use std::fmt::Write;
 
 /// A run whose lines are told.
 #[derive(Clone, Copy)]
@@ -26,8 +30,14 @@ pub struct Told<'a> {
 #[derive(Clone, Copy)]
 pub struct Widths {
     number: usize,
-    time: usize,
+    /// Of the seconds of a time, before its point.
+    seconds: usize,
 }
+
+/// How wide what a packet was is at least, and what happened to it.
+const BEFORE: usize = 50;
+
+const HAPPENED: usize = 21;
 
 impl Widths {
     /// Those that the numbers and the times of all packets need.
@@ -35,7 +45,7 @@ impl Widths {
         let latest = inputs.last().map_or(0, |input| input.clock);
         Widths {
             number: digits(inputs.len() as u64),
-            time: digits(latest / 1_000_000_000).saturating_add(7),
+            seconds: digits(latest / 1_000_000_000),
         }
     }
 }
@@ -63,16 +73,50 @@ pub struct Line<'a> {
 }
 
 impl<'a> Told<'a> {
-    /// Writes the line of the packet of a number, from 1, where it is asked for.
-    pub fn tell_line<R: Print + AllocGlobal>(self, rt: &R, number: u64) -> Result<(), Stop> {
+    /// The time of the last packet, in ns.
+    pub fn last(self) -> u64 {
+        self.inputs.last().map_or(0, |input| input.clock)
+    }
+
+    /// Adds the line of the packet of a number, from 1, where it is asked for, and before it those of the bindings that have ended
+    /// by then.
+    pub fn add_line(
+        self,
+        alloc: Global,
+        text: &mut String,
+        ended: &mut Ended,
+        number: u64,
+    ) -> Result<(), AllocError> {
         let Some(line) = self.line_at(number) else {
             return Ok(());
         };
-        if is_chosen(rt.alloc(), self.choice, line)? {
-            let text = line_text(rt.alloc(), self.widths, line)?;
-            println!(rt; "{text}")?;
+        let input = line.input;
+        self.add_ended(text, ended, input.clock)?;
+        if is_chosen(alloc, self.choice, line)? {
+            add_packet_line(alloc, text, self.widths, line)?;
         }
         Ok(())
+    }
+
+    /// Adds the lines of the bindings that have ended by a time and were not told yet, where they are asked for.
+    fn add_ended(self, text: &mut String, ended: &mut Ended, by: u64) -> Result<(), AllocError> {
+        for _ in 0..self.account.log.entries.len() {
+            let Some(change) = ended.next_by(by) else {
+                return Ok(());
+            };
+            match self.account.log.entries.get(change.place) {
+                Some(entry) if self.has_chosen(entry) => {
+                    add_end(text, self.widths, change.at, entry)?;
+                }
+                _ => {}
+            }
+        }
+        Ok(())
+    }
+
+    /// Whether a binding's end is asked for.
+    fn has_chosen(self, entry: &Entry) -> bool {
+        !self.choice.dropped && has_party(&entry.binding, self.choice.host)
     }
 
     fn line_at(self, number: u64) -> Option<Line<'a>> {
@@ -88,10 +132,10 @@ impl<'a> Told<'a> {
         })
     }
 
-    /// Writes the JSON object of the packet of a number, from 1, where it is asked for.
-    pub fn tell_json<R: Print + AllocGlobal>(self, rt: &R, number: u64) -> Result<(), Stop> {
+    /// Adds the JSON object of the packet of a number, from 1, where it is asked for.
+    pub fn add_json(self, alloc: Global, text: &mut String, number: u64) -> Result<(), AllocError> {
         match self.line_at(number) {
-            Some(line) if is_chosen(rt.alloc(), self.choice, line)? => tell_object(rt, line),
+            Some(line) if is_chosen(alloc, self.choice, line)? => add_object(alloc, text, line),
             _ => Ok(()),
         }
     }
@@ -107,8 +151,9 @@ impl<'a> Told<'a> {
             let _ = eprintln!(rt; "explain: --only {number}: there are {many} packets");
             return Err(Stop::Told(napt_program::Stop::Usage));
         };
-        let text = line_text(rt.alloc(), self.widths, line)?;
-        println!(rt; "{text}")?;
+        let mut text = String::new(rt.alloc());
+        add_packet_line(rt.alloc(), &mut text, self.widths, line)?;
+        print!(rt; "{text}")?;
         let at = number.saturating_sub(1) as usize;
         if let Some(used) = self.account.uses.get(at) {
             self.tell_used(rt, "out", used.out)?;
@@ -136,23 +181,54 @@ impl<'a> Told<'a> {
     }
 }
 
-/// The line of a packet. Its columns stand below one another, but for an ICMP error, which quotes more than fits.
-fn line_text(alloc: Global, widths: Widths, line: Line<'_>) -> Result<String, AllocError> {
+/// Adds the line of a packet. Its columns stand below one another, but for an ICMP error, which quotes more than fits.
+fn add_packet_line(
+    alloc: Global,
+    text: &mut String,
+    widths: Widths,
+    line: Line<'_>,
+) -> Result<(), AllocError> {
     let Line {
         number,
         input,
         outcome,
         note,
     } = line;
-    let Widths {
-        number: number_width,
-        time: time_width,
-    } = widths;
-    let time = format!(in alloc; "{}", Seconds(input.time))?;
-    let side = side_name(input.side);
-    let before = arrival_text(alloc, input.side, &input.bytes)?;
-    let rest = rest_text(alloc, input.side, outcome, note)?;
-    format!(in alloc; "{number:>number_width$} {time:>time_width$} {side:<7} {before:<50} | {rest}")
+    add_number_within(text, number, widths.number)?;
+    text.push_str(" ")?;
+    add_seconds(text, input.time, widths.seconds)?;
+    text.push_str(match input.side {
+        Side::Inside => " inside  ",
+        Side::Outside => " outside ",
+    })?;
+    let begin = text.len();
+    add_arrival(alloc, text, input.side, &input.bytes)?;
+    pad(text, begin, BEFORE)?;
+    text.push_str(" | ")?;
+    add_rest(text, input.side, outcome, note)?;
+    text.push('\n')
+}
+
+/// Adds the line of a binding that has ended at a time, in the columns of packets.
+fn add_end(text: &mut String, widths: Widths, at: u64, entry: &Entry) -> Result<(), AllocError> {
+    let name = protocol_name(entry.binding.protocol);
+    let (inside, external) = (
+        EndpointText(entry.binding.inside),
+        EndpointText(entry.binding.external),
+    );
+    let (made, used) = (Seconds(entry.made), Seconds(entry.last));
+    let (sent, received) = (entry.sent, entry.received);
+    add_spaces(text, widths.number)?;
+    text.push_str(" ")?;
+    add_seconds(text, at, widths.seconds)?;
+    text.push_str(" ended   ")?;
+    let begin = text.len();
+    write!(text, "{name} {inside} at {external}")?;
+    pad(text, begin, BEFORE)?;
+    writeln!(
+        text,
+        " | made at {made}, last packet at {used}; {sent} out, {received} in"
+    )
 }
 
 fn is_chosen(alloc: Global, choice: Choice, line: Line<'_>) -> Result<bool, AllocError> {
@@ -181,32 +257,27 @@ pub fn leaves_with(outcome: &Outcome, host: Party) -> bool {
     }
 }
 
-/// What happened to a packet that came from a side, and the packet as it leaves.
-fn rest_text(
-    alloc: Global,
+/// Adds what happened to a packet that came from a side, and the packet as it leaves.
+fn add_rest(
+    text: &mut String,
     side: Side,
     outcome: &Outcome,
     note: Note,
-) -> Result<String, AllocError> {
-    match outcome {
-        Outcome::Dropped(cause) => dropped_text(alloc, *cause),
-        Outcome::ToInside(packet) if side == Side::Inside => hairpin_text(alloc, packet, note),
-        Outcome::ToInside(packet) | Outcome::ToOutside(packet) => {
-            let after = packet_text(alloc, packet)?;
-            format!(in alloc; "{:<21} | {after}", used(packet, note))
+) -> Result<(), AllocError> {
+    let (packet, way) = match outcome {
+        Outcome::Dropped(cause) => {
+            let name = cause_name(*cause);
+            return write!(text, "dropped, {name}: {}", meaning(*cause));
         }
-    }
-}
-
-fn dropped_text(alloc: Global, cause: Cause) -> Result<String, AllocError> {
-    let name = cause_name(cause);
-    format!(in alloc; "dropped, {name}: {}", meaning(cause))
-}
-
-fn hairpin_text(alloc: Global, packet: &Packet, note: Note) -> Result<String, AllocError> {
-    let used = used(packet, note);
-    let after = packet_text(alloc, packet)?;
-    format!(in alloc; "{used:<21} | hairpin: {after}")
+        Outcome::ToInside(packet) if side == Side::Inside => (packet, "hairpin: "),
+        Outcome::ToInside(packet) | Outcome::ToOutside(packet) => (packet, ""),
+    };
+    let begin = text.len();
+    text.push_str(used(packet, note))?;
+    pad(text, begin, HAPPENED)?;
+    text.push_str(" | ")?;
+    text.push_str(way)?;
+    add_packet(text, packet)
 }
 
 /// What a packet that went through did to a binding.
@@ -220,16 +291,17 @@ fn used(packet: &Packet, note: Note) -> &'static str {
 }
 
 /// Writes the bindings that live at the last clock, with their ages; those of a host or an endpoint where one is chosen.
-pub fn tell_bindings<R: Print>(rt: &R, told: Told<'_>) -> Result<(), Stop> {
-    let now = told.inputs.last().map_or(0, |input| input.clock);
+pub fn tell_bindings<R: Print>(rt: &R, page: &mut Page, told: Told<'_>) -> Result<(), Stop> {
+    let now = told.last();
     let time = Seconds(now);
     let account = told.account;
     let rows = &account.run.bindings;
-    println!(rt; "live bindings at {time}: {}", rows.len())?;
+    writeln!(page.text, "live bindings at {time}: {}", rows.len())?;
     for row in rows {
         if has_party(row, told.choice.host) {
-            tell_binding(rt, now, row, account)?;
+            add_binding(&mut page.text, now, row, account)?;
         }
+        page.turn(rt)?;
     }
     Ok(())
 }
@@ -239,56 +311,55 @@ fn has_party(row: &Row, host: Option<Party>) -> bool {
     host.is_none_or(|host| host.has(row.inside) || host.has(row.external))
 }
 
-fn tell_binding<R: Print>(rt: &R, now: u64, row: &Row, account: &Account) -> Result<(), Stop> {
+fn add_binding(
+    text: &mut String,
+    now: u64,
+    row: &Row,
+    account: &Account,
+) -> Result<(), AllocError> {
     let name = protocol_name(row.protocol);
     let inside = EndpointText(row.inside);
     let external = EndpointText(row.external);
-    print!(rt; "  {name} {inside} at {external}")?;
+    write!(text, "  {name} {inside} at {external}")?;
     if row.fixed {
-        println!(rt; ", a redirect")?;
-        return Ok(());
+        return text.push_str(", a redirect\n");
     }
-    match account.entry_of(row.protocol, row.external) {
-        Some(entry) => {
-            let made = Seconds(now.saturating_sub(entry.made));
-            let used = Seconds(now.saturating_sub(entry.last_sent));
-            println!(rt; ", made {made} s ago, last used from inside {used} s ago")?;
-        }
-        None => println!(rt; "")?,
+    if let Some(entry) = account.entry_of(row.protocol, row.external) {
+        let made = Seconds(now.saturating_sub(entry.made));
+        let used = Seconds(now.saturating_sub(entry.last_sent));
+        write!(
+            text,
+            ", made {made} s ago, last used from inside {used} s ago"
+        )?;
     }
-    Ok(())
+    text.push('\n')
 }
 
-/// Writes how many packets ended in which way, and what to do where more than a fifth of them were dropped for one cause.
-pub fn tell_counts<R: Print + AllocGlobal>(rt: &R, account: &Account) -> Result<(), Stop> {
+/// Adds how many packets ended in which way, and what to do where more than a fifth of them were dropped for one cause.
+pub fn add_counts(text: &mut String, account: &Account) -> Result<(), AllocError> {
     let outcomes = account.run.outcomes.as_slice();
-    println!(rt; "packets: {}", outcomes.len())?;
-    println!(rt; "  {} to the outside", count_to_outside(outcomes))?;
-    println!(rt; "  {} to the inside", count_to_inside(outcomes))?;
+    writeln!(text, "packets: {}", outcomes.len())?;
+    writeln!(text, "  {} to the outside", count_to_outside(outcomes))?;
+    writeln!(text, "  {} to the inside", count_to_inside(outcomes))?;
     for cause in Cause::ALL {
-        tell_cause(rt, cause, outcomes)?;
+        add_cause(text, cause, outcomes)?;
     }
     Ok(())
 }
 
-fn tell_cause<R: Print + AllocGlobal>(
-    rt: &R,
-    cause: Cause,
-    outcomes: &[Outcome],
-) -> Result<(), Stop> {
+fn add_cause(text: &mut String, cause: Cause, outcomes: &[Outcome]) -> Result<(), AllocError> {
     let many = count_dropped(outcomes, cause);
     if many == 0 {
         return Ok(());
     }
     let name = cause_name(cause);
-    println!(rt; "  {many} dropped, {name}: {}", meaning(cause))?;
+    writeln!(text, "  {many} dropped, {name}: {}", meaning(cause))?;
     match advice(cause) {
-        Some(text) if many > outcomes.len() / 5 => {
-            println!(rt; "    many packets end so: {text}")?;
+        Some(advice) if many > outcomes.len() / 5 => {
+            writeln!(text, "    many packets end so: {advice}")
         }
-        _ => {}
+        _ => Ok(()),
     }
-    Ok(())
 }
 
 /// How many packets leave for the outside.

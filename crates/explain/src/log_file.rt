@@ -1,0 +1,274 @@
+//! The log of a run as CSV, by the terms of RFC 8158. Its fields are told in docs/FORMATS.md.
+
+use crate::changes::{Change, Event, changes_of};
+use crate::digits::address_text;
+use crate::names::date_of;
+use crate::options::Options;
+use crate::places::{picture_stop, tell_failed};
+use crate::stop::Stop;
+use csv::{ErrorKind, Writer, WriterBuilder};
+use napt_account::{Entry, Log, Shortage};
+use napt_config::Config;
+use napt_options::{is_same, place_of};
+use napt_program::unmade;
+use napt_wire::{Cause, Protocol};
+use serde::Serialize;
+use std::alloc::{AllocError, Global};
+use std::io::Write;
+use std::rt::Files;
+
+/// The names of the fields: those of IPFIX's information elements (RFC 8158, and IANA's registry), in mixed case, and others.
+const HEADER: &[&[u8]] = &[
+    b"observationTimeNanoseconds",
+    b"time",
+    b"natEvent",
+    b"protocolIdentifier",
+    b"sourceIPv4Address",
+    b"sourceTransportPort",
+    b"postNATSourceIPv4Address",
+    b"postNAPTSourceTransportPort",
+    b"natQuotaExceededEvent",
+    b"binding",
+    b"redirect",
+    b"packets_out",
+    b"packets_in",
+    b"flowEndNanoseconds",
+    b"last_use",
+];
+
+/// The values of natEvent that a run has (RFC 8158).
+const BINDING_MADE: u8 = 8;
+
+const BINDING_ENDED: u8 = 9;
+
+const PORTS_EXHAUSTED: u8 = 12;
+
+const QUOTA_EXCEEDED: u8 = 13;
+
+/// The value of natQuotaExceededEvent: the most entries of one user (RFC 8158).
+const ENTRIES_OF_USER: u8 = 3;
+
+/// An event of the log, by its fields in the order of the header.
+#[derive(Drop, Serialize)]
+struct Record {
+    at: u64,
+    time: Option<String>,
+    event: u8,
+    protocol: u8,
+    host: String,
+    number: Option<u16>,
+    external: String,
+    external_number: Option<u16>,
+    quota: Option<u8>,
+    binding: Option<u64>,
+    redirect: Option<u8>,
+    sent: Option<u64>,
+    received: Option<u64>,
+    last: Option<u64>,
+    last_time: Option<String>,
+}
+
+/// What the records of a log are made of.
+#[derive(Clone, Copy)]
+struct Source<'a> {
+    config: &'a Config,
+    log: &'a Log,
+}
+
+/// Refuses a log whose file is one that is named before, or cannot be made, and says why.
+pub fn refuse_log<R: Files + Eprint>(rt: &R, options: &Options<'_>) -> Result<(), Stop> {
+    let Some(path) = options.log else {
+        return Ok(());
+    };
+    if let Some(name) = named_again(rt, options, path) {
+        let _ = eprintln!(rt; "explain: --log {path}: it is the file of {name}");
+    } else if let Some(error) = unmade(rt, path) {
+        tell_failed(rt, "log", path, &error);
+    } else {
+        return Ok(());
+    }
+    Err(picture_stop())
+}
+
+/// What has the file of a path too, of all that is named beside the log. Standard output counts in any case.
+fn named_again<R: Files>(rt: &R, options: &Options<'_>, path: &str) -> Option<&'static str> {
+    let files = &options.files;
+    let input = match files.inside {
+        Some(_) => None,
+        None => Some("/dev/stdin"),
+    };
+    let named = [
+        ("--config", text_of(files.config.as_ref())),
+        ("--inside", text_of(files.inside.as_ref())),
+        ("standard input", input),
+        ("--outside", text_of(files.outside.as_ref())),
+        ("standard output", Some("/dev/stdout")),
+        ("--to-outside", text_of(files.to_outside.as_ref())),
+        ("--to-inside", text_of(files.to_inside.as_ref())),
+        ("--report", text_of(files.report.as_ref())),
+        ("--svg", options.svg),
+    ];
+    let place = place_of(rt, path);
+    let again = named.iter().find(|(_, other)| match other {
+        Some(other) => is_same(place, place_of(rt, other)),
+        None => false,
+    });
+    again.map(|(name, _)| *name)
+}
+
+fn text_of(path: Option<&String>) -> Option<&str> {
+    path.map(|path| path.as_str())
+}
+
+/// Writes the log of a run, whose last packet came at a time, to a file. One that cannot be written is told by its name, with the
+/// system's reason.
+pub fn write_log<R: Files + Eprint + AllocGlobal>(
+    rt: &R,
+    path: &str,
+    config: &Config,
+    log: &Log,
+    last: u64,
+) -> Result<(), Stop> {
+    let changes = changes_of(rt.alloc(), log, last)?;
+    let source = Source { config, log };
+    let mut setup = WriterBuilder::new();
+    let written = match setup.has_headers(false).from_path(rt, path) {
+        Ok(writer) => source.write(rt.alloc(), writer, &changes),
+        Err(error) => Err(error),
+    };
+    match written {
+        Ok(()) => Ok(()),
+        Err(error) => Err(failed(rt, path, error)),
+    }
+}
+
+/// What a log that cannot be written comes to.
+fn failed<R: Eprint>(rt: &R, path: &str, error: csv::Error) -> Stop {
+    match error.into_kind() {
+        ErrorKind::Io(error) => {
+            tell_failed(rt, "log", path, &error);
+            picture_stop()
+        }
+        _ => Stop::from(AllocError),
+    }
+}
+
+impl<'a> Source<'a> {
+    /// Writes the header and a record for each change.
+    fn write<W: Write + Drop>(
+        self,
+        alloc: Global,
+        writer: Writer<W>,
+        changes: &[Change],
+    ) -> Result<(), csv::Error> {
+        let mut writer = writer;
+        writer.write_fields(HEADER)?;
+        for change in changes {
+            if let Some(record) = self.record(alloc, *change)? {
+                writer.serialize(alloc, &record)?;
+            }
+        }
+        writer.flush()
+    }
+
+    /// The record of a change.
+    fn record(self, alloc: Global, change: Change) -> Result<Option<Record>, csv::Error> {
+        let made = match change.event {
+            Event::Ended(place) => self.binding_record(alloc, change.at, BINDING_ENDED, place),
+            Event::Made(place) => self.binding_record(alloc, change.at, BINDING_MADE, place),
+            Event::Refused(place) => self.shortage_record(alloc, place),
+        };
+        made.map_err(|_| csv::Error::out_of_memory())
+    }
+
+    /// The record of an event of the binding at a place.
+    fn binding_record(
+        self,
+        alloc: Global,
+        at: u64,
+        event: u8,
+        place: usize,
+    ) -> Result<Option<Record>, AllocError> {
+        let Some(entry) = self.log.entries.get(place) else {
+            return Ok(None);
+        };
+        let binding = entry.binding;
+        let last = last_use(entry);
+        let last_time = match last {
+            Some(last) => date_text(alloc, last)?,
+            None => None,
+        };
+        Ok(Some(Record {
+            at,
+            time: date_text(alloc, at)?,
+            event,
+            protocol: protocol_number(binding.protocol),
+            host: address_text(alloc, binding.inside.address)?,
+            number: Some(binding.inside.number),
+            external: address_text(alloc, binding.external.address)?,
+            external_number: Some(binding.external.number),
+            quota: None,
+            binding: Some((place as u64).saturating_add(1)),
+            redirect: Some(u8::from(binding.fixed)),
+            sent: Some(entry.sent),
+            received: Some(entry.received),
+            last,
+            last_time,
+        }))
+    }
+
+    /// The record of the shortage at a place.
+    fn shortage_record(self, alloc: Global, place: usize) -> Result<Option<Record>, AllocError> {
+        let Some(shortage) = self.log.shortages.get(place) else {
+            return Ok(None);
+        };
+        let (event, quota) = shortage_kind(shortage);
+        Ok(Some(Record {
+            at: shortage.at,
+            time: date_text(alloc, shortage.at)?,
+            event,
+            protocol: protocol_number(shortage.protocol),
+            host: address_text(alloc, shortage.host)?,
+            number: None,
+            external: address_text(alloc, self.config.pair(shortage.host))?,
+            external_number: None,
+            quota,
+            binding: None,
+            redirect: None,
+            sent: None,
+            received: None,
+            last: None,
+            last_time: None,
+        }))
+    }
+}
+
+/// The natEvent of a shortage, and its natQuotaExceededEvent.
+fn shortage_kind(shortage: &Shortage) -> (u8, Option<u8>) {
+    match shortage.cause {
+        Cause::OverQuota => (QUOTA_EXCEEDED, Some(ENTRIES_OF_USER)),
+        _ => (PORTS_EXHAUSTED, None),
+    }
+}
+
+/// When a packet last went through the binding of an entry, if one did.
+fn last_use(entry: &Entry) -> Option<u64> {
+    (entry.sent > 0 || entry.received > 0).then_some(entry.last)
+}
+
+/// A protocol's number (IANA).
+fn protocol_number(protocol: Protocol) -> u8 {
+    match protocol {
+        Protocol::Icmp => 1,
+        Protocol::Tcp => 6,
+        Protocol::Udp => 17,
+    }
+}
+
+/// A time in ns as a date in UTC.
+fn date_text(alloc: Global, time: u64) -> Result<Option<String>, AllocError> {
+    match date_of(u128::from(time)) {
+        Some(date) => Ok(Some(format!(in alloc; "{date}")?)),
+        None => Ok(None),
+    }
+}

@@ -1,0 +1,125 @@
+//! The figures of a run in lines.
+
+use crate::changes::changes_of;
+use crate::names::Moment;
+use crate::sizes::hosts::{Host, Refusals, percentile};
+use crate::sizes::lifetimes::{Lifetimes, SPANS};
+use crate::sizes::spaces::Space;
+use crate::sizes::{Level, Sizes, sizes_of};
+use crate::stop::Stop;
+use napt_account::Log;
+use napt_config::{Address, Config};
+use napt_records::protocol_name;
+
+/// So many hosts have a line, of those with the most bindings.
+const TOP: usize = 10;
+
+/// Writes the figures of a run, whose last packet came at a time.
+pub fn tell_sizes<R: Print + AllocGlobal>(
+    rt: &R,
+    config: &Config,
+    log: &Log,
+    last: u64,
+) -> Result<(), Stop> {
+    let changes = changes_of(rt.alloc(), log, last)?;
+    let sizes = sizes_of(rt.alloc(), config, log, &changes)?;
+    for space in &sizes.spaces {
+        tell_space(rt, space)?;
+    }
+    let ranked = sizes.hosts.ranked(rt.alloc())?;
+    tell_hosts(rt, &ranked)?;
+    tell_quotas(
+        rt,
+        &sizes,
+        ranked.first().map_or(0, |host| host.bindings.most),
+    )?;
+    tell_refusals(rt, "over-quota", &sizes.over_quota)?;
+    tell_refusals(rt, "no-port", &sizes.no_number)?;
+    tell_lifetimes(rt, sizes.lifetimes)
+}
+
+/// Writes what is used of the numbers of a protocol at an address.
+fn tell_space<R: Print>(rt: &R, space: &Space) -> Result<(), Stop> {
+    let (name, address) = (protocol_name(space.protocol), Address(space.address));
+    let Level { most, at, .. } = space.bindings;
+    if most == 0 {
+        println!(rt; "{name} at {address}: no bindings")?;
+        return Ok(());
+    }
+    print!(rt; "{name} at {address}: most bindings at once {most}, first ")?;
+    match at {
+        0 => print!(rt; "before the first packet")?,
+        _ => print!(rt; "at {}", Moment(u128::from(at)))?,
+    }
+    println!(rt; "; most hosts at once {}", space.hosts.most)?;
+    tell_classes(rt, space)
+}
+
+fn tell_classes<R: Print>(rt: &R, space: &Space) -> Result<(), Stop> {
+    for (class, used) in space.classes().iter().zip(space.used.iter()) {
+        let (name, many, most) = (class.name, class.many, used.most);
+        let share = most.saturating_mul(10_000) / many.max(1);
+        let (percent, rest) = (share / 100, share % 100);
+        println!(rt; "  {name}: {most} of {many}, {percent}.{rest:02} %")?;
+    }
+    Ok(())
+}
+
+/// Writes how many bindings the hosts had at once, which are ranked.
+fn tell_hosts<R: Print>(rt: &R, ranked: &[Host]) -> Result<(), Stop> {
+    println!(rt; "hosts with bindings: {}", ranked.len())?;
+    if ranked.is_empty() {
+        return Ok(());
+    }
+    println!(rt;
+        "  most bindings at once: median {}, of 95 % at most {}, of 99 % at most {}, greatest {}",
+        percentile(ranked, 50),
+        percentile(ranked, 95),
+        percentile(ranked, 99),
+        percentile(ranked, 100),
+    )?;
+    for host in ranked.iter().take(TOP) {
+        tell_host(rt, host)?;
+    }
+    Ok(())
+}
+
+fn tell_host<R: Print>(rt: &R, host: &Host) -> Result<(), Stop> {
+    let Level { most, at, .. } = host.bindings;
+    let (address, time) = (Address(host.address), Moment(u128::from(at)));
+    println!(rt; "  {address}: {most}, first at {time}")?;
+    Ok(())
+}
+
+/// Writes what quotas would have refused, up to the first that refuses nothing.
+fn tell_quotas<R: Print>(rt: &R, sizes: &Sizes, greatest: u64) -> Result<(), Stop> {
+    let mut is_behind = false;
+    for quota in &sizes.quotas {
+        if !is_behind {
+            let (most, refused, hosts) = (quota.most, quota.refused, quota.hosts);
+            println!(rt; "quota {most}: new bindings refused {refused}, of hosts {hosts}")?;
+        }
+        is_behind = is_behind || quota.most >= greatest;
+    }
+    Ok(())
+}
+
+/// Writes how many packets got no binding for a cause, if any did not.
+fn tell_refusals<R: Print>(rt: &R, cause: &str, refusals: &Refusals) -> Result<(), Stop> {
+    let (packets, hosts) = (refusals.packets, refusals.hosts());
+    if packets > 0 {
+        println!(rt; "dropped, {cause}: packets {packets}, of hosts {hosts}")?;
+    }
+    Ok(())
+}
+
+/// Writes how long bindings lived.
+fn tell_lifetimes<R: Print>(rt: &R, lifetimes: Lifetimes) -> Result<(), Stop> {
+    println!(rt; "bindings by how long they lived:")?;
+    for (seconds, many) in SPANS.iter().zip(lifetimes.within.iter()) {
+        println!(rt; "  at most {seconds} s: {many}")?;
+    }
+    println!(rt; "  longer: {}", lifetimes.longer)?;
+    println!(rt; "  not ended: {}", lifetimes.living)?;
+    Ok(())
+}

@@ -1,0 +1,191 @@
+//! How many bindings, numbers and hosts a run had at once, what quotas would have refused, and how long bindings lived: figures to
+//! size a pool and a quota by (RFC 6888, REQ-4). What each of them is stands in docs/FORMATS.md.
+
+pub mod hosts;
+pub mod lifetimes;
+pub mod quotas;
+pub mod spaces;
+
+use crate::changes::{Change, Event};
+use crate::sizes::hosts::{Hosts, Refusals};
+use crate::sizes::lifetimes::Lifetimes;
+use crate::sizes::quotas::Quota;
+use crate::sizes::spaces::Space;
+use napt_account::{Entry, Log, Shortage};
+use napt_config::Config;
+use napt_wire::{Cause, Protocol};
+use std::alloc::{AllocError, Global};
+
+/// The quotas that are tried are so many, each twice the one before; the first is `LEAST_QUOTA`. A configuration has at most 65,535.
+const QUOTAS: usize = 13;
+
+const LEAST_QUOTA: u64 = 8;
+
+/// The figures of a run.
+#[derive(Drop)]
+pub struct Sizes {
+    /// Those of each external address, in the order of the pool, and there of ICMP, TCP and UDP.
+    pub spaces: Vec<Space>,
+    /// Those of each inside host that had a binding.
+    pub hosts: Hosts,
+    /// What each quota would have refused, from the least on.
+    pub quotas: Vec<Quota>,
+    pub lifetimes: Lifetimes,
+    /// Packets that got no binding because their host had its quota.
+    pub over_quota: Refusals,
+    /// Packets that got no binding because each number of their class was taken.
+    pub no_number: Refusals,
+}
+
+/// How many there are now, the most that there were at once, and when there first were so many, in ns.
+#[derive(Clone, Copy, Debug, PartialEq, Eq)]
+pub struct Level {
+    now: u64,
+    pub most: u64,
+    pub at: u64,
+}
+
+impl Level {
+    pub const EMPTY: Level = Level {
+        now: 0,
+        most: 0,
+        at: 0,
+    };
+
+    /// One more, from a time on.
+    pub fn rise(&mut self, at: u64) {
+        self.now = self.now.saturating_add(1);
+        if self.now > self.most {
+            self.most = self.now;
+            self.at = at;
+        }
+    }
+
+    /// One fewer.
+    pub fn fall(&mut self) {
+        self.now = self.now.saturating_sub(1);
+    }
+}
+
+/// The figures of a log, whose changes stand in the order of time.
+pub fn sizes_of(
+    alloc: Global,
+    config: &Config,
+    log: &Log,
+    changes: &[Change],
+) -> Result<Sizes, AllocError> {
+    let mut sizes = Sizes {
+        spaces: spaces_of(alloc, config)?,
+        hosts: Hosts::of(alloc, &log.entries)?,
+        quotas: Vec::new(alloc),
+        lifetimes: Lifetimes::NONE,
+        over_quota: Refusals::new(alloc),
+        no_number: Refusals::new(alloc),
+    };
+    sizes.quotas = quotas_of(alloc, sizes.hosts.many(), log.entries.len())?;
+    for change in changes {
+        sizes.take(config, log, *change)?;
+    }
+    Ok(sizes)
+}
+
+/// Where nothing is used, of each protocol at each address of the pool.
+fn spaces_of(alloc: Global, config: &Config) -> Result<Vec<Space>, AllocError> {
+    let mut spaces = Vec::new(alloc);
+    for address in config.pool() {
+        for protocol in [Protocol::Icmp, Protocol::Tcp, Protocol::Udp] {
+            spaces.push(Space::new(alloc, *address, protocol))?;
+        }
+    }
+    Ok(spaces)
+}
+
+/// The quotas that are tried, over so many hosts and bindings.
+fn quotas_of(alloc: Global, hosts: usize, bindings: usize) -> Result<Vec<Quota>, AllocError> {
+    let mut quotas = Vec::new(alloc);
+    let mut most = LEAST_QUOTA;
+    for _ in 0..QUOTAS {
+        quotas.push(Quota::new(alloc, most, hosts, bindings)?)?;
+        most = most.saturating_mul(2);
+    }
+    Ok(quotas)
+}
+
+impl Sizes {
+    /// Takes a change of the log.
+    fn take(&mut self, config: &Config, log: &Log, change: Change) -> Result<(), AllocError> {
+        match change.event {
+            Event::Made(place) => match log.entries.get(place) {
+                Some(entry) => self.make(config, place, entry),
+                None => Ok(()),
+            },
+            Event::Ended(place) => {
+                if let Some(entry) = log.entries.get(place) {
+                    self.end(config, place, entry, change.at);
+                }
+                Ok(())
+            }
+            Event::Refused(place) => match log.shortages.get(place) {
+                Some(shortage) => self.refuse(shortage),
+                None => Ok(()),
+            },
+        }
+    }
+
+    /// The binding of the entry at a place is made.
+    fn make(&mut self, config: &Config, place: usize, entry: &Entry) -> Result<(), AllocError> {
+        if let Some(space) = self.space_of(config, entry) {
+            space.make(entry)?;
+        }
+        if entry.binding.fixed {
+            return Ok(());
+        }
+        self.lifetimes.begin();
+        let Some(host) = self.hosts.make(entry) else {
+            return Ok(());
+        };
+        for quota in self.quotas.iter_mut() {
+            quota.make(host, place);
+        }
+        Ok(())
+    }
+
+    /// The binding of the entry at a place has ended at a time.
+    fn end(&mut self, config: &Config, place: usize, entry: &Entry, at: u64) {
+        if let Some(space) = self.space_of(config, entry) {
+            space.end(entry);
+        }
+        self.lifetimes.end(at.saturating_sub(entry.made));
+        let Some(host) = self.hosts.end(entry) else {
+            return;
+        };
+        for quota in self.quotas.iter_mut() {
+            quota.end(host, place);
+        }
+    }
+
+    /// A packet got no binding.
+    fn refuse(&mut self, shortage: &Shortage) -> Result<(), AllocError> {
+        match shortage.cause {
+            Cause::OverQuota => self.over_quota.add(shortage.host),
+            _ => self.no_number.add(shortage.host),
+        }
+    }
+
+    /// The external address and protocol of an entry's binding.
+    fn space_of(&mut self, config: &Config, entry: &Entry) -> Option<&mut Space> {
+        let address = config.pool_index(entry.binding.external.address)? as usize;
+        let place = address
+            .saturating_mul(3)
+            .saturating_add(protocol_place(entry.binding.protocol));
+        self.spaces.get_mut(place)
+    }
+}
+
+fn protocol_place(protocol: Protocol) -> usize {
+    match protocol {
+        Protocol::Icmp => 0,
+        Protocol::Tcp => 1,
+        Protocol::Udp => 2,
+    }
+}

@@ -1,0 +1,130 @@
+//! What is used of the numbers of a protocol at an external address.
+
+use crate::sizes::Level;
+use napt_account::Entry;
+use napt_wire::Protocol;
+use std::alloc::{AllocError, Global};
+use std::collections::BTreeMap;
+
+/// A class of external numbers, and how many it has (RFC 4787, REQ-3 (a) and REQ-4; RFC 5508, section 3.1).
+#[derive(Clone, Copy, Debug, PartialEq, Eq)]
+pub struct Class {
+    pub name: &'static str,
+    pub many: u64,
+}
+
+/// A port keeps its parity and its side of 1024.
+const PORTS: &[Class] = &[
+    Class {
+        name: "even ports below 1024",
+        many: 511,
+    },
+    Class {
+        name: "odd ports below 1024",
+        many: 512,
+    },
+    Class {
+        name: "even ports from 1024 on",
+        many: 32_256,
+    },
+    Class {
+        name: "odd ports from 1024 on",
+        many: 32_256,
+    },
+];
+
+/// An identifier of ICMP becomes any other.
+const IDENTIFIERS: &[Class] = &[Class {
+    name: "identifiers",
+    many: 65_536,
+}];
+
+/// The bindings of a protocol at an external address, redirects too.
+#[derive(Drop)]
+pub struct Space {
+    pub address: u32,
+    pub protocol: Protocol,
+    pub bindings: Level,
+    /// Hosts with a binding there.
+    pub hosts: Level,
+    /// The bindings of each class, in the order of `classes`.
+    pub used: [Level; 4],
+    /// How many each host has now.
+    now: BTreeMap<u32, u64>,
+}
+
+impl Space {
+    /// Nothing is used.
+    pub fn new(alloc: Global, address: u32, protocol: Protocol) -> Space {
+        Space {
+            address,
+            protocol,
+            bindings: Level::EMPTY,
+            hosts: Level::EMPTY,
+            used: [Level::EMPTY; 4],
+            now: BTreeMap::new(alloc),
+        }
+    }
+
+    /// The classes of its numbers.
+    pub fn classes(&self) -> &'static [Class] {
+        match self.protocol {
+            Protocol::Icmp => IDENTIFIERS,
+            Protocol::Tcp | Protocol::Udp => PORTS,
+        }
+    }
+
+    /// The binding of an entry is made.
+    pub fn make(&mut self, entry: &Entry) -> Result<(), AllocError> {
+        let at = entry.made;
+        self.bindings.rise(at);
+        if let Some(level) = self
+            .used
+            .get_mut(class_at(self.protocol, entry.binding.external.number))
+        {
+            level.rise(at);
+        }
+        let host = entry.binding.inside.address;
+        match self.now.get_mut(&host) {
+            Some(many) => {
+                if *many == 0 {
+                    self.hosts.rise(at);
+                }
+                *many = many.saturating_add(1);
+            }
+            None => {
+                self.hosts.rise(at);
+                self.now.insert(host, 1)?;
+            }
+        }
+        Ok(())
+    }
+
+    /// The binding of an entry has ended.
+    pub fn end(&mut self, entry: &Entry) {
+        self.bindings.fall();
+        if let Some(level) = self
+            .used
+            .get_mut(class_at(self.protocol, entry.binding.external.number))
+        {
+            level.fall();
+        }
+        if let Some(many) = self.now.get_mut(&entry.binding.inside.address) {
+            *many = many.saturating_sub(1);
+            if *many == 0 {
+                self.hosts.fall();
+            }
+        }
+    }
+}
+
+/// The place of a number's class among those of its protocol.
+fn class_at(protocol: Protocol, number: u16) -> usize {
+    match (protocol, number < 1024, number % 2 == 0) {
+        (Protocol::Icmp, _, _) => 0,
+        (_, true, true) => 0,
+        (_, true, false) => 1,
+        (_, false, true) => 2,
+        (_, false, false) => 3,
+    }
+}
