@@ -1,4 +1,6 @@
 mod AnAnswer
+mod Buffer
+mod NextRecord
 mod OneAnswer
 mod Progress
 mod ReadsBack

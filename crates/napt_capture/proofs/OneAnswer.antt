@@ -23,25 +23,25 @@ rest_same a b x y n e = sym (drop_at a x (length b) n) ∙ ap (drop (length b)) 
 
 -- ---- the next record: a further one, an end, or a fault, and no two of them
 
-abbrev BadFractionAt : Spelling → ℕ → List ℕ → Type 0
+abbrev pub BadFractionAt : Spelling → ℕ → List ℕ → Type 0
 BadFractionAt s asked header = (length header ≡ 16) × MayAsk asked 16 × (units_per_second s ≤ fraction_of s header)
 
-abbrev TooLongAt : Spelling → ℕ → List ℕ → Type 0
+abbrev pub TooLongAt : Spelling → ℕ → List ℕ → Type 0
 TooLongAt s asked header = (length header ≡ 16) × MayAsk asked 16 × (fraction_of s header < units_per_second s)
     × (LARGEST_RECORD < captured_of s header)
 
-abbrev TooLargeAt : Spelling → ℕ → List ℕ → Type 0
+abbrev pub TooLargeAt : Spelling → ℕ → List ℕ → Type 0
 TooLargeAt s asked header =
     ((header ≡ []) × MayAsk asked 0 × (¬ MayAsk asked 16))
     ⊎ (IsRecordHeader s header × MayAsk asked 16 × (¬ MayAsk asked (16 + captured_of s header)))
 
 -- the faults that a record can have
-abbrev Refusal : Spelling → ℕ → ℕ → List ℕ → CaptureFault → Type 0
+abbrev pub Refusal : Spelling → ℕ → ℕ → List ℕ → CaptureFault → Type 0
 Refusal s asked number header fault =
     ((fault ≡ BadFraction number) × BadFractionAt s asked header)
     ⊎ (((fault ≡ TooLong number) × TooLongAt s asked header) ⊎ ((fault ≡ TooLarge) × TooLargeAt s asked header))
 
-refusal_of : (s : Spelling) (asked number : ℕ) (header : List ℕ) (fault : CaptureFault) →
+pub refusal_of : (s : Spelling) (asked number : ℕ) (header : List ℕ) (fault : CaptureFault) →
     IsRefusedRecord s asked number header fault → Refusal s asked number header fault
 refusal_of s asked number header (BadFraction n) p = inl (ap (λ k. BadFraction k) p.0, (p.1, p.2, p.3))
 refusal_of s asked number header (TooLong n) p = inr (inl (ap (λ k. TooLong k) p.0, (p.1, p.2, p.3, p.4)))
@@ -98,7 +98,7 @@ Refusal-one s asked number a b x y f g e (inr (inr p)) (inr (inl q)) =
 Refusal-one s asked number a b x y f g e (inr (inr p)) (inr (inr q)) = p.0 ∙ sym q.0
 
 -- a header that is good, and whose bytes may be asked for, is not refused
-Refusal-good : (s : Spelling) (asked number : ℕ) (a b x y : List ℕ) (fault : CaptureFault) → a ++ x ≡ b ++ y →
+pub Refusal-good : (s : Spelling) (asked number : ℕ) (a b x y : List ℕ) (fault : CaptureFault) → a ++ x ≡ b ++ y →
     Refusal s asked number a fault
     → IsRecordHeader s b → MayAsk asked (16 + captured_of s b) → ⊥
 Refusal-good s asked number a b x y fault e (inl p) good may =
@@ -110,7 +110,7 @@ Refusal-good s asked number a b x y fault e (inr (inr (is, (inr q)))) good may =
     let same = captured-same s a b x y q.0.whole good.whole e in q.2 (omega (arith, same, may))
 
 -- nor is an end
-Refusal-partial : (s : Spelling) (asked number : ℕ) (a x rest : List ℕ) (fault : CaptureFault) → rest ≡ a ++ x →
+pub Refusal-partial : (s : Spelling) (asked number : ℕ) (a x rest : List ℕ) (fault : CaptureFault) → rest ≡ a ++ x →
     Refusal s asked number a fault
     → MayAsk asked 16 → IsPartial s asked rest → ⊥
 Refusal-partial s asked number a x rest fault e (inl p) may (inl short) =
@@ -124,7 +124,7 @@ Refusal-partial s asked number a x rest fault e p may (inr (header, bytes, split
     Refusal-good s asked number a header x bytes fault (sym e ∙ split) p good room
 
 -- a record that stands whole is no end
-IsPartial-stored : (s : Spelling) (asked : ℕ) (rest left : List ℕ) (r : Stored) → rest ≡ stored_text r ++ left →
+pub IsPartial-stored : (s : Spelling) (asked : ℕ) (rest left : List ℕ) (r : Stored) → rest ≡ stored_text r ++ left →
     IsStored s r → IsPartial s asked rest → ⊥
 IsPartial-stored s asked rest left r e good (inl short) =
     omega (
