@@ -28,7 +28,6 @@ Keeps-unread None b old new kept is = tt
 Keeps-unread (Some x) None old new kept is = absurd kept
 Keeps-unread (Some x) (Some y) old new kept is = ap (λ l. l ++ y) is ∙ ap (λ l. old ++ l) kept
 
-
 -- what a read put behind the part that begins a buffer
 pub slice_range-read : (end room count : ℕ) (xs ys : List ℕ) → end ≤ length xs → count ≤ length ys →
     slice_range (put_mid end room xs ys) 0 (end + count) ≡ slice_range xs 0 end ++ take count ys

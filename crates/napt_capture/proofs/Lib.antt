@@ -4,5 +4,7 @@ mod NextRecord
 mod OneAnswer
 mod Progress
 mod ReadsBack
-mod Steps
+mod StreamIsCapture
+pub mod OneStream
 pub mod Puts
+pub mod Steps

@@ -1,5 +1,5 @@
 -- The next record in what was read ahead.
-use Rattle.std.proofs.Common.{◌≡◌, ℕ, ◌+◌, ◌-◌, ◌*◌, ◌^◌, ◌<◌, ◌≤◌, List, [], ◌++◌, length, take, drop, slice_range, Option, None, Some, Result, Ok, Err, IfOk, IfErr, Bool, true, false, sym, ap, ◌∙◌, subst, arith, refl, inl, inr, length-append, length-drop, length-take-le, take-append-drop, append_assoc, append-nil}
+use Rattle.std.proofs.Common.{◌≡◌, ℕ, ◌+◌, ◌-◌, ◌<◌, ◌≤◌, List, ◌++◌, length, take, drop, slice_range, Option, None, Some, Result, Ok, Err, IfOk, IfErr, Bool, true, false, sym, ap, ◌∙◌, subst, arith, refl, inl, inr, length-append, length-drop, length-take-le, take-append-drop, append_assoc, append-nil}
 use Rattle.std.proofs.lemmas.List.Folds.{drop_split}
 use Rattle.std.specs.Io.KnownBytes.{Consumes, IsAtEnd, Keeps, prepend_known}
 use Rattle.napt_capture.specs.declared.fault.CaptureFault.{CaptureFault}
@@ -9,10 +9,10 @@ use Rattle.napt_capture.specs.declared.reading.Next.TheVariants.{Whole, End}
 use Rattle.napt_capture.specs.declared.reading.Fields.{Fields}
 use Rattle.napt_capture.specs.declared.records.Records.{Records}
 use Rattle.napt_capture.specs.declared.spelling.Spelling.{Spelling}
-use Rattle.napt_capture.specs.Capture.{IsPartial, IsRefusedRecord, captured_of}
+use Rattle.napt_capture.specs.Capture.{IsPartial, captured_of}
 use Rattle.napt_capture.specs.Reading.{HasFields, ReadsNext, StopsBy}
-use Rattle.napt_capture.specs.Records.{Asks, IsOver, KeepsLeft, RefusesNext, StandsWhole, left_of}
-use Rattle.napt_capture.specs.Text.{IsWritable}
+use Rattle.napt_capture.specs.Records.{Asks, IsOver, KeepsLeft, StandsWhole, Tells, TellsEnd, left_of}
+use Rattle.napt_capture.specs.Stream.{EndsAs}
 use Rattle.napt_capture.proofs.OneAnswer.{IsPartial-stored, Refusal-partial, refusal_of}
 use Rattle.napt_capture.proofs.Steps.{ReadsNext-whole}
 
@@ -23,8 +23,14 @@ IsPartial-short s ahead f fields header short bound =
     let size = length-drop 16 ahead in
     let body : length (drop 16 ahead) < captured_of s (take 16 ahead) =
     omega (arith, size, header, short, fields.captured) in
-    inr (take 16 ahead, drop 16 ahead, sym (take-append-drop 16 ahead), fields.good,
-    omega (arith, fields.captured, bound), body)
+    inr (
+      take 16 ahead,
+      drop 16 ahead,
+      sym (take-append-drop 16 ahead),
+      fields.good,
+      omega (arith, fields.captured, bound),
+      body,
+    )
 
 -- a record stands whole
 pub ReadsNext-ahead : (r : Records) (f : Fields) (new items : List ℕ) → StandsWhole r f → items ≡
@@ -46,23 +52,8 @@ Consumes-left : (old new bytes : List ℕ) (remaining : Option (List ℕ)) → o
 Consumes-left old new bytes None taken = tt
 Consumes-left old new bytes (Some left) taken = ap (λ l. l ++ left) taken ∙ append_assoc bytes new left
 
-IsAtEnd-left : (new : List ℕ) (remaining : Option (List ℕ)) → new ≡ [] → IsAtEnd remaining →
-    IsAtEnd (prepend_known new remaining)
-IsAtEnd-left new None none at_end = tt
-IsAtEnd-left new (Some left) none at_end = ap (λ l. l ++ left) none ∙ at_end
-
--- what is next in what was read ahead is next in the text, where that ends where the record doesn't stand whole
-pub ReadsNext-left : (s : Spelling) (old new : List ℕ) (remaining : Option (List ℕ)) (next : Next) →
-    (IsPartial s 0 old → IsAtEnd remaining) → ReadsNext s 0 (Some old) (Some new) next
-    → ReadsNext s 0 (prepend_known old remaining) (prepend_known new remaining) next
-ReadsNext-left s old new remaining (Whole entry) at_end (r, good, is, may, taken) =
-    (r, good, is, may, Consumes-left old new _ remaining taken)
-ReadsNext-left s old new remaining (End cut) at_end (rest, taken, none, may, partial, cut_is) =
-    (rest, Consumes-left old new rest remaining taken, IsAtEnd-left new remaining none
-    (at_end (subst (IsPartial s 0) (sym (taken ∙ ap (λ l. rest ++ l) none ∙ append-nil rest)) partial)), may, partial, cut_is)
-
 -- what is known of what was read ahead is not partial
-pub IsPartial-refused : (r : Records) (fault : CaptureFault) → RefusesNext r fault (Some r.ahead) →
+pub IsPartial-refused : (r : Records) (fault : CaptureFault) → EndsAs r.spelling r.number r.ahead (Err fault) →
     IsPartial r.spelling 0 r.ahead → ⊥
 IsPartial-refused r fault (header, behind, split, refused) partial =
     Refusal-partial r.spelling 0 r.number header behind r.ahead fault split
@@ -93,23 +84,57 @@ Consumes-before (Some x) None c bytes kept consumed = absurd kept
 Consumes-before (Some x) (Some y) None bytes kept consumed = absurd consumed
 Consumes-before (Some x) (Some y) (Some z) bytes kept consumed = sym kept ∙ consumed
 
-ReadsNext-before : (s : Spelling) (a b c : Option (List ℕ)) (next : Next) → Keeps a b → ReadsNext s 0 b c next →
-    ReadsNext s 0 a c next
-ReadsNext-before s a b c (Whole entry) kept (r, good, is, may, consumed) =
-    (r, good, is, may, Consumes-before a b c _ kept consumed)
-ReadsNext-before s a b c (End cut) kept (rest, consumed, at_end, may, partial, cut_is) =
-    (rest, Consumes-before a b c rest kept consumed, at_end, may, partial, cut_is)
+-- what was read ahead is all that is left where the source is at its end
+TellsEnd-ended : (old : Records) (left : Option (List ℕ)) (ahead : List ℕ) (after : Option (List ℕ)) (cut : Bool) →
+    Keeps left (prepend_known ahead after) → IsAtEnd after → TellsEnd old (Ok cut) (Some ahead) → TellsEnd old (Ok cut) left
+TellsEnd-ended old None ahead after cut kept at_end told = tt
+TellsEnd-ended old (Some x) ahead None cut kept at_end told = absurd kept
+TellsEnd-ended old (Some x) ahead (Some y) cut kept at_end told =
+    let same : ahead ≡ x = sym (append-nil ahead) ∙ ap (λ l. ahead ++ l) (sym at_end) ∙ kept in
+    subst (λ l. EndsAs old.spelling old.number l (Ok cut)) same told
 
-pub ReadsNext-known : (old mid new : Records) (before after : Option (List ℕ)) (answer : Result Next CaptureFault) →
+-- and a header there is one that is left
+TellsEnd-refused : (old : Records) (left : Option (List ℕ)) (ahead : List ℕ) (after : Option (List ℕ))
+    (fault : CaptureFault) → Keeps left (prepend_known ahead after) → TellsEnd old (Err fault) (Some ahead) →
+    TellsEnd old (Err fault) left
+TellsEnd-refused old None ahead after fault kept refused = tt
+TellsEnd-refused old (Some x) ahead None fault kept refused = absurd kept
+TellsEnd-refused old (Some x) ahead (Some y) fault kept (header, behind, split, refused) =
+    (header, behind ++ y, sym kept ∙ ap (λ l. l ++ y) split ∙ append_assoc header behind y, refused)
+
+-- the same spelling and number tell the same
+EndsAs-kept : (old mid : Records) (before after : Option (List ℕ)) (text : List ℕ) (end : Result Bool CaptureFault) →
+    KeepsLeft old before mid after → EndsAs mid.spelling mid.number text end → EndsAs old.spelling old.number text end
+EndsAs-kept old mid before after text end kept told =
+    subst (λ s. EndsAs s old.number text end) kept.spelling
+    (subst (λ n. EndsAs mid.spelling n text end) kept.number told)
+
+Tells-left : (old mid new : Records) (before after : Option (List ℕ)) (next : Next) → KeepsLeft old before mid after →
+    IsOver mid after → (¬ Asks mid) → Tells mid (Some mid.ahead) (Some new.ahead) next
+    → Tells old (left_of old before) (left_of new after) next
+Tells-left old mid new before after (Whole entry) kept over known (r, good, is, may, taken) =
+    subst (λ s. ReadsNext s 0 (left_of old before) (left_of new after) (Whole entry)) kept.spelling (
+      r,
+      good,
+      is,
+      may,
+      Consumes-before (left_of old before) (left_of mid after) (left_of new after) _ kept.left
+          (Consumes-left mid.ahead new.ahead _ after taken),
+    )
+Tells-left old mid new before after (End cut) kept over known (told, same) =
+    let at_end = at_end-known mid.is_ended (IsAtEnd after) (IsPartial mid.spelling 0 mid.ahead) over known told.0 in (
+      TellsEnd-ended old (left_of old before) mid.ahead after cut kept.left at_end
+          (EndsAs-kept old mid before after mid.ahead (Ok cut) kept told),
+      subst (λ l. Keeps (left_of old before) (prepend_known l after)) (sym same) kept.left,
+    )
+
+pub Tells-known : (old mid new : Records) (before after : Option (List ℕ)) (answer : Result Next CaptureFault) →
     KeepsLeft old before mid after → IsOver mid after → (¬ Asks mid)
-    → IfOk answer (ReadsNext mid.spelling 0 (Some mid.ahead) (Some new.ahead))
-    → IfOk answer (ReadsNext old.spelling 0 (left_of old before) (left_of new after))
-ReadsNext-known old mid new before after (Ok next) kept over known taken =
-    let at_end = at_end-known mid.is_ended (IsAtEnd after) (IsPartial mid.spelling 0 mid.ahead) over known in
-    subst (λ s. ReadsNext s 0 (left_of old before) (left_of new after) next) kept.spelling
-    (ReadsNext-before mid.spelling _ _ _ next kept.left
-    (ReadsNext-left mid.spelling mid.ahead new.ahead after next at_end taken))
-ReadsNext-known old mid new before after (Err fault) kept over known taken = tt
+    → IfOk answer (Tells mid (Some mid.ahead) (Some new.ahead))
+    → IfOk answer (Tells old (left_of old before) (left_of new after))
+Tells-known old mid new before after (Ok next) kept over known told =
+    Tells-left old mid new before after next kept over known told
+Tells-known old mid new before after (Err fault) kept over known told = tt
 
 StopsBy-map : (fault : CaptureFault) {P Q : Type 0} → (P → Q) → StopsBy fault P → StopsBy fault Q
 StopsBy-map NoHeader f p = f p
@@ -122,21 +147,12 @@ StopsBy-map TooLarge f p = f p
 StopsBy-map Read f p = tt
 StopsBy-map Memory f p = tt
 
-RefusesNext-left : (old : Records) (left : Option (List ℕ)) (ahead : List ℕ) (after : Option (List ℕ))
-    (fault : CaptureFault) → Keeps left (prepend_known ahead after) → RefusesNext old fault (Some ahead) → RefusesNext old fault left
-RefusesNext-left old None ahead after fault kept refused = tt
-RefusesNext-left old (Some x) ahead None fault kept refused = absurd kept
-RefusesNext-left old (Some x) ahead (Some y) fault kept (header, behind, split, refused) =
-    (header, behind ++ y, sym kept ∙ ap (λ l. l ++ y) split ∙ append_assoc header behind y, refused)
-
-pub RefusesNext-known : (old mid : Records) (before after : Option (List ℕ)) (answer : Result Next CaptureFault) →
+pub TellsEnd-known : (old mid : Records) (before after : Option (List ℕ)) (answer : Result Next CaptureFault) →
     KeepsLeft old before mid after
-    → IfErr answer (λ fault. StopsBy fault (RefusesNext mid fault (Some mid.ahead)))
-    → IfErr answer (λ fault. StopsBy fault (RefusesNext old fault (left_of old before)))
-RefusesNext-known old mid before after (Ok next) kept refused = tt
-RefusesNext-known old mid before after (Err fault) kept refused =
-    StopsBy-map fault (λ (p : RefusesNext mid fault (Some mid.ahead)).
-    let (header, behind, split, bad) = p in
-    let same = subst (λ s. IsRefusedRecord s 0 old.number header fault) kept.spelling
-    (subst (λ n. IsRefusedRecord mid.spelling 0 n header fault) kept.number bad) in
-    RefusesNext-left old (left_of old before) mid.ahead after fault kept.left (header, behind, split, same)) refused
+    → IfErr answer (λ fault. StopsBy fault (TellsEnd mid (Err fault) (Some mid.ahead)))
+    → IfErr answer (λ fault. StopsBy fault (TellsEnd old (Err fault) (left_of old before)))
+TellsEnd-known old mid before after (Ok next) kept refused = tt
+TellsEnd-known old mid before after (Err fault) kept refused =
+    StopsBy-map fault (λ (p : TellsEnd mid (Err fault) (Some mid.ahead)).
+    TellsEnd-refused old (left_of old before) mid.ahead after fault kept.left
+    (EndsAs-kept old mid before after mid.ahead (Err fault) kept p)) refused

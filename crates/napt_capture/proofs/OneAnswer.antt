@@ -14,11 +14,11 @@ use Rattle.napt_capture.specs.Capture.{EndsInRecord, HasLink, HasMagic, HasVersi
 
 -- ---- the same bytes, split twice after as many
 
-front_same : (a b x y : List ℕ) → length a ≡ length b → a ++ x ≡ b ++ y → a ≡ b
+pub front_same : (a b x y : List ℕ) → length a ≡ length b → a ++ x ≡ b ++ y → a ≡ b
 front_same a b x y n e = sym (take-append_seam a x) ∙ ap (take (length a)) e ∙ ap (λ k. take k (b ++ y)) n
     ∙ take-append_seam b y
 
-rest_same : (a b x y : List ℕ) → length a ≡ length b → a ++ x ≡ b ++ y → x ≡ y
+pub rest_same : (a b x y : List ℕ) → length a ≡ length b → a ++ x ≡ b ++ y → x ≡ y
 rest_same a b x y n e = sym (drop_at a x (length b) n) ∙ ap (drop (length b)) e ∙ drop_at b y (length b) refl
 
 -- ---- the next record: a further one, an end, or a fault, and no two of them
@@ -79,7 +79,7 @@ TooLongAt-TooLargeAt s asked a b x y e p (inr q) = let same = captured-same s a 
     omega (arith, same, p.3, q.0.captured)
 
 -- two faults of one record are one
-Refusal-one : (s : Spelling) (asked number : ℕ) (a b x y : List ℕ) (f g : CaptureFault) → a ++ x ≡ b ++ y
+pub Refusal-one : (s : Spelling) (asked number : ℕ) (a b x y : List ℕ) (f g : CaptureFault) → a ++ x ≡ b ++ y
     → Refusal s asked number a f → Refusal s asked number b g → f ≡ g
 Refusal-one s asked number a b x y f g e (inl p) (inl q) = p.0 ∙ sym q.0
 Refusal-one s asked number a b x y f g e (inl p) (inr (inl q)) =
@@ -249,7 +249,7 @@ Tail-final s asked number entries bytes answer p =
     (subst (λ n. Final s asked n (entries ++ []) p.rest answer) (omega arith)
     (subst (λ n. Final s n (number + 0) (entries ++ []) p.rest answer) (omega arith) p.final)))
 
-stored-same : (s : Spelling) (bytes x y : List ℕ) (q r : Stored) → bytes ≡ stored_text q ++ x → bytes ≡ stored_text r
+pub stored-same : (s : Spelling) (bytes x y : List ℕ) (q r : Stored) → bytes ≡ stored_text q ++ x → bytes ≡ stored_text r
     ++ y → IsStored s q → IsStored s r → q ≡ r
 stored-same s bytes x y q r e f good fine =
     let here = sym (sym e ∙ f ∙ append_assoc r.header r.bytes y) ∙ refl in
@@ -413,7 +413,7 @@ file_refusal_of header Memory p = absurd p
 magic-none : (s : Spelling) (header : List ℕ) → spelling_of (big_number 4 header) ≡ None → HasMagic s header → ⊥
 magic-none s header p q = let both : None ≡ Some s = sym p ∙ q in cc
 
-magic-one : (s t : Spelling) (header : List ℕ) → HasMagic s header → HasMagic t header → s ≡ t
+pub magic-one : (s t : Spelling) (header : List ℕ) → HasMagic s header → HasMagic t header → s ≡ t
 magic-one s t header p q = ap (λ o. unwrap_or o s) (sym p ∙ q)
 
 FileRefusal-one : (header : List ℕ) (f g : CaptureFault) → FileRefusal header f → FileRefusal header g → f ≡ g

@@ -1,15 +1,14 @@
--- What a reader of records does, over what is left of its text: what was read ahead, and then what the source has. It
--- asks as if each record were the first, so that no text is too large: the definitions are those of a capture that is
--- read whole, behind no bytes.
-use Rattle.std.specs.Prelude.{ℕ, ◌≡◌, ◌+◌, ◌*◌, ◌<◌, ◌≤◌, ◌-◌, ◌^◌, min, true, false, List, ◌++◌, length, take, Option, IfSome}
+-- What a reader of records does, over what is left of its text: what was read ahead, and then what the source has.
+use Rattle.std.specs.Prelude.{ℕ, ◌≡◌, ◌+◌, ◌*◌, ◌<◌, ◌≤◌, ◌^◌, Bool, true, false, List, length, take, Option, IfSome, Result, Ok}
 use Rattle.std.specs.Io.KnownBytes.{IsAtEnd, Keeps, prepend_known}
 use Rattle.napt_capture.specs.declared.fault.CaptureFault.{CaptureFault}
 use Rattle.napt_capture.specs.declared.reading.Next.{Next}
 use Rattle.napt_capture.specs.declared.reading.Next.TheVariants.{Whole, End}
 use Rattle.napt_capture.specs.declared.reading.Fields.{Fields}
 use Rattle.napt_capture.specs.declared.records.Records.{Records}
-use Rattle.napt_capture.specs.Capture.{IsPartial, IsRefusedRecord}
-use Rattle.napt_capture.specs.Reading.{HasFields}
+use Rattle.napt_capture.specs.Capture.{IsPartial}
+use Rattle.napt_capture.specs.Reading.{HasFields, ReadsNext}
+use Rattle.napt_capture.specs.Stream.{EndsAs, number_behind}
 
 -- what is left of the text
 abbrev pub left_of : Records → Option (List ℕ) → Option (List ℕ)
@@ -23,11 +22,16 @@ IsOver records remaining = records.is_ended ≡ true → IsAtEnd remaining
 abbrev pub Asks : Records → Type 0
 Asks records = (records.is_ended ≡ false) × IsPartial records.spelling 0 records.ahead
 
--- the number behind that of a record, which stops at the greatest one
-abbrev pub number_behind : ℕ → ℕ
-number_behind number = min (number + 1) (2 ^ 64 - 1)
+-- a reader with this text left, where it is known, tells that it ends so
+abbrev pub TellsEnd : Records → Result Bool CaptureFault → Option (List ℕ) → Type 0
+TellsEnd records end left = IfSome left (λ text. EndsAs records.spelling records.number text end)
 
--- and behind what was answered
+-- it told what is next: it took a record off the text, or nothing
+abbrev pub Tells : Records → Option (List ℕ) → Option (List ℕ) → Next → Type 0
+Tells records old new (Whole entry) = ReadsNext records.spelling 0 old new (Whole entry)
+Tells records old new (End cut) = TellsEnd records (Ok cut) old × Keeps old new
+
+-- the number of the next record, once this was told
 abbrev pub counted : Next → ℕ → ℕ
 counted (Whole entry) number = number_behind number
 counted (End cut) number = number
@@ -37,12 +41,6 @@ pub record KeepsLeft (old : Records) (before : Option (List ℕ)) (new : Records
   pub left : Keeps (left_of old before) (left_of new after)
   pub number : new.number ≡ old.number
   pub spelling : new.spelling ≡ old.spelling
-
--- the next header, with which this text begins, has this fault
-abbrev pub RefusesNext : Records → CaptureFault → Option (List ℕ) → Type 0
-RefusesNext records fault left =
-    IfSome left (λ text. (header : List ℕ) × (behind : List ℕ) × (text ≡ header ++ behind)
-    × IsRefusedRecord records.spelling 0 records.number header fault)
 
 -- a record of these fields stands whole in what was read ahead
 pub record StandsWhole (records : Records) (fields : Fields) : Type 0 where

@@ -24,7 +24,7 @@ pub use contents::{Capture, Record};
 pub use device::{DeviceFault, Sink, Source};
 pub use fault::{CaptureFault, WriteFault};
 pub use faulty::{Faulty, Plan, Trouble};
-pub use laws::{one_answer, reads_back};
+pub use laws::{one_answer, one_stream, reads_back, stream_is_capture};
 pub use reading::{Next, read_capture};
 pub use records::Records;
 pub use watched::Watched;

@@ -5,7 +5,8 @@ ghost use Rattle.napt_capture.specs.Capture.{IsPartial, IsRefusedRecord, failed_
 ghost use Rattle.napt_capture.specs.Device.{failed_calls};
 ghost use Rattle.napt_capture.specs.declared.fault.CaptureFault.TheVariants.{Read};
 ghost use Rattle.napt_capture.specs.Reading.{HasFields, IsWritableNext, ReadsFileHeader, ReadsNext, RefusesFile, StopsBy};
-ghost use Rattle.napt_capture.specs.Records.{Asks, IsOver, KeepsLeft, RefusesNext, StandsWhole, counted, left_of};
+ghost use Rattle.napt_capture.specs.Stream.{EndsAs};
+ghost use Rattle.napt_capture.specs.Records.{Asks, IsOver, KeepsLeft, StandsWhole, Tells, TellsEnd, counted, left_of};
 
 use crate::ahead::Ahead;
 use crate::contents::Record;
@@ -65,20 +66,17 @@ impl Records {
     /// again. The source is asked only while no whole record stands in the buffer, and each time for as much as the
     /// buffer has room for.
     ///
-    /// `BadFraction` and `TooLong` come by the header of the record: each later call answers the same. `Read` comes
-    /// exactly where a read failed, `Memory` where the vector could not grow; nothing is lost by either.
-    pub fn next<R: Source>(
-        &mut self,
-        source: &mut R,
-        vector: Vec<u8>,
-    ) -> Result<Next, CaptureFault>
+    /// `BadFraction` and `TooLong` come by the header of the record. `Read` comes exactly where a read failed, `Memory`
+    /// where the vector could not grow. By the end and by a fault nothing is lost: a later call goes on from there, and
+    /// tells the end, or the fault of the header, again.
+    pub fn next<R: Source>(&mut self, source: &mut R, vector: Vec<u8>) -> Result<Next, CaptureFault>
         requires can_fail { R.failed source.old < 2 ^ 64 - 1 }
         requires over { IsOver self.old (R.remaining source.old) }
-        ensures next { IfOk result (ReadsNext self.old.spelling 0
+        ensures next { IfOk result (Tells self.old
             (left_of self.old (R.remaining source.old)) (left_of self.new (R.remaining source.new))) }
         ensures number { IfOk result (λ next. self.new.number ≡ counted next self.old.number) }
         ensures fault { IfErr result (λ fault. StopsBy fault
-            (RefusesNext self.old fault (left_of self.old (R.remaining source.old)))) }
+            (TellsEnd self.old (Err fault) (left_of self.old (R.remaining source.old)))) }
         ensures kept { OnErr result (KeepsLeft self.old (R.remaining source.old)
             self.new (R.remaining source.new)) }
         ensures spelling { self.new.spelling ≡ self.old.spelling }
@@ -98,7 +96,8 @@ impl Records {
         ensures whole { IfOk result (λ front. IfSome front (StandsWhole self.now)) }
         ensures part { IfOk result (λ front. IfNone front
             (IsPartial self.now.spelling 0 self.now.ahead)) }
-        ensures fault { IfErr result (λ fault. RefusesNext self.now fault (Some self.now.ahead)) }
+        ensures fault { IfErr result (λ fault. EndsAs self.now.spelling self.now.number
+            self.now.ahead (Err fault)) }
     {
         let ahead = self.ahead.as_slice();
         if ahead.len() < RECORD_HEADER {
@@ -131,11 +130,10 @@ impl Records {
 
     /// Takes what is next out of what was read ahead.
     fn take(&mut self, vector: Vec<u8>) -> Result<Next, CaptureFault>
-        ensures next { IfOk result (ReadsNext self.old.spelling 0
-            (Some self.old.ahead) (Some self.new.ahead)) }
+        ensures next { IfOk result (Tells self.old (Some self.old.ahead) (Some self.new.ahead)) }
         ensures number { IfOk result (λ next. self.new.number ≡ counted next self.old.number) }
         ensures fault { IfErr result (λ fault. StopsBy fault
-            (RefusesNext self.old fault (Some self.old.ahead))) }
+            (TellsEnd self.old (Err fault) (Some self.old.ahead))) }
         ensures read { result ≢ Err Read }
         ensures kept { OnErr result (self.new ≡ self.old) }
         ensures spelling { self.new.spelling ≡ self.old.spelling }
@@ -143,9 +141,7 @@ impl Records {
         ensures writable { IfOk result IsWritableNext }
     {
         let Some(fields) = self.front()? else {
-            let rest = self.ahead.as_slice().len();
-            self.ahead.consume(rest);
-            return Ok(Next::End(rest > 0));
+            return Ok(Next::End(!self.ahead.as_slice().is_empty()));
         };
         let size = RECORD_HEADER + fields.captured as usize;
         let bytes = copied(&self.ahead.as_slice()[RECORD_HEADER..size], vector)?;

@@ -1,5 +1,5 @@
 -- What the read gave stands behind what was read before.
-use Rattle.std.proofs.Common.{◌≡◌, ◌+◌, ◌-◌, ◌≤◌, ◌++◌, length, take, drop, slice_range, sym, ap, ◌∙◌, arith, length-append, length-drop, length-take-le}
+use Rattle.std.proofs.Common.{◌≡◌, ◌+◌, ◌-◌, ◌≤◌, ◌++◌, length, take, drop, slice_range, ap, ◌∙◌, arith, length-append, length-drop, length-take-le}
 use Rattle.std.proofs.lemmas.List.{with_items_is}
 use borrow.Rule.Slice.PartMut.{post_of, put_mid}
 use Rattle.napt_capture.proofs.Buffer.{Keeps-read, slice_range-read}

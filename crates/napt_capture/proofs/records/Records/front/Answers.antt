@@ -1,5 +1,5 @@
 -- The header is the first 16 bytes of what was read ahead.
-use Rattle.std.proofs.Common.{◌≡◌, ◌+◌, ◌-◌, ◌≤◌, ◌<◌, length, take, drop, sym, ap, subst, arith, take-append-drop}
+use Rattle.std.proofs.Common.{length, take, drop, sym, ap, subst, arith, take-append-drop}
 use Rattle.std.proofs.lemmas.Result.{err_from_is_err_and}
 use Rattle.napt_capture.specs.Capture.{IsRefusedRecord}
 use Rattle.napt_capture.specs.Reading.{HasFields}

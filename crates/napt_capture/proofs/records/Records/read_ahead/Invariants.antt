@@ -1,5 +1,5 @@
 -- Nothing of the text is handed on, and where it is known what is next, nothing is read.
-use Rattle.std.proofs.Common.{◌≡◌, ◌+◌, ◌-◌, Bool, true, false, length, cond}
+use Rattle.std.proofs.Common.{◌≡◌, ◌+◌, ◌-◌, length, cond}
 use Rattle.napt_capture.specs.Records.{Asks, IsOver, KeepsLeft}
 use Rattle.napt_capture.proofs.records.Records.read_ahead.Given as goal
 
