@@ -11,7 +11,7 @@ use Rattle.napt_capture.specs.declared.records.Records.{Records}
 use Rattle.napt_capture.specs.declared.spelling.Spelling.{Spelling}
 use Rattle.napt_capture.specs.Capture.{IsPartial, captured_of}
 use Rattle.napt_capture.specs.Reading.{HasFields, ReadsNext, StopsBy}
-use Rattle.napt_capture.specs.Records.{Asks, IsOver, KeepsLeft, StandsWhole, Tells, TellsEnd, left_of}
+use Rattle.napt_capture.specs.Records.{Asks, KeepsLeft, StandsWhole, Tells, TellsEnd, left_of}
 use Rattle.napt_capture.specs.Stream.{EndsAs}
 use Rattle.napt_capture.proofs.OneAnswer.{IsPartial-stored, Refusal-partial, refusal_of}
 use Rattle.napt_capture.proofs.Steps.{ReadsNext-whole}
@@ -74,10 +74,6 @@ IsPartial-room s ahead (inr (header, bytes, split, good, may, short)) =
 
 -- ---- what is next, once it is known
 
-at_end-known : (is_ended : Bool) (P Q : Type 0) → (is_ended ≡ true → P) → ((is_ended ≡ false) × Q → ⊥) → Q → P
-at_end-known true P Q over known q = over refl
-at_end-known false P Q over known q = absurd (known (refl, q))
-
 Consumes-before : (a b c : Option (List ℕ)) (bytes : List ℕ) → Keeps a b → Consumes b c bytes → Consumes a c bytes
 Consumes-before None b c bytes kept consumed = tt
 Consumes-before (Some x) None c bytes kept consumed = absurd kept
@@ -110,9 +106,9 @@ EndsAs-kept old mid before after text end kept told =
     (subst (λ n. EndsAs mid.spelling n text end) kept.number told)
 
 Tells-left : (old mid new : Records) (before after : Option (List ℕ)) (next : Next) → KeepsLeft old before mid after →
-    IsOver mid after → (¬ Asks mid) → Tells mid (Some mid.ahead) (Some new.ahead) next
+    (Asks mid → IsAtEnd after) → Tells mid (Some mid.ahead) (Some new.ahead) next
     → Tells old (left_of old before) (left_of new after) next
-Tells-left old mid new before after (Whole entry) kept over known (r, good, is, may, taken) =
+Tells-left old mid new before after (Whole entry) kept known (r, good, is, may, taken) =
     subst (λ s. ReadsNext s 0 (left_of old before) (left_of new after) (Whole entry)) kept.spelling (
       r,
       good,
@@ -121,20 +117,20 @@ Tells-left old mid new before after (Whole entry) kept over known (r, good, is, 
       Consumes-before (left_of old before) (left_of mid after) (left_of new after) _ kept.left
           (Consumes-left mid.ahead new.ahead _ after taken),
     )
-Tells-left old mid new before after (End cut) kept over known (told, same) =
-    let at_end = at_end-known mid.is_ended (IsAtEnd after) (IsPartial mid.spelling 0 mid.ahead) over known told.0 in (
+Tells-left old mid new before after (End cut) kept known (told, same) =
+    let at_end = known told.0 in (
       TellsEnd-ended old (left_of old before) mid.ahead after cut kept.left at_end
           (EndsAs-kept old mid before after mid.ahead (Ok cut) kept told),
       subst (λ l. Keeps (left_of old before) (prepend_known l after)) (sym same) kept.left,
     )
 
 pub Tells-known : (old mid new : Records) (before after : Option (List ℕ)) (answer : Result Next CaptureFault) →
-    KeepsLeft old before mid after → IsOver mid after → (¬ Asks mid)
+    KeepsLeft old before mid after → (Asks mid → IsAtEnd after)
     → IfOk answer (Tells mid (Some mid.ahead) (Some new.ahead))
     → IfOk answer (Tells old (left_of old before) (left_of new after))
-Tells-known old mid new before after (Ok next) kept over known told =
-    Tells-left old mid new before after next kept over known told
-Tells-known old mid new before after (Err fault) kept over known told = tt
+Tells-known old mid new before after (Ok next) kept known told =
+    Tells-left old mid new before after next kept known told
+Tells-known old mid new before after (Err fault) kept known told = tt
 
 StopsBy-map : (fault : CaptureFault) {P Q : Type 0} → (P → Q) → StopsBy fault P → StopsBy fault Q
 StopsBy-map NoHeader f p = f p

@@ -14,13 +14,9 @@ use Rattle.napt_capture.specs.Stream.{EndsAs, number_behind}
 abbrev pub left_of : Records → Option (List ℕ) → Option (List ℕ)
 left_of records remaining = prepend_known records.ahead remaining
 
--- where the source answered that it is at its end, it is
-abbrev pub IsOver : Records → Option (List ℕ) → Type 0
-IsOver records remaining = records.is_ended ≡ true → IsAtEnd remaining
-
 -- what was read ahead does not tell what is next, so the source is asked
 abbrev pub Asks : Records → Type 0
-Asks records = (records.is_ended ≡ false) × IsPartial records.spelling 0 records.ahead
+Asks records = IsPartial records.spelling 0 records.ahead
 
 -- a reader with this text left, where it is known, tells that it ends so
 abbrev pub TellsEnd : Records → Result Bool CaptureFault → Option (List ℕ) → Type 0

@@ -1,12 +1,12 @@
 //! Reading a capture record after record, as it comes.
-ghost use Rattle.std.specs.Prelude.{◌≡◌, ◌≢◌, ◌+◌, ◌-◌, ◌^◌, ◌<◌, [], take, Bool, true, false, Some, IfOk, IfErr, IfSome, IfNone, OnErr, Err};
+ghost use Rattle.std.specs.Prelude.{◌≡◌, ◌≢◌, ◌+◌, ◌-◌, ◌^◌, ◌<◌, [], take, Bool, true, false, Some, IfOk, IfErr, IfSome, IfNone, OnOk, OnErr, Err};
 ghost use Rattle.std.specs.Io.KnownBytes.{IsAtEnd};
 ghost use Rattle.napt_capture.specs.Capture.{IsPartial, IsRefusedRecord, failed_reads};
 ghost use Rattle.napt_capture.specs.Device.{failed_calls};
 ghost use Rattle.napt_capture.specs.declared.fault.CaptureFault.TheVariants.{Read};
 ghost use Rattle.napt_capture.specs.Reading.{HasFields, IsWritableNext, ReadsFileHeader, ReadsNext, RefusesFile, StopsBy};
 ghost use Rattle.napt_capture.specs.Stream.{EndsAs};
-ghost use Rattle.napt_capture.specs.Records.{Asks, IsOver, KeepsLeft, StandsWhole, Tells, TellsEnd, counted, left_of};
+ghost use Rattle.napt_capture.specs.Records.{Asks, KeepsLeft, StandsWhole, Tells, TellsEnd, counted, left_of};
 
 use crate::ahead::Ahead;
 use crate::contents::Record;
@@ -25,8 +25,6 @@ pub struct Records {
     /// That of the next record, which stops at the greatest one.
     number: u64,
     ahead: Ahead,
-    /// The source answered that it is at its end.
-    is_ended: bool,
 }
 
 impl Records {
@@ -38,7 +36,6 @@ impl Records {
             (R.remaining source.old) (R.remaining source.new)) }
         ensures empty { IfOk result (λ records. records.ahead ≡ []) }
         ensures first { IfOk result (λ records. records.number ≡ 1) }
-        ensures over { IfOk result (λ records. IsOver records (R.remaining source.new)) }
         ensures fault { IfErr result (λ fault.
             StopsBy fault (RefusesFile fault (R.remaining source.old) (R.remaining source.new))) }
         ensures count { R.failed source.new ≡ R.failed source.old + failed_reads result }
@@ -49,17 +46,16 @@ impl Records {
             spelling,
             number: 1,
             ahead,
-            is_ended: false,
         })
     }
 
-    /// Whether the next record, the end or the fault that stands in its place was read already, so that
-    /// [`Records::next`] doesn't ask the source.
+    /// Whether the next record, or the fault that stands in its place, was read already, so that [`Records::next`]
+    /// doesn't ask the source.
     pub fn has_whole(&self) -> bool
         ensures whole { result ≡ true → ¬ Asks self.now }
         ensures part { result ≡ false → Asks self.now }
     {
-        self.is_ended || !matches!(self.front(), Ok(None))
+        !matches!(self.front(), Ok(None))
     }
 
     /// Reads the next record, into the vector that is handed in. What the vector holds is dropped; its room is used
@@ -71,7 +67,6 @@ impl Records {
     /// tells the end, or the fault of the header, again.
     pub fn next<R: Source>(&mut self, source: &mut R, vector: Vec<u8>) -> Result<Next, CaptureFault>
         requires can_fail { R.failed source.old < 2 ^ 64 - 1 }
-        requires over { IsOver self.old (R.remaining source.old) }
         ensures next { IfOk result (Tells self.old
             (left_of self.old (R.remaining source.old)) (left_of self.new (R.remaining source.new))) }
         ensures number { IfOk result (λ next. self.new.number ≡ counted next self.old.number) }
@@ -80,7 +75,6 @@ impl Records {
         ensures kept { OnErr result (KeepsLeft self.old (R.remaining source.old)
             self.new (R.remaining source.new)) }
         ensures spelling { self.new.spelling ≡ self.old.spelling }
-        ensures over { IsOver self.new (R.remaining source.new) }
         // Where it is known without the source, the source is not asked.
         ensures asks { (¬ Asks self.old) → source.new ≡ source.old }
         ensures writable { IfOk result IsWritableNext }
@@ -110,20 +104,19 @@ impl Records {
         Ok(Some(fields))
     }
 
-    /// Reads until it is known what is next.
+    /// Reads until it is known what is next, or to the end.
     fn read_ahead<R: Source>(&mut self, source: &mut R) -> Result<(), DeviceFault>
         requires can_fail { R.failed source.old < 2 ^ 64 - 1 }
-        requires over { IsOver self.old (R.remaining source.old) }
         ensures kept { KeepsLeft self.old (R.remaining source.old)
             self.new (R.remaining source.new) }
-        ensures over { IsOver self.new (R.remaining source.new) }
-        ensures known { IfOk result (λ _. ¬ Asks self.new) }
+        ensures known { OnOk result (Asks self.new → IsAtEnd (R.remaining source.new)) }
         ensures asks { (¬ Asks self.old) → (source.new ≡ source.old) × (self.new ≡ self.old) }
         ensures count { R.failed source.new ≡ R.failed source.old + failed_calls result }
     {
         while !self.has_whole() {
-            let count = self.ahead.read_more(source)?;
-            self.is_ended = count == 0;
+            if self.ahead.read_more(source)? == 0 {
+                return Ok(());
+            }
         }
         Ok(())
     }
@@ -137,7 +130,6 @@ impl Records {
         ensures read { result ≢ Err Read }
         ensures kept { OnErr result (self.new ≡ self.old) }
         ensures spelling { self.new.spelling ≡ self.old.spelling }
-        ensures ended { self.new.is_ended ≡ self.old.is_ended }
         ensures writable { IfOk result IsWritableNext }
     {
         let Some(fields) = self.front()? else {

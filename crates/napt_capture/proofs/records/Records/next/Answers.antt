@@ -5,7 +5,7 @@ use Rattle.napt_capture.proofs.records.Records.next.Goals as goal
 pub returns-clause-next : goal.returns-clause-next
 returns-clause-next g c =
     Tells-known c.args.self.now c.read_ahead.new.self c.take.new.self _ _ c.take.result c.read_ahead.ensures.kept
-    c.read_ahead.ensures.over c.in_ok-read_ahead.ensures.known c.take.ensures.next
+    c.in_ok-read_ahead.ensures.known c.take.ensures.next
 
 pub returns-clause-fault : goal.returns-clause-fault
 returns-clause-fault g c =
