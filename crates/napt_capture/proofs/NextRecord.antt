@@ -1,5 +1,5 @@
 -- The next record in what was read ahead.
-use Rattle.std.proofs.Common.{◌≡◌, ℕ, ◌+◌, ◌-◌, ◌<◌, ◌≤◌, List, ◌++◌, length, take, drop, slice_range, Option, None, Some, Result, Ok, Err, IfOk, IfErr, Bool, true, false, sym, ap, ◌∙◌, subst, arith, refl, inl, inr, length-append, length-drop, length-take-le, take-append-drop, append_assoc, append-nil}
+use Rattle.std.proofs.Common.{◌≡◌, ℕ, ◌+◌, ◌-◌, ◌<◌, ◌≤◌, List, ◌++◌, length, take, drop, slice_range, Option, None, Some, Result, Ok, Err, IfOk, IfErr, Bool, sym, ap, ◌∙◌, subst, arith, refl, inl, inr, length-append, length-drop, length-take-le, take-append-drop, append_assoc, append-nil}
 use Rattle.std.proofs.lemmas.List.Folds.{drop_split}
 use Rattle.std.specs.Io.KnownBytes.{Consumes, IsAtEnd, Keeps, prepend_known}
 use Rattle.napt_capture.specs.declared.fault.CaptureFault.{CaptureFault}

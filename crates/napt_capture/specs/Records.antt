@@ -1,6 +1,6 @@
 -- What a reader of records does, over what is left of its text: what was read ahead, and then what the source has.
-use Rattle.std.specs.Prelude.{ℕ, ◌≡◌, ◌+◌, ◌*◌, ◌<◌, ◌≤◌, ◌^◌, Bool, true, false, List, length, take, Option, IfSome, Result, Ok}
-use Rattle.std.specs.Io.KnownBytes.{IsAtEnd, Keeps, prepend_known}
+use Rattle.std.specs.Prelude.{ℕ, ◌≡◌, ◌+◌, ◌*◌, ◌<◌, ◌≤◌, ◌^◌, Bool, List, length, take, Option, IfSome, Result, Ok}
+use Rattle.std.specs.Io.KnownBytes.{Keeps, prepend_known}
 use Rattle.napt_capture.specs.declared.fault.CaptureFault.{CaptureFault}
 use Rattle.napt_capture.specs.declared.reading.Next.{Next}
 use Rattle.napt_capture.specs.declared.reading.Next.TheVariants.{Whole, End}
