@@ -35,7 +35,8 @@ IsPartial-short s ahead f fields header short bound =
 -- a record stands whole
 pub ReadsNext-ahead : (r : Records) (f : Fields) (new items : List ℕ) → StandsWhole r f → items ≡
     slice_range r.ahead 16 (16 + f.captured) → new ≡ drop (16 + f.captured) r.ahead
-    → ReadsNext r.spelling 0 (Some r.ahead) (Some new) (Whole (record { time = f.time; bytes = items; original = f.original }))
+    → ReadsNext r.spelling 0 (Some r.ahead) (Some new)
+    (Whole (record { time = f.time; bytes = items; original = f.original }))
 ReadsNext-ahead r f new items stands items_are new_is =
     let ahead = r.ahead in
     let end = 16 + f.captured in
@@ -82,7 +83,8 @@ Consumes-before (Some x) (Some y) (Some z) bytes kept consumed = sym kept ∙ co
 
 -- what was read ahead is all that is left where the source is at its end
 TellsEnd-ended : (old : Records) (left : Option (List ℕ)) (ahead : List ℕ) (after : Option (List ℕ)) (cut : Bool) →
-    Keeps left (prepend_known ahead after) → IsAtEnd after → TellsEnd old (Ok cut) (Some ahead) → TellsEnd old (Ok cut) left
+    Keeps left (prepend_known ahead after) → IsAtEnd after → TellsEnd old (Ok cut) (Some ahead)
+    → TellsEnd old (Ok cut) left
 TellsEnd-ended old None ahead after cut kept at_end told = tt
 TellsEnd-ended old (Some x) ahead None cut kept at_end told = absurd kept
 TellsEnd-ended old (Some x) ahead (Some y) cut kept at_end told =

@@ -249,8 +249,8 @@ Tail-final s asked number entries bytes answer p =
     (subst (λ n. Final s asked n (entries ++ []) p.rest answer) (omega arith)
     (subst (λ n. Final s n (number + 0) (entries ++ []) p.rest answer) (omega arith) p.final)))
 
-pub stored-same : (s : Spelling) (bytes x y : List ℕ) (q r : Stored) → bytes ≡ stored_text q ++ x → bytes ≡ stored_text r
-    ++ y → IsStored s q → IsStored s r → q ≡ r
+pub stored-same : (s : Spelling) (bytes x y : List ℕ) (q r : Stored) → bytes ≡ stored_text q ++ x
+    → bytes ≡ stored_text r ++ y → IsStored s q → IsStored s r → q ≡ r
 stored-same s bytes x y q r e f good fine =
     let here = sym (sym e ∙ f ∙ append_assoc r.header r.bytes y) ∙ refl in
     let both : q.header ++ (q.bytes ++ x) ≡ r.header ++ (r.bytes ++ y) = sym (append_assoc q.header q.bytes x) ∙ sym e

@@ -44,7 +44,8 @@ Behind s number left r records end =
 first_of : (s : Spelling) (number : ℕ) (text left : List ℕ) (r : Stored) (records : List Entry)
     (end : Result Bool CaptureFault) (stored : List Stored) (rest : List ℕ)
     → text ≡ stored_text r ++ left → IsStored s r → text ≡ flat_map stored_text stored ++ rest → All (IsStored s) stored
-    → records ≡ map (entry_of s) stored → EndsAs s (number_at number stored) rest end → Behind s number left r records end
+    → records ≡ map (entry_of s) stored → EndsAs s (number_at number stored) rest end
+    → Behind s number left r records end
 first_of s number text left r records end [] rest e good split all records_are ends =
     absurd (EndsAs-stored s number rest left r end ends (sym split ∙ e) good)
 first_of s number text left r records end (t ∷ more) rest e good split all records_are ends =
@@ -69,7 +70,8 @@ first_of s number text left r records end (t ∷ more) rest e good split all rec
 -- a record that stands whole is the first of those that a text holds
 pub HasRecords-first : (s : Spelling) (number : ℕ) (text left : List ℕ) (r : Stored) (records : List Entry)
     (end : Result Bool CaptureFault)
-    → text ≡ stored_text r ++ left → IsStored s r → HasRecords s number text records end → Behind s number left r records end
+    → text ≡ stored_text r ++ left → IsStored s r → HasRecords s number text records end
+    → Behind s number left r records end
 HasRecords-first s number text left r records end e good p =
     first_of s number text left r records end p.stored p.rest e good p.whole p.good p.records_are p.ends
 
@@ -144,7 +146,8 @@ begins_with s number r left good (records, end, p) = (
     stored = r ∷ p.stored;
     rest = p.rest;
     whole =
-        ap (λ l. stored_text r ++ l) p.whole ∙ sym (append_assoc (stored_text r) (flat_map stored_text p.stored) p.rest);
+        ap (λ l. stored_text r ++ l) p.whole
+        ∙ sym (append_assoc (stored_text r) (flat_map stored_text p.stored) p.rest);
     good = All-cons (IsStored s) r p.stored good p.good;
     records_are = ap (λ l. entry_of s r ∷ l) p.records_are;
     ends = p.ends;

@@ -57,7 +57,8 @@ IsRefusedRecord-behind s asked number other header BadLink room same p = absurd 
 IsRefusedRecord-behind s asked number other header Read room same p = absurd p
 IsRefusedRecord-behind s asked number other header Memory room same p = absurd p
 
-abbrev front_of : {bytes : List ℕ} {records : List Entry} {end : Result Bool CaptureFault} → IsStream bytes records end → List ℕ
+abbrev front_of : {bytes : List ℕ} {records : List Entry} {end : Result Bool CaptureFault} →
+    IsStream bytes records end → List ℕ
 front_of p = p.header ++ flat_map stored_text p.has.stored
 
 front_is : {bytes : List ℕ} {records : List Entry} {end : Result Bool CaptureFault}

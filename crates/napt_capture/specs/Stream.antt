@@ -1,5 +1,5 @@
--- What a capture of any length comes to, whose records are read as they come. Each record is asked for as if it were the
--- first, behind no bytes, so that no text is too large: else the definitions are those of a capture that is read whole.
+-- What a capture of any length comes to, whose records are read as they come. Each is asked for as if it were the
+-- first, behind no bytes, so that no text is too large: else the definitions are those of a capture read whole.
 use Rattle.std.specs.Prelude.{ℕ, ◌≡◌, ◌+◌, ◌-◌, ◌^◌, min, nat_lt, Bool, All, List, [], ◌∷◌, ◌++◌, length, map, Result, Ok, Err}
 use Rattle.std.specs.List.{flat_map}
 use Rattle.napt_capture.specs.declared.fault.CaptureFault.{CaptureFault}

@@ -21,6 +21,7 @@ returns-then-ahead-fields-clause-part c =
     let f = c.in_ok-fields.fields in
     let same = c.as_slice-ahead.ensures.value in
     let size = ap length same in
-    IsPartial-short r.spelling r.ahead f (subst (λ l. HasFields r.spelling (take 16 l) f) same c.in_ok-fields.ensures.ok)
+    IsPartial-short r.spelling r.ahead f
+    (subst (λ l. HasFields r.spelling (take 16 l) f) same c.in_ok-fields.ensures.ok)
     (omega (arith, size, c.if-ahead-lt-RECORD_HEADER.false)) (omega (arith, size, c.if-ahead-fields.true))
     c.in_ok-fields.ensures.captured
