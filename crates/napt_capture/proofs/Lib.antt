@@ -1,6 +1,10 @@
 mod AnAnswer
+mod Buffer
+mod NextRecord
 mod OneAnswer
 mod Progress
 mod ReadsBack
-mod Steps
+mod StreamIsCapture
+pub mod OneStream
 pub mod Puts
+pub mod Steps

@@ -14,34 +14,34 @@ use Rattle.napt_capture.specs.Capture.{EndsInRecord, HasLink, HasMagic, HasVersi
 
 -- ---- the same bytes, split twice after as many
 
-front_same : (a b x y : List ℕ) → length a ≡ length b → a ++ x ≡ b ++ y → a ≡ b
+pub front_same : (a b x y : List ℕ) → length a ≡ length b → a ++ x ≡ b ++ y → a ≡ b
 front_same a b x y n e = sym (take-append_seam a x) ∙ ap (take (length a)) e ∙ ap (λ k. take k (b ++ y)) n
     ∙ take-append_seam b y
 
-rest_same : (a b x y : List ℕ) → length a ≡ length b → a ++ x ≡ b ++ y → x ≡ y
+pub rest_same : (a b x y : List ℕ) → length a ≡ length b → a ++ x ≡ b ++ y → x ≡ y
 rest_same a b x y n e = sym (drop_at a x (length b) n) ∙ ap (drop (length b)) e ∙ drop_at b y (length b) refl
 
 -- ---- the next record: a further one, an end, or a fault, and no two of them
 
-abbrev BadFractionAt : Spelling → ℕ → List ℕ → Type 0
+abbrev pub BadFractionAt : Spelling → ℕ → List ℕ → Type 0
 BadFractionAt s asked header = (length header ≡ 16) × MayAsk asked 16 × (units_per_second s ≤ fraction_of s header)
 
-abbrev TooLongAt : Spelling → ℕ → List ℕ → Type 0
+abbrev pub TooLongAt : Spelling → ℕ → List ℕ → Type 0
 TooLongAt s asked header = (length header ≡ 16) × MayAsk asked 16 × (fraction_of s header < units_per_second s)
     × (LARGEST_RECORD < captured_of s header)
 
-abbrev TooLargeAt : Spelling → ℕ → List ℕ → Type 0
+abbrev pub TooLargeAt : Spelling → ℕ → List ℕ → Type 0
 TooLargeAt s asked header =
     ((header ≡ []) × MayAsk asked 0 × (¬ MayAsk asked 16))
     ⊎ (IsRecordHeader s header × MayAsk asked 16 × (¬ MayAsk asked (16 + captured_of s header)))
 
 -- the faults that a record can have
-abbrev Refusal : Spelling → ℕ → ℕ → List ℕ → CaptureFault → Type 0
+abbrev pub Refusal : Spelling → ℕ → ℕ → List ℕ → CaptureFault → Type 0
 Refusal s asked number header fault =
     ((fault ≡ BadFraction number) × BadFractionAt s asked header)
     ⊎ (((fault ≡ TooLong number) × TooLongAt s asked header) ⊎ ((fault ≡ TooLarge) × TooLargeAt s asked header))
 
-refusal_of : (s : Spelling) (asked number : ℕ) (header : List ℕ) (fault : CaptureFault) →
+pub refusal_of : (s : Spelling) (asked number : ℕ) (header : List ℕ) (fault : CaptureFault) →
     IsRefusedRecord s asked number header fault → Refusal s asked number header fault
 refusal_of s asked number header (BadFraction n) p = inl (ap (λ k. BadFraction k) p.0, (p.1, p.2, p.3))
 refusal_of s asked number header (TooLong n) p = inr (inl (ap (λ k. TooLong k) p.0, (p.1, p.2, p.3, p.4)))
@@ -79,7 +79,7 @@ TooLongAt-TooLargeAt s asked a b x y e p (inr q) = let same = captured-same s a 
     omega (arith, same, p.3, q.0.captured)
 
 -- two faults of one record are one
-Refusal-one : (s : Spelling) (asked number : ℕ) (a b x y : List ℕ) (f g : CaptureFault) → a ++ x ≡ b ++ y
+pub Refusal-one : (s : Spelling) (asked number : ℕ) (a b x y : List ℕ) (f g : CaptureFault) → a ++ x ≡ b ++ y
     → Refusal s asked number a f → Refusal s asked number b g → f ≡ g
 Refusal-one s asked number a b x y f g e (inl p) (inl q) = p.0 ∙ sym q.0
 Refusal-one s asked number a b x y f g e (inl p) (inr (inl q)) =
@@ -98,7 +98,7 @@ Refusal-one s asked number a b x y f g e (inr (inr p)) (inr (inl q)) =
 Refusal-one s asked number a b x y f g e (inr (inr p)) (inr (inr q)) = p.0 ∙ sym q.0
 
 -- a header that is good, and whose bytes may be asked for, is not refused
-Refusal-good : (s : Spelling) (asked number : ℕ) (a b x y : List ℕ) (fault : CaptureFault) → a ++ x ≡ b ++ y →
+pub Refusal-good : (s : Spelling) (asked number : ℕ) (a b x y : List ℕ) (fault : CaptureFault) → a ++ x ≡ b ++ y →
     Refusal s asked number a fault
     → IsRecordHeader s b → MayAsk asked (16 + captured_of s b) → ⊥
 Refusal-good s asked number a b x y fault e (inl p) good may =
@@ -110,7 +110,7 @@ Refusal-good s asked number a b x y fault e (inr (inr (is, (inr q)))) good may =
     let same = captured-same s a b x y q.0.whole good.whole e in q.2 (omega (arith, same, may))
 
 -- nor is an end
-Refusal-partial : (s : Spelling) (asked number : ℕ) (a x rest : List ℕ) (fault : CaptureFault) → rest ≡ a ++ x →
+pub Refusal-partial : (s : Spelling) (asked number : ℕ) (a x rest : List ℕ) (fault : CaptureFault) → rest ≡ a ++ x →
     Refusal s asked number a fault
     → MayAsk asked 16 → IsPartial s asked rest → ⊥
 Refusal-partial s asked number a x rest fault e (inl p) may (inl short) =
@@ -124,7 +124,7 @@ Refusal-partial s asked number a x rest fault e p may (inr (header, bytes, split
     Refusal-good s asked number a header x bytes fault (sym e ∙ split) p good room
 
 -- a record that stands whole is no end
-IsPartial-stored : (s : Spelling) (asked : ℕ) (rest left : List ℕ) (r : Stored) → rest ≡ stored_text r ++ left →
+pub IsPartial-stored : (s : Spelling) (asked : ℕ) (rest left : List ℕ) (r : Stored) → rest ≡ stored_text r ++ left →
     IsStored s r → IsPartial s asked rest → ⊥
 IsPartial-stored s asked rest left r e good (inl short) =
     omega (
@@ -249,8 +249,8 @@ Tail-final s asked number entries bytes answer p =
     (subst (λ n. Final s asked n (entries ++ []) p.rest answer) (omega arith)
     (subst (λ n. Final s n (number + 0) (entries ++ []) p.rest answer) (omega arith) p.final)))
 
-stored-same : (s : Spelling) (bytes x y : List ℕ) (q r : Stored) → bytes ≡ stored_text q ++ x → bytes ≡ stored_text r
-    ++ y → IsStored s q → IsStored s r → q ≡ r
+pub stored-same : (s : Spelling) (bytes x y : List ℕ) (q r : Stored) → bytes ≡ stored_text q ++ x
+    → bytes ≡ stored_text r ++ y → IsStored s q → IsStored s r → q ≡ r
 stored-same s bytes x y q r e f good fine =
     let here = sym (sym e ∙ f ∙ append_assoc r.header r.bytes y) ∙ refl in
     let both : q.header ++ (q.bytes ++ x) ≡ r.header ++ (r.bytes ++ y) = sym (append_assoc q.header q.bytes x) ∙ sym e
@@ -413,7 +413,7 @@ file_refusal_of header Memory p = absurd p
 magic-none : (s : Spelling) (header : List ℕ) → spelling_of (big_number 4 header) ≡ None → HasMagic s header → ⊥
 magic-none s header p q = let both : None ≡ Some s = sym p ∙ q in cc
 
-magic-one : (s t : Spelling) (header : List ℕ) → HasMagic s header → HasMagic t header → s ≡ t
+pub magic-one : (s t : Spelling) (header : List ℕ) → HasMagic s header → HasMagic t header → s ≡ t
 magic-one s t header p q = ap (λ o. unwrap_or o s) (sym p ∙ q)
 
 FileRefusal-one : (header : List ℕ) (f g : CaptureFault) → FileRefusal header f → FileRefusal header g → f ≡ g

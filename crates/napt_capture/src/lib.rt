@@ -7,12 +7,14 @@
 //! ```
 #![tactic(auto)]
 
+mod ahead;
 mod contents;
 mod device;
 mod fault;
 mod faulty;
 mod laws;
 mod reading;
+mod records;
 mod spelling;
 mod watched;
 mod writing;
@@ -22,8 +24,9 @@ pub use contents::{Capture, Record};
 pub use device::{DeviceFault, Sink, Source};
 pub use fault::{CaptureFault, WriteFault};
 pub use faulty::{Faulty, Plan, Trouble};
-pub use laws::{one_answer, reads_back};
-pub use reading::read_capture;
+pub use laws::{one_answer, one_stream, reads_back, stream_is_capture};
+pub use reading::{Next, read_capture};
+pub use records::Records;
 pub use watched::Watched;
 pub use writing::{write_capture, write_text};
 pub use written::Written;

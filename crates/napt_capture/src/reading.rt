@@ -18,7 +18,7 @@ use std::alloc::Global;
 const FILE_HEADER: usize = 24;
 
 /// The bytes of a record's header.
-const RECORD_HEADER: usize = 16;
+pub(crate) const RECORD_HEADER: usize = 16;
 
 /// The link type of raw IP: packets begin with the IP header.
 const RAW: u32 = 101;
@@ -27,8 +27,8 @@ const RAW: u32 = 101;
 const RAW_IPV4: u32 = 228;
 
 /// What stands behind the records so far.
-#[derive(Drop)]
-enum Next {
+#[derive(Debug, Drop)]
+pub enum Next {
     /// A further record.
     Whole(Record),
     /// The end, and whether it comes inside a record.
@@ -37,10 +37,10 @@ enum Next {
 
 /// What a record's header says.
 #[derive(Clone, Copy)]
-struct Fields {
-    time: u64,
-    captured: u32,
-    original: u32,
+pub(crate) struct Fields {
+    pub(crate) time: u64,
+    pub(crate) captured: u32,
+    pub(crate) original: u32,
 }
 
 /// Reads a capture file: all records before its end, or its first fault. It asks for 24 bytes, and then for
@@ -93,7 +93,8 @@ fn fill<R: Source>(reader: &mut R, buffer: &mut [u8]) -> Result<usize, DeviceFau
     Ok(filled)
 }
 
-fn read_file_header<R: Source>(reader: &mut R) -> Result<Spelling, CaptureFault>
+/// Reads the header of a file.
+pub(crate) fn read_file_header<R: Source>(reader: &mut R) -> Result<Spelling, CaptureFault>
     requires { R.failed reader.old < 2 ^ 64 - 1 }
     ensures ok { IfOk result (λ s. ReadsFileHeader s (R.remaining reader.old)
         (R.remaining reader.new)) }
@@ -170,7 +171,11 @@ fn read_record<R: Source>(
 }
 
 /// What the header of the record of this number says.
-fn fields_of(spelling: Spelling, header: &[u8], number: u64) -> Result<Fields, CaptureFault>
+pub(crate) fn fields_of(
+    spelling: Spelling,
+    header: &[u8],
+    number: u64,
+) -> Result<Fields, CaptureFault>
     requires { length header.now ≡ 16 }
     ensures ok { IfOk result (λ fields. HasFields spelling header.now fields) }
     ensures time { IfOk result (λ fields. fields.time < 2 ^ 32 * 1000000000) }

@@ -26,6 +26,8 @@ mod packets;
 #[cfg(test)]
 mod plain;
 #[cfg(test)]
+mod records;
+#[cfg(test)]
 mod remotes;
 #[cfg(test)]
 mod sizes;

@@ -1,0 +1,48 @@
+-- A part of a buffer, and what is read behind it.
+use Rattle.std.proofs.Common.{◌≡◌, ℕ, ◌+◌, ◌-◌, ◌≤◌, List, ◌++◌, length, take, drop, slice_range, Option, None, Some, sym, ap, ◌∙◌, arith, append_assoc, length-take-le, le_refl, drop-drop}
+use Rattle.std.specs.Io.KnownBytes.{Consumes, Keeps, prepend_known}
+use Rattle.std.proofs.lemmas.List.{drop-take}
+use Rattle.std.proofs.lemmas.Slice.{between_from_start, take-put_mid_below}
+use lib.Seq.{take-append-le, take-append-add}
+use borrow.Rule.Slice.PartMut.{put_mid, post_of}
+
+-- a part without its first n items
+pub slice_range-from : (xs : List ℕ) (a e n : ℕ) → n ≤ e - a → slice_range xs (a + n) e ≡ drop n (slice_range xs a e)
+slice_range-from xs a e n within =
+    let whole : n + (e - (a + n)) ≡ e - a = omega (arith, within) in
+    ap (take (e - (a + n))) (sym (drop-drop n a xs))
+    ∙ sym (drop-take n (e - (a + n)) (drop a xs))
+    ∙ ap (λ k. drop n (take k (drop a xs))) whole
+
+-- what a reader gave is behind what was read before
+pub Keeps-read : (a b : Option (List ℕ)) (old new bytes : List ℕ) → Consumes a b bytes → new ≡ old ++ bytes →
+    Keeps (prepend_known old a) (prepend_known new b)
+Keeps-read None b old new bytes consumed is = tt
+Keeps-read (Some x) None old new bytes consumed is = absurd consumed
+Keeps-read (Some x) (Some y) old new bytes consumed is =
+    ap (λ l. l ++ y) is ∙ append_assoc old bytes y ∙ ap (λ l. old ++ l) (sym consumed)
+
+pub Keeps-unread : (a b : Option (List ℕ)) (old new : List ℕ) → Keeps a b → new ≡ old →
+    Keeps (prepend_known old a) (prepend_known new b)
+Keeps-unread None b old new kept is = tt
+Keeps-unread (Some x) None old new kept is = absurd kept
+Keeps-unread (Some x) (Some y) old new kept is = ap (λ l. l ++ y) is ∙ ap (λ l. old ++ l) kept
+
+-- what a read put behind the part that begins a buffer
+pub slice_range-read : (end room count : ℕ) (xs ys : List ℕ) → end ≤ length xs → count ≤ length ys →
+    slice_range (put_mid end room xs ys) 0 (end + count) ≡ slice_range xs 0 end ++ take count ys
+slice_range-read end room count xs ys within fits =
+    let after = post_of end room xs in
+    let size = length-take-le end xs within in
+    between_from_start (put_mid end room xs ys) (end + count)
+    ∙ ap (λ n. take (n + count) (take end xs ++ (ys ++ after))) (sym size)
+    ∙ take-append-add (take end xs) (ys ++ after) count
+    ∙ ap (λ l. take end xs ++ l) (take-append-le count ys after fits)
+    ∙ ap (λ l. l ++ take count ys) (sym (between_from_start xs end))
+
+-- the part itself
+pub slice_range-same : (end room : ℕ) (xs ys : List ℕ) → end ≤ length xs → slice_range (put_mid end room xs ys) 0 end
+    ≡ slice_range xs 0 end
+slice_range-same end room xs ys within =
+    between_from_start (put_mid end room xs ys) end ∙ take-put_mid_below end room xs ys end (le_refl end) within
+    ∙ sym (between_from_start xs end)

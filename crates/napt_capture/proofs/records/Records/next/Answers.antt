@@ -1,0 +1,13 @@
+-- What stands in what was read ahead is next in the text.
+use Rattle.napt_capture.proofs.NextRecord.{Tells-known, TellsEnd-known}
+use Rattle.napt_capture.proofs.records.Records.next.Goals as goal
+
+pub returns-clause-next : goal.returns-clause-next
+returns-clause-next g c =
+    Tells-known c.args.self.now c.read_ahead.new.self c.take.new.self _ _ c.take.result c.read_ahead.ensures.kept
+    c.in_ok-read_ahead.ensures.known c.take.ensures.next
+
+pub returns-clause-fault : goal.returns-clause-fault
+returns-clause-fault g c =
+    TellsEnd-known c.args.self.now c.read_ahead.new.self _ _ c.take.result c.read_ahead.ensures.kept
+    c.take.ensures.fault

@@ -1,0 +1,158 @@
+//! Reading a capture record after record, as it comes.
+ghost use Rattle.std.specs.Prelude.{◌≡◌, ◌≢◌, ◌+◌, ◌-◌, ◌^◌, ◌<◌, [], take, Bool, true, false, Some, IfOk, IfErr, IfSome, IfNone, OnOk, OnErr, Err};
+ghost use Rattle.std.specs.Io.KnownBytes.{IsAtEnd};
+ghost use Rattle.napt_capture.specs.Capture.{IsPartial, IsRefusedRecord, failed_reads};
+ghost use Rattle.napt_capture.specs.Device.{failed_calls};
+ghost use Rattle.napt_capture.specs.declared.fault.CaptureFault.TheVariants.{Read};
+ghost use Rattle.napt_capture.specs.Reading.{HasFields, IsWritableNext, ReadsFileHeader, ReadsNext, RefusesFile, StopsBy};
+ghost use Rattle.napt_capture.specs.Stream.{EndsAs};
+ghost use Rattle.napt_capture.specs.Records.{Asks, KeepsLeft, StandsWhole, Tells, TellsEnd, counted, left_of};
+
+use crate::ahead::Ahead;
+use crate::contents::Record;
+use crate::device::{DeviceFault, Source};
+use crate::fault::CaptureFault;
+use crate::reading::{Fields, Next, RECORD_HEADER, fields_of, read_file_header};
+use crate::spelling::Spelling;
+use std::alloc::{AllocError, Global};
+
+/// A capture that is read record after record, by a buffer of 1,048,576 bytes: whatever follows in the file, no more
+/// memory is taken. The source is handed to each call, and must be the same one each time. It may have any number of
+/// bytes and of records.
+#[derive(Drop)]
+pub struct Records {
+    spelling: Spelling,
+    /// That of the next record, which stops at the greatest one.
+    number: u64,
+    ahead: Ahead,
+}
+
+impl Records {
+    /// Reads the header of the file, its first 24 bytes. `NoHeader`, `BadMagic`, `BadVersion` and `BadLink` come by
+    /// that header, `Read` exactly where a read failed, and `Memory` where the buffer is refused, before any read.
+    pub fn open<R: Source>(alloc: Global, source: &mut R) -> Result<Records, CaptureFault>
+        requires { R.failed source.old < 2 ^ 64 - 1 }
+        ensures header { IfOk result (λ records. ReadsFileHeader records.spelling
+            (R.remaining source.old) (R.remaining source.new)) }
+        ensures empty { IfOk result (λ records. records.ahead ≡ []) }
+        ensures first { IfOk result (λ records. records.number ≡ 1) }
+        ensures fault { IfErr result (λ fault.
+            StopsBy fault (RefusesFile fault (R.remaining source.old) (R.remaining source.new))) }
+        ensures count { R.failed source.new ≡ R.failed source.old + failed_reads result }
+    {
+        let ahead = Ahead::new(alloc)?;
+        let spelling = read_file_header(source)?;
+        Ok(Records {
+            spelling,
+            number: 1,
+            ahead,
+        })
+    }
+
+    /// Whether the next record, or the fault that stands in its place, was read already, so that [`Records::next`]
+    /// doesn't ask the source.
+    pub fn has_whole(&self) -> bool
+        ensures whole { result ≡ true → ¬ Asks self.now }
+        ensures part { result ≡ false → Asks self.now }
+    {
+        !matches!(self.front(), Ok(None))
+    }
+
+    /// Reads the next record, into the vector that is handed in. What the vector holds is dropped; its room is used
+    /// again. The source is asked only while no whole record stands in the buffer, and each time for as much as the
+    /// buffer has room for.
+    ///
+    /// `BadFraction` and `TooLong` come by the header of the record. `Read` comes exactly where a read failed, `Memory`
+    /// where the vector could not grow. By the end and by a fault nothing is lost: a later call goes on from there, and
+    /// tells the end, or the fault of the header, again.
+    pub fn next<R: Source>(&mut self, source: &mut R, vector: Vec<u8>) -> Result<Next, CaptureFault>
+        requires can_fail { R.failed source.old < 2 ^ 64 - 1 }
+        ensures next { IfOk result (Tells self.old
+            (left_of self.old (R.remaining source.old)) (left_of self.new (R.remaining source.new))) }
+        ensures number { IfOk result (λ next. self.new.number ≡ counted next self.old.number) }
+        ensures fault { IfErr result (λ fault. StopsBy fault
+            (TellsEnd self.old (Err fault) (left_of self.old (R.remaining source.old)))) }
+        ensures kept { OnErr result (KeepsLeft self.old (R.remaining source.old)
+            self.new (R.remaining source.new)) }
+        ensures spelling { self.new.spelling ≡ self.old.spelling }
+        // Where it is known without the source, the source is not asked.
+        ensures asks { (¬ Asks self.old) → source.new ≡ source.old }
+        ensures writable { IfOk result IsWritableNext }
+        ensures count { R.failed source.new ≡ R.failed source.old + failed_reads result }
+    {
+        self.read_ahead(source)?;
+        self.take(vector)
+    }
+
+    /// What stands in front of what was read ahead: the fields of a record that stands there whole, none where it
+    /// doesn't, or the fault of its header.
+    fn front(&self) -> Result<Option<Fields>, CaptureFault>
+        ensures whole { IfOk result (λ front. IfSome front (StandsWhole self.now)) }
+        ensures part { IfOk result (λ front. IfNone front
+            (IsPartial self.now.spelling 0 self.now.ahead)) }
+        ensures fault { IfErr result (λ fault. EndsAs self.now.spelling self.now.number
+            self.now.ahead (Err fault)) }
+    {
+        let ahead = self.ahead.as_slice();
+        if ahead.len() < RECORD_HEADER {
+            return Ok(None);
+        }
+        let fields = fields_of(self.spelling, &ahead[..RECORD_HEADER], self.number)?;
+        if ahead.len() - RECORD_HEADER < fields.captured as usize {
+            return Ok(None);
+        }
+        Ok(Some(fields))
+    }
+
+    /// Reads until it is known what is next, or to the end.
+    fn read_ahead<R: Source>(&mut self, source: &mut R) -> Result<(), DeviceFault>
+        requires can_fail { R.failed source.old < 2 ^ 64 - 1 }
+        ensures kept { KeepsLeft self.old (R.remaining source.old)
+            self.new (R.remaining source.new) }
+        ensures known { OnOk result (Asks self.new → IsAtEnd (R.remaining source.new)) }
+        ensures asks { (¬ Asks self.old) → (source.new ≡ source.old) × (self.new ≡ self.old) }
+        ensures count { R.failed source.new ≡ R.failed source.old + failed_calls result }
+    {
+        while !self.has_whole() {
+            if self.ahead.read_more(source)? == 0 {
+                return Ok(());
+            }
+        }
+        Ok(())
+    }
+
+    /// Takes what is next out of what was read ahead.
+    fn take(&mut self, vector: Vec<u8>) -> Result<Next, CaptureFault>
+        ensures next { IfOk result (Tells self.old (Some self.old.ahead) (Some self.new.ahead)) }
+        ensures number { IfOk result (λ next. self.new.number ≡ counted next self.old.number) }
+        ensures fault { IfErr result (λ fault. StopsBy fault
+            (TellsEnd self.old (Err fault) (Some self.old.ahead))) }
+        ensures read { result ≢ Err Read }
+        ensures kept { OnErr result (self.new ≡ self.old) }
+        ensures spelling { self.new.spelling ≡ self.old.spelling }
+        ensures writable { IfOk result IsWritableNext }
+    {
+        let Some(fields) = self.front()? else {
+            return Ok(Next::End(!self.ahead.as_slice().is_empty()));
+        };
+        let size = RECORD_HEADER + fields.captured as usize;
+        let bytes = copied(&self.ahead.as_slice()[RECORD_HEADER..size], vector)?;
+        self.ahead.consume(size);
+        self.number = self.number.saturating_add(1);
+        Ok(Next::Whole(Record {
+            time: fields.time,
+            bytes,
+            original: fields.original,
+        }))
+    }
+}
+
+/// These bytes, in the room of a vector.
+fn copied(bytes: &[u8], vector: Vec<u8>) -> Result<Vec<u8>, AllocError>
+    ensures { IfOk result (λ copy. copy.items ≡ bytes.now) }
+{
+    let mut copy = vector;
+    copy.clear();
+    copy.extend_from_slice(bytes)?;
+    Ok(copy)
+}
