@@ -3,3 +3,4 @@ pub mod Taking
 pub mod MergeLaws
 pub mod Output
 pub mod Report
+pub mod Counts

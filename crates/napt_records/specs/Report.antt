@@ -114,6 +114,9 @@ counts_text outcomes =
 abbrev pub cuts_text : Bool → Bool → Text
 cuts_text inside outside = cut_line (codes "inside") inside ++ cut_line (codes "outside") outside
 
+abbrev pub report_of : Bool → Bool → List Outcome → List Row → Text
+report_of cut_inside cut_outside outcomes bindings =
+    counts_text outcomes ++ cuts_text cut_inside cut_outside ++ flat_map row_line bindings
+
 unfoldable pub report_text : Bool → Bool → Ran → Text
-report_text cut_inside cut_outside ran = counts_text ran.outcomes ++ cuts_text cut_inside cut_outside
-    ++ flat_map row_line ran.bindings
+report_text cut_inside cut_outside ran = report_of cut_inside cut_outside ran.outcomes ran.bindings

@@ -16,4 +16,4 @@ pub use merge_laws::merge_is_one;
 pub use merging::{Merged, merge};
 pub use names::{EndpointText, cause_name, protocol_name};
 pub use output::write_packets;
-pub use report::report_text;
+pub use report::{Counts, report_of, report_text};

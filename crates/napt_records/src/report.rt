@@ -1,6 +1,7 @@
 //! The report: how many packets came and what became of them, which captures were cut, and the bindings.
-ghost use Rattle.std.specs.Prelude.{◌≡◌, ◌+◌, ◌-◌, ◌^◌, ◌<◌, ◌++◌, ◌∷◌, [], IfOk, OnOk, codes, count_by, decimal, flat_map, slice_index, string_bytes};
-ghost use Rattle.napt_wire.specs.declared.Cause.{Cause};
+ghost use Rattle.std.specs.Prelude.{◌≡◌, ◌-◌, ◌^◌, ◌<◌, ◌++◌, ◌∷◌, [], List, IfOk, OnOk, codes, flat_map, length, slice_index, string_bytes};
+ghost use Rattle.napt_rules.specs.declared.Outcome.{Outcome};
+ghost use Rattle.napt_records.specs.Counts.{AreCountsOf};
 ghost use Rattle.napt_records.specs.Report as model;
 
 use crate::names::{EndpointText, cause_name, protocol_name};
@@ -32,62 +33,66 @@ fn place_of(cause: Cause) -> usize
     }
 }
 
-/// How many outcomes are of each kind.
+/// How many inputs came, and what became of them.
 #[derive(Clone, Copy)]
-struct Counts {
-    to_outside: usize,
-    to_inside: usize,
+pub struct Counts {
+    packets: u64,
+    to_outside: u64,
+    to_inside: u64,
     /// Those that were dropped for each cause, at its place.
-    dropped: [usize; 14],
+    dropped: [u64; 14],
 }
 
 impl Counts {
-    /// Counts one outcome more.
-    fn add(&mut self, outcome: &Outcome)
-        requires outside_fits { self.old.to_outside < 2 ^ 64 - 1 }
-        requires inside_fits { self.old.to_inside < 2 ^ 64 - 1 }
-        requires dropped_fit { (cause : Cause) → slice_index self.old.dropped (model.place_of cause)
-            < 2 ^ 64 - 1 }
-        ensures to_outside { self.new.to_outside ≡ self.old.to_outside
-            + count_by model.is_to_outside (outcome.now ∷ []) }
-        ensures to_inside { self.new.to_inside ≡ self.old.to_inside + count_by model.is_to_inside
-            (outcome.now ∷ []) }
-        ensures dropped { (cause : Cause) → slice_index self.new.dropped (model.place_of cause)
-            ≡ slice_index self.old.dropped (model.place_of cause)
-            + count_by (model.is_dropped cause) (outcome.now ∷ []) }
+    /// Of no inputs.
+    pub fn new() -> Counts
+        ensures { AreCountsOf [] result }
     {
+        Counts {
+            packets: 0,
+            to_outside: 0,
+            to_inside: 0,
+            dropped: [0; 14],
+        }
+    }
+
+    /// How many inputs came.
+    pub fn packets(&self) -> u64
+        ensures { (outcomes : List Outcome) → AreCountsOf outcomes self.now →
+            result ≡ length outcomes }
+    {
+        self.packets
+    }
+
+    /// Counts what became of one input more. A number stops at the greatest one.
+    pub fn count(&mut self, outcome: &Outcome)
+        ensures { (outcomes : List Outcome) → length outcomes < 2 ^ 64 - 1 →
+            AreCountsOf outcomes self.old → AreCountsOf (outcomes ++ outcome.now ∷ []) self.new }
+    {
+        self.packets = self.packets.saturating_add(1);
         match outcome {
-            Outcome::ToOutside(_) => self.to_outside += 1,
-            Outcome::ToInside(_) => self.to_inside += 1,
-            Outcome::Dropped(cause) => self.dropped[place_of(*cause)] += 1,
+            Outcome::ToOutside(_) => self.to_outside = self.to_outside.saturating_add(1),
+            Outcome::ToInside(_) => self.to_inside = self.to_inside.saturating_add(1),
+            Outcome::Dropped(cause) => {
+                let dropped = &mut self.dropped[place_of(*cause)];
+                *dropped = dropped.saturating_add(1);
+            }
         }
     }
 }
 
 fn counts_of(outcomes: &[Outcome]) -> Counts
-    ensures to_outside { result.to_outside ≡ count_by model.is_to_outside outcomes.now }
-    ensures to_inside { result.to_inside ≡ count_by model.is_to_inside outcomes.now }
-    ensures dropped { (cause : Cause) → slice_index result.dropped (model.place_of cause)
-        ≡ count_by (model.is_dropped cause) outcomes.now }
+    ensures { AreCountsOf outcomes.now result }
 {
-    let mut counts = Counts {
-        to_outside: 0,
-        to_inside: 0,
-        dropped: [0; 14],
-    };
+    let mut counts = Counts::new();
     for outcome in outcomes {
-        counts.add(outcome);
+        counts.count(outcome);
     }
     counts
 }
 
 /// Adds a line with a name and a count.
-fn push_count(
-    alloc: Global,
-    report: &mut String,
-    name: &str,
-    count: usize,
-) -> Result<(), AllocError>
+fn push_count(alloc: Global, report: &mut String, name: &str, count: u64) -> Result<(), AllocError>
     ensures { OnOk result (string_bytes report.new ≡ string_bytes report.old
         ++ model.count_line name.now count) }
 {
@@ -100,7 +105,7 @@ fn push_drops(
     alloc: Global,
     report: &mut String,
     causes: &[Cause],
-    dropped: &[usize; 14],
+    dropped: &[u64; 14],
 ) -> Result<(), AllocError>
     ensures { OnOk result (string_bytes report.new ≡ string_bytes report.old ++ flat_map (λ cause.
         codes "drop " ++ model.count_line (model.cause_name cause)
@@ -138,12 +143,11 @@ fn push_rows(alloc: Global, report: &mut String, rows: &[Row]) -> Result<(), All
 }
 
 /// Adds the lines that count the packets.
-fn push_counts(alloc: Global, report: &mut String, outcomes: &[Outcome]) -> Result<(), AllocError>
-    ensures { OnOk result (string_bytes report.new ≡ string_bytes report.old
-        ++ model.counts_text outcomes.now) }
+fn push_counts(alloc: Global, report: &mut String, counts: &Counts) -> Result<(), AllocError>
+    ensures { (outcomes : List Outcome) → AreCountsOf outcomes counts.now → OnOk result
+        (string_bytes report.new ≡ string_bytes report.old ++ model.counts_text outcomes) }
 {
-    let counts = counts_of(outcomes);
-    push_count(alloc, report, "packets", outcomes.len())?;
+    push_count(alloc, report, "packets", counts.packets)?;
     push_count(alloc, report, "to outside", counts.to_outside)?;
     push_count(alloc, report, "to inside", counts.to_inside)?;
     push_drops(alloc, report, &Cause::ALL, &counts.dropped)?;
@@ -164,10 +168,30 @@ fn push_cuts(report: &mut String, cut_inside: bool, cut_outside: bool) -> Result
     Ok(())
 }
 
-/// The report of a run: how many packets came and what became of them, which captures end inside a record, and the bindings.
+/// The report over counts: how many packets came and what became of them, which captures end inside a record, and the
+/// bindings.
 ///
-/// Each line ends with a line feed. The lines of the bindings stand in the order of `Run::bindings`, as
+/// Each line ends with a line feed. The lines of the bindings stand in their order, as
 /// `udp 10.0.0.2:5000 203.0.113.1:5000`, with ` fixed` behind a redirect. Fails only where memory runs out.
+pub fn report_of(
+    alloc: Global,
+    counts: &Counts,
+    bindings: &[Row],
+    cut_inside: bool,
+    cut_outside: bool,
+) -> Result<String, AllocError>
+    ensures { (outcomes : List Outcome) → AreCountsOf outcomes counts.now →
+        IfOk result (λ report. string_bytes report
+        ≡ model.report_of cut_inside cut_outside outcomes bindings.now) }
+{
+    let mut report = String::new(alloc);
+    push_counts(alloc, &mut report, counts)?;
+    push_cuts(&mut report, cut_inside, cut_outside)?;
+    push_rows(alloc, &mut report, bindings)?;
+    Ok(report)
+}
+
+/// The report of a run, as [`report_of`] writes it over the counts of the outcomes. Fails only where memory runs out.
 #[tactic(auto, unfolding(crate::specs::Report::report_text))]
 pub fn report_text(
     alloc: Global,
@@ -178,9 +202,6 @@ pub fn report_text(
     ensures { IfOk result (λ report. string_bytes report
         ≡ model.report_text cut_inside cut_outside run.now) }
 {
-    let mut report = String::new(alloc);
-    push_counts(alloc, &mut report, &run.outcomes)?;
-    push_cuts(&mut report, cut_inside, cut_outside)?;
-    push_rows(alloc, &mut report, &run.bindings)?;
-    Ok(report)
+    let counts = counts_of(&run.outcomes);
+    report_of(alloc, &counts, &run.bindings, cut_inside, cut_outside)
 }

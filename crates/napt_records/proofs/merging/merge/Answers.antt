@@ -1,4 +1,4 @@
-use Rattle.std.proofs.Common.{◌≡◌, length, refl, sym, ◌∙◌, ap, arith, append-nil, append_assoc, ◌++◌, [], ◌∷◌}
+use Rattle.std.proofs.Common.{◌≡◌, length, refl, sym, ◌∙◌, ap, arith, append-nil, append_assoc, [], ◌∷◌}
 use Rattle.napt_records.proofs.Merges.{none_left}
 use Rattle.napt_records.proofs.merging.merge.Goals as goal
 
