@@ -14,7 +14,8 @@ use Rattle.napt_rules.specs.Prelude.{Binding, is_established, idle, is_recent, i
 use Rattle.napt_binding.proofs.Purges.{lived, live_same}
 use Rattle.napt_binding.specs.Ends.{end_after, last_end, end_by, end_of, is_before, EndsAreFirst}
 
-pub recent_before : (now last seconds : ℕ) → 0 < seconds → is_recent now last seconds ≡ nat_lt now (end_after last seconds)
+pub recent_before : (now last seconds : ℕ) → 0 < seconds →
+    is_recent now last seconds ≡ nat_lt now (end_after last seconds)
 recent_before now last seconds some = grind (arith, nat_tests)
 
 pub either_before : (now a b : ℕ) → (nat_lt now a || nat_lt now b) ≡ nat_lt now (max a b)
