@@ -156,8 +156,15 @@ fn kind_of(entry: &Entry) -> BindingKind {
 fn label_of(alloc: Global, entry: &Entry) -> Result<String, AllocError> {
     let name = protocol_name(entry.binding.protocol);
     let inside = EndpointText(entry.binding.inside);
-    let kind = if entry.binding.fixed { ", a redirect" } else { "" };
-    format!(in alloc; "{name} {inside} > :{}{kind}", entry.binding.external.number)
+    let kind = if entry.binding.fixed {
+        ", a redirect"
+    } else {
+        ""
+    };
+    format!(in alloc;
+        "{name} {inside} > :{}{kind}",
+        entry.binding.external.number
+    )
 }
 
 /// A binding of a label with its external address, and with its times since the first packet where it is no redirect.

@@ -46,12 +46,7 @@ fn with_external(alloc: Global, rows: &[Row], external: Endpoint) -> Result<Vec<
 }
 
 /// The first inputs, as many as came by a time, in ns, and behind them one with no bytes at that time.
-fn front(
-    alloc: Global,
-    inputs: Vec<Input>,
-    came: usize,
-    at: u64,
-) -> Result<Vec<Input>, AllocError>
+fn front(alloc: Global, inputs: Vec<Input>, came: usize, at: u64) -> Result<Vec<Input>, AllocError>
     requires within { came ≤ length inputs.items }
     requires by { last_clock 0 (take came inputs.items) ≤ at }
     requires next { IsBeforeNext at (drop came inputs.items) }

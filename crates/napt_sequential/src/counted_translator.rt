@@ -37,11 +37,10 @@ impl CountedTranslator {
         };
         match went {
             Went::Out => out_through(self.translator.timed_by_inside(now, protocol, seen.source)),
-            Went::In => in_through(self.translator.timed_by_number(
-                now,
-                protocol,
-                seen.destination.number,
-            )),
+            Went::In => in_through(
+                self.translator
+                    .timed_by_number(now, protocol, seen.destination.number),
+            ),
             Went::Dropped(cause) => Passage::Dropped(Loss {
                 protocol,
                 host: seen.source.address,

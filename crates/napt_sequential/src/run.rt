@@ -272,12 +272,7 @@ fn legs(alloc: Global, translators: &[CountedTranslator]) -> Result<Vec<u64>, Al
 
 /// The run over so many inputs as their numbers can count; its traces only where they are asked for.
 #[tactic(auto, unfolding(napt_rules::specs::Sequential::ran))]
-fn run(
-    alloc: Global,
-    config: &Config,
-    inputs: &[Input],
-    traced: bool,
-) -> Result<Traced, AllocError>
+fn run(alloc: Global, config: &Config, inputs: &[Input], traced: bool) -> Result<Traced, AllocError>
     requires { length inputs.now < 2 ^ 32 }
     ensures run { IfOk result (λ told. told.run ≡ model.ran config.now inputs.now) }
     ensures traces { IfOk result (λ told. traced ≡ true →

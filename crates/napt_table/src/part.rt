@@ -17,8 +17,8 @@ use crate::TimedRow;
 use crate::host_counts::HostCounts;
 use crate::rows::row_of;
 use napt_binding::{Binding, Flows, end_of, is_live, send, take_in, until};
-use napt_config::Timers;
 use napt_collections::Due;
+use napt_config::Timers;
 use napt_numbers::Numbers;
 use napt_rules::{Inbound, Received, Row, Sent};
 use napt_wire::{Cause, Endpoint, Protocol};
@@ -143,7 +143,14 @@ impl Part {
         if !is_live(binding, timers, packet.now) {
             return Err(Cause::NoBinding);
         }
-        take_in(binding, timers, inbound, packet.now, packet.remote, packet.flags)
+        take_in(
+            binding,
+            timers,
+            inbound,
+            packet.now,
+            packet.remote,
+            packet.flags,
+        )
     }
 
     /// Makes room for one more binding.
@@ -384,7 +391,14 @@ impl Part {
         if !is_live(binding, timers, packet.now) {
             return Ok(None);
         }
-        send(binding, alloc, timers, packet.now, packet.remote, packet.flags)?;
+        send(
+            binding,
+            alloc,
+            timers,
+            packet.now,
+            packet.remote,
+            packet.flags,
+        )?;
         Ok(Some(number))
     }
 

@@ -45,8 +45,7 @@ loop-input-preserved c =
     (step c.args.config.now c.len-number.result c.max-last.result input
     (state_of c.args.config.now (take n inputs)).list) (state_of c.args.config.now (take n inputs))
     c.step.new.translators c.in_ok-stepped.stepped.outcome
-    = steps.0 in
-    (
+    = steps.0 in (
       subst (λ (os : List Outcome). RunSoFar c.args.config.now (take (n + 1) inputs) c.max-last.result os
           c.step.new.translators) (sym c.in_ok-push.ensures.items)
           (after_next c.args.config.now inputs n input c.loop-input-test.true (sym c.input-item.is) c.len-number.result
