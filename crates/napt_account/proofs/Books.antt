@@ -1,5 +1,5 @@
 -- What the log keeps: an open entry is the latest of its external endpoint, and so the only open one.
-use Rattle.std.proofs.Common.{◌≡◌, ℕ, zero, suc, ◌+◌, ◌<◌, ◌≤◌, inl, inr, Bool, true, false, ◌&&◌, ◌||◌, cond, List, [], ◌∷◌, ◌++◌, length, map, set, take, drop, get_or, Option, Some, None, refl, sym, ◌∙◌, ap, subst, arith, eqb, length-append}
+use Rattle.std.proofs.Common.{◌≡◌, ℕ, zero, suc, ◌+◌, ◌<◌, ◌≤◌, inl, inr, Bool, true, false, ◌&&◌, ◌||◌, cond, List, [], ◌∷◌, ◌++◌, length, map, set, drop, get_or, Option, Some, None, refl, sym, ◌∙◌, ap, subst, arith, eqb, length-append}
 use Rattle.std.specs.Prelude.{IfNone}
 use Rattle.std.specs.List.{list_any, fold, slice_get}
 use Rattle.std.proofs.lemmas.Bool.{and_parts, cases_lt, eqb-true, eqb-false}
@@ -163,9 +163,10 @@ kept_set now most es places kept w i e at passed x same sent received =
       few = λ j f there. elim (eqb j i) as (λ v. eqb j i ≡ v → (f.sent ≤ most + 1) × (f.received ≤ most + 1)) [
         | true ↦ λ h.
             let here : j ≡ i = eqb-true j i h in
-            let new : f ≡ x = same_Some f x (sym there ∙ (ap (slice_get (set es i x)) here ∙ get_set es i x within)) in
-            (subst (λ (y : Entry). y.sent ≤ most + 1) (sym new) sent,
-            subst (λ (y : Entry). y.received ≤ most + 1) (sym new) received)
+            let new : f ≡ x = same_Some f x (sym there ∙ (ap (slice_get (set es i x)) here ∙ get_set es i x within)) in (
+              subst (λ (y : Entry). y.sent ≤ most + 1) (sym new) sent,
+              subst (λ (y : Entry). y.received ≤ most + 1) (sym new) received,
+            )
         | false ↦ λ h.
             let old = kept.few j f (sym (get_set_other es i j x (eqb-false j i h)) ∙ there) in
             (omega (arith, old.0), omega (arith, old.1))

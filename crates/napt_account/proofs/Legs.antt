@@ -1,6 +1,6 @@
 -- What a step leaves of a binding that none of its legs went through, and which binding it makes.
-use Rattle.std.proofs.Common.{◌≡◌, ℕ, Bool, true, false, ◌&&◌, cond, List, [], ◌∷◌, ◌++◌, map, Option, Some, None, Result, Ok, Err, refl, sym, ◌∙◌, ap, subst, arith, eqb, append-nil}
-use Rattle.std.specs.Prelude.{find, filter, IfSome}
+use Rattle.std.proofs.Common.{◌≡◌, ℕ, Bool, true, false, ◌&&◌, cond, List, [], ◌∷◌, ◌++◌, map, Option, Some, None, Result, Ok, Err, refl, sym, ◌∙◌, ap, eqb, append-nil}
+use Rattle.std.specs.Prelude.{find, IfSome}
 use Rattle.std.specs.Option.{option_map}
 use Rattle.std.proofs.lemmas.Bool.{and_from, and_parts, eq-eqb}
 use Rattle.std.proofs.lemmas.Option.{same_Some}
@@ -19,7 +19,7 @@ use Rattle.napt_config.specs.Rules.{Rules, AreTimers, place_of}
 use Rattle.napt_config.specs.declared.settings.Timers.{Timers}
 use Rattle.napt_rules.specs.declared.Inbound.{Inbound}
 use Rattle.napt_rules.specs.declared.Sent.{Sent}
-use Rattle.napt_rules.specs.Prelude.{Binding, change_first, Each, same_protocol, same_endpoint, is_live, with_live_flows, purge, permits, inbound_of, granted, of_source, sent_by, fresh, out_made, out_found, step_out, of_destination, received_by, In, in_found, step_in, no_flags, Acted, onward_by, end_out, end_in, sent_of, received_of, act_out, act_in, act_by, act, Arrival, row, Act, Course, follow_by, admitted, first_leg, step, OutLeavesLive, InLeavesLive}
+use Rattle.napt_rules.specs.Prelude.{Binding, change_first, Each, same_protocol, same_endpoint, is_live, with_live_flows, purge, permits, inbound_of, granted, of_source, sent_by, fresh, out_made, out_found, step_out, of_destination, received_by, In, in_found, step_in, no_flags, Acted, onward_by, end_out, end_in, sent_of, received_of, act_out, act_in, act_by, act, Arrival, row, Act, Course, follow_by, first_leg, step, OutLeavesLive, InLeavesLive}
 use Rattle.napt_binding.specs.Ends.{end_of}
 use Rattle.napt_binding.proofs.FirstEnds.{end_without_dead}
 use Rattle.napt_binding.proofs.Finds.{passes, find_passed_over}

@@ -1,5 +1,5 @@
 -- The entries of a run are those that its traces tell, leg by leg.
-use Rattle.std.proofs.Common.{◌≡◌, ℕ, ◌+◌, ◌<◌, ◌≤◌, max, Bool, true, false, not, ◌&&◌, ◌||◌, cond, List, [], ◌∷◌, ◌++◌, length, map, Option, Some, None, Result, Ok, Err, refl, sym, ◌∙◌, ap, subst, arith, append-nil}
+use Rattle.std.proofs.Common.{◌≡◌, ℕ, ◌+◌, ◌≤◌, max, Bool, true, false, not, ◌&&◌, ◌||◌, cond, List, [], ◌∷◌, ◌++◌, length, map, Option, Some, None, Result, Ok, Err, refl, sym, ◌∙◌, ap, subst, arith, append-nil}
 use Rattle.std.specs.Prelude.{find, filter, IfSome}
 use Rattle.std.specs.Option.{option_map}
 use Rattle.std.specs.List.{list_any, fold}
@@ -15,11 +15,11 @@ use Rattle.napt_wire.specs.Fields.{source, destination, kind}
 use Rattle.napt_wire.specs.Laws.{PacketsCarryNumbers}
 use Rattle.napt_config.specs.Rules.{Rules, KeepsRules, AreTimers, pair_of}
 use Rattle.napt_config.specs.declared.settings.Timers.{Timers}
-use Rattle.napt_rules.specs.Prelude.{Binding, Each, same_protocol, same_endpoint, is_of_inside, has_number, is_live, with_live_flows, purge, opening, Acted, end_in, error_in, act, Arrival, row, Act, Course, follow_by, first_leg, step, AreRowsApart, Apart, IsSound, OpeningIsSound, OutStaysSound, InStaysSound, OutLeavesLive, InLeavesLive}
+use Rattle.napt_rules.specs.Prelude.{Binding, Each, same_protocol, same_endpoint, is_of_inside, has_number, is_live, with_live_flows, purge, opening, end_in, act, Arrival, row, Act, Course, follow_by, first_leg, step, AreRowsApart, Apart, IsSound, OpeningIsSound, OutStaysSound, InStaysSound, OutLeavesLive, InLeavesLive}
 use Rattle.napt_binding.specs.Ends.{end_of, is_before}
 use Rattle.napt_binding.proofs.FirstEnds.{ends_are_first}
 use Rattle.napt_binding.proofs.Finds.{any_found}
-use Rattle.napt_binding.proofs.Lists.{each_filter, each_weaker}
+use Rattle.napt_binding.proofs.Lists.{each_weaker}
 use Rattle.napt_rules.specs.declared.Row.{Row}
 use Rattle.napt_table.specs.declared.TimedRow.{TimedRow}
 use Rattle.napt_table.specs.TimedRows.{timed}
@@ -32,19 +32,17 @@ use Rattle.napt_rules.specs.declared.End.{End}
 use Rattle.napt_rules.specs.declared.End.TheVariants as ends
 use Rattle.napt_sequential.specs.declared.passage.Passage.{Passage}
 use Rattle.napt_sequential.specs.declared.passage.Passage.TheVariants.{Nothing, Out, In, Dropped}
-use Rattle.napt_sequential.specs.declared.passage.Trace.{Trace}
-use Rattle.napt_sequential.specs.Traces.{seen_of, out_through, in_through, went_by, passage_by, passage_of, first_of, second_of, trace_of, traces_from, traces}
+use Rattle.napt_sequential.specs.Traces.{seen_of, out_through, in_through, went_by, passage_by, first_of, second_of, trace_of, traces_from, traces}
 use Rattle.napt_sequential.proofs.AnyStep.{of_step}
 use Rattle.napt_sequential.proofs.Grown.{step_one}
 use Rattle.napt_sequential.proofs.Sound.{run_sound}
 use Rattle.napt_account.specs.declared.log.Entry.{Entry}
-use Rattle.napt_account.specs.Passages.{has_ends, went_out}
 use Rattle.napt_account.specs.Log.{living, has_row, end_told, counted, begun, made_between, told, logged, entries_from, entries_of}
-use Rattle.napt_account.specs.Book.{shares, is_of, through, sent_through, received_through, made_by, after_out, after, after_trace, told_by}
+use Rattle.napt_account.specs.Book.{shares, is_of, through, sent_through, received_through, made_by, after, after_trace, told_by}
 use Rattle.napt_account.proofs.Entries.{Tells, hold, hold_of, row_itself, is_row, binding_of, is_open, open_rows, made_added, each_found, tells_later, tells_step}
 use Rattle.napt_account.proofs.Attribution.{begins}
 use Rattle.napt_account.proofs.Legs.{end_at, find_mapped, IsNotThrough, end_stays, row_list, MakesLive, first_out, makes_step}
-use Rattle.napt_account.proofs.Lists.{map_joined, map_twice, any_seen_of, any_joined, each_joined, each_mapped, each_among, each_both}
+use Rattle.napt_account.proofs.Lists.{map_joined, map_twice, any_seen_of, any_joined, each_joined, each_mapped, each_among}
 use Rattle.napt_account.proofs.Steps.{grows_step}
 use Rattle.napt_account.proofs.Telling.{over, shares_itself, told_over, out_is, lives}
 
@@ -289,8 +287,7 @@ module _ (timers : Timers) (t : AreTimers timers) (now : ℕ) (before : List Bin
   paired (e ∷ es) (b ∷ bs) h f =
       let here : hold e ≡ hold_of timers b = cc in
       let rest : map hold es ≡ map (hold_of timers) bs = cc in
-      let same : e.binding ≡ row b = ap (λ (p : Row × Option ℕ). p.0) here in
-      (
+      let same : e.binding ≡ row b = ap (λ (p : Row × Option ℕ). p.0) here in (
         (b, ap (λ (r : Row). find (has_row r) old) same ∙ f.0, ap (λ (p : Row × Option ℕ). p.1) here),
         paired es bs rest f.1,
       )

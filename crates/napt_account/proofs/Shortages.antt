@@ -1,5 +1,5 @@
 -- The shortages of a run are those that its traces tell; the times of the traces do not fall.
-use Rattle.std.proofs.Common.{◌≡◌, ℕ, ◌+◌, ◌≤◌, max, cond, List, [], ◌∷◌, ◌++◌, length, Option, Some, None, refl, sym, ◌∙◌, ap, arith, append-nil, append_assoc}
+use Rattle.std.proofs.Common.{◌≡◌, ℕ, ◌+◌, max, List, [], ◌∷◌, ◌++◌, length, Option, Some, None, refl, sym, ◌∙◌, ap, arith, append-nil, append_assoc}
 use Rattle.std.specs.Prelude.{flat_map}
 use Rattle.std.specs.Option.{option_map}
 use Rattle.napt_wire.specs.declared.Protocol.{Protocol}
@@ -14,8 +14,6 @@ use Rattle.napt_translate.specs.Carried.{carried_by}
 use Rattle.napt_rules.specs.declared.Leg.{Leg}
 use Rattle.napt_rules.specs.declared.End.{End}
 use Rattle.napt_rules.specs.declared.End.TheVariants as ends
-use Rattle.napt_sequential.specs.declared.passage.Passage.TheVariants.{Nothing}
-use Rattle.napt_sequential.specs.declared.passage.Trace.{Trace}
 use Rattle.napt_sequential.specs.Traces.{seen_of, out_through, in_through, went_by, passage_by, passage_of, first_of, second_of, trace_of, traces_from}
 use Rattle.napt_sequential.proofs.AnyStep.{of_step}
 use Rattle.napt_account.specs.declared.log.Shortage.{Shortage}

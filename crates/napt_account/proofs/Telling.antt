@@ -1,8 +1,7 @@
 -- The entries after a step are those that are told leg by leg.
-use Rattle.std.proofs.Common.{◌≡◌, ℕ, ◌+◌, ◌<◌, ◌≤◌, Bool, true, false, not, ◌&&◌, ◌||◌, cond, List, [], ◌∷◌, ◌++◌, length, map, Option, Some, None, refl, sym, ◌∙◌, ap, subst, arith, append-nil}
-use Rattle.std.specs.Prelude.{find, filter, nat_lt, IfSome}
+use Rattle.std.proofs.Common.{◌≡◌, ℕ, ◌+◌, ◌≤◌, Bool, true, false, ◌&&◌, cond, List, [], ◌∷◌, length, map, Option, Some, None, refl, sym, ◌∙◌, ap, arith}
+use Rattle.std.specs.Prelude.{find, filter, nat_lt}
 use Rattle.std.specs.Option.{option_map}
-use Rattle.std.specs.List.{list_any}
 use Rattle.std.proofs.lemmas.Bool.{and_from, and_parts}
 use Rattle.std.proofs.lemmas.Option.{same_Some}
 use Rattle.napt_wire.specs.declared.Protocol.{Protocol}
@@ -346,9 +345,13 @@ module _ (timers : Timers) (t : AreTimers timers) (now : ℕ) (list : List Bindi
       ≡ over now (second_of timers now list course.acts) (over now (first_of timers now list course.acts) e)
   told_over course is few stays =
       let all : Entry = counted now course.acts e in
-      ap (λ (v : Bool). cond v (record all { end = end_by_found timers e.end (find (has_row r)
-      (living timers now course.list)) }) e) opened
-      ∙ (ap (λ (l : List Binding). let y : Entry = record all { end = end_by_found timers e.end (find (has_row r)
-      (living timers now l)) } in y) is
+      ap (λ (v : Bool). cond v (record all {
+        end = end_by_found timers e.end (find (has_row r)
+            (living timers now course.list));
+      }) e) opened
+      ∙ (ap (λ (l : List Binding). let y : Entry = record all {
+        end = end_by_found timers e.end (find (has_row r)
+            (living timers now l));
+      } in y) is
       ∙ (ap (λ (o : Option Binding). let y : Entry = record all { end = end_by_found timers e.end o } in y) found
       ∙ over_counts course.acts few stays))

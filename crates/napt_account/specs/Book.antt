@@ -7,7 +7,6 @@ use Rattle.napt_rules.specs.Prelude.{same_protocol, same_endpoint, opening}
 use Rattle.napt_binding.specs.Ends.{is_before}
 use Rattle.napt_rules.specs.declared.Row.{Row}
 use Rattle.napt_table.specs.declared.TimedRow.{TimedRow}
-use Rattle.napt_sequential.specs.declared.passage.Loss.{Loss}
 use Rattle.napt_sequential.specs.declared.passage.Passage.{Passage}
 use Rattle.napt_sequential.specs.declared.passage.Passage.TheVariants.{Nothing, Out, In, Dropped}
 use Rattle.napt_sequential.specs.declared.passage.Trace.{Trace}

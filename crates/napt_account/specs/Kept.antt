@@ -1,5 +1,5 @@
 -- What the log keeps while a run is told.
-use Rattle.std.specs.Prelude.{◌≡◌, ℕ, ◌+◌, ◌≤◌, true, List, [], ◌∷◌, Some}
+use Rattle.std.specs.Prelude.{◌≡◌, ℕ, ◌≤◌, true, List, [], ◌∷◌, Some}
 use Rattle.std.specs.List.{slice_get}
 use Rattle.napt_binding.specs.Ends.{is_before}
 use Rattle.napt_sequential.specs.declared.passage.Trace.{Trace}

@@ -1,8 +1,8 @@
 -- The log of a run: an entry for each binding that was ever made, redirects too, in the order in which they were made,
 -- and what packets got none.
 --
--- RFC 6888, REQ-12: who had which external endpoint at a time can be told afterwards. RFC 8158, section 5.1: a host
--- that has its quota and a pool that has no port left are events of their own.
+-- RFC 6888, section 4: who had which external endpoint at a time can be told afterwards. RFC 8158: a host that has its
+-- quota and a pool that has no port left are events of their own.
 use Rattle.std.specs.Prelude.{ℕ, ◌+◌, nat_lt, nat_le, max, Bool, true, false, not, ◌&&◌, cond, List, [], ◌∷◌, ◌++◌, map, filter, find, flat_map, Option, Some, None}
 use Rattle.std.specs.List.{list_any}
 use Rattle.napt_wire.specs.declared.Protocol.{Protocol}

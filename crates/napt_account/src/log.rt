@@ -1,4 +1,4 @@
-//! The log of a run: who had which external endpoint, from when and until when (RFC 6888, REQ-12).
+//! The log of a run: who had which external endpoint, from when and until when (RFC 6888, section 4).
 
 ghost use Rattle.std.specs.Prelude.{◌≡◌, ◌↔◌, ◌≤◌, ◌^◌, IfOk, IfErr, Err, length};
 ghost use Rattle.napt_sequential.specs.Faults.{IsOneThreadFault};

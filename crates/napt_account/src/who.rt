@@ -1,4 +1,4 @@
-//! Who had an external endpoint at a time (RFC 6888, REQ-12; RFC 6269, section 12).
+//! Who had an external endpoint at a time (RFC 6888, section 4; RFC 6269, section 12).
 
 ghost use Rattle.std.specs.Prelude.{◌≡◌, ◌≢◌, ◌↔◌, ◌+◌, ◌<◌, ◌≤◌, ◌^◌, length, take, drop, filter, IfOk, Err};
 ghost use Rattle.std.specs.List.{list_any};
@@ -46,12 +46,7 @@ fn with_external(alloc: Global, rows: &[Row], external: Endpoint) -> Result<Vec<
 }
 
 /// The first inputs, as many as came by a time, in ns, and behind them one with no bytes at that time.
-fn front(
-    alloc: Global,
-    inputs: Vec<Input>,
-    came: usize,
-    at: u64,
-) -> Result<Vec<Input>, AllocError>
+fn front(alloc: Global, inputs: Vec<Input>, came: usize, at: u64) -> Result<Vec<Input>, AllocError>
     requires within { came ≤ length inputs.items }
     requires by { last_clock 0 (take came inputs.items) ≤ at }
     requires next { IsBeforeNext at (drop came inputs.items) }

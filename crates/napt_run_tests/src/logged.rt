@@ -107,7 +107,10 @@ fn log_of_a_hairpin_and_a_shortage(rt: HostRuntime) -> Result<(), Fail> {
     };
     assert_eq!(rt; account.log.entries.as_slice(), &[redirect, made]);
     assert_eq!(rt; account.log.shortages.as_slice(), &[shortage]);
-    let used = account.uses.first().map(|used| (used.note, used.out, used.into));
+    let used = account
+        .uses
+        .first()
+        .map(|used| (used.note, used.out, used.into));
     assert_eq!(rt; used, Some((Note::Made, Some(1), Some(0))));
     Ok(())
 }

@@ -1,10 +1,9 @@
-use Rattle.std.proofs.Common.{◌≡◌, ℕ, ◌<◌, ◌^◌, ◌++◌, inl, inr, List, length, map, sym, ◌∙◌, ap, subst, arith}
+use Rattle.std.proofs.Common.{◌^◌, ◌++◌, inl, inr, List, length, map, sym, ◌∙◌, ap, subst, arith}
 use Rattle.std.specs.Prelude.{flat_map}
 use Rattle.std.specs.List.{fold}
 use Rattle.std.proofs.lemmas.Bool.{cases_lt}
 use Rattle.napt_config.specs.Rules.{Rules}
 use Rattle.napt_rules.specs.Prelude.{opening, Arrival}
-use Rattle.napt_sequential.specs.declared.passage.Trace.{Trace}
 use Rattle.napt_sequential.proofs.Shown.{ran_long}
 use Rattle.napt_account.specs.declared.log.Entry.{Entry}
 use Rattle.napt_account.specs.declared.log.Shortage.{Shortage}

@@ -1,1 +1,0 @@
-use Rattle.napt_account.proofs.book.Book.pass.Goals as goal
