@@ -163,7 +163,8 @@ kept_set now most es places kept w i e at passed x same sent received =
       few = λ j f there. elim (eqb j i) as (λ v. eqb j i ≡ v → (f.sent ≤ most + 1) × (f.received ≤ most + 1)) [
         | true ↦ λ h.
             let here : j ≡ i = eqb-true j i h in
-            let new : f ≡ x = same_Some f x (sym there ∙ (ap (slice_get (set es i x)) here ∙ get_set es i x within)) in (
+            let new : f ≡ x = same_Some f x (sym there ∙ (ap (slice_get (set es i x)) here
+            ∙ get_set es i x within)) in (
               subst (λ (y : Entry). y.sent ≤ most + 1) (sym new) sent,
               subst (λ (y : Entry). y.received ≤ most + 1) (sym new) received,
             )

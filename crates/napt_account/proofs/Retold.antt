@@ -69,7 +69,8 @@ any_of_found p (x ∷ xs) b h = elim (p x) as (λ v. cond v (Some x) (find p xs)
 each_cases : {X : Type 0} (p : X → Bool) (Q R : X → Type 0) (xs : List X) → Each Q (filter p xs) →
     ((x : X) → p x ≡ true → Q x → R x) → ((x : X) → p x ≡ false → R x) → Each R xs
 each_cases p Q R [] h passed missed = tt
-each_cases p Q R (x ∷ xs) h passed missed = elim (p x) as (λ v. p x ≡ v → Each Q (cond v (x ∷ filter p xs) (filter p xs)) →
+each_cases p Q R (x ∷ xs) h passed missed = elim (p x) as (λ v. p x ≡ v
+    → Each Q (cond v (x ∷ filter p xs) (filter p xs)) →
     R x × Each R xs) [
       | true ↦ λ e g. (passed x e g.0, each_cases p Q R xs g.1 passed missed)
       | false ↦ λ e g. (missed x e, each_cases p Q R xs g passed missed)
@@ -318,7 +319,8 @@ module _ (timers : Timers) (t : AreTimers timers) (now : ℕ) (before : List Bin
 
   told_closed : (e : Entry) → is_before now e.end ≡ false → told timers now course e ≡ both e
   told_closed e closed =
-      ap (λ (v : Bool). cond v (record (counted now course.acts e) { end = end_told timers now course.list e }) e) closed
+      ap (λ (v : Bool). cond v (record
+      (counted now course.acts e) { end = end_told timers now course.list e }) e) closed
       ∙ sym (ap (over now second) (over_closed now first e closed) ∙ over_closed now second e closed)
 
   told_entries : Each (λ e. told timers now course e ≡ both e) entries

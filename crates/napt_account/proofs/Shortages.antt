@@ -46,7 +46,8 @@ module _ (timers : Timers) (list : List Binding) where
       (by_number timers address leg.now p (destination leg.packet).number list)))
 
   abbrev IsLost : ℕ → List Act → Type 0
-  IsLost now acts = shortages acts ≡ lost now (first_of timers now list acts) ++ lost now (second_of timers now list acts)
+  IsLost now acts = shortages acts
+      ≡ lost now (first_of timers now list acts) ++ lost now (second_of timers now list acts)
 
   lost_first : (address : ℕ) (leg : Leg) (e : End) → shortage_at leg e
       ≡ lost leg.now (passage_of timers leg.now list (record { address = address; leg = leg; end = e }))
@@ -78,7 +79,8 @@ module _ (timers : Timers) (list : List Binding) where
       (λ address side packet. let leg : Leg = first_leg number now side packet in
       lost_follow rules address leg (act rules address leg before) (act rules address leg before).end) input
 
-pub flat_joined : {X Y : Type 0} (f : X → List Y) (xs ys : List X) → flat_map f (xs ++ ys) ≡ flat_map f xs ++ flat_map f ys
+pub flat_joined : {X Y : Type 0} (f : X → List Y) (xs ys : List X)
+    → flat_map f (xs ++ ys) ≡ flat_map f xs ++ flat_map f ys
 flat_joined f [] ys = refl
 flat_joined f (x ∷ xs) ys = ap (λ (l : List _). f x ++ l) (flat_joined f xs ys)
     ∙ sym (append_assoc (f x) (flat_map f xs) (flat_map f ys))

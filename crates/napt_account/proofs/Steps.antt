@@ -44,7 +44,8 @@ pub rows_purge : (timers : Timers) (now : ℕ) (list : List Binding) → map row
     ≡ map row (living timers now list)
 rows_purge timers now list = map_twice row (with_live_flows timers now) (living timers now list)
 
-pub rows_change : (p : Binding → Bool) (f : Binding → Binding) → ((b : Binding) → row (f b) ≡ row b) → (xs : List Binding) →
+pub rows_change : (p : Binding → Bool) (f : Binding → Binding) → ((b : Binding) → row (f b) ≡ row b)
+    → (xs : List Binding) →
     map row (change_first p f xs) ≡ map row xs
 rows_change p f same [] = refl
 rows_change p f same (x ∷ xs) = elim (p x) as (λ v. map row (cond v (f x ∷ xs) (x ∷ change_first p f xs)) ≡ row x

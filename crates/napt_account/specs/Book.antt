@@ -1,4 +1,5 @@
--- How entries are told leg by leg: an open entry of the binding that the packet went through changes, and where there is
+-- How entries are told leg by leg: an open entry of the binding that the packet went through changes, and where
+-- there is
 -- none, one begins.
 use Rattle.std.specs.Prelude.{ℕ, ◌+◌, Bool, ◌&&◌, cond, List, [], ◌∷◌, ◌++◌, map, Option}
 use Rattle.std.specs.List.{list_any, fold}

@@ -27,7 +27,8 @@ abbrev pub is_of_destination : ℕ → Protocol → ℕ → Row → Bool
 is_of_destination address protocol number row = (row.external.address == address)
     && (same_protocol protocol row.protocol && (row.external.number == number))
 
--- whether a packet that was this one, of the protocol, went out at the address through the binding, by how its leg ended
+-- whether a packet that was this one, of the protocol, went out at the address through the binding, by how its leg
+-- ended
 abbrev pub is_out : Row → ℕ → List ℕ → Option Protocol → End → Bool
 is_out row address packet None end = false
 is_out row address packet (Some protocol) (ToOutside left) = is_of_source address protocol (source packet) row

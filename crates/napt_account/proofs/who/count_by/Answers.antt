@@ -46,7 +46,8 @@ pub returns-clause-count : goal.returns-clause-count
 returns-clause-count c =
     let inputs : List Arrival = c.args.inputs.now in
     let i : ℕ = c.loop-index.index in
-    let end : came_by c.args.at (drop i inputs) ≡ 0 = came_end c.args.at inputs i (omega (arith, c.loop-index-test.false))
+    let end : came_by c.args.at (drop i inputs)
+    ≡ 0 = came_end c.args.at inputs i (omega (arith, c.loop-index-test.false))
     in
     let before = c.loop-index.invariant.1 in
     let within = c.loop-index.auto.index-end in

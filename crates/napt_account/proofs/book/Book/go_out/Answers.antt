@@ -43,7 +43,8 @@ returns-in-Some-clause-entries c =
     ∙ (changed c.args.now c.requires.0 es c.args.self.now.latest c.requires.1 c.args.timed.row
     (sent_through c.args.now c.args.timed.end) c.in-Some.place stands.0 stands.1 stands.2
     ∙ sym (ap (λ v. cond v (map (through c.args.now c.args.timed.row (sent_through c.args.now c.args.timed.end)) es)
-    (es ++ made_by c.args.now c.args.timed ∷ [])) (any_at (is_of c.args.now c.args.timed.row) es c.in-Some.place stands.0
+    (es ++ made_by c.args.now c.args.timed ∷ [])) (any_at
+    (is_of c.args.now c.args.timed.row) es c.in-Some.place stands.0
     stands.1 stands.2)))
 
 pub returns-in-Some-clause-kept : goal.returns-in-Some-clause-kept
