@@ -9,6 +9,7 @@ use napt_samples::settings::ONE_ADDRESS;
 use napt_table::Row;
 use napt_wire::{Cause, Endpoint, Protocol, Side};
 use std::alloc::{AllocError, Global};
+use std::process::Abort;
 use std::test::Fail;
 
 /// The same host sends at 10 s, and another at 1000 s, when the number is free again.
@@ -29,7 +30,12 @@ fn udp_row(inside: Endpoint) -> Row {
 }
 
 /// At a time 203.0.113.1:5000 has no holder, or this one.
-fn assert_holder(alloc: Global, at: u64, holder: Option<Endpoint>) -> Result<(), Fail> {
+fn assert_holder<R: Abort + AllocGlobal>(
+    rt: &R,
+    at: u64,
+    holder: Option<Endpoint>,
+) -> Result<(), Fail> {
+    let alloc = rt.alloc();
     let config = Config::read(alloc, ONE_ADDRESS.as_bytes())?;
     let rows = holders(alloc, &config, two_hosts(alloc)?, external(1, 5000), at)?;
     let told = rows.first().map(|row| row.inside);
@@ -39,12 +45,11 @@ fn assert_holder(alloc: Global, at: u64, holder: Option<Endpoint>) -> Result<(),
 
 #[test]
 fn holders_by_time(rt: HostRuntime) -> Result<(), Fail> {
-    let alloc = rt.alloc();
-    assert_holder(alloc, 10 * SECOND - 1, None)?;
-    assert_holder(alloc, 10 * SECOND, Some(CLIENT))?;
-    assert_holder(alloc, 310 * SECOND - 1, Some(CLIENT))?;
-    assert_holder(alloc, 310 * SECOND, None)?;
-    assert_holder(alloc, 1000 * SECOND, Some(SECOND_CLIENT))
+    assert_holder(&rt, 10 * SECOND - 1, None)?;
+    assert_holder(&rt, 10 * SECOND, Some(CLIENT))?;
+    assert_holder(&rt, 310 * SECOND - 1, Some(CLIENT))?;
+    assert_holder(&rt, 310 * SECOND, None)?;
+    assert_holder(&rt, 1000 * SECOND, Some(SECOND_CLIENT))
 }
 
 /// A binding of one packet out, which no packet followed.
@@ -67,7 +72,7 @@ fn log_of_a_number_used_twice(rt: HostRuntime) -> Result<(), Fail> {
     let log = log_of(alloc, &config, &two_hosts(alloc)?)?;
     let first = one_packet(udp_row(CLIENT), 10 * SECOND);
     let second = one_packet(udp_row(SECOND_CLIENT), 1000 * SECOND);
-    assert_eq!(rt; log.entries.as_slice(), &[first, second]);
+    assert_eq!(rt; log.entries.as_slice(), [first, second].as_slice());
     assert!(rt; log.shortages.is_empty());
     Ok(())
 }
@@ -105,8 +110,8 @@ fn log_of_a_hairpin_and_a_shortage(rt: HostRuntime) -> Result<(), Fail> {
         protocol: Protocol::Udp,
         host: CLIENT.address,
     };
-    assert_eq!(rt; account.log.entries.as_slice(), &[redirect, made]);
-    assert_eq!(rt; account.log.shortages.as_slice(), &[shortage]);
+    assert_eq!(rt; account.log.entries.as_slice(), [redirect, made].as_slice());
+    assert_eq!(rt; account.log.shortages.as_slice(), [shortage].as_slice());
     let used = account
         .uses
         .first()
