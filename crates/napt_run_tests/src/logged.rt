@@ -52,12 +52,12 @@ fn holders_by_time(rt: HostRuntime) -> Result<(), Fail> {
     assert_holder(&rt, 1000 * SECOND, Some(SECOND_CLIENT))
 }
 
-/// A binding of one packet out, which no packet followed.
-fn one_packet(binding: Row, at: u64) -> Entry {
+/// A binding of one packet out, which no packet followed, with its end.
+fn one_packet(binding: Row, at: u64, end: u64) -> Entry {
     Entry {
         binding,
         made: at,
-        end: Some(u128::from(at + 300 * SECOND)),
+        end: Some(u128::from(end)),
         sent: 1,
         received: 0,
         last: at,
@@ -70,8 +70,8 @@ fn log_of_a_number_used_twice(rt: HostRuntime) -> Result<(), Fail> {
     let alloc = rt.alloc();
     let config = Config::read(alloc, ONE_ADDRESS.as_bytes())?;
     let log = log_of(alloc, &config, &two_hosts(alloc)?)?;
-    let first = one_packet(udp_row(CLIENT), 10 * SECOND);
-    let second = one_packet(udp_row(SECOND_CLIENT), 1000 * SECOND);
+    let first = one_packet(udp_row(CLIENT), 10 * SECOND, 310 * SECOND);
+    let second = one_packet(udp_row(SECOND_CLIENT), 1000 * SECOND, 1300 * SECOND);
     assert_eq!(rt; log.entries.as_slice(), [first, second].as_slice());
     assert!(rt; log.shortages.is_empty());
     Ok(())
@@ -103,7 +103,7 @@ fn log_of_a_hairpin_and_a_shortage(rt: HostRuntime) -> Result<(), Fail> {
         last: SECOND,
         last_sent: 0,
     };
-    let made = one_packet(udp_row(CLIENT), SECOND);
+    let made = one_packet(udp_row(CLIENT), SECOND, 301 * SECOND);
     let shortage = Shortage {
         at: 2 * SECOND,
         cause: Cause::OverQuota,
