@@ -10,7 +10,7 @@ use jiff::Timestamp;
 use napt_config::Address;
 use std::alloc::{AllocError, Global};
 
-const VERSION: &str = "1.0, its sources proved with rattle-kit-13f logic dac8208d650f15bf";
+const VERSION: &str = "1.0, its sources proved with Rattle's logic dac8208d650f15bf";
 
 const ABOUT: &str =
     "Tells what napt does with each packet of its captures, or why it refuses what it is given.";

@@ -62,7 +62,7 @@ words tells where in a file, and what to do):
        writing failed; help goes where to-outside goes by default, so that help
        which could not be written to standard output is write to-outside
 
-napt 1.0, its sources proved with rattle-kit-13f logic dac8208d650f15bf";
+napt 1.0, its sources proved with Rattle's logic dac8208d650f15bf";
 
 // The options, each with its meaning, in the order of the help text.
 const OPTIONS: [(&str, &str); 6] = [
