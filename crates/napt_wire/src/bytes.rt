@@ -1,4 +1,4 @@
-//! Numbers in bytes, the highest byte first.
+//! Big-endian numbers in bytes.
 
 ghost use Rattle.std.specs.Prelude.{◌≡◌, ◌+◌, ◌≤◌, length};
 ghost use Rattle.napt_wire.specs.Bytes.{word_at, long_at, put_word};

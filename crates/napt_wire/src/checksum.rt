@@ -1,4 +1,4 @@
-//! Internet checksums: the sum over bytes, and what it becomes when a word is replaced.
+//! Internet checksums: the sum over bytes, and its update when a word is replaced.
 
 ghost use Rattle.std.specs.Prelude.{◌≡◌, ◌≤◌, ◌==◌, [], ◌∷◌, length, sum, if◌then◌else◌};
 ghost use Rattle.napt_wire.specs.Checksum.{canon, canon_udp, is_right};
@@ -7,9 +7,9 @@ ghost use Rattle.napt_wire.specs.Rewriting.{address_words, end_words};
 
 use crate::Endpoint;
 
-/// The checksum of a header in which one 16-bit word that it covers goes from `old` to `new`. All
-/// three are numbers, highest byte first. The result is never 0xFFFF: where RFC 1624 equation 3
-/// gives 0xFFFF, this gives 0, which stands for the same sum.
+/// The checksum after one 16-bit word that it covers changes from `old` to `new`. All three are
+/// numbers, highest byte first. The result is never 0xFFFF: where RFC 1624 equation 3 gives 0xFFFF,
+/// this returns 0, which is the same sum.
 pub fn fix_check(check: u16, old: u16, new: u16) -> u16
     ensures { result ≡ canon check (old ∷ []) (new ∷ []) }
 {
@@ -23,8 +23,8 @@ pub fn fix_check(check: u16, old: u16, new: u16) -> u16
     (0xffff - folded) as u16
 }
 
-/// The same for a UDP checksum (RFC 768): 0 says that there is none and stays, and a checksum that
-/// comes out as 0 is written as 0xFFFF.
+/// The same for a UDP checksum (RFC 768): 0 means no checksum and stays 0, and a result of 0 is
+/// written as 0xFFFF.
 #[tactic(auto, unfolding(crate::specs::Checksum::canon_udp))]
 pub fn fix_check_udp(check: u16, old: u16, new: u16) -> u16
     ensures { result ≡ canon_udp check (old ∷ []) (new ∷ []) }
@@ -35,14 +35,14 @@ pub fn fix_check_udp(check: u16, old: u16, new: u16) -> u16
     sent(fix_check(check, old, new))
 }
 
-/// A UDP checksum as it is sent: 0 would say that there is none.
+/// A UDP checksum as it is sent: 0 would mean that there is none.
 fn sent(check: u16) -> u16
     ensures { result ≡ (if check == 0 then 65535 else check) }
 {
     if check == 0 { 0xffff } else { check }
 }
 
-/// The checksum of a header in which an address goes from `old` to `new`.
+/// The checksum after an address that it covers changes from `old` to `new`.
 pub(crate) fn fix_address(check: u16, old: u32, new: u32) -> u16
     ensures { result ≡ canon check (address_words old) (address_words new) }
 {
@@ -50,8 +50,8 @@ pub(crate) fn fix_address(check: u16, old: u32, new: u32) -> u16
     fix_check(high, (old & 0xffff) as u16, (new & 0xffff) as u16)
 }
 
-/// A TCP checksum where an end goes from `old` to `new`: it covers the address by the pseudo-header
-/// (RFC 9293 section 3.1), and the port.
+/// A TCP checksum after an end changes from `old` to `new`: it covers the address by the
+/// pseudo-header (RFC 9293 section 3.1), and the port.
 pub(crate) fn fix_end(check: u16, old: Endpoint, new: Endpoint) -> u16
     ensures { result ≡ canon check (end_words old) (end_words new) }
 {
@@ -59,7 +59,7 @@ pub(crate) fn fix_end(check: u16, old: Endpoint, new: Endpoint) -> u16
     fix_check(fixed, old.number, new.number)
 }
 
-/// The same for a UDP checksum (RFC 768): 0 stays, and no other comes out as 0.
+/// The same for a UDP checksum (RFC 768): 0 stays 0, and no other result is 0.
 pub(crate) fn fix_end_udp(check: u16, old: Endpoint, new: Endpoint) -> u16
     ensures { result ≡ canon_udp check (end_words old) (end_words new) }
 {
@@ -70,8 +70,7 @@ pub(crate) fn fix_end_udp(check: u16, old: Endpoint, new: Endpoint) -> u16
     sent(fix_check(fixed, old.number, new.number))
 }
 
-/// Whether words of which one is a checksum have a right one (RFC 1071): their sum is a multiple of
-/// 65535.
+/// Whether the checksum among these words is right (RFC 1071): their sum is a multiple of 65535.
 pub(crate) fn is_right(bytes: &[u8]) -> bool
     requires { length bytes.now ≤ 65535 }
     ensures { result ≡ is_right (words bytes.now) }

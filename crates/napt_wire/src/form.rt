@@ -1,4 +1,4 @@
-//! What a transport header is, and where a datagram names its ends.
+//! The forms of transport headers, and where a datagram has its ends.
 
 ghost use Rattle.std.specs.Prelude.{◌≡◌, ◌+◌, ◌≤◌, length};
 ghost use Rattle.napt_wire.specs.Fields.{address_place, end_at, form_at, icmp_form, inner_of, number_place, protocol_of, transport};
@@ -7,7 +7,7 @@ ghost use Rattle.napt_wire.specs.Room.{HasRoom};
 use crate::bytes::{read_long, read_word};
 use crate::{Endpoint, Inner, Protocol};
 
-/// What the transport header of a datagram is.
+/// The form of a datagram's transport header.
 #[derive(Clone, Copy)]
 pub(crate) enum Form {
     Udp,
@@ -36,7 +36,7 @@ impl Form {
         }
     }
 
-    /// The form of an ICMP message of a type (RFC 792).
+    /// The form of an ICMP message, by its type (RFC 792).
     fn of_icmp(icmp_type: u8) -> Form
         ensures { result ≡ icmp_form icmp_type }
     {
@@ -47,7 +47,7 @@ impl Form {
         }
     }
 
-    /// Where in a transport header an end has its number, if it has one.
+    /// The offset of an end's number in the transport header, if any.
     pub(crate) fn number_place(self, end: End) -> Option<usize>
         ensures { result ≡ number_place self end }
     {
@@ -59,7 +59,7 @@ impl Form {
         }
     }
 
-    /// The protocol in whose header this form stands.
+    /// The protocol of this form.
     pub(crate) fn protocol(self) -> Protocol
         ensures { result ≡ protocol_of self }
     {
@@ -71,7 +71,7 @@ impl Form {
     }
 }
 
-/// One of the two ends that a datagram names.
+/// One of the two ends of a datagram.
 #[derive(Clone, Copy)]
 pub(crate) enum End {
     Source,
@@ -79,7 +79,7 @@ pub(crate) enum End {
 }
 
 impl End {
-    /// Where the address stands in an IPv4 header.
+    /// The offset of the address in an IPv4 header.
     pub(crate) fn address_place(self) -> usize
         ensures { result ≡ address_place self }
     {
@@ -90,7 +90,7 @@ impl End {
     }
 }
 
-/// An end of the datagram at `at`, whose transport header is of a form and begins at `start`.
+/// An end of the datagram at `at`, whose transport header has this form and begins at `start`.
 pub(crate) fn read_end(bytes: &[u8], at: usize, start: usize, form: Form, end: End) -> Endpoint
     requires room { HasRoom at bytes.now }
     requires start { start ≡ transport at bytes.now }
@@ -105,7 +105,7 @@ pub(crate) fn read_end(bytes: &[u8], at: usize, start: usize, form: Form, end: E
     Endpoint { address, number }
 }
 
-/// What an ICMP error says of the datagram at `at`, whose transport header is of a form and begins at
+/// The protocol and ends of the datagram at `at`, whose transport header has this form and begins at
 /// `start`.
 pub(crate) fn read_ends(bytes: &[u8], at: usize, start: usize, form: Form) -> Inner
     requires room { HasRoom at bytes.now }

@@ -1,12 +1,12 @@
 #![tactic(auto)]
 //! IPv4 packets as an address and port translator sees them, and the checksums in them.
 //!
-//! [`Packet::read`] judges the bytes of a datagram once and keeps what it found. From then on the
-//! accessors answer without looking again, and the setters change an address, a port or an
-//! identifier in place, together with each checksum that covers it. Nothing here takes memory.
+//! [`Packet::read`] checks the bytes of a datagram once and keeps what it found. From then on the
+//! accessors do not parse again, and the setters change an address, a port or an identifier in
+//! place, with every checksum that covers it. Nothing here allocates.
 //!
 //! Layouts are those of RFC 791 (IPv4), RFC 768 (UDP), RFC 9293 (TCP) and RFC 792 (ICMP); what a
-//! translator changes is said in RFC 3022 sections 4.1 to 4.3, and for ICMP errors in RFC 5508.
+//! translator changes is in RFC 3022 sections 4.1 to 4.3, and for ICMP errors in RFC 5508.
 
 mod bytes;
 mod checksum;
@@ -27,7 +27,7 @@ pub enum Side {
     Outside,
 }
 
-/// The way in which a packet crosses the translator: out of the inside, or into it.
+/// The direction of a packet across the translator: out of the inside, or into it.
 #[derive(Clone, Copy, Debug, PartialEq, Eq)]
 pub enum Way {
     Outgoing,
@@ -59,8 +59,8 @@ pub struct Flags {
     pub ack: bool,
 }
 
-/// The datagram that an ICMP error is about, as far as the error quotes it. In one about an echo the
-/// host that sent the request has the identifier as its number, and the other end has 0.
+/// The datagram that an ICMP error quotes. In an echo, the host that sent the request has the
+/// identifier as its number, and the other end has 0.
 #[derive(Clone, Copy, Debug, PartialEq, Eq)]
 pub struct Inner {
     pub protocol: Protocol,
@@ -80,11 +80,11 @@ pub enum Kind {
 /// Why a packet is dropped. [`Packet::read`] gives the causes up to `BadPort`.
 #[derive(Clone, Copy, Debug, PartialEq, Eq)]
 pub enum Cause {
-    /// Fewer bytes than an IPv4 header has, or than the total length says.
+    /// Fewer bytes than an IPv4 header has, or than the total length.
     Truncated,
     /// The version is not 4.
     NotIpv4,
-    /// A length in the IPv4, UDP, TCP or ICMP header cannot be.
+    /// The IPv4, UDP, TCP or ICMP header has an invalid length.
     BadHeader,
     /// The checksum of the IPv4 header, or of an ICMP error, is wrong.
     BadChecksum,
@@ -92,7 +92,7 @@ pub enum Cause {
     Fragment,
     /// Another protocol, or an ICMP message that is not translated.
     Unsupported,
-    /// What an ICMP error quotes is no datagram that was translated.
+    /// An ICMP error quotes what cannot be a translated datagram.
     BadInner,
     /// A UDP or TCP port is 0.
     BadPort,
@@ -102,9 +102,9 @@ pub enum Cause {
     NotOurs,
     /// No binding for the packet.
     NoBinding,
-    /// The binding lets no packet of this remote end in.
+    /// The binding's filtering refuses this remote.
     Filtered,
-    /// The inside host has all the bindings that its quota allows (RFC 6888, REQ-4).
+    /// The inside host has all the bindings its quota allows (RFC 6888, REQ-4).
     OverQuota,
     /// No number is free for a new binding.
     NoPort,

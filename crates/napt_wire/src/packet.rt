@@ -24,19 +24,19 @@ pub(crate) enum Body {
     Error(Quoted),
 }
 
-/// The transport header of the datagram that an ICMP error quotes: what it is, and where in the error it begins.
+/// The transport header of the datagram that an ICMP error quotes: its form, and where in the error it begins.
 #[derive(Clone, Copy)]
 pub(crate) struct Quoted {
     pub(crate) form: Form,
     pub(crate) start: u16,
 }
 
-/// An IPv4 datagram that was read, with the bytes that it owns. Contracts see it as its bytes, and these
-/// read as a packet at every moment.
+/// An IPv4 datagram that was read, which owns its bytes. Contracts see those bytes, and they always read as a
+/// packet.
 #[derive(Drop)]
 pub struct Packet {
     bytes: Vec<u8>,
-    /// Where the transport header begins: at 60 at most.
+    /// Where the transport header begins: 60 at most.
     start: u8,
     body: Body,
 }
@@ -53,9 +53,9 @@ impl Model for Packet {
 }
 
 impl Packet {
-    /// The packet that the bytes are on their arrival from a side: the checks of RFC 791, 768, 9293, 792
-    /// and 5508 in order, without those on UDP, TCP and echo checksums. Bytes past the total length
-    /// are cut off. Where a check fails, its cause comes with the bytes as they were.
+    /// Reads the bytes that arrived on a side as a packet, by the checks of RFC 791, 768, 9293, 792 and 5508 in
+    /// order, except those on UDP, TCP and echo checksums. Bytes past the total length are cut off. If a check
+    /// fails, returns its cause and the bytes unchanged.
     pub fn read(side: Side, mut bytes: Vec<u8>) -> Result<Packet, (Cause, Vec<u8>)>
         ensures ok { IfOk result (λ packet. reading side bytes.items ≡ Ok packet) }
         ensures cause { IfErr result (λ refused. reading side bytes.items ≡ Err refused.0) }
@@ -126,9 +126,8 @@ impl Packet {
         }
     }
 
-    /// The end on the inside of the translator, for a packet that goes this way: the source of one that
-    /// goes out, the destination of one that comes in. Of an ICMP error it is the inner destination of
-    /// one that goes out, and the inner source of one that comes in.
+    /// The inside end of a packet that goes this way: its source on the way out, its destination on the way in.
+    /// For an ICMP error it is the quoted datagram's destination on the way out, and its source on the way in.
     #[tactic(auto, unfolding(crate::specs::Fields::local_end))]
     pub fn local_end(&self, way: Way) -> Endpoint
         ensures { result ≡ local_end way self.now }
@@ -152,8 +151,8 @@ impl Packet {
         }
     }
 
-    /// Replaces the source, and each checksum that covers it (RFC 3022 sections 4.1 and 4.2). An echo
-    /// reply gets the address alone. The work does not grow with the packet.
+    /// Replaces the source, and each checksum that covers it (RFC 3022 sections 4.1 and 4.2). In an echo reply
+    /// only the address changes. Takes constant time.
     #[tactic(auto, unfolding(crate::specs::Rewriting::with_source))]
     pub fn set_source(&mut self, source: Endpoint)
         requires plain { is_error (kind self.old) ≡ false }
@@ -161,14 +160,14 @@ impl Packet {
         ensures value { self.new ≡ with_source source self.old }
         ensures reads { (side : Side) → reading side self.old ≡ Ok self.old → reading side self.new
             ≡ Ok self.new }
-        // A transport checksum that is there with all that it covers is right exactly where it was.
+        // A transport checksum that is there with all that it covers is right exactly if it was before.
         ensures right { transport_right 0 self.new ≡ transport_right 0 self.old }
     {
         self.set_end(End::Source, source);
     }
 
-    /// Replaces the destination, and each checksum that covers it (RFC 3022 sections 4.1 and 4.2). An
-    /// echo request gets the address alone. The work does not grow with the packet.
+    /// Replaces the destination, and each checksum that covers it (RFC 3022 sections 4.1 and 4.2). In an echo
+    /// request only the address changes. Takes constant time.
     #[tactic(auto, unfolding(crate::specs::Rewriting::with_destination))]
     pub fn set_destination(&mut self, destination: Endpoint)
         requires plain { is_error (kind self.old) ≡ false }
@@ -176,25 +175,24 @@ impl Packet {
         ensures value { self.new ≡ with_destination destination self.old }
         ensures reads { (side : Side) → reading side self.old ≡ Ok self.old → reading side self.new
             ≡ Ok self.new }
-        // A transport checksum that is there with all that it covers is right exactly where it was.
+        // A transport checksum that is there with all that it covers is right exactly if it was before.
         ensures right { transport_right 0 self.new ≡ transport_right 0 self.old }
     {
         self.set_end(End::Destination, destination);
     }
 
-    /// Gives the datagram that an ICMP error quotes an end back: for one that comes in, its source
-    /// becomes `end`, and the error itself goes to the address of `end`; for one that goes out, its
-    /// destination becomes `end`, and the error comes from the address of `end`. Each checksum that
-    /// covers a word replaced is replaced, where it is there (RFC 3022 section 4.3, RFC 5508 section 4).
-    /// The work does not grow with the packet.
+    /// Restores an end of the datagram that an ICMP error quotes. On the way in, its source becomes `end`, and
+    /// the error itself goes to that address; on the way out, its destination becomes `end`, and the error comes
+    /// from that address. Each checksum that covers a replaced word is updated, if it is present (RFC 3022
+    /// section 4.3, RFC 5508 section 4). Takes constant time.
     pub fn revert_inner(&mut self, way: Way, end: Endpoint)
         requires error { is_error (kind self.old) ≡ true }
         requires number { CanCarry (kind self.old) end.number }
         ensures value { self.new ≡ reverted way end self.old }
         ensures reads { (side : Side) → reading side self.old ≡ Ok self.old → reading side self.new
             ≡ Ok self.new }
-        // So is the quoted datagram's; its IP checksum, the error's own and the ICMP checksum stay right,
-        // since the packet reads.
+        // The same holds for the quoted datagram's; its IP checksum, the error's own and the ICMP checksum stay
+        // right, since the packet reads.
         ensures right { transport_right (inner_at self.old) self.new
             ≡ transport_right (inner_at self.old) self.old }
     {

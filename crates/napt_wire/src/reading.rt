@@ -1,4 +1,4 @@
-//! The checks on a packet that arrives, in order, and what they find.
+//! The checks on an arriving packet, in order, and what they find.
 
 ghost use Rattle.std.specs.Prelude.{◌≡◌, ◌+◌, ◌≤◌, ◌||◌, ◌==◌, not, length, drop, take, is_none, Ok, Err, IfOk, IfErr, IfSome, Some, None};
 ghost use Rattle.std.specs.Result.{result_err};
@@ -18,7 +18,7 @@ use crate::{Cause, Flags, Side};
 /// What reading found in the bytes.
 #[derive(Clone, Copy)]
 pub(crate) struct Found {
-    /// How long the datagram is.
+    /// The length of the datagram.
     pub(crate) length: usize,
     /// Where its transport header begins.
     pub(crate) start: u8,
@@ -44,7 +44,7 @@ pub(crate) fn read_datagram(side: Side, bytes: &[u8]) -> Result<Found, Cause>
     })
 }
 
-/// The total length, where what the header says of lengths can be (RFC 791 section 3.1).
+/// The total length, if the header's lengths are possible (RFC 791 section 3.1).
 fn read_length(bytes: &[u8]) -> Result<usize, Cause>
     ensures checks { result_err result ≡ refusal (length_checks bytes.now) }
     ensures length { IfOk result (λ length. length ≡ total_length 0 bytes.now) }
@@ -78,8 +78,8 @@ fn read_header_length(bytes: &[u8], at: usize) -> u8
     4 * (bytes[at] & 0x0f)
 }
 
-/// Where the transport header of a datagram begins, where its own header is right, and it is whole and
-/// of a protocol that is translated.
+/// Where a datagram's transport header begins, if its IPv4 header's checksum is right, it is no
+/// fragment, and its protocol is translated.
 fn read_header(bytes: &[u8]) -> Result<u8, Cause>
     requires long { 20 ≤ header_length 0 bytes.now }
     requires there { header_length 0 bytes.now ≤ length bytes.now }
@@ -99,7 +99,7 @@ fn read_header(bytes: &[u8]) -> Result<u8, Cause>
     Ok(start)
 }
 
-/// Whether a datagram is a fragment: more of them follow, or it stands past the first.
+/// Whether a datagram is a fragment: more follow, or its offset is not 0.
 fn is_fragment(bytes: &[u8]) -> bool
     requires { 20 ≤ length bytes.now }
     ensures { result ≡ (has_more 0 bytes.now || not (fragment_offset 0 bytes.now == 0)) }
@@ -115,7 +115,7 @@ fn is_known(protocol: u8) -> bool
     protocol == 1 || protocol == 6 || protocol == 17
 }
 
-/// What a datagram carries, whose transport header begins at `start`.
+/// What a datagram with its transport header at `start` carries.
 #[tactic(auto, unfolding(crate::specs::Fields::flags))]
 fn read_body(side: Side, bytes: &[u8], start: usize) -> Result<Body, Cause>
     requires long { 20 ≤ start }
@@ -150,7 +150,7 @@ fn read_body(side: Side, bytes: &[u8], start: usize) -> Result<Body, Cause>
     }
 }
 
-/// Whether a transport header cannot be: too short, or with a length field that cannot be.
+/// Whether a transport header is too short, or its length field is impossible.
 fn has_bad_transport(form: Form, payload: &[u8]) -> bool
     requires { 8 ≤ length payload.now }
     ensures { result ≡ has_bad_transport form payload.now }
@@ -171,7 +171,7 @@ fn has_bad_transport(form: Form, payload: &[u8]) -> bool
     }
 }
 
-/// Whether a message from a side is translated, of a form and with an ICMP type.
+/// Whether a message of this form and ICMP type is translated from a side.
 fn is_translated(side: Side, form: Form, icmp_type: u8) -> bool
     ensures { result ≡ is_translated side form icmp_type }
 {
@@ -183,7 +183,7 @@ fn is_translated(side: Side, form: Form, icmp_type: u8) -> bool
     }
 }
 
-/// Whether a transport header that begins at `start` has ports, and one of them is 0.
+/// Whether the transport header at `start` has a port that is 0.
 fn has_port_zero(bytes: &[u8], start: usize, form: Form) -> bool
     requires { start + 8 ≤ length bytes.now }
     ensures { result ≡ has_zero_port form start bytes.now }
@@ -206,7 +206,7 @@ fn read_flags(bits: u8) -> Flags
     }
 }
 
-/// What an ICMP error quotes, whose message begins at `start`.
+/// What an ICMP error with its message at `start` quotes.
 fn read_quoted(side: Side, bytes: &[u8], start: usize) -> Result<Quoted, Cause>
     requires long { 20 ≤ start }
     requires there { start + 8 ≤ length bytes.now }
@@ -231,7 +231,7 @@ fn read_quoted(side: Side, bytes: &[u8], start: usize) -> Result<Quoted, Cause>
     })
 }
 
-/// Where the transport header of the datagram at `at` begins, and its form, if it is one that was
+/// Where the transport header of the datagram at `at` begins, and its form, if it can have been
 /// translated the other way (RFC 5508 section 4).
 #[tactic(auto, unfolding(crate::specs::Reading::has_bad_inner))]
 fn read_inner(side: Side, bytes: &[u8], at: usize) -> Option<(usize, Form)>
@@ -261,7 +261,7 @@ fn read_inner(side: Side, bytes: &[u8], at: usize) -> Option<(usize, Form)>
     Some((start, form))
 }
 
-/// Whether an error that comes from a side may quote a datagram of a form.
+/// Whether an error from a side may quote a datagram of this form.
 fn is_quoted(side: Side, form: Form) -> bool
     ensures { result ≡ is_quoted side form }
 {

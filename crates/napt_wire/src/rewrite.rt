@@ -1,4 +1,4 @@
-//! What a change of one end of a datagram changes in its bytes.
+//! The bytes that change with one end of a datagram.
 
 ghost use Rattle.std.specs.Prelude.{◌≡◌, ◌+◌, ◌/◌, ◌%◌, ◌<◌, ◌≤◌, [], ◌∷◌, length, option_to_list};
 ghost use Rattle.napt_wire.specs.Bytes.{put_word};
@@ -13,7 +13,7 @@ use crate::checksum::{fix_address, fix_check, fix_end, fix_end_udp};
 use crate::form::{End, Form, read_end};
 use crate::{Endpoint, Way};
 
-/// A 16-bit word that is replaced: where it stands, what it is and what it becomes.
+/// A 16-bit word that is replaced: its place, its old and its new value.
 #[derive(Clone, Copy)]
 pub(crate) struct Change {
     pub(crate) place: usize,
@@ -34,7 +34,7 @@ impl Change {
         }
     }
 
-    /// A checksum that covers the word.
+    /// Updates a checksum that covers the word.
     fn fix(self, check: u16) -> u16
         ensures { result ≡ canon check (self.old ∷ []) (self.new ∷ []) }
     {
@@ -50,17 +50,17 @@ impl Change {
     }
 }
 
-/// The words that are replaced where an end of a datagram becomes another.
+/// The words to replace when an end of a datagram changes.
 #[derive(Clone, Copy)]
 pub(crate) struct Rewrite {
     /// The port or identifier, if the end has one.
     number: Option<Change>,
-    /// The transport checksum, where it covers a word that is replaced and is there.
+    /// The transport checksum, if it is present and covers a replaced word.
     transport_check: Option<Change>,
     address: AddressRewrite,
 }
 
-/// The words that are replaced where an address of a datagram becomes another.
+/// The words to replace when an address of a datagram changes.
 #[derive(Clone, Copy)]
 pub(crate) struct AddressRewrite {
     header_check: Change,
@@ -69,7 +69,7 @@ pub(crate) struct AddressRewrite {
 }
 
 impl AddressRewrite {
-    /// What changes in the header of the datagram at `at` where an address becomes `new`.
+    /// What changes in the header of the datagram at `at` when an address becomes `new`.
     pub(crate) fn of(bytes: &[u8], at: usize, end: End, new: u32) -> AddressRewrite
         requires { at + 20 ≤ length bytes.now }
         ensures { address_changes_of result ≡ address_changes at end new bytes.now }
@@ -94,7 +94,7 @@ impl AddressRewrite {
         self.low.write(bytes);
     }
 
-    /// A checksum that covers each of the words that are replaced.
+    /// Updates a checksum that covers all the replaced words.
     fn fix(&self, check: u16) -> u16
         ensures { result ≡ canon check (olds (address_changes_of self.now))
             (news (address_changes_of self.now)) }
@@ -105,8 +105,7 @@ impl AddressRewrite {
     }
 }
 
-/// The word of a transport checksum that is replaced where `old` becomes `new`, in a transport header
-/// that begins at `start`.
+/// How the checksum of a transport header at `start` changes when `old` becomes `new`, if it is there.
 fn checksum_change(
     bytes: &[u8],
     start: usize,
@@ -138,8 +137,8 @@ fn checksum_change(
 }
 
 impl Rewrite {
-    /// What changes in the datagram at `at`, whose transport header is of a form and begins at `start`,
-    /// where one of its ends becomes `new`.
+    /// What changes in the datagram at `at`, whose transport header has this form and begins at
+    /// `start`, when one of its ends becomes `new`.
     pub(crate) fn of_end(
         bytes: &[u8],
         at: usize,
@@ -182,7 +181,7 @@ impl Rewrite {
         self.address.write(bytes);
     }
 
-    /// A checksum that covers each of the words that are replaced.
+    /// Updates a checksum that covers all the replaced words.
     pub(crate) fn fix(&self, check: u16) -> u16
         ensures { result ≡ canon check (olds (changes_of self.now)) (news (changes_of self.now)) }
     {
@@ -192,7 +191,7 @@ impl Rewrite {
     }
 }
 
-/// A checksum that covers a word that is replaced, if there is one.
+/// Updates a checksum that covers the word replaced, if any.
 fn fix_option(check: u16, change: Option<Change>) -> u16
     requires { check < 65535 }
     ensures { result ≡ canon check (olds (option_to_list change)) (news (option_to_list change)) }
@@ -203,7 +202,7 @@ fn fix_option(check: u16, change: Option<Change>) -> u16
     }
 }
 
-/// The words that are replaced where an end of the datagram that an ICMP error quotes becomes another.
+/// The words to replace when an end of the datagram that an ICMP error quotes changes.
 #[derive(Clone, Copy)]
 pub(crate) struct ErrorRewrite {
     quoted: Rewrite,
@@ -214,8 +213,8 @@ pub(crate) struct ErrorRewrite {
 }
 
 impl ErrorRewrite {
-    /// What changes in an error whose message begins at `start`, and that quotes a datagram whose
-    /// transport header is of a form and begins at `inner`.
+    /// What changes in an error with its message at `start`, whose quoted datagram has a transport
+    /// header of this form at `inner`.
     pub(crate) fn of(
         bytes: &[u8],
         start: usize,
@@ -251,7 +250,7 @@ impl ErrorRewrite {
     }
 }
 
-/// The end of a quoted datagram that stands for the inside, in an error that goes a way.
+/// The inside end of the datagram quoted by an error that goes this way.
 fn inner_end(way: Way) -> End
     ensures { result ≡ inner_end way }
 {
