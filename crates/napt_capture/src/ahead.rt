@@ -1,4 +1,4 @@
-//! The bytes that were read ahead of what is handed on.
+//! The bytes read ahead of what is handed on.
 ghost use Rattle.std.specs.Prelude.{◌≡◌, ◌+◌, ◌-◌, ◌^◌, ◌<◌, ◌≤◌, [], length, drop, slice_range, vec_len, IfOk, OnErr};
 ghost use Rattle.std.specs.Io.KnownBytes.{IsAtEnd, Keeps, prepend_known};
 ghost use Rattle.napt_capture.specs.Device.{failed_calls};
@@ -7,10 +7,10 @@ use crate::device::{DeviceFault, Source};
 use std::alloc::{AllocError, Global};
 use std::marker::Model;
 
-/// How many bytes a buffer has room for: more than a record and its header.
+/// The size of a buffer in bytes: more than a record and its header.
 const ROOM: usize = 1_048_576;
 
-/// What was read of a source and not handed on yet: at most 1,048,576 bytes.
+/// What was read from a source and not yet handed on: at most 1,048,576 bytes.
 #[derive(Drop)]
 pub(crate) struct Ahead {
     buffer: Vec<u8>,
@@ -30,7 +30,7 @@ impl Model for Ahead {
 }
 
 impl Ahead {
-    /// Nothing. All the room is taken here.
+    /// Nothing. All memory is taken here.
     pub(crate) fn new(alloc: Global) -> Result<Ahead, AllocError>
         ensures { IfOk result (λ ahead. ahead ≡ []) }
     {
@@ -52,7 +52,7 @@ impl Ahead {
         &all[begin..end]
     }
 
-    /// Leaves out so many bytes of the front.
+    /// Drops `count` bytes from the front.
     pub(crate) fn consume(&mut self, count: usize)
         requires { count ≤ length self.old }
         ensures { self.new ≡ drop count self.old }
@@ -60,7 +60,7 @@ impl Ahead {
         self.begin += count;
     }
 
-    /// Reads once, behind what there is, and answers how many bytes came: none only at the end of the source.
+    /// Reads once, after what there is, and returns how many bytes came: 0 only at the end of the source.
     pub(crate) fn read_more<R: Source>(&mut self, source: &mut R) -> Result<usize, DeviceFault>
         requires can_fail { R.failed source.old < 2 ^ 64 - 1 }
         requires room { length self.old < 1048576 }
@@ -79,7 +79,7 @@ impl Ahead {
     }
 }
 
-/// Moves a part of a buffer to its front, and answers where it ends there.
+/// Moves a part of a buffer to its front, and returns its new end.
 fn move_to_front(buffer: &mut Vec<u8>, begin: usize, end: usize) -> usize
     requires order { begin ≤ end }
     requires bound { end ≤ vec_len buffer.old }

@@ -1,5 +1,5 @@
-//! The devices that captures are read from and written to. They answer as the readers and writers of std
-//! do, and count their failed calls in a number that contracts see.
+//! The devices that captures are read from and written to. They behave like std's readers and writers, and
+//! count their failed calls in a number that contracts see.
 ghost use Rattle.std.specs.Prelude.{◌≡◌, ℕ, ◌+◌, ◌-◌, ◌^◌, ◌<◌, List, Option, IfOk, OnOk, OnErr};
 ghost use Rattle.std.specs.Io.{ReadsAtMost, WritesAtMost};
 ghost use Rattle.std.specs.Io.KnownBytes.{Keeps, ReadConsumes, WriteAppends};
@@ -8,7 +8,7 @@ ghost use Rattle.napt_capture.specs.Device.{failed_calls, failed_writes};
 use std::error::Error;
 use std::fmt;
 
-/// A device refused a call. What it said is not kept.
+/// A device refused a call. Its error is not kept.
 #[derive(Clone, Copy, Debug, PartialEq, Eq)]
 pub struct DeviceFault;
 
@@ -26,15 +26,14 @@ impl Error for DeviceFault {}
 
 /// What captures are read from.
 pub trait Source {
-    // The bytes that reads will give from here on, where they are known.
+    // The bytes that reads will return from here on, if known.
     ghost remaining: { Self → Option (List ℕ) };
 
     // How many reads failed.
     ghost failed: { Self → ℕ };
 
-    /// Takes the next bytes into the front of the buffer, and answers how many there are: none only at
-    /// the end, or where the buffer has no room. A read that fails takes none, and is counted; one
-    /// that was interrupted fails too.
+    /// Reads the next bytes into the front of the buffer, and returns how many: 0 only at the end, or if
+    /// the buffer has no room. A failed read takes none, and is counted; an interrupted read fails too.
     fn read(&mut self, buffer: &mut [u8]) -> Result<usize, DeviceFault>
         requires { failed self.old < 2 ^ 64 - 1 }
         ensures bound { ReadsAtMost result buffer.new }
@@ -44,17 +43,17 @@ pub trait Source {
 
 /// What captures are written to.
 pub trait Sink {
-    // The bytes that were written so far, where they are known.
+    // The bytes written so far, if known.
     ghost contents: { Self → Option (List ℕ) };
 
     // How many writes and flushes failed.
     ghost failed: { Self → ℕ };
 
-    // There was a good flush, and nothing was written since.
+    // A flush succeeded, and nothing was written since.
     ghost is_flushed: { Self → Type 0 };
 
-    /// Writes some bytes of the front, and answers how many: where there are any, they are not flushed yet.
-    /// A write that fails writes none. It is counted, and so is a write of some bytes that answers 0.
+    /// Writes some bytes from the front, and returns how many; if any, they are not flushed yet. A failed
+    /// write writes none. It is counted, and so is a write of some bytes that returns 0.
     fn write(&mut self, bytes: &[u8]) -> Result<usize, DeviceFault>
         requires { failed self.old < 2 ^ 64 - 1 }
         ensures bound { WritesAtMost result bytes.now }
@@ -63,7 +62,7 @@ pub trait Sink {
         ensures held { is_flushed self.new → is_flushed self.old }
         ensures count { failed self.new ≡ failed self.old + failed_writes result bytes.now };
 
-    /// Passes on what was written and is still held back. One that fails makes nothing flushed.
+    /// Passes on what was written and is still buffered. A failed flush makes nothing flushed.
     fn flush(&mut self) -> Result<(), DeviceFault>
         requires { failed self.old < 2 ^ 64 - 1 }
         ensures bytes { Keeps (contents self.old) (contents self.new) }

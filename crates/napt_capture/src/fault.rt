@@ -8,8 +8,8 @@ use crate::{LARGEST_RECORD, MOST_ASKED};
 use std::alloc::{AllocError, AllocFailed};
 use thiserror::Error;
 
-/// Why a capture could not be read: the first fault of the file, from its front. Records are numbered
-/// from 1. A record's fraction goes before its length, and both before its bytes, which may be cut off.
+/// Why a capture could not be read: the first fault in the file. Records are numbered from 1. A
+/// record's fraction is checked before its length, and both before its bytes, which may be cut off.
 #[derive(Clone, Copy, Debug, PartialEq, Eq, Error)]
 pub enum CaptureFault {
     /// The file has fewer than 24 bytes.
@@ -65,7 +65,7 @@ impl<T: Drop> From<AllocFailed<T>> for CaptureFault {
     }
 }
 
-/// A write failed, or answered 0, or the flush failed.
+/// A write failed or returned 0, or the flush failed.
 #[derive(Clone, Copy, Debug, PartialEq, Eq, Error)]
 #[error("writing failed after {written} bytes")]
 pub struct WriteFault {

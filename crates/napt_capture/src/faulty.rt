@@ -8,8 +8,8 @@ use crate::device::{DeviceFault, Sink, Source};
 pub enum Trouble {
     /// The call fails.
     Fails,
-    /// The call answers 0: a read as at the end, a write as where there is no room. A flush, which
-    /// answers no number, is good.
+    /// The call returns 0: a read as at the end, a write as if there were no room. A flush, which returns
+    /// no number, succeeds.
     TakesNone,
 }
 
@@ -18,13 +18,13 @@ pub enum Trouble {
 pub struct Plan {
     /// The most bytes that a read or a write moves, not 0.
     pub most: usize,
-    /// Which call goes wrong, counted from 1 over reads, writes and flushes; none where it is 0.
+    /// Which call goes wrong, counted from 1 over reads, writes and flushes; none if it is 0.
     pub call: u64,
     /// What goes wrong at that call.
     pub trouble: Trouble,
 }
 
-/// A source or a sink for tests: it hands on calls to its device, but for the one call of its plan, which
+/// A source or a sink for tests: it passes calls to its device, except the one call of its plan, which
 /// goes wrong.
 #[derive(Drop)]
 pub struct Faulty<D> {
@@ -37,7 +37,7 @@ pub struct Faulty<D> {
 impl<D> Faulty<D> {
     ghost use Rattle.napt_capture.specs.Faulty.{device_of, plan_of, own_failed, trouble_of, after_a_call};
 
-    /// Goes by the plan from here on.
+    /// Follows the plan from here on.
     pub fn new(device: D, plan: Plan) -> Self
         requires { 0 < plan.most }
         ensures device { device_of result ≡ device }
@@ -51,7 +51,7 @@ impl<D> Faulty<D> {
         }
     }
 
-    /// The device again.
+    /// Gives the device back.
     pub fn into_inner(self) -> D
         ensures { result ≡ device_of self }
     {
@@ -63,7 +63,7 @@ impl<D> Faulty<D> {
         device
     }
 
-    /// Counts a call, and answers what goes wrong at it.
+    /// Counts a call, and returns what goes wrong at it.
     fn next_trouble(&mut self) -> Option<Trouble>
         ensures answer { result ≡ trouble_of self.old.plan }
         ensures left { self.new ≡ record self.old { plan = after_a_call self.old.plan } }

@@ -1,5 +1,5 @@
-//! Capture files of the libpcap savefile layout (pcap-savefile(5)): read in both orders of bytes and
-//! both units of time, written as nanoseconds in little-endian order.
+//! Capture files of the libpcap savefile layout (pcap-savefile(5)): read in both byte orders and
+//! both time units, written in little-endian order with nanoseconds.
 //!
 //! ```text
 //! file    magic (4) major (2) minor (2) zone (4) sigfigs (4) snapshot length (4) link type (4)
@@ -34,5 +34,5 @@ pub use written::Written;
 /// The most bytes that a record may have: larger captured lengths are refused.
 pub const LARGEST_RECORD: u32 = 262_144;
 
-/// The most bytes that reading one capture asks its source for.
+/// The most bytes that [`read_capture`] asks its source for.
 pub const MOST_ASKED: u64 = 68_719_476_736;

@@ -26,7 +26,7 @@ const RAW: u32 = 101;
 /// The link type of raw IPv4.
 const RAW_IPV4: u32 = 228;
 
-/// What stands behind the records so far.
+/// What follows the records so far.
 #[derive(Debug, Drop)]
 pub enum Next {
     /// A further record.
@@ -43,13 +43,13 @@ pub(crate) struct Fields {
     pub(crate) original: u32,
 }
 
-/// Reads a capture file: all records before its end, or its first fault. It asks for 24 bytes, and then for
-/// 16 and the captured bytes of each record, and for nothing past the header that holds a fault.
+/// Reads a capture file: all records before its end, or its first fault. It asks for 24 bytes, then for 16 and
+/// the captured bytes of each record, and for nothing past a header with a fault.
 ///
-/// `Read` comes exactly where a read failed, in which case it was the last one; `Memory` where memory ran out.
+/// Returns `Read` if and only if a read failed, and that was the last one; `Memory` if memory ran out.
 pub fn read_capture<R: Source>(alloc: Global, reader: &mut R) -> Result<Capture, CaptureFault>
     requires { R.failed reader.old < 2 ^ 64 - 1 }
-    // Where the reader tells its bytes, they are read as what they are.
+    // If the reader's bytes are known, they are read as what they are.
     ensures answer { IfSome (R.remaining reader.old) (λ bytes. Answers bytes result) }
     ensures asked { IfSome (R.remaining reader.old) (λ bytes.
         IfSome (R.remaining reader.new) (λ left. ReadsNoFurther bytes left result)) }
@@ -73,7 +73,7 @@ pub fn read_capture<R: Source>(alloc: Global, reader: &mut R) -> Result<Capture,
     }
 }
 
-/// Fills the buffer as far as the source has bytes, and answers how far.
+/// Fills the buffer as far as the source has bytes; returns how far.
 fn fill<R: Source>(reader: &mut R, buffer: &mut [u8]) -> Result<usize, DeviceFault>
     requires { R.failed reader.old < 2 ^ 64 - 1 }
     ensures bound { IfOk result (λ n. n ≤ length buffer.new) }
@@ -129,7 +129,7 @@ fn spelling_of_file(header: &[u8]) -> Result<Spelling, CaptureFault>
     Ok(spelling)
 }
 
-/// Reads the record of this number, behind so many bytes.
+/// Reads the record of this number, after `asked` bytes.
 fn read_record<R: Source>(
     alloc: Global,
     reader: &mut R,
@@ -170,7 +170,7 @@ fn read_record<R: Source>(
     }))
 }
 
-/// What the header of the record of this number says.
+/// What the header of record `number` says.
 pub(crate) fn fields_of(
     spelling: Spelling,
     header: &[u8],

@@ -16,20 +16,19 @@ use crate::reading::{Fields, Next, RECORD_HEADER, fields_of, read_file_header};
 use crate::spelling::Spelling;
 use std::alloc::{AllocError, Global};
 
-/// A capture that is read record after record, by a buffer of 1,048,576 bytes: whatever follows in the file, no more
-/// memory is taken. The source is handed to each call, and must be the same one each time. It may have any number of
-/// bytes and of records.
+/// A capture read one record at a time, through a buffer of 1,048,576 bytes: whatever the file holds, it takes no more
+/// memory of its own. Every call must be given the same source, which may have any number of bytes and records.
 #[derive(Drop)]
 pub struct Records {
     spelling: Spelling,
-    /// That of the next record, which stops at the greatest one.
+    /// The number of the next record, which saturates.
     number: u64,
     ahead: Ahead,
 }
 
 impl Records {
-    /// Reads the header of the file, its first 24 bytes. `NoHeader`, `BadMagic`, `BadVersion` and `BadLink` come by
-    /// that header, `Read` exactly where a read failed, and `Memory` where the buffer is refused, before any read.
+    /// Reads the header of the file, its first 24 bytes. Returns `NoHeader`, `BadMagic`, `BadVersion` or `BadLink` by
+    /// that header, `Read` if and only if a read failed, and `Memory`, before any read, if the buffer is refused.
     pub fn open<R: Source>(alloc: Global, source: &mut R) -> Result<Records, CaptureFault>
         requires { R.failed source.old < 2 ^ 64 - 1 }
         ensures header { IfOk result (λ records. ReadsFileHeader records.spelling
@@ -49,8 +48,8 @@ impl Records {
         })
     }
 
-    /// Whether the next record, or the fault that stands in its place, was read already, so that [`Records::next`]
-    /// doesn't ask the source.
+    /// Whether the next record, or the fault in its place, was already read, so that [`Records::next`] doesn't ask the
+    /// source.
     pub fn has_whole(&self) -> bool
         ensures whole { result ≡ true → ¬ Asks self.now }
         ensures part { result ≡ false → Asks self.now }
@@ -58,13 +57,12 @@ impl Records {
         !matches!(self.front(), Ok(None))
     }
 
-    /// Reads the next record, into the vector that is handed in. What the vector holds is dropped; its room is used
-    /// again. The source is asked only while no whole record stands in the buffer, and each time for as much as the
-    /// buffer has room for.
+    /// Reads the next record into the given vector, whose contents are dropped and whose room is reused. The source is
+    /// asked only while the buffer holds no whole record, and each time for as much as the buffer has room for.
     ///
-    /// `BadFraction` and `TooLong` come by the header of the record. `Read` comes exactly where a read failed, `Memory`
-    /// where the vector could not grow. By the end and by a fault nothing is lost: a later call goes on from there, and
-    /// tells the end, or the fault of the header, again.
+    /// Returns `BadFraction` or `TooLong` by the record's header, `Read` if and only if a read failed, `Memory` if the
+    /// vector could not grow. The end and a fault lose nothing: a later call goes on from there, and returns the end,
+    /// or the header's fault, again.
     pub fn next<R: Source>(&mut self, source: &mut R, vector: Vec<u8>) -> Result<Next, CaptureFault>
         requires can_fail { R.failed source.old < 2 ^ 64 - 1 }
         ensures next { IfOk result (Tells self.old
@@ -75,7 +73,7 @@ impl Records {
         ensures kept { OnErr result (KeepsLeft self.old (R.remaining source.old)
             self.new (R.remaining source.new)) }
         ensures spelling { self.new.spelling ≡ self.old.spelling }
-        // Where it is known without the source, the source is not asked.
+        // If it is known without the source, the source is not asked.
         ensures asks { (¬ Asks self.old) → source.new ≡ source.old }
         ensures writable { IfOk result IsWritableNext }
         ensures count { R.failed source.new ≡ R.failed source.old + failed_reads result }
@@ -84,8 +82,8 @@ impl Records {
         self.take(vector)
     }
 
-    /// What stands in front of what was read ahead: the fields of a record that stands there whole, none where it
-    /// doesn't, or the fault of its header.
+    /// What the bytes read ahead begin with: the fields of a whole record, `None` if it is not whole, or the fault of
+    /// its header.
     fn front(&self) -> Result<Option<Fields>, CaptureFault>
         ensures whole { IfOk result (λ front. IfSome front (StandsWhole self.now)) }
         ensures part { IfOk result (λ front. IfNone front
@@ -104,7 +102,7 @@ impl Records {
         Ok(Some(fields))
     }
 
-    /// Reads until it is known what is next, or to the end.
+    /// Reads until what is next is known, or to the end.
     fn read_ahead<R: Source>(&mut self, source: &mut R) -> Result<(), DeviceFault>
         requires can_fail { R.failed source.old < 2 ^ 64 - 1 }
         ensures kept { KeepsLeft self.old (R.remaining source.old)
@@ -121,7 +119,7 @@ impl Records {
         Ok(())
     }
 
-    /// Takes what is next out of what was read ahead.
+    /// Takes what is next from the bytes read ahead.
     fn take(&mut self, vector: Vec<u8>) -> Result<Next, CaptureFault>
         ensures next { IfOk result (Tells self.old (Some self.old.ahead) (Some self.new.ahead)) }
         ensures number { IfOk result (λ next. self.new.number ≡ counted next self.old.number) }
@@ -147,7 +145,7 @@ impl Records {
     }
 }
 
-/// These bytes, in the room of a vector.
+/// These bytes, in the vector's room.
 fn copied(bytes: &[u8], vector: Vec<u8>) -> Result<Vec<u8>, AllocError>
     ensures { IfOk result (λ copy. copy.items ≡ bytes.now) }
 {

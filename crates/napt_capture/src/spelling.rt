@@ -4,14 +4,14 @@ ghost use Rattle.napt_capture.specs.Spelling.{spelling_of, long_number, short_nu
 
 use byteorder::{BigEndian, ByteOrder, LittleEndian};
 
-/// The order of the bytes of each number.
+/// The byte order of each number.
 #[derive(Clone, Copy)]
 pub(crate) enum Order {
     Little,
     Big,
 }
 
-/// What a fraction of a second counts.
+/// The unit of a fraction of a second.
 #[derive(Clone, Copy)]
 pub(crate) enum Unit {
     Microsecond,
@@ -26,7 +26,7 @@ pub(crate) struct Spelling {
 }
 
 impl Spelling {
-    /// The spelling that a file's first four bytes show, read as a number in network order.
+    /// The spelling that a file's first four bytes show, read as a big-endian number.
     pub(crate) fn of_magic(magic: u32) -> Option<Spelling>
         ensures { result ≡ spelling_of magic }
     {
@@ -40,7 +40,7 @@ impl Spelling {
         Some(Spelling { order, unit })
     }
 
-    /// The number of four bytes at the front.
+    /// The number in the first four bytes.
     pub(crate) fn long(self, bytes: &[u8]) -> u32
         requires { 4 ≤ length bytes.now }
         ensures { result ≡ long_number self bytes.now }
@@ -51,7 +51,7 @@ impl Spelling {
         }
     }
 
-    /// The number of two bytes at the front.
+    /// The number in the first two bytes.
     pub(crate) fn short(self, bytes: &[u8]) -> u16
         requires { 2 ≤ length bytes.now }
         ensures { result ≡ short_number self bytes.now }

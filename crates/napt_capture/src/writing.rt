@@ -29,7 +29,7 @@ pub fn write_capture<W: Sink>(writer: &mut W, records: &[Record]) -> Result<(), 
     written.finish(writer)
 }
 
-/// Writes one record behind what is written.
+/// Appends one record to what is written.
 #[tactic(auto, using(crate::proofs::Puts::record_text_whole))]
 fn put_record<W: Sink>(
     writer: &mut W,

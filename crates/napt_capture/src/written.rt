@@ -10,15 +10,15 @@ use crate::fault::WriteFault;
 use byteorder::{ByteOrder, LittleEndian};
 use std::marker::Model;
 
-/// The header of each file that is written: nanoseconds, version 2.4, zone 0, significant figures 0, snapshot
-/// length 262,144, link type 101 (raw IP), in little-endian order.
+/// The header of every file written: nanoseconds, version 2.4, zone 0, significant figures 0, snapshot length 262,144,
+/// link type 101 (raw IP), in little-endian order.
 const FILE_HEADER: [u8; 24] = [
     0x4d, 0x3c, 0xb2, 0xa1, 2, 0, 4, 0, 0, 0, 0, 0, 0, 0, 0, 0, 0, 0, 4, 0, 101, 0, 0, 0,
 ];
 
-/// How many bytes of a text are written to a [`Sink`]. A capture is written by [`Written::begin`], [`Written::record`] for
-/// each packet and [`Written::finish`], which take no memory. Where one of them fails, what it wrote of its part and all
-/// before it is written, and the fault counts those bytes.
+/// How many bytes of a text are written to a [`Sink`]. A capture is written by [`Written::begin`], [`Written::record`]
+/// for each packet and [`Written::finish`], which take no memory. If one of them fails, what it wrote of its part and
+/// all before it is written, and the fault counts those bytes.
 #[derive(Debug, Drop)]
 pub struct Written {
     bytes: u64,
@@ -50,7 +50,7 @@ impl Written {
         Written::nothing().put(writer, &FILE_HEADER)
     }
 
-    /// Writes the record of a whole packet that arrived at a time, in ns since 1970-01-01 00:00:00 UTC.
+    /// Writes the record of a whole packet that arrived at `time`, in ns since 1970-01-01 00:00:00 UTC.
     #[tactic(auto, unfolding(crate::specs::Text::record_text))]
     pub fn record<W: Sink>(
         self,
@@ -85,7 +85,7 @@ impl Written {
         }
     }
 
-    /// Writes these bytes behind what is written.
+    /// Appends these bytes to what is written.
     pub(crate) fn put<W: Sink>(self, writer: &mut W, bytes: &[u8]) -> Result<Written, WriteFault>
         requires can_fail { W.failed writer.old < 2 ^ 64 - 1 }
         requires room { self + length bytes.now < 2 ^ 64 }
@@ -109,7 +109,7 @@ impl Written {
     }
 }
 
-/// Seconds, nanoseconds, and twice the number of bytes.
+/// Seconds, nanoseconds, and the number of bytes, twice.
 #[tactic(auto, unfolding(crate::specs::Text::record_header))]
 fn record_header(time: u64, bytes: &[u8]) -> [u8; 16]
     requires { IsWritable (entry_of_packet time bytes.now) }
