@@ -8,8 +8,8 @@ use std::fmt;
 use std::net::Ipv4Addr;
 use std::str::FromStr;
 
-/// An IPv4 address as a number, its first byte the highest. It is written `203.0.113.1`: four numbers from 0
-/// to 255 in decimal, without leading zeros, with dots between them.
+/// An IPv4 address as a number, its first byte the highest. It is written `203.0.113.1`: four decimal
+/// numbers from 0 to 255 without leading zeros, separated by dots.
 #[derive(Clone, Copy, Debug, PartialEq, Eq)]
 pub struct Address(pub u32);
 
@@ -28,8 +28,7 @@ impl FromStr for Address {
 
     ghost from_str_gives = { IsReadBack (λ address. address_text address.0) (λ address. address.0 < 2 ^ 32) BadAddress };
 
-    /// The address that the text is; `ConfigFault::BadAddress` where it is none. What `Display` writes is
-    /// read back.
+    /// Parses an address; `ConfigFault::BadAddress` if the text is none. What `Display` writes is read back.
     fn from_str(text: &str) -> Result<Address, ConfigFault> {
         match text::address(text) {
             Some(bits) => Ok(Address(bits)),

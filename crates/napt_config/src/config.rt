@@ -17,14 +17,14 @@ use toml::Table;
 /// A configuration. Each value keeps these rules:
 ///
 /// - the pool has 1 to 16 addresses, none twice and none inside;
-/// - 1 to 16 prefixes are inside, whose bits past their length are 0;
+/// - 1 to 16 prefixes are inside, with no bits set past their length;
 /// - the timers are at least 120 (UDP), 7440 (established), 240 (transitory) and 60 seconds (ICMP), and at
 ///   most 1,000,000,000;
 /// - a ring has 1 to 4096 slots;
-/// - a quota, where there is one, allows 1 to 65535 bindings;
+/// - a quota, if there is one, allows 1 to 65535 bindings;
 /// - at most 256 inside hosts are paired by an entry of their own, each once, with a pool address;
-/// - at most 256 redirects, each of an inside host and with ports that are not 0; no two of one protocol have
-///   one inside endpoint or one external endpoint.
+/// - at most 256 redirects, each of an inside host and with ports that are not 0; no two of one protocol share an
+///   inside or an external endpoint.
 #[derive(Debug, Drop)]
 pub struct Config {
     pool: Vec<u32>,
@@ -54,8 +54,8 @@ impl Config {
     ghost use Rattle.napt_config.specs.Rules.{KeepsRules, pair_of, is_inside, place_of};
     ghost use Rattle.napt_config.specs.Configured.{configured, configuration_of, built_in};
 
-    /// Reads a configuration's text. What is answered is the configuration, or the fault of the first rule
-    /// that the text breaks; `ConfigFault::Memory` comes where memory ran out before that.
+    /// Reads a configuration's text. Returns the configuration, or the fault of the first rule that the text breaks, or
+    /// `ConfigFault::Memory` if memory ran out before that.
     #[tactic(auto, unfolding(crate::specs::Configured::configuration_of))]
     pub fn read(alloc: Global, text: &[u8]) -> Result<Config, ConfigFault>
         ensures exact { Gives (λ config. config) result (configuration_of text.now) }
@@ -96,8 +96,8 @@ impl Config {
         })
     }
 
-    /// The configuration where no text is given: the pool is 203.0.113.1, the private networks of RFC 1918
-    /// are inside, and all else is as by default.
+    /// The configuration if no text is given: the pool is 203.0.113.1, the private networks of RFC 1918 are inside, and
+    /// all else is default.
     pub fn built_in(alloc: Global) -> Result<Config, AllocError>
         ensures exact { IfOk result (λ config. config ≡ built_in) }
         ensures kept { IfOk result KeepsRules }
@@ -134,9 +134,9 @@ impl Config {
         })
     }
 
-    /// The external address of a host (RFC 4787, section 4.1, "paired" pooling): that of its own entry, else
-    /// the pool's address at the host's number modulo the pool's size. It is found by search, in a number of
-    /// steps that grows with the logarithm of the number of entries, and takes no memory.
+    /// The external address of a host (RFC 4787, section 4.1, "paired" pooling): that of its own entry, else the pool's
+    /// address at the host's number modulo the pool's size. The search takes time logarithmic in the number of entries,
+    /// and no memory.
     pub fn pair(&self, host: u32) -> u32
         ensures address { result ≡ pair_of self.now host }
         ensures in_pool { IsSome (place_of self.now result) }
@@ -169,8 +169,8 @@ impl Config {
         self.pool.as_slice()
     }
 
-    /// The static redirects, in the order of the text: at most 256, each of an inside host, with ports that
-    /// are not 0. No two of one protocol have one inside endpoint or one external endpoint.
+    /// The static redirects, in the order of the text: at most 256, each of an inside host, with nonzero ports. No two
+    /// of one protocol share an inside or an external endpoint.
     pub fn redirects(&self) -> &[Redirect]
         ensures redirects { result.now ≡ self.now.redirects }
         ensures kept { KeepsRules self.now }
@@ -186,8 +186,8 @@ impl Config {
         self.ring
     }
 
-    /// How many bindings, over all protocols, an inside host may have at its external address (RFC 6888, REQ-4), from 1 to
-    /// 65535; redirects do not count. None where there is no limit.
+    /// How many bindings, over all protocols, an inside host may have at its external address (RFC 6888, REQ-4), from 1
+    /// to 65535; redirects do not count. None if there is no limit.
     pub fn quota(&self) -> Option<u16>
         ensures quota { result ≡ self.now.quota }
         ensures kept { KeepsRules self.now }
@@ -209,7 +209,7 @@ impl Config {
         self.refresh
     }
 
-    /// How long what is idle lives.
+    /// The idle timers.
     pub fn timers(&self) -> Timers
         ensures timers { result ≡ self.now.timers }
         ensures kept { KeepsRules self.now }
@@ -236,7 +236,7 @@ fn table_of(alloc: Global, text: &str) -> Result<Table, ConfigFault>
     }
 }
 
-/// The table of a text, which has to be UTF-8 and TOML.
+/// The table of a text, which must be TOML in UTF-8.
 #[tactic(auto, unfolding(crate::specs::Configured::document_of))]
 fn document(alloc: Global, text: &[u8]) -> Result<Table, ConfigFault>
     ensures { Gives table_view result (ok_or (document_of text.now) NotToml) }

@@ -1,42 +1,42 @@
-//! Why a text configures nothing.
+//! Why a configuration is refused.
 ghost use Rattle.std.specs.Prelude.{◌≡◌};
 ghost use Rattle.napt_config.specs.declared.fault.ConfigFault.TheVariants.{Memory};
 
 use std::alloc::{AllocError, AllocFailed};
 use thiserror::Error;
 
-/// The first rule that a configuration's text breaks. The rules are judged in the order in which the
-/// configuration's format gives them: TOML, unknown keys, then key by key.
+/// The first rule that a configuration's text breaks. The rules are checked in the order of the
+/// configuration's format: TOML, unknown keys, then key by key.
 #[derive(Clone, Copy, Debug, PartialEq, Eq, Error)]
 pub enum ConfigFault {
     /// The text is not UTF-8, or not TOML; a whole number outside 64 bits is not TOML either.
     #[error("expected TOML in UTF-8")]
     NotToml,
-    /// A key that no configuration has, at the top, in `timers` or in an entry of `pair` or `redirect`.
+    /// An unknown key, at the top, in `timers` or in an entry of `pair` or `redirect`.
     #[error("unknown key: expected `pool`, `inside`, `filter`, `refresh`, `timers`, `ring`, `quota`, `pair` or `redirect`; in `timers` `udp`, `tcp-established`, `tcp-transitory` or `icmp`; in a `pair` `host` or `external`; in a `redirect` `protocol`, `inside` or `external`")]
     UnknownKey,
     /// A required key is absent, or its list is empty.
     #[error("expected `pool` and `inside` with at least one entry each, `host` and `external` in each `pair`, and `protocol`, `inside` and `external` in each `redirect`")]
     Missing,
-    /// A value is of another kind than its key asks for.
+    /// A value is not of the kind its key asks for.
     #[error("expected a value of another kind: a text, a whole number, a list or a table, as its key asks for")]
     BadShape,
-    /// A list has more entries than it may have.
+    /// A list has too many entries.
     #[error("expected at most 16 entries in `pool` and in `inside`, and at most 256 of `pair` and of `redirect`")]
     TooMany,
-    /// A text is no address, or no transport address.
+    /// A text is not an address, or not a transport address.
     #[error("expected an IPv4 address, as `203.0.113.1`, or in a `redirect` an endpoint, as `10.0.0.3:7000`, without leading zeros")]
     BadAddress,
-    /// A text is no prefix, or has bits past its length that are not 0.
+    /// A text is not a prefix, or has bits set past its length.
     #[error("expected an IPv4 prefix, as `10.0.0.0/8`, whose bits past its length are 0")]
     BadPrefix,
-    /// A number is out of its range.
+    /// A number is out of range.
     #[error("expected a timer of 0 to 1000000000 seconds, a `ring` of 1 to 4096, a `quota` of 1 to 65535, or an `external` port of 1 to 65535")]
     BadNumber,
-    /// A text is no word that its key knows.
+    /// A text is not a word of its key.
     #[error("expected `independent`, `address` or `address-port` as `filter`, `outbound` or `both` as `refresh`, or `udp` or `tcp` as `protocol`")]
     BadWord,
-    /// An address stands twice in the pool.
+    /// An address is in the pool twice.
     #[error("expected each address of `pool` once")]
     DoubleAddress,
     /// A pool address is in one of the inside prefixes.
@@ -51,13 +51,13 @@ pub enum ConfigFault {
     /// A host is in none of the inside prefixes.
     #[error("expected a host that is in a prefix of `inside`")]
     NotInside,
-    /// Two redirects of one protocol have one inside endpoint, or one external endpoint.
+    /// Two redirects of one protocol share an inside or an external endpoint.
     #[error("expected at most one `redirect` of a protocol for each inside endpoint and for each external endpoint")]
     DoubleRedirect,
-    /// A timer is below its least value.
+    /// A timer is below its minimum.
     #[error("expected at least 120 seconds for `udp`, 7440 for `tcp-established`, 240 for `tcp-transitory` and 60 for `icmp`")]
     TimerTooShort,
-    /// Memory ran out before another fault was found. It says nothing of the text.
+    /// Memory ran out before another fault was found. It says nothing about the text.
     #[error("out of memory")]
     Memory,
 }

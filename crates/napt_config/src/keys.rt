@@ -1,4 +1,4 @@
-//! Which keys a configuration knows.
+//! The keys of a configuration.
 ghost use Rattle.std.specs.Prelude.{◌≡◌, bytes_eq, map};
 ghost use Rattle.std.specs.List.{list_any};
 ghost use Rattle.toml.specs.View.{view, table_view, items_view};
@@ -46,7 +46,7 @@ fn only_keys_in_each(entries: &[Value], names: &[&str]) -> bool
     true
 }
 
-/// The same of each table in a list in the value.
+/// The same for each table in a list in the value.
 fn only_keys_in_list(value: &Value, names: &[&str]) -> bool
     ensures { result ≡ only_keys_in_list (map (λ name. name.now) names.now) (view value.now) }
 {
@@ -94,8 +94,7 @@ fn knows_top_keys(table: &Table) -> bool
     )
 }
 
-/// Whether each key, in `timers` and in each entry of `pair` and `redirect` too, is one that a configuration
-/// knows.
+/// Whether every key is known, including those in `timers` and in each entry of `pair` and `redirect`.
 #[tactic(auto, unfolding(crate::specs::Configured::knows_all_keys))]
 pub(crate) fn knows_all_keys(table: &Table) -> bool
     ensures { result ≡ knows_all_keys (table_view table.now) }

@@ -1,6 +1,6 @@
 //! The configuration of the translator: read from TOML, checked rule by rule, and kept.
 //!
-//! `Config::read` reads a text and answers a configuration, or the fault of the first rule that the text
+//! `Config::read` returns the configuration of a text, or the fault of the first rule that the text
 //! breaks. Every `Config` keeps the rules for as long as it lives.
 #![tactic(auto)]
 

@@ -10,8 +10,8 @@ use std::fmt;
 use std::marker::Model;
 use std::str::FromStr;
 
-/// The addresses whose first bits are those of one address, written `10.0.0.0/8` (RFC 4632, section 3.1).
-/// The bits of that address past its length are 0.
+/// The addresses that share the first bits of one address, written `10.0.0.0/8` (RFC 4632, section 3.1). The
+/// other bits of that address are 0.
 #[derive(Clone, Copy, Debug, PartialEq, Eq)]
 pub struct Prefix {
     address: u32,
@@ -31,7 +31,7 @@ impl Model for Prefix {
 }
 
 impl Prefix {
-    /// The prefix of this address and this number of leading bits, where the bits past these are 0.
+    /// The prefix of this address and this number of leading bits, if the other bits are 0.
     pub(crate) fn new(address: u32, bits: u8) -> Option<Prefix>
         requires { bits ≤ 32 }
         ensures { result ≡ network_at address bits }
@@ -43,7 +43,7 @@ impl Prefix {
         }
     }
 
-    /// The prefix that the text is.
+    /// Parses a prefix.
     #[tactic(auto, unfolding(crate::specs::Text::network_of))]
     pub(crate) fn read(text: &str) -> Option<Prefix>
         ensures { result ≡ network_of text.now }
@@ -73,7 +73,7 @@ impl Prefix {
         Vec::from_slice(alloc, &[ten, sixteen, last])
     }
 
-    /// Whether the address is one of the prefix's.
+    /// Whether the prefix contains the address.
     pub fn contains(&self, address: u32) -> bool
         ensures { result ≡ has_address self.now address }
     {
@@ -98,8 +98,7 @@ impl FromStr for Prefix {
 
     ghost from_str_gives = { IsReadBack network_text IsNetwork BadPrefix };
 
-    /// The prefix that the text is; `ConfigFault::BadPrefix` where it is none. What `Display` writes is read
-    /// back.
+    /// Parses a prefix; `ConfigFault::BadPrefix` if the text is none. What `Display` writes is read back.
     fn from_str(text: &str) -> Result<Prefix, ConfigFault> {
         Prefix::read(text).ok_or(ConfigFault::BadPrefix)
     }

@@ -1,4 +1,4 @@
-//! Reading the keys of a configuration's table, each by the rules of its own.
+//! Reading the keys of a configuration's table, each by its own rules.
 ghost use Rattle.std.specs.Prelude.{◌≡◌, []};
 ghost use Rattle.std.specs.List.{list_any};
 ghost use Rattle.toml.specs.View.{view, table_view, items_view};
@@ -12,22 +12,22 @@ use std::alloc::Global;
 use std::collections::BTreeMap;
 use toml::{Table, Value};
 
-/// How many entries `pool` and `inside` may have.
+/// The most entries of `pool` and `inside`.
 const MOST_ENTRIES: usize = 16;
 
-/// How many entries `pair` may have.
+/// The most entries of `pair`.
 const MOST_PAIRS: usize = 256;
 
-/// How many seconds a timer may have.
+/// The longest timer, in seconds.
 const MOST_SECONDS: u64 = 1_000_000_000;
 
-/// How many slots a ring may have.
+/// The most slots of a ring.
 const MOST_SLOTS: u64 = 4096;
 
-/// How many bindings a quota may allow.
+/// The most bindings a quota may allow.
 const MOST_BINDINGS: u64 = 65535;
 
-/// How many slots a ring has where the configuration names no number.
+/// How many slots a ring has by default.
 pub(crate) const DEFAULT_SLOTS: usize = 64;
 
 /// The list at a required key, of 1 to 16 entries.
@@ -46,7 +46,7 @@ fn short_list<'a>(table: &'a Table, key: &str) -> Result<&'a [Value], ConfigFaul
     Ok(entries)
 }
 
-/// The whole number, where it is from `least` to `most`.
+/// The whole number, if it is from `least` to `most`.
 pub(crate) fn between(least: u64, most: u64, number: i64) -> Option<u64>
     ensures { result ≡ between least most number }
 {
@@ -82,7 +82,7 @@ fn pool_of(alloc: Global, entries: &[Value]) -> Result<Vec<u32>, ConfigFault>
     Ok(pool)
 }
 
-/// The pool of the table: 1 to 16 addresses, none of which stands twice.
+/// The pool of the table: 1 to 16 addresses, none twice.
 #[tactic(auto, unfolding(crate::specs::Configured::pool_in))]
 pub(crate) fn pool(alloc: Global, table: &Table) -> Result<Vec<u32>, ConfigFault>
     ensures { Gives (λ pool. pool.items) result (pool_in (table_view table.now)) }
@@ -137,7 +137,7 @@ fn have_any(prefixes: &[Prefix], addresses: &[u32]) -> bool
         .any(|address| have_address(prefixes, *address))
 }
 
-/// The inside prefixes of the table: 1 to 16, none of which has a pool address.
+/// The inside prefixes of the table: 1 to 16, none with a pool address.
 #[tactic(auto, unfolding(crate::specs::Configured::inside_in))]
 pub(crate) fn inside(alloc: Global, table: &Table, pool: &[u32]) -> Result<Vec<Prefix>, ConfigFault>
     ensures { Gives (λ inside. inside.items) result (inside_in pool.now (table_view table.now)) }
@@ -211,7 +211,7 @@ fn timer_at(value: &Value, least: u64) -> Result<u64, ConfigFault>
     Ok(seconds)
 }
 
-/// The seconds at a key, or those that stand for it where it is absent.
+/// The seconds at a key, or the default if it is absent.
 fn timer(table: &Table, key: &str, least: u64, default: u64) -> Result<u64, ConfigFault>
     ensures { Gives (λ seconds. seconds) result (optional key.now default (timer_at least)
         (table_view table.now)) }

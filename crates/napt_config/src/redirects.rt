@@ -12,7 +12,7 @@ use std::alloc::Global;
 use std::collections::BTreeMap;
 use toml::{Table, Value};
 
-/// How many entries `redirect` may have.
+/// The most entries of `redirect`.
 const MOST_REDIRECTS: usize = 256;
 
 /// Whether the protocol of an entry is TCP; else it is UDP.
@@ -46,7 +46,7 @@ fn port_in(keys: &Table, key: &str) -> Result<u16, ConfigFault>
     Ok(port as u16)
 }
 
-/// What an entry says: a redirect of an inside host.
+/// The redirect of an inside host in an entry.
 #[tactic(auto, unfolding(crate::specs::Configured::redirect_in))]
 fn redirect_in(entry: &Value, inside: &[Prefix]) -> Result<Redirect, ConfigFault>
     ensures { Gives (λ redirect. redirect) result (redirect_in inside.now (view entry.now)) }
@@ -66,14 +66,14 @@ fn redirect_in(entry: &Value, inside: &[Prefix]) -> Result<Redirect, ConfigFault
     })
 }
 
-/// Whether both have one inside endpoint.
+/// Whether both share an inside endpoint.
 fn share_inside(a: &Redirect, b: &Redirect) -> bool
     ensures { result ≡ share_inside a.now b.now }
 {
     a.address == b.address && a.port == b.port
 }
 
-/// Whether both have one external endpoint.
+/// Whether both share an external endpoint.
 fn share_external(a: &Redirect, b: &Redirect, pool: &[u32], pairs: &BTreeMap<u32, u32>) -> bool
     requires some { 1 ≤ length pool.now }
     ensures { result ≡ share_external (paired pool.now pairs.now.entries) a.now b.now }
@@ -83,7 +83,7 @@ fn share_external(a: &Redirect, b: &Redirect, pool: &[u32], pairs: &BTreeMap<u32
     a_address == b_address && a.external == b.external
 }
 
-/// Whether both are of one protocol, with one inside endpoint or one external endpoint.
+/// Whether both are of one protocol and share an inside or an external endpoint.
 fn is_double(a: &Redirect, b: &Redirect, pool: &[u32], pairs: &BTreeMap<u32, u32>) -> bool
     requires some { 1 ≤ length pool.now }
     ensures { result ≡ is_double (paired pool.now pairs.now.entries) a.now b.now }
@@ -91,7 +91,7 @@ fn is_double(a: &Redirect, b: &Redirect, pool: &[u32], pairs: &BTreeMap<u32, u32
     a.tcp == b.tcp && (share_inside(a, b) || share_external(a, b, pool, pairs))
 }
 
-/// Whether one of the redirects is double with a later one.
+/// Whether one of the redirects clashes with a later one.
 #[tactic(auto, unfolding(crate::specs::Configured::have_double))]
 fn have_double(
     earlier: &[Redirect],
@@ -170,8 +170,8 @@ fn redirects_at(
     redirects_of(alloc, entries, inside, pool, pairs)
 }
 
-/// The redirects of the table: at most 256, each of an inside host, and no two of one protocol with one inside
-/// endpoint or one external endpoint.
+/// The redirects of the table: at most 256, each of an inside host; no two of one protocol share an inside or
+/// an external endpoint.
 #[tactic(auto, unfolding(crate::specs::Configured::redirects_in))]
 pub(crate) fn redirects(
     alloc: Global,

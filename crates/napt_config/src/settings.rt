@@ -20,12 +20,12 @@ pub enum Refresh {
     Both,
 }
 
-/// How long what is idle lives, in seconds (RFC 4787, section 4.3; RFC 5382, section 5; RFC 5508, section 3.2).
+/// Idle timers, in seconds (RFC 4787, section 4.3; RFC 5382, section 5; RFC 5508, section 3.2).
 #[derive(Clone, Copy, Debug, PartialEq, Eq)]
 pub struct Timers {
     /// A UDP binding.
     pub udp: u64,
-    /// A TCP flow that is established.
+    /// An established TCP flow.
     pub established: u64,
     /// Any other TCP flow.
     pub transitory: u64,
@@ -34,7 +34,7 @@ pub struct Timers {
 }
 
 impl Timers {
-    /// The timers of a configuration that names none.
+    /// The timers of a configuration that sets none.
     pub const DEFAULT: Timers = Timers {
         udp: 300,
         established: 7440,
@@ -43,16 +43,16 @@ impl Timers {
     };
 }
 
-/// A static redirect: a UDP or TCP port of an inside host, which an external port stands for (RFC 3022,
-/// section 2.2). Its external address is that of the host's pairing.
+/// A static redirect: a UDP or TCP port of an inside host, mapped to an external port (RFC 3022, section 2.2).
+/// Its external address is the host's paired one.
 #[derive(Clone, Copy, Debug, PartialEq, Eq)]
 pub struct Redirect {
-    /// Whether it is of TCP; else it is of UDP.
+    /// Whether it is for TCP; else it is for UDP.
     pub tcp: bool,
     /// The inside host's address.
     pub address: u32,
-    /// The inside host's port, which is not 0.
+    /// The inside host's port, never 0.
     pub port: u16,
-    /// The external port, which is not 0.
+    /// The external port, never 0.
     pub external: u16,
 }

@@ -21,7 +21,7 @@ fn is_number(text: &str) -> bool
     !bytes.is_empty() && are_digits(bytes) && !has_leading_zero
 }
 
-/// The decimal number that the text is, where it is from `least` to `most`.
+/// Parses a decimal number from `least` to `most`.
 #[tactic(auto, unfolding(crate::specs::Text::number_of))]
 pub(crate) fn number(text: &str, least: u32, most: u32) -> Option<u32>
     ensures value { result ≡ number_of least most text.now }
@@ -36,7 +36,7 @@ pub(crate) fn number(text: &str, least: u32, most: u32) -> Option<u32>
     }
 }
 
-/// The IPv4 address that the text is, as a number.
+/// Parses an IPv4 address as a number.
 #[tactic(auto, unfolding(crate::specs::Text::address_of))]
 pub(crate) fn address(text: &str) -> Option<u32>
     ensures { result ≡ address_of text.now }

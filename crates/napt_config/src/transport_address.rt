@@ -29,7 +29,7 @@ impl Model for TransportAddress {
 }
 
 impl TransportAddress {
-    /// The transport address that the text is.
+    /// Parses a transport address.
     #[tactic(auto, unfolding(crate::specs::Text::socket_of))]
     pub(crate) fn read(text: &str) -> Option<TransportAddress>
         ensures { result ≡ socket_of text.now }
@@ -50,7 +50,7 @@ impl TransportAddress {
         self.address
     }
 
-    /// The port, which is not 0.
+    /// The port, never 0.
     pub fn port(&self) -> u16
         ensures { result ≡ self.now.port }
     {
@@ -74,8 +74,8 @@ impl FromStr for TransportAddress {
 
     ghost from_str_gives = { IsReadBack socket_text IsSocket BadAddress };
 
-    /// The transport address that the text is; `ConfigFault::BadAddress` where it is none. What `Display` writes is
-    /// read back.
+    /// Parses a transport address; `ConfigFault::BadAddress` if the text is none. What `Display` writes is read
+    /// back.
     fn from_str(text: &str) -> Result<TransportAddress, ConfigFault> {
         TransportAddress::read(text).ok_or(ConfigFault::BadAddress)
     }

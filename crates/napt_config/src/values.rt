@@ -1,4 +1,4 @@
-//! The values of a table, each as the kind that its key asks for.
+//! The values of a table, each of the kind that its key asks for.
 ghost use Rattle.std.specs.Prelude.{◌≡◌, option_map};
 ghost use Rattle.toml.specs.Data.{get_member};
 ghost use Rattle.toml.specs.View.{view, table_view, items_view};
@@ -16,7 +16,7 @@ pub(crate) fn value_at<'a>(table: &'a Table, key: &str) -> Option<&'a Value>
     table.get(key)
 }
 
-/// The value at a key that has to be there.
+/// The value at a required key.
 pub(crate) fn required<'a>(table: &'a Table, key: &str) -> Result<&'a Value, ConfigFault>
     ensures { Gives (λ value. view value.now) result (required key.now (table_view table.now)) }
 {
