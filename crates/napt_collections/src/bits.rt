@@ -9,13 +9,13 @@ use std::marker::Model;
 
 const WORDS: usize = 1024;
 
-/// A set of the numbers from 0 to 65,535, one bit each; contracts see its words, of which the definition `has` reads a number.
+/// A set of the numbers from 0 to 65,535, one bit each; contracts see its words, which the definition `has` reads.
 ///
-/// A second, smaller set has a bit for each word that is full, so that a search passes over 4,096 numbers at a look.
+/// A second, smaller set has a bit for each full word, so that a search skips up to 4,096 numbers at a look.
 #[derive(Drop)]
 pub struct Bits {
     words: Vec<u64>,
-    /// A bit for each word that is full.
+    /// A bit for each full word.
     full: Vec<u64>,
 }
 
@@ -32,7 +32,7 @@ impl Model for Bits {
 }
 
 impl Bits {
-    /// The empty set. It takes 8,320 bytes, and no other call takes any; `AllocError` where they are refused.
+    /// The empty set. It takes 8,320 bytes, and no other call takes any; `AllocError` if they are refused.
     pub fn new(alloc: Global) -> Result<Bits, AllocError>
         ensures { IfOk result (λ set. (n : ℕ) → has set n ≡ false) }
     {
@@ -49,8 +49,8 @@ impl Bits {
         has_bit(self.words[usize::from(number / 64)], u32::from(number % 64))
     }
 
-    /// The first number from `from` on, and below `end`, that the set does not have; `None` where it has them all, or where
-    /// there are none. At most 18 words are looked at.
+    /// The first number from `from` on, and below `end`, that is not in the set; `None` if all are, or if there are
+    /// none. At most 18 words are looked at.
     pub fn first_absent(&self, from: u32, end: u32) -> Option<u32>
         requires { end ≤ 2 ^ 16 }
         ensures { IsFirstAbsent (has self.now) from end result }
@@ -62,7 +62,7 @@ impl Bits {
         if number < end { Some(number) } else { None }
     }
 
-    /// Puts the number in. A number that the set has stays.
+    /// Adds the number, if it is absent.
     pub fn put(&mut self, number: u16)
         ensures { (n : ℕ) → has self.new n ≡ ((n == number) || has self.old n) }
     {
@@ -76,7 +76,7 @@ impl Bits {
         );
     }
 
-    /// Takes the number out. A number that the set does not have stays out.
+    /// Removes the number, if it is present.
     pub fn take(&mut self, number: u16)
         ensures { (n : ℕ) → has self.new n ≡ (not (n == number) && has self.old n) }
     {

@@ -8,10 +8,10 @@ use std::cmp::Reverse;
 use std::collections::BinaryHeap;
 use std::marker::Model;
 
-/// A queue of entries, each a time (in any unit) and a number, of which an entry of the least time is taken first; contracts see
-/// the entries in no particular order, each as often as it was put in, and how many more fit without a growth (`room`).
+/// A queue of entries, each a time (in any unit) and a number; an entry of the least time is taken first. Contracts see
+/// the entries in no particular order, with repetitions, and how many more fit without growth (`room`).
 ///
-/// A growth is a call of its own, `reserve`, so that a caller can make sure of its memory before it changes anything.
+/// Growth is a separate call, `reserve`, so that a caller can secure the memory before it changes anything.
 #[derive(Drop)]
 pub struct Due {
     heap: BinaryHeap<Reverse<(u64, u16)>>,
@@ -39,7 +39,7 @@ impl Due {
         }
     }
 
-    /// Makes room for one more entry, which changes no entry; `AllocError` where the memory is refused.
+    /// Makes room for one more entry, and changes none; `AllocError` if memory is refused.
     pub fn reserve(&mut self) -> Result<(), AllocError>
         ensures entries { self.new.entries ≡ self.old.entries }
         ensures room { OnOk result (0 < self.new.room) }
@@ -47,7 +47,7 @@ impl Due {
         self.heap.reserve(1)
     }
 
-    /// Puts an entry in, where there is room for it. It takes no memory.
+    /// Adds an entry, for which there is room. It takes no memory.
     pub fn put(&mut self, time: u64, number: u16)
         requires { 0 < self.old.room }
         ensures entries { IsPermutation ((time, number) ∷ self.old.entries) self.new.entries }
@@ -59,7 +59,7 @@ impl Due {
         }
     }
 
-    /// An entry of the least time, which stays; `None` where there are none.
+    /// An entry of the least time, which stays; `None` if there are none.
     pub fn first(&self) -> Option<(u64, u16)>
         ensures some { IfSome result (λ e. Contains self.now.entries e) }
         ensures least { IfSome result (λ e. All (λ other. e.0 ≤ other.0) self.now.entries) }
@@ -71,7 +71,7 @@ impl Due {
         }
     }
 
-    /// Takes out an entry of the least time, whose room is free from then on; `None` where there are none. It takes no memory.
+    /// Takes out an entry of the least time, and frees its room; `None` if there are none. It takes no memory.
     pub fn take_first(&mut self) -> Option<(u64, u16)>
         ensures some { IfSome result (λ e. IsPermutation self.old.entries (e ∷ self.new.entries)) }
         ensures least { IfSome result (λ e. All (λ other. e.0 ≤ other.0) self.old.entries) }

@@ -1,5 +1,5 @@
-//! Collections that a table of bindings stands on, each of use alone: a set of numbers that finds the first number that it does not
-//! have ([`Bits`]), a queue of times ([`Due`]), and optional times by place with an earliest and the latest at hand ([`Times`]).
+//! Collections for a table of bindings, each useful alone: a set of numbers that finds the first absent one ([`Bits`]),
+//! a queue of times ([`Due`]), and optional times by place with an earliest and the latest at hand ([`Times`]).
 #![tactic(auto)]
 
 mod bits;

@@ -1,11 +1,11 @@
-//! What is known of the times under each node of the tree of places.
+//! The earliest and latest time under each node of the tree of places.
 //!
-//! The places are the nodes of a binary tree: under place `i` are the places `2 i + 1` and `2 i + 2`, where there are such.
+//! The places are the nodes of a binary tree: under place `i` are the places `2 i + 1` and `2 i + 2`, if they exist.
 
 ghost use Rattle.std.specs.Prelude.{◌≡◌, ◌≢◌, ℕ, ◌+◌, ◌*◌, ◌<◌, length, slice_set, false};
 ghost use Rattle.napt_collections.specs.Spans.{earlier, later, no_times, span_at, joined, joined_at, IsRight};
 
-/// An earliest time, with its place, and the latest time of those at a place and at all places under it.
+/// An earliest time, with its place, and the latest time, of a place and all places under it.
 #[derive(Clone, Copy, PartialEq, Eq)]
 pub(crate) struct Span {
     pub(crate) earliest: Option<(u64, usize)>,
@@ -22,7 +22,7 @@ pub(crate) fn no_times() -> Span
     }
 }
 
-/// The earlier of two times with their places, the first where they are equal.
+/// The earlier of two times with their places, the first if they are equal.
 fn earlier(first: Option<(u64, usize)>, second: Option<(u64, usize)>) -> Option<(u64, usize)>
     ensures { result ≡ earlier first second }
 {
@@ -69,7 +69,7 @@ pub(crate) fn span_at(spans: &[Span], place: usize) -> Span
     }
 }
 
-/// Makes the span at a place right by what stands at the place and under it. Says whether that changed it.
+/// Recomputes the span at a place from its time and the spans under it. Returns whether it changed.
 fn mend_at(times: &[Option<u64>], spans: &mut [Span], place: usize) -> bool
     requires lengths { length times.now ≡ length spans.old }
     requires within { place < length times.now }
@@ -85,7 +85,8 @@ fn mend_at(times: &[Option<u64>], spans: &mut [Span], place: usize) -> bool
     changes
 }
 
-/// Makes all spans right where at most that at one place is not. It goes no further up than to a span that does not change.
+/// Makes all spans right when at most the one at `from` is wrong. It goes up only to the first span that does not
+/// change.
 pub(crate) fn mend(times: &[Option<u64>], spans: &mut [Span], from: usize)
     requires lengths { length times.now ≡ length spans.old }
     requires within { from < length times.now }

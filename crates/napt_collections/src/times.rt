@@ -7,10 +7,10 @@ use crate::span::{Span, mend, no_times, span_at};
 use std::alloc::{AllocError, Global};
 use std::marker::Model;
 
-/// Optional times (in any unit) by place, counted from 0, with an earliest and the latest at hand; contracts see the times, and how
-/// many more fit without a growth (`room`).
+/// Optional times (in any unit) by place, counted from 0, with an earliest and the latest at hand. Contracts see the
+/// times, and how many more fit without growth (`room`).
 ///
-/// A growth can be a call of its own, `reserve`, so that a caller can make sure of its memory before it changes anything.
+/// Growth can be a separate call, `reserve`, so that a caller can secure the memory before it changes anything.
 #[derive(Drop)]
 pub struct Times {
     times: Vec<Option<u64>>,
@@ -41,7 +41,7 @@ impl Times {
         }
     }
 
-    /// Makes room for one more time, which changes no time; `AllocError` where the memory is refused.
+    /// Makes room for one more time, and changes none; `AllocError` if memory is refused.
     pub fn reserve(&mut self) -> Result<(), AllocError>
         ensures times { self.new.times ≡ self.old.times }
         ensures room { OnOk result (0 < self.new.room) }
@@ -50,8 +50,8 @@ impl Times {
         self.spans.reserve(1)
     }
 
-    /// Puts a time at the place after the last, where there is room for it. It takes no memory, and at most a step for each level
-    /// of the tree of places.
+    /// Appends a time, for which there is room. It takes no memory, and at most one step per level of the tree of
+    /// places.
     pub fn put(&mut self, time: Option<u64>)
         requires { 0 < self.old.room }
         ensures times { self.new.times ≡ self.old.times ++ (time ∷ []) }
@@ -69,7 +69,7 @@ impl Times {
         mend(&self.times, &mut self.spans, place);
     }
 
-    /// Puts a time at the place after the last; `AllocError`, and no time changed, where the memory is refused.
+    /// Appends a time; `AllocError`, and no time changed, if memory is refused.
     pub fn push(&mut self, time: Option<u64>) -> Result<(), AllocError>
         ensures ok { OnOk result (self.new.times ≡ self.old.times ++ (time ∷ [])) }
         ensures refused { OnErr result (self.new.times ≡ self.old.times) }
@@ -79,7 +79,7 @@ impl Times {
         Ok(())
     }
 
-    /// Changes the time at a place. It takes no memory, and at most a step for each level of the tree of places.
+    /// Changes the time at a place. It takes no memory, and at most one step per level of the tree of places.
     pub fn set(&mut self, place: usize, time: Option<u64>)
         requires { place < length self.old.times }
         ensures times { self.new.times ≡ slice_set self.old.times place time }
@@ -89,14 +89,14 @@ impl Times {
         mend(&self.times, &mut self.spans, place);
     }
 
-    /// An earliest time and its place; `None` where no place has a time. It takes one look, and no memory.
+    /// An earliest time and its place; `None` if no place has a time. It takes constant time, and no memory.
     pub fn earliest(&self) -> Option<(u64, usize)>
         ensures { IsEarliest self.now.times result }
     {
         span_at(&self.spans, 0).earliest
     }
 
-    /// The latest time; `None` where no place has a time. It takes one look, and no memory.
+    /// The latest time; `None` if no place has a time. It takes constant time, and no memory.
     pub fn latest(&self) -> Option<u64>
         ensures { IsLatest self.now.times result }
     {

@@ -36,7 +36,7 @@ pub(crate) fn first_clear_of(words: &[u64], from: usize) -> Option<usize>
     None
 }
 
-/// The first clear bit from `from` on, by a bit for each word that is full: no word that is full is looked at.
+/// The first clear bit from `from` on, by a bit for each full word: full words past the first are skipped.
 pub(crate) fn first_clear_over(words: &[u64], full: &[u64], from: usize) -> Option<usize>
     requires marked { IsMarked words.now full.now }
     requires within { from < 65536 }
@@ -76,7 +76,7 @@ pub(crate) fn without_bit(word: u64, k: u32) -> u64
     word & !(1 << k)
 }
 
-/// The word with the bit set where `is_set` says so, else clear.
+/// The word with the bit set if `is_set`, else clear.
 pub(crate) fn with_mark(word: u64, k: u32, is_set: bool) -> u64
     requires { k < 64 }
     ensures here { has_bit result k ≡ is_set }
