@@ -7,7 +7,7 @@ ghost use Rattle.napt_numbers.specs.Places.{place_of};
 use napt_rules::Class;
 use napt_wire::Protocol;
 
-/// The class in which the number of an inside endpoint is mapped: a port keeps its parity and its side of 1024.
+/// The class that an inside endpoint's number is mapped in: a port keeps its parity and its side of 1024.
 pub(crate) fn class_of(protocol: Protocol, number: u16) -> Class
     ensures value { result ≡ class_of protocol number }
     ensures some { (0 < result.many) × (0 < result.apart) }

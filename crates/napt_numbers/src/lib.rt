@@ -1,4 +1,4 @@
-//! The external numbers of a protocol: which may stand for a number, which are in use, and the choice of a free one.
+//! The external numbers of a protocol: the candidates for a number, those in use, and the choice of a free one.
 //!
 //! The rules are those of RFC 4787 and RFC 5508; `specs/` states them, each with its sections.
 #![tactic(auto)]
@@ -11,8 +11,8 @@ mod numbers;
 pub use napt_rules::Class;
 pub use numbers::Numbers;
 
-/// The candidates of a number are the numbers that may stand for it, each once, beginning with itself: a port is mapped on its
-/// side of 1024 and keeps its parity (RFC 4787, REQ-3 (a) and REQ-4), an identifier is mapped to any (RFC 5508, section 3.1).
+/// The candidates of a number are those that it may be mapped to, each once, itself first: a port keeps its side of
+/// 1024 and its parity (RFC 4787, REQ-3 (a) and REQ-4), an identifier may become any (RFC 5508, section 3.1).
 pub fn candidates_are_the_class()
     ensures begin { CandidatesBegin }
     ensures those { CandidatesAreThose }

@@ -11,8 +11,8 @@ use napt_wire::Protocol;
 use std::alloc::{AllocError, Global};
 use std::marker::Model;
 
-/// The external numbers of one protocol that are in use: ports of UDP and TCP, identifiers of ICMP; contracts see the protocol,
-/// and which they are.
+/// The external numbers of one protocol that are in use: UDP and TCP ports, ICMP identifiers. Contracts see the
+/// protocol, and which they are.
 ///
 /// Each class of numbers is a run of bits, so that a choice looks at a few words, however many numbers are in use.
 #[derive(Drop)]
@@ -29,7 +29,7 @@ impl Model for Numbers {
     ghost view = { λ numbers. record { protocol = numbers.protocol; places = numbers.places } };
 }
 
-/// The place of a number among the bits: those of even ports, and then those of odd ones.
+/// The place of a number among the bits: even ports first, then odd ones.
 fn place_of(protocol: Protocol, number: u16) -> u16
     ensures { result ≡ place_of protocol number }
 {
@@ -40,7 +40,7 @@ fn place_of(protocol: Protocol, number: u16) -> u16
 }
 
 impl Numbers {
-    /// No number of the protocol is in use. It takes about 8 KiB, and no other call takes any; `AllocError` where they are
+    /// No number of the protocol is in use. It takes about 8 KiB, and no other call takes any; `AllocError` if they are
     /// refused.
     pub fn new(alloc: Global, protocol: Protocol) -> Result<Numbers, AllocError>
         ensures protocol { IfOk result (λ numbers. numbers.protocol ≡ protocol) }
@@ -59,8 +59,8 @@ impl Numbers {
         self.protocol
     }
 
-    /// The number that an inside endpoint with this number gets: itself where it is not in use, else the next one of its class
-    /// that is not, which goes on at the beginning of the class (RFC 4787, REQ-3 and REQ-4); `None` where the class is full.
+    /// The external number for an inside endpoint with this number: itself if it is free, else the next free one of its
+    /// class, wrapping around (RFC 4787, REQ-3 and REQ-4); `None` if the class is full.
     pub fn choose(&self, number: u16) -> Option<u16>
         ensures { result ≡ find (λ n. not (is_used self.now n))
             (candidates self.now.protocol number) }
@@ -76,7 +76,7 @@ impl Numbers {
         Some((class.least + class.apart * (place - start)) as u16)
     }
 
-    /// The number is in use from now on. One that is in use stays so.
+    /// Marks the number as in use, if it is free.
     pub fn put(&mut self, number: u16)
         ensures protocol { self.new.protocol ≡ self.old.protocol }
         ensures used { (n : ℕ) → n < 2 ^ 16 → is_used self.new n
@@ -87,7 +87,7 @@ impl Numbers {
         places.put(place);
     }
 
-    /// The number is free from now on. One that is free stays so.
+    /// Frees the number, if it is in use.
     pub fn take(&mut self, number: u16)
         ensures protocol { self.new.protocol ≡ self.old.protocol }
         ensures used { (n : ℕ) → n < 2 ^ 16 → is_used self.new n
