@@ -1,9 +1,9 @@
-//! What legs keep to, whatever the bindings.
+//! What holds of legs, whatever the bindings.
 
 ghost use Rattle.napt_rules.specs.Prelude.{ErrorsChangeNothing, LegsEndAtTheirSide, InStaysIn};
 
-/// An ICMP error changes no binding and no time; what leaves goes to no external address of the pool, and what goes
-/// onward to the one at that place; what comes in reaches the inside or is dropped.
+/// An ICMP error changes no binding and no time; what leaves goes to no address of the pool, what goes onward to
+/// the one at that place; what comes in reaches the inside or is dropped.
 pub fn legs_keep_to_their_way()
     ensures errors { ErrorsChangeNothing }
     ensures sides { LegsEndAtTheirSide }

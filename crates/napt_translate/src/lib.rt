@@ -1,8 +1,8 @@
 //! The translator of one external address: which packets may cross it, and what becomes of each.
 //!
-//! A packet crosses in legs. Outside and inside are told apart by `route`, which also finds the translator that serves
-//! a packet; `Translator::translate` takes it one way through the bindings of one external address (RFC 3022). A packet
-//! from inside to an external address has two legs: out at the address of its host, and in at the other (RFC 4787, REQ-9).
+//! A packet crosses in legs. `route` tells outside from inside and finds the translator that serves a packet;
+//! `Translator::translate` takes it one way through the bindings of one external address (RFC 3022). A packet from
+//! inside to an external address has two legs: out at its host's address, and in at the other (RFC 4787, REQ-9).
 #![tactic(auto)]
 
 mod laws;

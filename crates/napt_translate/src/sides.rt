@@ -9,10 +9,10 @@ ghost use Rattle.napt_rules.specs.Sides as sides;
 use napt_config::Config;
 use napt_wire::{Cause, Kind, Packet, Protocol, Side, Way, packets_keep_their_way};
 
-/// The place in the pool, from 0, of the external address at which a packet that arrived on a side is served: that of
-/// the pairing of its inside host, or the one that it came to. `Spoofed` where its source belongs to the other side,
-/// `NotOurs` where its destination is not beyond the translator, `Unsupported` for an echo of the inside, or an error
-/// about one, to an external address. It takes no memory.
+/// The place in the pool, from 0, of the external address that serves a packet from a side: its inside host's paired
+/// one, or the one that it came to. `Spoofed` if its source belongs to the other side, `NotOurs` if its destination
+/// is not beyond the translator, `Unsupported` for an echo from inside, or an error about one, to an external
+/// address. It takes no memory.
 #[tactic(auto, unfolding(napt_rules::specs::Sides::route))]
 pub fn route(config: &Config, side: Side, packet: &Packet) -> Result<u32, Cause>
     ensures place { result ≡ sides.route config.now side packet.now }
@@ -26,8 +26,8 @@ pub fn route(config: &Config, side: Side, packet: &Packet) -> Result<u32, Cause>
     config.pool_index(address).ok_or(Cause::NotOurs)
 }
 
-/// The place in the pool, from 0, of a packet's destination, where it has one. Where it has, a packet on its way out
-/// goes onward there or is dropped; where it has none, it never goes onward (RFC 4787, REQ-9). It takes no memory.
+/// The place in the pool, from 0, of a packet's destination, if it has one. If so, a packet on its way out goes
+/// onward there or is dropped; if not, it never goes onward (RFC 4787, REQ-9). It takes no memory.
 pub fn onward(config: &Config, packet: &Packet) -> Option<u32>
     ensures place { result ≡ place_of config.now (destination packet.now).address }
     ensures foresees { Foresees config.now packet.now result }
@@ -47,7 +47,7 @@ pub fn way_from(side: Side) -> Way
     }
 }
 
-/// The first cause that stands against a packet's crossing.
+/// The first cause to refuse a packet.
 fn refusal(config: &Config, side: Side, packet: &Packet) -> Option<Cause>
     ensures { result ≡ sides.refusal config.now side packet.now }
 {
@@ -85,7 +85,7 @@ fn is_not_ours(config: &Config, side: Side, packet: &Packet) -> bool
     }
 }
 
-/// Whether it is an echo of the inside, or an error about one, to an external address.
+/// Whether it is an echo from inside, or an error about one, to an external address.
 fn is_unsupported(config: &Config, side: Side, packet: &Packet) -> bool
     ensures { result ≡ sides.is_unsupported config.now side packet.now }
 {
@@ -117,7 +117,7 @@ fn is_in_pool(config: &Config, address: u32) -> bool
     config.pool_index(address).is_some()
 }
 
-/// The external address at which a packet is served.
+/// The external address that serves a packet.
 fn served_at(config: &Config, way: Way, packet: &Packet) -> u32
     ensures { result ≡ sides.served_at config.now way packet.now }
 {

@@ -17,7 +17,7 @@ use napt_wire::{Cause, Endpoint, Flags, Inner, Kind, Packet, Protocol, Way};
 use std::alloc::{AllocError, Global};
 use std::marker::Model;
 
-/// Flags count for TCP alone.
+/// Flags count only for TCP.
 const NO_FLAGS: Flags = Flags {
     fin: false,
     syn: false,
@@ -59,11 +59,11 @@ impl Translator {
         })
     }
 
-    /// Takes a packet one way: out as its source's external endpoint, in as its inside endpoint, an ICMP error by the
-    /// datagram that it quotes. The packet is changed in place. A time before that of the last leg counts as that
-    /// one; an error changes no binding and no time. A packet that comes in never answers `Onward`.
+    /// Translates a packet one way: its source to the external endpoint on the way out, its destination to the inside
+    /// one on the way in, an ICMP error by the datagram that it quotes. The packet is changed in place. A time before
+    /// the last leg's counts as that; an error changes no binding and no time. An incoming packet never ends `Onward`.
     ///
-    /// Where memory is refused nothing is changed, and the leg is spent.
+    /// If memory is refused nothing changes, and the leg is lost.
     pub fn translate(&mut self, alloc: Global, leg: Leg) -> Result<Answer, AllocError>
         ensures answer { IfOk result (λ answer.
             answer ≡ kept_answer self.old.rules self.old.table.address
@@ -97,8 +97,8 @@ impl Translator {
         Ok(Answer { number, end })
     }
 
-    /// The live bindings at a time, in ns, sorted by protocol and external number; a time before that of the last leg
-    /// counts as that one.
+    /// The live bindings at a time, in ns, sorted by protocol and external number; a time before the last leg's counts
+    /// as that.
     pub fn bindings(&self, alloc: Global, now: u64) -> Result<Vec<Row>, AllocError>
         ensures { IfOk result (λ made. made.items ≡ rows self.now.rules.timers
             (max now self.now.table.at) self.now.table.list) }
@@ -106,8 +106,7 @@ impl Translator {
         self.table.bindings(alloc, now.max(self.table.at()))
     }
 
-    /// The binding of an inside endpoint at a time, in ns, with its end; a time before that of the last leg counts as
-    /// that one.
+    /// The binding of an inside endpoint at a time, in ns, with its end; a time before the last leg's counts as that.
     pub fn timed_by_inside(
         &self,
         now: u64,
@@ -122,8 +121,7 @@ impl Translator {
             .timed_by_inside(now.max(self.table.at()), protocol, inside)
     }
 
-    /// The binding with an external number at a time, in ns, with its end; a time before that of the last leg counts as
-    /// that one.
+    /// The binding with an external number at a time, in ns, with its end; a time before the last leg's counts as that.
     pub fn timed_by_number(&self, now: u64, protocol: Protocol, number: u16) -> Option<TimedRow>
         ensures { result ≡ option_map (timed self.now.rules.timers)
             (steps.by_number self.now.rules.timers self.now.table.address
@@ -133,7 +131,7 @@ impl Translator {
             .timed_by_number(now.max(self.table.at()), protocol, number)
     }
 
-    /// A packet that is no error goes out.
+    /// Translates an outgoing non-error.
     fn send(
         &mut self,
         alloc: Global,
@@ -172,7 +170,7 @@ impl Translator {
         }
     }
 
-    /// A packet that is no error comes in.
+    /// Translates an incoming non-error.
     fn deliver(&mut self, now: u64, protocol: Protocol, flags: Flags, mut packet: Packet) -> End
         requires later { self.old.table.at ≤ now }
         requires carried { carried_by (kind packet) ≡ Some protocol }
@@ -197,7 +195,7 @@ impl Translator {
         }
     }
 
-    /// An ICMP error goes out, by the destination of what it quotes (RFC 5508, REQ-5).
+    /// Translates an outgoing ICMP error by its quoted destination (RFC 5508, REQ-5).
     fn revert_out(&self, now: u64, inner: Inner, mut packet: Packet) -> End
         requires later { self.now.table.at ≤ now }
         requires error { kind packet ≡ Kind.ErrorOf inner }
@@ -220,7 +218,7 @@ impl Translator {
         }
     }
 
-    /// An ICMP error comes in, by the source of what it quotes (RFC 5508, REQ-4).
+    /// Translates an incoming ICMP error by its quoted source (RFC 5508, REQ-4).
     fn revert_in(&self, now: u64, inner: Inner, mut packet: Packet) -> End
         requires later { self.now.table.at ≤ now }
         requires error { kind packet ≡ Kind.ErrorOf inner }
@@ -248,7 +246,7 @@ impl Translator {
     }
 }
 
-/// A packet on its way out: onward where it goes to an external address of the pool, else to the outside.
+/// A packet on its way out: onward if it goes to an external address of the pool, else to the outside.
 fn gone_out(config: &Config, packet: Packet) -> End
     ensures { result ≡ legs.gone_out config.now packet }
 {
