@@ -1,11 +1,11 @@
-//! How many there are of each address: flows of a remote one, bindings of an inside one.
+//! Counts by address: the flows of a remote one, the bindings of an inside one.
 
 ghost use Rattle.std.specs.Prelude.{◌≡◌, ◌==◌, ℕ, ◌+◌, ◌-◌, ◌*◌, ◌^◌, ◌<◌, ◌≤◌, cond, nat_lt, OnOk};
 
 use std::alloc::{AllocError, Global};
 use std::collections::HashMap;
 
-/// How many there are of each address. An address without any has no entry.
+/// A count for each address. An address whose count is 0 has no entry.
 #[derive(Drop)]
 pub struct Addresses {
     counts: HashMap<u32, usize>,
@@ -23,7 +23,7 @@ impl Addresses {
         }
     }
 
-    /// Makes room for one more address; `AllocError` where its memory is refused, which changes no count.
+    /// Makes room for one more address, and changes no count; `AllocError` if memory is refused.
     pub fn reserve(&mut self) -> Result<(), AllocError>
         ensures counts { (address : ℕ) → count_at self.new address ≡ count_at self.old address }
         ensures room { OnOk result (0 < room_of self.new) }
@@ -31,7 +31,7 @@ impl Addresses {
         self.counts.reserve(1)
     }
 
-    /// How many there are of the address.
+    /// The count of the address.
     pub fn count(&self, address: u32) -> usize
         ensures { result ≡ count_at self.now address }
     {
@@ -41,7 +41,7 @@ impl Addresses {
         }
     }
 
-    /// Whether one of the address is counted.
+    /// Whether the address's count is not 0.
     pub(crate) fn has(&self, address: u32) -> bool
         ensures { result ≡ nat_lt 0 (count_at self.now address) }
     {
@@ -51,7 +51,7 @@ impl Addresses {
         }
     }
 
-    /// One more of the address, where there is room for it. It takes no memory.
+    /// Counts one more of the address, for which there is room. It takes no memory.
     pub fn put(&mut self, address: u32)
         requires room { 0 < room_of self.old }
         requires fits { count_at self.old address + 1 < 2 ^ 64 }
@@ -65,7 +65,7 @@ impl Addresses {
         }
     }
 
-    /// One less of the address; none where it has none. It leaves as much room.
+    /// Counts one less of the address, down to 0. It leaves as much room.
     pub fn take(&mut self, address: u32)
         ensures counts { (other : ℕ) → count_at self.new other ≡ count_at self.old other
             - cond {A = ℕ} (address == other) 1 0 }

@@ -1,6 +1,6 @@
 //! The flows of one binding.
 //!
-//! No call walks over more than a few of them.
+//! Amortized, a call looks at only a few of them.
 
 ghost use Rattle.std.specs.Prelude.{◌≡◌, ◌==◌, ◌≤◌, ℕ, Bool, true, filter, OnOk, OnErr, IfOk, [], ◌∷◌};
 ghost use Rattle.std.specs.List.{list_any};
@@ -28,10 +28,10 @@ use napt_wire::{Endpoint, Flags, Protocol, Way};
 use std::alloc::{AllocError, Global};
 use std::marker::Model;
 
-/// How many flows are kept without maps, and walked over at each packet.
+/// How many flows are kept without maps, and searched one by one.
 const FEW: usize = 8;
 
-/// How flows are kept. Most bindings have one, and it takes no memory of its own.
+/// How flows are kept. Most bindings have one, which takes no memory of its own.
 #[derive(Drop)]
 enum Kept {
     Empty,
@@ -40,7 +40,7 @@ enum Kept {
     Many(Box<Many>),
 }
 
-/// The flows of one binding, in the order in which they began, no two of one remote endpoint; contracts see them as a list.
+/// The flows of one binding, oldest first, no two of one remote endpoint; contracts see them as a list.
 #[derive(Drop)]
 pub struct Flows {
     kept: Kept,
@@ -59,7 +59,7 @@ impl Model for Flows {
     ghost invariant = { λ flows. IsKept flows.kept };
 }
 
-/// Whether so many flows of a binding stand that one more is kept with maps.
+/// Whether so many flows of a binding count that one more is kept with maps.
 fn is_full(flows: &[Flow], timers: Timers, sent: Sent) -> bool
     requires { AreTimers timers }
 {
@@ -72,7 +72,7 @@ fn is_full(flows: &[Flow], timers: Timers, sent: Sent) -> bool
     FEW <= standing.count() && few::standing_place(flows, timers, sent).is_none()
 }
 
-/// One flow, after a packet goes out: still one where it is of the packet's remote, or is dead.
+/// One flow, after a packet goes out: still one if it is of the packet's remote, or is dead.
 fn after_one(alloc: Global, timers: Timers, sent: Sent, flow: Flow) -> Result<Kept, AllocError>
     requires { AreTimers timers }
     ensures kept { IfOk result IsKept }
@@ -101,7 +101,7 @@ impl Flows {
         Flows { kept: Kept::Empty }
     }
 
-    /// The flows of a binding through which a first packet goes out. They take no memory of their own.
+    /// The flows of a binding whose first packet goes out. They take no memory of their own.
     pub fn begun(_alloc: Global, timers: Timers, sent: Sent) -> Result<Flows, AllocError>
         requires { AreTimers timers }
         ensures { IfOk result (λ flows. packets.standing_at timers sent flows
@@ -112,7 +112,7 @@ impl Flows {
         })
     }
 
-    /// The last moment at which one of these TCP flows is live, where one is live now.
+    /// The last moment at which one of these TCP flows is live; one is live now.
     pub(crate) fn last_moment(&self, timers: Timers, now: u64) -> u64
         requires timers { AreTimers timers }
         requires live { list_any (life.is_live_flow timers now) self.now ≡ true }
@@ -128,7 +128,7 @@ impl Flows {
         }
     }
 
-    /// When the last of these TCP flows ends, in ns; 0 where there is none.
+    /// When the last of these TCP flows ends, in ns; 0 if there is none.
     pub(crate) fn last_end(&self, timers: Timers) -> u128
         requires { AreTimers timers }
         ensures { result ≡ last_end timers self.now }
@@ -154,7 +154,7 @@ impl Flows {
         }
     }
 
-    /// The dead ones of these TCP flows go.
+    /// Removes the dead ones of these TCP flows.
     pub(crate) fn keep_live(&mut self, timers: Timers, now: u64)
         requires { AreTimers timers }
         ensures { self.new ≡ filter (life.is_live_flow timers now) self.old }
@@ -171,7 +171,7 @@ impl Flows {
         }
     }
 
-    /// Whether one of the flows is of the address.
+    /// Whether a flow's remote has the address.
     pub(crate) fn has_address(&self, address: u32) -> bool
         ensures { result ≡ list_any (λ flow. flow.remote.address == address) self.now }
     {
@@ -183,7 +183,7 @@ impl Flows {
         }
     }
 
-    /// Whether one of the flows is of the remote.
+    /// Whether a flow is of the remote.
     pub(crate) fn has_remote(&self, remote: Endpoint) -> bool
         ensures { result ≡ list_any (traffic.is_flow_of remote) self.now }
     {
@@ -195,7 +195,7 @@ impl Flows {
         }
     }
 
-    /// The flow of the packet's remote is used by it; where none lives, one begins. Where memory is refused nothing is changed.
+    /// Uses the flow of the packet's remote; if none is live, begins one. If memory is refused nothing changes.
     pub(crate) fn use_flow(
         &mut self,
         alloc: Global,
@@ -230,7 +230,7 @@ impl Flows {
         }
     }
 
-    /// The flow of the remote, where there is one, is used now by an incoming segment.
+    /// Uses the flow of the remote, if there is one, now by an incoming segment.
     pub(crate) fn refresh_flow(&mut self, now: u64, remote: Endpoint, flags: Flags)
         ensures { self.new ≡ change_first (traffic.is_flow_of remote)
             (traffic.used Protocol.Tcp Way.Incoming flags now) self.old }

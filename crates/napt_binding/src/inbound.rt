@@ -1,4 +1,4 @@
-//! What a table does with packets that come in.
+//! How a table treats incoming packets.
 
 ghost use Rattle.std.specs.Prelude.{◌≡◌};
 ghost use Rattle.napt_rules.specs.Prelude as rules;
@@ -6,7 +6,7 @@ ghost use Rattle.napt_rules.specs.Prelude as rules;
 use napt_config::Config;
 use napt_rules::Inbound;
 
-/// What the configuration says of packets that come in.
+/// The configuration's rules for incoming packets.
 pub fn inbound_of(config: &Config) -> Inbound
     ensures { result ≡ rules.inbound_of config.now }
 {

@@ -18,5 +18,6 @@ pub use life::{end_of, is_live, until};
 pub use napt_rules::{Flow, Inbound, Marks, Sent};
 pub use traffic::{send, take_in};
 
-/// An inside endpoint and the external endpoint that stands for it under one protocol (RFC 3022, section 2.2), with its flows.
+/// An inside endpoint and the external endpoint it is mapped to under one protocol (RFC 3022, section 2.2), with its
+/// flows.
 pub type Binding = napt_rules::Binding<Flows>;

@@ -17,7 +17,7 @@ use napt_wire::Protocol;
 /// In nanoseconds.
 const SECOND: u64 = 1_000_000_000;
 
-/// Whether `last` is less than so many seconds ago.
+/// Whether `last` is less than `seconds` ago.
 pub(crate) fn is_recent(now: u64, last: u64, seconds: u64) -> bool
     requires { seconds ≤ 1_000_000_000 }
     ensures { result ≡ life.is_recent now last seconds }
@@ -25,7 +25,7 @@ pub(crate) fn is_recent(now: u64, last: u64, seconds: u64) -> bool
     now.saturating_sub(last) < seconds * SECOND
 }
 
-/// The last moment at which what was last used at `last` counts, or the greatest time where that is earlier.
+/// The last moment at which what was last used at `last` is live, or the greatest time if that is earlier.
 pub(crate) fn last_moment(last: u64, seconds: u64) -> u64
     requires some { 0 < seconds }
     requires few { seconds ≤ 1_000_000_000 }
@@ -36,7 +36,7 @@ pub(crate) fn last_moment(last: u64, seconds: u64) -> u64
     last.saturating_add(seconds * SECOND - 1)
 }
 
-/// So many seconds after `last`, in ns.
+/// `seconds` after `last`, in ns.
 pub(crate) fn end_after(last: u64, seconds: u64) -> u128
     requires { seconds ≤ 1_000_000_000 }
     ensures { result ≡ end_after last seconds }
@@ -95,8 +95,8 @@ pub fn is_live(binding: &Binding, timers: Timers, now: u64) -> bool
     }
 }
 
-/// When the binding ends if no packet goes through it: the first time, in ns, at which it is no longer live. None for a
-/// redirect, which lives on.
+/// When the binding ends if no packet goes through it: the first time, in ns, at which it is no longer live. `None` for
+/// a redirect, which never ends.
 pub fn end_of(binding: &Binding, timers: Timers) -> Option<u128>
     requires { AreTimers timers }
     ensures { result ≡ end_of timers binding.now }
@@ -112,8 +112,8 @@ pub fn end_of(binding: &Binding, timers: Timers) -> Option<u128>
     Some(end)
 }
 
-/// Up to when (ns) a binding that is live now lives for sure, whatever packets come: at least now, and no longer than a packet
-/// now would keep it.
+/// Until when (ns) a binding that is live now is sure to live, whatever packets come: at least now, and no longer than
+/// a packet now would keep it.
 pub fn until(binding: &Binding, timers: Timers, now: u64) -> u64
     requires timers { AreTimers timers }
     requires live { life.is_live timers now binding.now ≡ true }
@@ -145,7 +145,7 @@ pub fn until(binding: &Binding, timers: Timers, now: u64) -> u64
     }
 }
 
-/// A TCP binding loses its dead flows.
+/// Removes a TCP binding's dead flows.
 pub(crate) fn purge_flows(binding: &mut Binding, timers: Timers, now: u64)
     requires { AreTimers timers }
     ensures { binding.new ≡ life.with_live_flows timers now binding.old }

@@ -1,4 +1,4 @@
-//! A packet that goes out, and the flow of its remote.
+//! An outgoing packet, and the flow of its remote.
 
 ghost use Rattle.std.specs.Prelude.{◌≡◌};
 ghost use Rattle.napt_rules.specs.Prelude as rules;
@@ -8,7 +8,7 @@ use crate::traffic::{fresh_flow, used};
 use napt_rules::{Flow, Sent};
 use napt_wire::Way;
 
-/// The flow, used by the packet.
+/// The flow after the packet.
 pub(crate) fn used_by(sent: Sent, flow: Flow) -> Flow
     ensures { result ≡ rules.used sent.protocol Way.Outgoing sent.flags sent.now flow }
 {

@@ -41,7 +41,7 @@ pub(crate) fn is_flow_of(flow: &Flow, remote: Endpoint) -> bool
     same_endpoint(flow.remote, remote)
 }
 
-/// The flow, used now, and in TCP marked.
+/// The flow used now, in TCP with new marks.
 pub(crate) fn used(flow: Flow, protocol: Protocol, way: Way, flags: Flags, now: u64) -> Flow
     ensures { result ≡ traffic.used protocol way flags now flow }
 {
@@ -70,8 +70,9 @@ fn permits(binding: &Binding, inbound: Inbound, remote: Endpoint) -> bool
     }
 }
 
-/// A packet goes out through the binding to the remote at `now` (ns); flags count for TCP alone. A redirect stays as it is.
-/// Dead flows may stay, and count for nothing. `AllocError` where memory for a flow more is refused, which changes nothing.
+/// Sends a packet out through the binding to the remote at `now` (ns); flags count only for TCP. A redirect does not
+/// change. Dead flows may stay, and do not count. `AllocError`, and nothing changed, if memory for a new flow is
+/// refused.
 pub fn send(
     binding: &mut Binding,
     alloc: Global,
@@ -103,7 +104,7 @@ pub fn send(
     Ok(())
 }
 
-/// Whether packets that come in keep the binding alive (RFC 4787, REQ-6).
+/// Whether incoming packets keep the binding alive (RFC 4787, REQ-6).
 fn is_refreshed(binding: &Binding, refresh: Refresh) -> bool
     ensures { result ≡ traffic.refreshes refresh binding.now }
 {
@@ -113,7 +114,7 @@ fn is_refreshed(binding: &Binding, refresh: Refresh) -> bool
     }
 }
 
-/// A packet came in through the binding.
+/// Records a packet that the binding lets in.
 fn receive(binding: &mut Binding, inbound: Inbound, now: u64, remote: Endpoint, flags: Flags)
     ensures { binding.new ≡ traffic.received inbound remote flags now binding.old }
 {
@@ -125,8 +126,8 @@ fn receive(binding: &mut Binding, inbound: Inbound, now: u64, remote: Endpoint, 
     }
 }
 
-/// A packet comes in from the remote through the binding, which loses its dead flows: answers the inside endpoint, or `Filtered`
-/// where the filter does not let the remote through (RFC 4787, REQ-8). `now` is in ns; flags count for TCP alone. It takes no
+/// Takes in a packet from the remote through the binding, and removes its dead flows. Returns the inside endpoint, or
+/// `Filtered` if the filter refuses the remote (RFC 4787, REQ-8). `now` is in ns; flags count only for TCP. It takes no
 /// memory.
 pub fn take_in(
     binding: &mut Binding,

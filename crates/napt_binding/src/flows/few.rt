@@ -19,7 +19,7 @@ use napt_rules::{Flow, Sent};
 use napt_wire::{Endpoint, Flags, Protocol, Way};
 use std::alloc::AllocError;
 
-/// The last moment at which one of these flows is live, where one is live now.
+/// The last moment at which one of these flows is live; one is live now.
 pub(super) fn last_moment_of(flows: &[Flow], timers: Timers, now: u64) -> u64
     requires timers { AreTimers timers }
     requires live { list_any (life.is_live_flow timers now) flows.now ≡ true }
@@ -33,7 +33,7 @@ pub(super) fn last_moment_of(flows: &[Flow], timers: Timers, now: u64) -> u64
     last
 }
 
-/// When the last of these flows ends, in ns; 0 where there is none.
+/// When the last of these flows ends, in ns; 0 if there is none.
 pub(super) fn last_end(flows: &[Flow], timers: Timers) -> u128
     requires { AreTimers timers }
     ensures { result ≡ last_end timers flows.now }
@@ -60,7 +60,7 @@ pub(super) fn standing_place(flows: &[Flow], timers: Timers, sent: Sent) -> Opti
         && is_flow_of(flow, sent.remote))
 }
 
-/// The dead ones of these TCP flows go.
+/// Removes the dead ones of these TCP flows.
 pub(super) fn keep_live(flows: &mut Vec<Flow>, timers: Timers, now: u64)
     requires { AreTimers timers }
     ensures flows { flows.new.items ≡ filter (life.is_live_flow timers now) flows.old.items }
@@ -70,7 +70,7 @@ pub(super) fn keep_live(flows: &mut Vec<Flow>, timers: Timers, now: u64)
     flows.retain(|flow| is_live_flow(flow, timers, now));
 }
 
-/// The flows of TCP that are dead go.
+/// Removes the dead flows if they are TCP.
 fn keep_standing(flows: &mut Vec<Flow>, timers: Timers, now: u64, protocol: Protocol)
     requires { AreTimers timers }
     ensures flows { flows.new.items ≡ life.live_flows timers now protocol flows.old.items }
@@ -82,7 +82,7 @@ fn keep_standing(flows: &mut Vec<Flow>, timers: Timers, now: u64, protocol: Prot
     }
 }
 
-/// The flow of the packet's remote is used by it; where none lives, one begins, and the dead ones go.
+/// Uses the flow of the packet's remote; if none is live, begins one and removes the dead ones.
 pub(super) fn use_flow(flows: &mut Vec<Flow>, timers: Timers, sent: Sent) -> Result<(), AllocError>
     requires timers { AreTimers timers }
     requires distinct { AreDistinct flows.old.items }
@@ -106,7 +106,7 @@ pub(super) fn use_flow(flows: &mut Vec<Flow>, timers: Timers, sent: Sent) -> Res
     Ok(())
 }
 
-/// The flow of the remote, where there is one, is used now by an incoming segment.
+/// Uses the flow of the remote, if there is one, now by an incoming segment.
 pub(super) fn refresh_flow(flows: &mut [Flow], now: u64, remote: Endpoint, flags: Flags)
     requires distinct { AreDistinct flows.old }
     ensures distinct { AreDistinct flows.new }

@@ -1,4 +1,4 @@
-//! Many flows, which no call walks over.
+//! Many flows, found through maps.
 
 ghost use Rattle.std.specs.Prelude.{◌≡◌, ◌==◌, ◌≤◌, ◌<◌, ◌++◌, ℕ, Bool, true, false, None, Some, [], ◌∷◌, length, filter, slice_set, OnOk, OnErr, IfOk, IfSome};
 ghost use Rattle.std.specs.List.{list_any};
@@ -23,7 +23,7 @@ use napt_wire::{Endpoint, Flags, Protocol, Way};
 use std::alloc::{AllocError, Global};
 use std::collections::HashMap;
 
-/// Up to so many slots an empty one is left as it is.
+/// Up to this many slots, empty ones stay.
 const SPARSE: usize = 64;
 
 /// The flows of a binding that has many.
@@ -64,7 +64,7 @@ impl Many {
         addresses.reserve()
     }
 
-    /// A flow of a remote that has none, after the others.
+    /// Appends a flow of a remote that has none.
     fn put(&mut self, flow: Flow)
         requires many { IsMany self.old }
         requires room { HasRoom self.old }
@@ -83,7 +83,7 @@ impl Many {
         addresses.put(remote.address);
     }
 
-    /// The flow in the slot goes.
+    /// Removes the flow in the slot.
     fn take_out(&mut self, place: usize)
         requires many { IsMany self.old }
         requires stands { (flow : Flow) × Stands self.old.slots.slots place flow }
@@ -102,7 +102,7 @@ impl Many {
         addresses.take(remote.address);
     }
 
-    /// The flow in the slot changes, and stays one of its remote.
+    /// Changes the flow in the slot, but not its remote.
     fn change(&mut self, place: usize, flow: Flow)
         requires many { IsMany self.old }
         requires stands { (was : Flow) × Stands self.old.slots.slots place was
@@ -114,7 +114,7 @@ impl Many {
         slots.set(place, Some(flow));
     }
 
-    /// A TCP flow that is dead goes; whether there was one.
+    /// Removes a dead TCP flow; returns whether there was one.
     fn drop_dead(&mut self, timers: Timers, now: u64) -> bool
         requires timers { AreTimers timers }
         requires many { IsMany self.old }
@@ -134,7 +134,7 @@ impl Many {
         true
     }
 
-    /// The TCP flows that are dead go.
+    /// Removes the dead TCP flows.
     pub(super) fn keep_live(&mut self, timers: Timers, now: u64)
         requires timers { AreTimers timers }
         requires many { IsMany self.old }
@@ -146,7 +146,7 @@ impl Many {
         while self.drop_dead(timers, now) {}
     }
 
-    /// The flows of TCP that are dead go.
+    /// Removes the dead flows if they are TCP.
     fn keep_standing(&mut self, timers: Timers, now: u64, protocol: Protocol)
         requires timers { AreTimers timers }
         requires many { IsMany self.old }
@@ -175,7 +175,7 @@ impl Many {
         self.slots.has_live(timers, now)
     }
 
-    /// The last moment at which one of these TCP flows is live, where one is live now.
+    /// The last moment at which one of these TCP flows is live; one is live now.
     pub(super) fn last_moment(&self, timers: Timers, now: u64) -> u64
         requires timers { AreTimers timers }
         requires live { list_any (life.is_live_flow timers now) (somes self.now.slots.slots)
@@ -187,7 +187,7 @@ impl Many {
         self.slots.last_moment(timers, now)
     }
 
-    /// When the last of these TCP flows ends, in ns; 0 where there is none.
+    /// When the last of these TCP flows ends, in ns; 0 if there is none.
     pub(super) fn last_end(&self, timers: Timers) -> u128
         requires { AreTimers timers }
         ensures { result ≡ last_end timers (somes self.now.slots.slots) }
@@ -195,7 +195,7 @@ impl Many {
         self.slots.last_end(timers)
     }
 
-    /// Whether one of the flows is of the address.
+    /// Whether a flow's remote has the address.
     pub(super) fn has_address(&self, address: u32) -> bool
         requires { IsMany self.now }
         ensures { result ≡ list_any (λ flow. flow.remote.address == address)
@@ -204,7 +204,7 @@ impl Many {
         self.addresses.has(address)
     }
 
-    /// Whether one of the flows is of the remote.
+    /// Whether a flow is of the remote.
     pub(super) fn has_remote(&self, remote: Endpoint) -> bool
         requires { IsMany self.now }
         ensures { result ≡ list_any (traffic.is_flow_of remote) (somes self.now.slots.slots) }
@@ -230,7 +230,7 @@ impl Many {
         Ok(many)
     }
 
-    /// The same flows in slots of which none is empty.
+    /// The same flows, without empty slots.
     fn compacted(&self, alloc: Global) -> Result<Many, AllocError>
         requires { IsMany self.now }
         ensures many { IfOk result IsMany }
@@ -252,7 +252,7 @@ impl Many {
         SPARSE < slots && self.places.len() < slots / 2
     }
 
-    /// Makes room for one more flow. Where most slots are empty they go.
+    /// Makes room for one more flow; drops empty slots if most are.
     fn make_room(&mut self, alloc: Global) -> Result<(), AllocError>
         requires { IsMany self.old }
         ensures many { IsMany self.new }
@@ -268,7 +268,7 @@ impl Many {
         self.reserve()
     }
 
-    /// The flow of the packet's remote is used by it, if it stands; whether it does.
+    /// Uses the flow of the packet's remote, if it counts; returns whether it does.
     fn use_standing(&mut self, timers: Timers, sent: Sent) -> bool
         requires timers { AreTimers timers }
         requires many { IsMany self.old }
@@ -296,7 +296,7 @@ impl Many {
         true
     }
 
-    /// The flow of the packet's remote is used by it; where none lives, one begins. Where memory is refused no flow is changed.
+    /// Uses the flow of the packet's remote; if none is live, begins one. If memory is refused no flow changes.
     pub(super) fn use_flow(
         &mut self,
         alloc: Global,
@@ -321,7 +321,7 @@ impl Many {
         Ok(())
     }
 
-    /// The flow of the remote, where there is one, is used now by an incoming segment.
+    /// Uses the flow of the remote, if there is one, now by an incoming segment.
     pub(super) fn refresh_flow(&mut self, now: u64, remote: Endpoint, flags: Flags)
         requires { IsMany self.old }
         ensures many { IsMany self.new }

@@ -17,8 +17,8 @@ use napt_rules::Flow;
 use std::alloc::{AllocError, Global};
 use std::marker::Model;
 
-/// A place for each flow, in the order in which they began; a flow that goes leaves its slot empty. Contracts see the slots,
-/// and how many more fit without a growth (`room`).
+/// A slot for each flow, oldest first; a removed flow leaves its slot empty. Contracts see the slots, and how many more
+/// fit without growth (`room`).
 #[derive(Drop)]
 pub(crate) struct Slots {
     flows: Vec<Option<Flow>>,
@@ -60,7 +60,7 @@ fn other_time(slot: Option<Flow>) -> Option<u64>
     }
 }
 
-/// Whether one of the times is less than so many seconds ago.
+/// Whether one of the times is less than `seconds` ago.
 fn is_some_recent(times: &Times, now: u64, seconds: u64) -> bool
     requires { seconds ≤ 1_000_000_000 }
     ensures { result ≡ list_any (is_recent_time now seconds) times.now.times }
@@ -71,7 +71,7 @@ fn is_some_recent(times: &Times, now: u64, seconds: u64) -> bool
     }
 }
 
-/// A place whose time is not less than so many seconds ago.
+/// A place whose time is not less than `seconds` ago.
 fn outlived_place(times: &Times, now: u64, seconds: u64) -> Option<usize>
     requires { seconds ≤ 1_000_000_000 }
     ensures some { IfSome result (λ place. (time : ℕ) × Stands times.now.times place time
@@ -87,7 +87,7 @@ fn outlived_place(times: &Times, now: u64, seconds: u64) -> Option<usize>
     }
 }
 
-/// The last moment at which one of the times is less than so many seconds ago, or `now`.
+/// The last moment at which one of the times is less than `seconds` ago, or `now`.
 fn last_moment_of(times: &Times, now: u64, seconds: u64) -> u64
     requires some { 0 < seconds }
     requires few { seconds ≤ 1_000_000_000 }
@@ -101,7 +101,7 @@ fn last_moment_of(times: &Times, now: u64, seconds: u64) -> u64
     }
 }
 
-/// When the last of the times is so many seconds ago, in ns; 0 where there is none.
+/// When the latest of the times is `seconds` ago, in ns; 0 if there is none.
 fn end_of_times(times: &Times, seconds: u64) -> u128
     requires some { 0 < seconds }
     requires few { seconds ≤ 1_000_000_000 }
@@ -140,7 +140,7 @@ impl Slots {
         *self.flows.get(place)?
     }
 
-    /// Makes room for one slot more.
+    /// Makes room for one more slot.
     pub(crate) fn reserve(&mut self) -> Result<(), AllocError>
         ensures slots { self.new.slots ≡ self.old.slots }
         ensures room { OnOk result (0 < self.new.room) }
@@ -152,7 +152,7 @@ impl Slots {
         others.reserve()
     }
 
-    /// A flow in a slot of its own, after the others, where there is room for it: answers its place.
+    /// Appends a slot with the flow, for which there is room; returns its place.
     pub(crate) fn put(&mut self, flow: Flow) -> usize
         requires { 0 < self.old.room }
         ensures place { result ≡ length self.old.slots }
@@ -184,7 +184,7 @@ impl Slots {
         others.set(place, other_time(slot));
     }
 
-    /// A place of a TCP flow that is dead. It takes one look.
+    /// A place of a dead TCP flow. It takes two looks.
     pub(crate) fn dead_place(&self, timers: Timers, now: u64) -> Option<usize>
         requires { AreTimers timers }
         ensures some { IfSome result (λ place. (flow : Flow) × Stands self.now.slots place flow
@@ -207,7 +207,7 @@ impl Slots {
             || is_some_recent(&self.others, now, timers.transitory)
     }
 
-    /// The last moment at which one of these TCP flows is live, where one is live now. It takes two looks.
+    /// The last moment at which one of these TCP flows is live; one is live now. It takes two looks.
     pub(crate) fn last_moment(&self, timers: Timers, now: u64) -> u64
         requires timers { AreTimers timers }
         requires live { list_any (life.is_live_flow timers now) (somes self.now.slots) ≡ true }
@@ -219,7 +219,7 @@ impl Slots {
         established.max(last_moment_of(&self.others, now, timers.transitory))
     }
 
-    /// When the last of the TCP flows ends, in ns; 0 where there is none. It takes two looks.
+    /// When the last of the TCP flows ends, in ns; 0 if there is none. It takes two looks.
     pub(crate) fn last_end(&self, timers: Timers) -> u128
         requires { AreTimers timers }
         ensures { result ≡ last_end timers (somes self.now.slots) }
