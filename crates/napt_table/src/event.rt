@@ -1,11 +1,11 @@
-//! What happens to a table: of this only proofs speak.
+//! What happens to a table, for proofs alone.
 
 use napt_wire::{Endpoint, Flags, Protocol};
 
 /// A redirect at the beginning, or a packet.
 #[derive(Clone, Copy)]
 pub(crate) enum Event {
-    /// An inside endpoint has the external number.
+    /// An inside endpoint gets the external number.
     Redirected(Protocol, Endpoint, u16),
     /// From an inside endpoint to a remote one.
     Sent(Protocol, Endpoint, Endpoint, Flags),

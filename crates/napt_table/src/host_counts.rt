@@ -6,7 +6,7 @@ ghost use Rattle.napt_table.specs.Hosts.{held_for};
 use napt_binding::{Addresses, Binding};
 use std::alloc::{AllocError, Global};
 
-/// How many bindings each inside host has, redirects left out. Nothing is counted where no quota stands.
+/// How many bindings each inside host has, without redirects. Nothing is counted without a quota.
 #[derive(Drop)]
 pub(crate) struct HostCounts {
     counts: Option<Addresses>,
@@ -15,7 +15,7 @@ pub(crate) struct HostCounts {
 impl HostCounts {
     ghost use Rattle.napt_table.specs.Counts.{are_counted, count_in, HasPlace};
 
-    /// No host has one. It takes no memory.
+    /// No host has any. It takes no memory.
     pub(crate) fn new(alloc: Global, counted: bool) -> HostCounts
         ensures counted { are_counted result ≡ counted }
         ensures none { (host : ℕ) → count_in result host ≡ 0 }
@@ -40,7 +40,7 @@ impl HostCounts {
         }
     }
 
-    /// How many the host has; 0 where nothing is counted.
+    /// How many the host has; 0 if nothing is counted.
     pub(crate) fn count(&self, host: u32) -> usize
         ensures { result ≡ count_in self.now host }
     {
@@ -50,7 +50,7 @@ impl HostCounts {
         }
     }
 
-    /// The binding begins, where there is room for its host. A redirect does not count.
+    /// Counts the binding, for whose host there is room. A redirect does not count.
     pub(crate) fn put(&mut self, binding: &Binding)
         requires room { HasPlace self.old }
         requires fits { count_in self.old binding.now.inside.address + 1 < 2 ^ 64 }
@@ -64,7 +64,7 @@ impl HostCounts {
         }
     }
 
-    /// The binding goes.
+    /// Uncounts the binding.
     pub(crate) fn take(&mut self, binding: &Binding)
         ensures counted { are_counted self.new ≡ are_counted self.old }
         ensures counts { (host : ℕ) →

@@ -20,15 +20,15 @@ pub use napt_numbers::{Class, Numbers, candidates_are_the_class};
 pub use napt_rules::{Received, Row};
 pub use table::Table;
 
-/// A binding that lives, and when it ends if no packet goes through it.
+/// A live binding, and when it ends if no packet goes through it.
 #[derive(Clone, Copy, Debug, PartialEq, Eq)]
 pub struct TimedRow {
     pub row: Row,
-    /// The first time, in ns, at which it is no longer live; none for a redirect, which lives on.
+    /// The first time, in ns, at which it is no longer live; none for a redirect, which never ends.
     pub end: Option<u128>,
 }
 
-/// A step at one address is a step on that address's bindings alone, and a purge changes no later one.
+/// A step at one address depends on that address's bindings alone, and a purge changes no later one.
 pub fn steps_are_local()
     ensures purge { PurgeIsLocal }
     ensures later { LaterPurgeCounts }
@@ -44,7 +44,7 @@ pub fn steps_leave_live()
     ensures inbound { InLeavesLive }
 {}
 
-/// The steps keep apart what is apart: no two bindings come to share an endpoint (RFC 4787, REQ-1 and REQ-3).
+/// Steps never make two bindings share an endpoint (RFC 4787, REQ-1 and REQ-3).
 pub fn steps_stay_sound()
     ensures purge { PurgeStaysSound }
     ensures outbound { OutStaysSound }
@@ -52,7 +52,7 @@ pub fn steps_stay_sound()
     ensures apart { SoundIsApart }
 {}
 
-/// No inside host comes to have more bindings than its quota, whatever happens to a table (RFC 6888, REQ-4).
+/// No inside host ever has more bindings than its quota, whatever happens to a table (RFC 6888, REQ-4).
 pub fn no_host_exceeds_its_quota()
     ensures purge { PurgeKeepsQuota }
     ensures outbound { OutKeepsQuota }
@@ -65,7 +65,7 @@ pub fn opening_is_sound()
     ensures { OpeningIsSound }
 {}
 
-/// No two bindings of a table share an endpoint, and no number of UDP or TCP is 0, at every moment.
+/// No two bindings of a table ever share an endpoint, and no UDP or TCP number is ever 0.
 pub fn tables_share_nothing()
     ensures apart { TablesShareNothing }
     ensures numbered { TablesAreNumbered }

@@ -1,9 +1,9 @@
-//! What a table holds under one protocol: its bindings by external number, their numbers by inside endpoint, which numbers are
-//! in use, when to look at each binding again, and where a quota stands how many bindings each inside host has.
+//! What a table holds for one protocol: its bindings by external number, their numbers by inside endpoint, which
+//! numbers are in use, when to check each binding again, and, under a quota, how many bindings each inside host has.
 //!
-//! A binding that has ended may still be held: no look-up finds it, and it goes before the next new binding of any protocol gets
-//! a number. Its entry in the queue has a time up to which it lives for sure, which is kept lazily: a packet that keeps the
-//! binding alive does not move the entry, and where its time has come the binding is looked at again.
+//! A binding that has ended may still be held: no look-up finds it, and it is removed before the next new binding of
+//! any protocol gets a number. Its queue entry has a time until which it is sure to live, kept lazily: a packet that
+//! keeps the binding alive does not move the entry, and when its time has come the binding is checked again.
 
 ghost use Rattle.std.specs.Prelude.{◌≡◌, ◌≢◌, ℕ, ◌+◌, ◌-◌, ◌≤◌, ◌<◌, ◌^◌, true, false, not, Some, None, Ok, Err, OnOk, IfSome, cond, ◌==◌, ◌&&◌};
 ghost use Rattle.std.specs.Option.{option_map};
@@ -31,16 +31,16 @@ pub(crate) struct Part {
     /// The external address.
     address: u32,
     timers: Timers,
-    /// The time of the last packet of any protocol that went out and had no binding, in ns: what had ended by then is gone.
+    /// The time of the last outgoing packet of any protocol without a binding, in ns: what had ended by then is gone.
     at: u64,
     by_number: HashMap<u16, Binding>,
-    /// The external number of an inside address and number.
+    /// The external number for an inside address and number.
     by_inside: HashMap<(u32, u16), u16>,
-    /// One entry for each binding that is not fixed, with a time up to which it lives for sure.
+    /// One entry for each binding that is not fixed, with a time until which it is sure to live.
     due: Due,
-    /// Those that have a binding.
+    /// Those in use by a binding.
     numbers: Numbers,
-    /// Where a quota stands, how many bindings each inside host has.
+    /// Under a quota, how many bindings each inside host has.
     hosts: HostCounts,
 }
 
@@ -53,7 +53,7 @@ impl Part {
     ghost use Rattle.napt_table.specs.Hosts.{held_for};
     ghost use Rattle.napt_table.specs.Part.{held, number_at, pair_eq, IsPart, AreDue, AreDueBut, IsSamePlace, HoldsSame, ChangesOne, StaysPart, KeepsSeen, IsPurged, IsNew, HasRoom, come_up};
 
-    /// Nothing is held; whether bindings are counted by host is said.
+    /// Nothing is held; `counted` is whether to count by host.
     pub(crate) fn new(
         alloc: Global,
         address: u32,
@@ -124,7 +124,7 @@ impl Part {
         }
     }
 
-    /// A packet comes in: the inside endpoint of the live binding with the number, where it lets the remote through.
+    /// Takes in a packet: the inside endpoint of the live binding with the number, if it lets the remote in.
     pub(crate) fn receive(&mut self, inbound: Inbound, packet: Received) -> Result<Endpoint, Cause>
         requires { AreTimers self.old.timers }
         ensures one { ChangesOne packet.number self.old self.new }
@@ -167,7 +167,7 @@ impl Part {
         Ok(())
     }
 
-    /// The binding with the number goes.
+    /// Removes the binding with the number.
     fn remove(&mut self, number: u16)
         ensures place { IsSamePlace self.old self.new }
         ensures due { self.new.due ≡ self.old.due }
@@ -196,7 +196,7 @@ impl Part {
         numbers.take(number);
     }
 
-    /// The binding with the number has no entry in the queue: a dead one goes, a live one is entered.
+    /// For a binding without a queue entry: removes a dead one, queues a live one.
     fn requeue_or_remove(&mut self, number: u16)
         requires part { IsPart self.old }
         requires due { AreDueBut number self.old }
@@ -224,7 +224,7 @@ impl Part {
         }
     }
 
-    /// Puts an entry that came up back with its later end, or removes its binding; whether there was one.
+    /// Requeues an entry that came up with its later end, or removes its binding; whether there was one.
     fn purge_first(&mut self) -> bool
         requires part { IsPart self.old }
         requires due { AreDue self.old }
@@ -245,7 +245,7 @@ impl Part {
         true
     }
 
-    /// What is dead goes.
+    /// Removes what is dead.
     fn purge(&mut self)
         requires part { IsPart self.old }
         requires due { AreDue self.old }
@@ -257,7 +257,7 @@ impl Part {
         while self.purge_first() {}
     }
 
-    /// What is dead at `now` goes, which is the part's time from then on.
+    /// Removes what is dead at `now`, which becomes the part's time.
     pub(crate) fn purge_at(&mut self, now: u64)
         requires part { IsPart self.old }
         requires due { AreDue self.old }
@@ -268,7 +268,7 @@ impl Part {
         self.purge();
     }
 
-    /// How many bindings the host has, where they are counted; else 0.
+    /// How many bindings the host has, if they are counted; else 0.
     pub(crate) fn count(&self, host: u32) -> usize
         requires { IsPart self.now }
         ensures value { result ≡ count_in self.now.hosts host }
@@ -277,7 +277,7 @@ impl Part {
         self.hosts.count(host)
     }
 
-    /// A new binding, where there is room and neither of its ends is taken.
+    /// Adds a binding, for which there is room and whose ends are free.
     fn insert(&mut self, number: u16, binding: Binding)
         requires room { HasRoom self.old }
         requires part { IsPart self.old }
@@ -295,7 +295,7 @@ impl Part {
         due.put(end, number);
     }
 
-    /// A new binding, where there is room and neither of its ends is taken. The queue stays as it is.
+    /// The same, without a queue entry.
     fn hold(&mut self, number: u16, binding: Binding)
         requires room { HasRoom self.old }
         requires part { IsPart self.old }
@@ -334,8 +334,8 @@ impl Part {
     ghost use Rattle.napt_table.specs.Held.{Shows, redirect_of};
     ghost use Rattle.napt_table.specs.Part.{held, number_at, IsPart, AreDue, HoldsSame, StaysPart, WentOut, HasRoom};
 
-    /// A redirect, neither of whose ends is taken. It never expires, so it has no entry in the queue. Where memory is
-    /// refused nothing that is held is changed.
+    /// Adds a redirect whose ends are free. It never expires, so it has no queue entry. If memory is refused nothing
+    /// that is held changes.
     pub(crate) fn open(
         &mut self,
         alloc: Global,
@@ -368,8 +368,8 @@ impl Part {
         Ok(())
     }
 
-    /// A packet goes out through the live binding of its inside endpoint: the number of that, where there is one. Where memory
-    /// is refused nothing that is held is changed.
+    /// Sends a packet out through the live binding of its inside endpoint, if there is one; returns its number. If
+    /// memory is refused nothing that is held changes.
     pub(crate) fn send_held(
         &mut self,
         alloc: Global,
@@ -402,7 +402,7 @@ impl Part {
         Ok(Some(number))
     }
 
-    /// Takes the memory for a new binding through which the packet goes out, and begins its flows. What is held stays as it is.
+    /// Takes the memory for a new binding for the outgoing packet, and begins its flows. What is held does not change.
     pub(crate) fn prepare(&mut self, alloc: Global, packet: Sent) -> Result<Flows, AllocError>
         requires { AreTimers self.old.timers }
         ensures same { HoldsSame self.old self.new }
@@ -417,7 +417,7 @@ impl Part {
         Flows::begun(alloc, self.timers, Sent { protocol, ..packet })
     }
 
-    /// A new binding with these flows, through which the packet goes out: its number, or `NoPort`. It takes no memory.
+    /// Makes a binding with these flows for the outgoing packet; returns its number, or `NoPort`. It takes no memory.
     pub(crate) fn begin(&mut self, packet: Sent, flows: Flows) -> Result<u16, Cause>
         requires room { HasRoom self.old }
         requires part { IsPart self.old }
@@ -462,7 +462,7 @@ impl Part {
 impl Part {
     ghost use Rattle.napt_table.specs.Part.{IsPart, AreDue, StaysPart, Enters};
 
-    /// A packet comes in to the number: answers the inside endpoint, `NoBinding` or `Filtered`. It takes no memory.
+    /// Takes in a packet for the number: returns the inside endpoint, `NoBinding` or `Filtered`. It takes no memory.
     pub(crate) fn enter(&mut self, inbound: Inbound, packet: Received) -> Result<Endpoint, Cause>
         requires part { IsPart self.old }
         requires due { AreDue self.old }
@@ -495,7 +495,7 @@ impl Part {
     }
 }
 
-/// What is held goes on showing the list when time passes.
+/// What is held still shows the list as time passes.
 pub(crate) fn held_is_purged_later()
     ensures { HeldIsPurgedLater }
 {}
