@@ -12,7 +12,7 @@ use crate::message::{GateProtocol, Message, Reply};
 use rtrb::{Consumer, Producer};
 use std::alloc::Global;
 
-/// Pops the next answer, where there is one, or why there is none.
+/// Pops the next answer, if there is one, or why there is none.
 pub(crate) fn pop_answer<A: Drop, G: Gate>(
     answers: &mut Consumer<Reply<A>, Global, GateProtocol<G>>,
 ) -> Result<Option<A>, Stop>
@@ -56,7 +56,7 @@ pub(crate) fn pop_all<A: Drop, G: Gate>(
     into
 }
 
-/// Pushes Close, and says whether the ring took it.
+/// Pushes Close; returns whether the ring took it.
 pub(crate) fn send_close<I: Drop>(items: &mut Producer<Message<I>>) -> bool
     ensures ring { SameProducer items.old items.new }
     ensures accepted { accepted items.new ≡ accepted items.old }

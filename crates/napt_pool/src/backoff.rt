@@ -1,4 +1,4 @@
-// How a thread waits for what another thread does.
+// How a thread waits for another thread.
 ghost use Rattle.std.specs.Prelude.{◌≡◌, ◌+◌, ◌≤◌, ◌<◌};
 ghost use Rattle.napt_pool.specs.declared.backoff.Pause.TheVariants.{Spin, Yield, Park};
 
@@ -10,10 +10,10 @@ use std::{hint, thread};
 /// How often a thread looks again at once.
 const SPINS: u32 = 32;
 
-/// How many looks come before the first at which the thread sleeps: 480 follow a yield.
+/// How many looks come before the first sleep: 480 of them follow a yield.
 const LOOKS: u32 = 512;
 
-/// The shortest sleep, in ns. How long it is in truth the system says (on Linux some 50 microseconds).
+/// The shortest sleep, in ns. How long it really is, the system decides (on Linux some 50 microseconds).
 const SHORTEST_SLEEP: u64 = 1;
 
 /// What a thread does before it looks again.
@@ -25,7 +25,7 @@ enum Pause {
 }
 
 impl Pause {
-    /// The pause after so many looks.
+    /// The pause after this many looks.
     const fn after(looks: u32) -> Pause
         ensures spin { looks < 32 → result ≡ Spin }
         ensures yields { 32 ≤ looks → looks < 512 → result ≡ Yield }
@@ -41,9 +41,9 @@ impl Pause {
     }
 }
 
-/// One wait for what another thread does: each wait has a `Backoff` of its own.
+/// One wait for another thread; each wait has a `Backoff` of its own.
 ///
-/// The first looks follow one another at once, those after them let other threads run between, and from then on the
+/// The first looks follow one another at once, the next ones yield to other threads in between, and from then on the
 /// thread sleeps between looks. So a short wait costs little, and a long one leaves the processor to others.
 #[derive(Drop)]
 pub struct Backoff {
@@ -52,7 +52,7 @@ pub struct Backoff {
 }
 
 impl Backoff {
-    /// A wait that begins.
+    /// Begins a wait.
     pub const fn new() -> Backoff
         ensures { result.looks ≡ 0 }
     {
@@ -62,8 +62,8 @@ impl Backoff {
         }
     }
 
-    /// Pauses before the next look: 32 times for an instant, 480 times until other threads had their turn, and then each
-    /// time for the shortest time that the system sleeps.
+    /// Pauses before the next look: 32 times for an instant, 480 times to yield to other threads, and then each time
+    /// for the system's shortest sleep.
     pub fn pause<R: Wait>(&mut self, rt: &R)
         ensures counted { self.old.looks < 512 → self.new.looks ≡ self.old.looks + 1 }
         ensures asleep { 512 ≤ self.old.looks → self.new.looks ≡ self.old.looks }

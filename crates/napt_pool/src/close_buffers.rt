@@ -7,7 +7,7 @@ use crate::gate::Gate;
 use crate::machine::Machine;
 use std::alloc::{AllocError, Global};
 
-/// Buffers for what becomes of `count` workers when they are closed, so that closing them takes no memory.
+/// Buffers for closing `count` workers, so that closing them takes no memory.
 #[derive(Drop)]
 pub(crate) struct CloseBuffers<M: Machine, G: Gate> {
     pub(crate) count: usize,

@@ -15,7 +15,7 @@ use rtrb::{Consumer, Producer};
 use std::alloc::Global;
 use std::thread::{PromisedHandle, Threads};
 
-/// A worker's machine at the end, and those of its answers that were not taken.
+/// A worker's last machine, and its answers that were not taken.
 #[derive(Drop)]
 pub struct Ended<M: Machine> {
     pub machine: M,
@@ -54,7 +54,7 @@ impl<M: Machine, G: Gate> Closing<M, G> {
             rest,
         } = self;
         if !is_told {
-            // The worker ends once its item ring has no other end.
+            // The worker ends once the other end of its item ring is gone.
             drop(items);
             let mut thread_end = thread.join(rt);
             answers.slots_beside(&mut thread_end.state.answers);
@@ -74,7 +74,7 @@ impl<M: Machine, G: Gate> ThreadEnd<M, G> {
     ghost use Rattle.napt_pool.specs.declared.fault.Stop.TheVariants.{Ring};
     ghost use Rattle.napt_pool.specs.declared.message.Reply.TheVariants.{Done};
 
-    /// Why the worker stopped. Where it met Close, though nobody sent it, the ends of a ring do not agree.
+    /// Why the worker stopped. If it met a Close that nobody sent, the ends of a ring do not agree.
     fn stop(self) -> Stop
         ensures { MatchResult self.end (λ _. result ≡ Ring) (λ stop. result ≡ stop) }
     {

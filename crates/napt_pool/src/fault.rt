@@ -11,11 +11,11 @@ use std::fmt;
 pub enum PoolFault {
     /// Memory was refused: to `start`, or to a machine's step.
     Memory,
-    /// The runtime refused a thread. It comes from `start` alone.
+    /// The runtime refused a thread. Only `start` returns it.
     NoThread,
-    /// The gate said no to this worker as often as it may be asked for one item.
+    /// The gate refused this worker as often as it may be asked for one item.
     GateShut(u32),
-    /// The two ends of a ring do not agree. Nothing is known to cause it.
+    /// The two ends of a ring do not agree. No cause of it is known.
     Ring,
 }
 
@@ -34,14 +34,14 @@ impl fmt::Display for PoolFault {
 
 impl Error for PoolFault {}
 
-/// Why an item was not accepted. It comes back.
+/// Why an item was not accepted, with the item.
 #[derive(Drop)]
 pub enum OfferRefused<I> {
     /// As many answers are untaken as the pool's capacity.
     Full(I),
-    /// Memory was refused. `offer` takes none, and so never says it.
+    /// Memory was refused. `offer` takes none, so it never returns this.
     Memory(I),
-    /// The ring has no slot, though the count of untaken answers allows one. Nothing is known to cause it.
+    /// The ring has no slot, though the count of untaken answers allows one. No cause of it is known.
     Ring(I),
 }
 

@@ -1,7 +1,7 @@
 // What a worker asks before each step.
 ghost use Rattle.std.specs.Prelude.{◌≡◌, Bool, true, false, IsTrue};
 
-/// The most often that a worker asks for one item.
+/// The most times a worker asks for one item.
 const MOST_ASKS: u32 = 1_000_000;
 
 /// What a worker asks before each step. It decides when a worker goes on, and nothing about the result.
@@ -9,8 +9,8 @@ pub trait Gate {
     /// Whether `enter` always says yes.
     ghost is_open: { Bool };
 
-    /// Whether the worker may take its next step. `turn` is the number of its steps so far, at most `u64::MAX`. On a
-    /// no the worker asks again, 1,000,000 times in all for one item, and then stops.
+    /// Whether the worker may take its next step. `turn` is the number of its steps so far, at most `u64::MAX`. If
+    /// refused, it asks again, 1,000,000 times in all for one item, and then stops.
     fn enter(&self, worker: u32, turn: u64) -> bool
         ensures { is_open ≡ true → IsTrue result };
 }
@@ -27,7 +27,7 @@ impl Gate for OpenGate {
     }
 }
 
-/// Asks until the gate says yes, or has said no as often as it may.
+/// Asks until the gate says yes, or has refused as often as it may.
 pub(crate) fn is_let_in<G: Gate>(gate: &G, worker: u32, turn: u64) -> bool
     ensures { G.is_open ≡ true → IsTrue result }
 {

@@ -11,7 +11,7 @@ use crate::machine::Machine;
 use crate::worker::Worker;
 use std::thread::Threads;
 
-/// Why a worker was not started, and how those ended that were started before it.
+/// Why a worker was not started, and how those started before it ended.
 #[derive(Drop)]
 pub(crate) struct NotStarted<M: Machine> {
     pub(crate) fault: PoolFault,
@@ -94,7 +94,7 @@ pub(crate) fn join_all<M: Machine, G: Gate, R: Threads>(
     into
 }
 
-/// The ends of all workers, or the fault of the least that stopped.
+/// The ends of all workers, or the fault of the first that stopped, by number.
 pub(crate) fn all_ended<M: Machine>(
     ends: Vec<Result<Ended<M>, Stop>>,
     into: Vec<Ended<M>>,

@@ -1,10 +1,10 @@
-//! Workers on threads of their own. Each has a machine, which steps on the items that are offered to it, in order, and
-//! answers each. One ring brings a worker its items and another takes its answers away; nothing else is shared but a
-//! gate, which each worker asks before each step.
+//! Workers on threads of their own. Each has a machine, which steps on the items offered to it, in order, and answers
+//! each. One ring brings a worker its items and another takes its answers away; nothing else is shared but a gate,
+//! which each worker asks before each step.
 //!
-//! What a worker received is what was accepted for it, once and in order. When the pool is closed, its machine is the
-//! fold of the steps over that list, and the answers that were taken, followed by those that are handed back, are the
-//! replies to it, whatever the schedule was.
+//! A worker receives exactly what was accepted for it, once and in order. When the pool is closed, its machine is the
+//! fold of the steps over that list, and the answers taken, followed by those handed back, are the replies to it,
+//! whatever the schedule.
 #![tactic(auto)]
 
 mod answers;

@@ -3,7 +3,7 @@ ghost use Rattle.std.specs.Prelude.{◌≡◌, MatchResult};
 
 use std::alloc::{AllocError, Global};
 
-/// A state that answers items one at a time. What a step does is a function of the state and the item.
+/// A state that answers items one at a time. A step is a function of the state and the item.
 pub trait Machine: Send + Drop {
     type Item: Send + Drop;
 
@@ -15,7 +15,7 @@ pub trait Machine: Send + Drop {
     /// The answer to an item.
     ghost reply: { Self → Self.Item → Self.Answer };
 
-    /// Steps on the item and answers it. An `Err` says that memory was refused, and leaves the state as it was.
+    /// Steps on the item and answers it. An `Err` means that memory was refused; the state is unchanged.
     fn step(&mut self, alloc: Global, item: Self::Item) -> Result<Self::Answer, AllocError>
         ensures { MatchResult result (λ answer. (answer ≡ reply self.old item)
             × (self.new ≡ stepped self.old item)) (λ _. self.new ≡ self.old) };

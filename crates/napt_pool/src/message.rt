@@ -19,11 +19,11 @@ pub(crate) enum Message<I> {
 #[derive(Drop)]
 pub(crate) enum Reply<A> {
     Done(A),
-    /// The last reply, in place of the answer that its item is owed.
+    /// The last reply, in place of the answer owed to its item.
     Stopped(Stop),
 }
 
-/// The rule of an answer ring: no worker tells that a gate was shut which promises yes.
+/// The rule of an answer ring: no worker reports a gate as shut that promises yes.
 pub(crate) struct GateProtocol<G: Gate> {
     gate: PhantomData<G>,
 }

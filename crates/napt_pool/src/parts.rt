@@ -16,7 +16,7 @@ pub(crate) struct WorkerParts<M: Machine, G: Gate> {
     pub(crate) answers: Consumer<Reply<M::Answer>, Global, GateProtocol<G>>,
     // The state in which the thread begins.
     pub(crate) initial: ThreadState<M, G>,
-    // The buffer for the answers that are not taken when the worker is closed.
+    // The buffer for answers that are untaken when the worker is closed.
     pub(crate) rest: Vec<M::Answer>,
     ghost item_ring: { IsPair items initial.items },
     ghost answer_ring: { IsPair initial.answers answers },
@@ -26,7 +26,7 @@ pub(crate) struct WorkerParts<M: Machine, G: Gate> {
 }
 
 impl<M: Machine, G: Gate> WorkerParts<M, G> {
-    /// Makes both rings and the buffer. The item ring has a slot more than the capacity, for Close.
+    /// Makes both rings and the buffer. The item ring has one slot above the capacity, for Close.
     pub(crate) fn new(
         alloc: Global,
         machine: M,

@@ -13,10 +13,10 @@ use std::alloc::Global;
 use std::sync::{Arc, Wait};
 use std::thread::Threads;
 
-/// Workers on threads of their own, one for each machine. A pool can't be dropped: `close` spends it.
+/// Workers on threads of their own, one for each machine. A pool can't be dropped: `close` takes it.
 ///
-/// Contracts see its capacity and, for each worker, the machine that it was given, the items that were accepted for it
-/// and the answers that were taken from it, oldest first.
+/// Contracts see its capacity and, for each worker, the machine it was given, the items accepted for it and the answers
+/// taken from it, oldest first.
 pub struct Pool<M: Machine, G: Gate> {
     workers: Vec<Worker<M, G>>,
     capacity: usize,
@@ -31,10 +31,10 @@ impl<M: Machine, G: Gate> Pool<M, G> {
     ghost use Rattle.napt_pool.specs.Pools.{starts, accepts, takes, heard, capacity_of, Tells};
     ghost use Rattle.napt_pool.specs.declared.message.Reply.TheVariants.{Done};
 
-    /// Hands an item to worker `w`, or hands it back with nothing changed. It waits for nobody and takes no memory.
+    /// Hands an item to worker `w`, or hands it back with nothing changed. It never blocks and takes no memory.
     ///
-    /// `Full` comes exactly where as many accepted items of `w` have an answer that was not taken as the pool's
-    /// capacity. `Memory` never comes.
+    /// Returns `Full` if and only if `w` has as many accepted items with untaken answers as the pool's capacity, and
+    /// never `Memory`.
     pub fn offer(
         &mut self,
         _alloc: Global,
@@ -58,10 +58,10 @@ impl<M: Machine, G: Gate> Pool<M, G> {
         worker.offer(item)
     }
 
-    /// The next answer of worker `w`. It waits for nobody and takes no memory.
+    /// The next answer of worker `w`. It never blocks and takes no memory.
     ///
-    /// `None` comes always where every answer of `w` was taken, and may come where the next is not there yet. An `Err`
-    /// says why `w` stopped: `Memory`, `GateShut(w)` or `Ring`. After one only `close` is of use.
+    /// Always returns `None` if every answer of `w` was taken, and may if the next is not there yet. An `Err` is why
+    /// `w` stopped: `Memory`, `GateShut(w)` or `Ring`. After that only `close` is of use.
     pub fn take<R>(
         &mut self,
         _rt: &R,
@@ -99,16 +99,14 @@ impl<M: Machine, G: Gate> Pool<M, G> {
     ghost use Rattle.napt_pool.specs.Histories.{after, replies};
     ghost use Rattle.napt_pool.specs.Pools.{starts, accepts, takes, thread_states, zip_with, HasTold, HaveReceived, IsLeastStop};
 
-    /// Sends Close to each worker, joins all, and hands back the machines in worker order, each with the answers that
-    /// were not taken.
+    /// Sends Close to each worker, joins all, and returns the machines in worker order, each with its untaken answers.
     ///
-    /// On `Ok` the thread of each worker received the items that were accepted for it, once and in the order in which they
-    /// were offered, and then Close.
+    /// On `Ok` each worker's thread received the items accepted for it, once and in the order offered, and then Close.
     ///
-    /// Where workers stopped early, the fault is that of the least such worker, and the machines and the answers are
-    /// dropped. Where `take` told of a worker that it stopped, `close` tells the same fault, or that of a worker before
-    /// it. Of a worker that stopped and of which `take` told nothing no contract says why it did: tests alone show that
-    /// its fault is its own (`least_fault_is_told`). `close` takes no memory of its own: `start` made its buffers.
+    /// If workers stopped early, the fault is that of the first such worker by number, and machines and answers are
+    /// dropped. If `take` returned a worker's fault, `close` returns the same, or that of a worker before it. If a
+    /// worker stopped and `take` did not say so, no contract says why: tests alone show that its fault is its own
+    /// (`least_fault_is_told`). `close` takes no memory of its own: `start` made its buffers.
     pub fn close<R: Threads>(self, rt: &R, _alloc: Global) -> Result<Vec<Ended<M>>, PoolFault>
         ensures received { OnOk result (HaveReceived M.Machine G.is_open (thread_states self)
             (accepts self)) }
@@ -149,7 +147,7 @@ impl<M: Machine, G: Gate + Send + Sync + Drop + 'static> Pool<M, G> {
 
     /// Starts a thread for each machine, with rings for `capacity` items and as many answers.
     ///
-    /// Where memory or a thread is refused, the threads that were started are closed and joined, and all machines are
+    /// If memory or a thread is refused, the threads already started are closed and joined, and all machines are
     /// dropped.
     pub fn start<R: Threads + Wait + Copy + Send + 'static>(
         rt: &R,

@@ -13,7 +13,7 @@ use std::alloc::Global;
 use std::sync::{Arc, Wait};
 use std::thread::Threads;
 
-/// Starts a worker for each machine. Where one is refused, those that were started are closed and joined.
+/// Starts a worker for each machine. If one is refused, those already started are closed and joined.
 pub(crate) fn start_all<
     M: Machine,
     G: Gate + Send + Sync + Drop + 'static,

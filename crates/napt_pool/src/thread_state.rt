@@ -21,7 +21,7 @@ pub(crate) struct ThreadState<M: Machine, G: Gate> {
     pub(crate) answers: Producer<Reply<M::Answer>, Global, GateProtocol<G>>,
 }
 
-/// The end of a worker's thread: its last state, and `Ok` where it met Close.
+/// The end of a worker's thread: its last state, and `Ok` if it met Close.
 #[derive(Drop)]
 pub(crate) struct ThreadEnd<M: Machine, G: Gate> {
     pub(crate) state: ThreadState<M, G>,
@@ -37,7 +37,7 @@ impl<M: Machine, G: Gate> ThreadState<M, G> {
     ghost use Rattle.napt_pool.specs.declared.message.Reply.TheVariants.{Done};
     ghost use Rattle.napt_pool.specs.declared.fault.Stop.TheVariants.{Ring};
 
-    /// Steps on each item until Close comes, and hands back its last state.
+    /// Steps on each item until Close comes, and returns its last state.
     pub(crate) fn run<R: Wait>(
         self,
         rt: &R,
@@ -53,8 +53,8 @@ impl<M: Machine, G: Gate> ThreadState<M, G> {
         ThreadEnd { state, end }
     }
 
-    /// Steps on each item until Close comes. A pop looks at what the other side wrote only where nothing is left of what
-    /// it saw there before.
+    /// Steps on each item until Close comes. A pop looks at what the other side wrote only when nothing is left of what
+    /// it saw before.
     fn step_until_close<R: Wait>(
         &mut self,
         rt: &R,
@@ -115,7 +115,7 @@ impl<M: Machine, G: Gate> ThreadState<M, G> {
         }
     }
 
-    /// Waits until the empty item ring has a message, or has no other end.
+    /// Waits until the empty item ring has a message, or its other end is gone.
     fn wait_for_message<R: Wait>(&mut self, rt: &R) -> Result<(), Stop>
         ensures machine { self.new.machine ≡ self.old.machine }
         ensures items { SameConsumer self.old.items self.new.items
@@ -138,7 +138,7 @@ impl<M: Machine, G: Gate> ThreadState<M, G> {
     }
 }
 
-/// Pushes why the worker stops, and gives what its end is.
+/// Pushes why the worker stops; returns how it ends.
 fn tell<A: Drop, G: Gate>(
     answers: &mut Producer<Reply<A>, Global, GateProtocol<G>>,
     stop: Stop,

@@ -25,9 +25,9 @@ pub(crate) struct Worker<M: Machine, G: Gate> {
     answers: Consumer<Reply<M::Answer>, Global, GateProtocol<G>>,
     thread: PromisedHandle<ThreadEnd<M, G>, ThreadPromise<M, G>>,
     pub(crate) capacity: usize,
-    // How many accepted items have an answer that was not taken.
+    // How many accepted items have an untaken answer.
     untaken: usize,
-    // The buffer for the answers that are not taken when the worker is closed.
+    // The buffer for answers that are untaken when the worker is closed.
     rest: Vec<M::Answer>,
     ghost item_ring: { IsPair items thread.promise.initial.value.items },
     ghost answer_ring: { IsPair thread.promise.initial.value.answers answers },
@@ -69,7 +69,7 @@ impl<M: Machine, G: Gate> Worker<M, G> {
         }
     }
 
-    /// The worker's next answer, where there is one, or why it stopped.
+    /// The worker's next answer, if there is one, or why it stopped.
     pub(crate) fn take(&mut self) -> Result<Option<M::Answer>, Stop>
         ensures machine { machine_of self.new ≡ machine_of self.old }
         ensures capacity { self.new.capacity ≡ self.old.capacity }
