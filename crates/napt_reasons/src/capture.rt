@@ -1,4 +1,4 @@
-//! What a capture that is refused seems to be, and the command that makes the two captures that napt reads of it.
+//! What a refused capture seems to be, and the command that makes the two captures that napt reads from it.
 
 ghost use Rattle.std.specs.Prelude.{◌≤◌, ◌+◌, IfOk, OnOk, vec_len};
 
@@ -12,9 +12,9 @@ enum Form {
     Empty,
     Pcapng,
     Gzip,
-    /// A libpcap capture of this link type, as its bytes are ordered and its fractions counted.
+    /// A libpcap capture of this spelling and link type.
     Pcap(Spelling, u32),
-    /// It gave no bytes: it could not be read.
+    /// It could not be read.
     Unread,
     /// None of these, or a libpcap capture that ends within its header.
     Unknown,
@@ -27,7 +27,7 @@ struct Spelling {
     is_nano: bool,
 }
 
-/// The first four bytes of some bytes.
+/// The first four bytes, 0 if there are fewer.
 fn first_four(bytes: &[u8]) -> [u8; 4] {
     match bytes.first_chunk::<4>() {
         Some(four) => *four,
@@ -53,7 +53,7 @@ fn form_of(bytes: &[u8], fault: CaptureFault) -> Form {
     }
 }
 
-/// A libpcap capture, whose link type stands at 20.
+/// A libpcap capture, with its link type at 20.
 fn pcap(bytes: &[u8], is_big: bool, is_nano: bool) -> Form {
     let link = match bytes.get(20..24) {
         Some(rest) => first_four(rest),
@@ -84,8 +84,8 @@ fn link_name(link: u32) -> Option<&'static str> {
     }
 }
 
-/// Why `read_capture` refuses some bytes by this fault: the fault in words, what the bytes seem to be, and what to do where that is
-/// known. There are two reasons at least. Fails only where memory runs out.
+/// Why `read_capture` refuses some bytes with this fault: the fault in words, what the bytes seem to be, and what to do
+/// if that is known. There are at least two reasons. Fails only if memory runs out.
 pub fn capture_reasons(
     alloc: Global,
     bytes: &[u8],
@@ -99,7 +99,7 @@ pub fn capture_reasons(
     Ok(reasons)
 }
 
-/// Adds what some bytes seem to be, and the command that makes captures for napt of them where one is known.
+/// Adds what some bytes seem to be, and the command that makes captures for napt from them, if known.
 fn add_form(alloc: Global, reasons: &mut Vec<Reason>, form: Form) -> Result<(), AllocError>
     ensures { OnOk result (vec_len reasons.old + 1 ≤ vec_len reasons.new) }
 {
@@ -119,7 +119,7 @@ fn add_form(alloc: Global, reasons: &mut Vec<Reason>, form: Form) -> Result<(), 
     }
 }
 
-/// Adds the command that makes the two captures that napt reads of one of a name.
+/// Adds the command that makes the two captures that napt reads from a named one.
 fn add_split(alloc: Global, reasons: &mut Vec<Reason>, name: &str) -> Result<(), AllocError>
     ensures { OnOk result (vec_len reasons.old ≤ vec_len reasons.new) }
 {

@@ -1,4 +1,4 @@
-//! What causes of drops mean, and what to do where there are many.
+//! What causes of drops mean, and what to do if there are many.
 
 use napt_wire::Cause;
 
@@ -24,7 +24,7 @@ pub fn meaning(cause: Cause) -> &'static str {
     }
 }
 
-/// What to do where many packets are dropped so.
+/// What to do if many packets are dropped so.
 pub fn advice(cause: Cause) -> Option<&'static str> {
     match cause {
         Cause::Truncated => Some(

@@ -10,9 +10,9 @@ use napt_config::ConfigFault;
 use std::alloc::{AllocError, Global};
 use toml::Value;
 
-/// Why `Config::read` refuses a text by this fault: the place, the value there, the other entry where the fault is about two, and
-/// what was expected; or the line that is no TOML; or the fault in words where it has no place. There is a reason at least. Fails
-/// only where memory runs out.
+/// Why `Config::read` refuses a text with this fault: the place, the value there, the other entry if the fault is about
+/// two, and what was expected; or the line that is not TOML; or the fault in words if it has no place. There is at
+/// least one reason. Fails only if memory runs out.
 pub fn config_reasons(
     alloc: Global,
     text: &[u8],
@@ -56,7 +56,7 @@ fn add_for_text(
     }
 }
 
-/// Adds why a text is no TOML: the line, from 1, and what the reader says.
+/// Adds why a text is not TOML: the line, from 1, and the reader's message.
 fn add_for_syntax(
     alloc: Global,
     reasons: &mut Vec<Reason>,
@@ -72,14 +72,14 @@ fn add_for_syntax(
     add(reasons, "why", String::from_str(alloc, error.message()))
 }
 
-/// The line that a place of a text is in, from 1.
+/// The line of a place in a text, from 1.
 fn line_of(text: &str, place: usize) -> usize {
     let before = text.as_bytes().get(..place).unwrap_or(text.as_bytes());
     let ends = before.iter().filter(|byte| **byte == b'\n').count();
     ends.saturating_add(1)
 }
 
-/// Adds why a table is refused: the place with what is said of it, or the fault in words where it has no place.
+/// Adds why a table is refused: the place with what is said of it, or the fault in words if it has no place.
 fn add_for_table(reasons: &mut Vec<Reason>, refused: Refused<'_>) -> Result<(), AllocError>
     ensures { OnOk result (vec_len reasons.old + 1 ≤ vec_len reasons.new) }
 {
@@ -117,7 +117,7 @@ fn add_for_place<'t>(
     }
 }
 
-/// Adds of a name that no configuration has its line and the name that was meant, where these are found.
+/// Adds the line of an unknown name, and the name that was meant, if they are found.
 fn add_spelling<'t>(
     reasons: &mut Vec<Reason>,
     refused: Refused<'t>,
@@ -135,7 +135,7 @@ fn add_spelling<'t>(
     }
 }
 
-/// Adds the other entry that a fault is about, where there is one.
+/// Adds the other entry that a fault is about, if there is one.
 fn add_other<'t>(
     reasons: &mut Vec<Reason>,
     refused: Refused<'t>,
@@ -149,7 +149,7 @@ fn add_other<'t>(
     }
 }
 
-/// Another entry as `redirect[0]`, with its value where that is a text.
+/// Another entry as `redirect[0]`, with its value if that is a text.
 fn other_text<'t>(refused: Refused<'t>, other: Entry<'t>) -> Result<String, AllocError> {
     let Entry { key, at } = other;
     match refused.other_value(other) {

@@ -2,7 +2,7 @@
 
 use napt_config::ConfigFault;
 
-/// The kind of value that is asked for at a key, at an entry of its list, or at a field of either; no field is an empty one.
+/// The kind of value expected at a key, at an entry of its list, or at a field of either; an empty `field` is none.
 pub fn shape_of(key: &str, entry: Option<usize>, field: &str) -> &'static str {
     match key {
         "timers" if field.is_empty() => "a table",
@@ -26,7 +26,7 @@ fn shape_in_entry(key: &str, field: &str) -> &'static str {
     }
 }
 
-/// What was expected at a place where a fault says less, with the RFC where one asks it.
+/// What was expected at a place, if that says more than the fault, and the RFC behind it.
 pub fn expected_at(fault: ConfigFault, key: &str, field: &str) -> Option<&'static str> {
     match fault {
         ConfigFault::TimerTooShort => Some(least_time(field)),

@@ -1,21 +1,21 @@
 //! Which part of a configuration has its fault.
 //!
-//! No rule of a configuration stands here. The part is found by `Config::read` itself, which is the judge of each part: the
-//! text is read again with parts left out, and the fault stands in the part without which it goes.
+//! No rule of a configuration is repeated here. `Config::read` itself judges each part: the text is read again with
+//! parts left out, and the fault is in the part without which it goes away.
 
 use napt_config::{Config, ConfigFault};
 use std::alloc::{AllocError, Global};
 use toml::{Table, Value};
 
-/// The keys in the order in which they are judged.
+/// The keys in the order they are checked.
 const KEYS: &[&str] = &[
     "pool", "inside", "filter", "refresh", "timers", "ring", "quota", "pair", "redirect",
 ];
 
-/// What stands before a configuration of which the pool alone is judged.
+/// Goes before a configuration of which only the pool is checked.
 const NO_PREFIX: &str = "inside = [\"255.255.255.255/32\"]\n";
 
-/// The keys inside a key, in the order in which they are judged.
+/// The keys inside a key, in the order they are checked.
 fn fields_of(key: &str) -> &'static [&'static str] {
     match key {
         "timers" => &["udp", "tcp-established", "tcp-transitory", "icmp"],
@@ -25,7 +25,7 @@ fn fields_of(key: &str) -> &'static [&'static str] {
     }
 }
 
-/// The names that a configuration knows where a place has its name: its keys, or the fields of a key.
+/// The names that are known at a place: a configuration's keys, or the fields of a key.
 pub fn known_names(place: Place<'_>) -> &'static [&'static str] {
     match place.field {
         Some(_) => fields_of(place.key),
@@ -37,7 +37,7 @@ pub fn known_names(place: Place<'_>) -> &'static [&'static str] {
 #[derive(Clone, Copy)]
 enum Kept<'t> {
     Alone(&'t str),
-    /// Of those in the order in which they are judged the first ones.
+    /// The first names in the order they are checked.
     First(&'static [&'static str]),
 }
 
@@ -55,7 +55,7 @@ impl<'t> Kept<'t> {
     }
 }
 
-/// Leaves out of a table what is not kept.
+/// Removes from a table what is not kept.
 fn keep(table: &mut Table, kept: Kept<'_>) {
     table.retain(|name, _| kept.has(name.as_str()));
 }
@@ -70,7 +70,7 @@ struct Part<'t> {
     entry: Option<usize>,
     /// The fields of that entry, or of the table at the key; absent, all.
     fields: Option<Kept<'t>>,
-    /// The last of the first entries of a list that are left out; absent, none is.
+    /// Entries of a list up to this one are left out; absent, none are.
     left_out: Option<Entry<'t>>,
 }
 
@@ -89,11 +89,11 @@ pub struct Place<'t> {
     pub entry: Option<usize>,
     /// The field of that entry, or of the table at the key.
     pub field: Option<&'t str>,
-    /// The entry that the fault is about too, where it is about two.
+    /// The other entry, if the fault is about two.
     pub other: Option<Entry<'t>>,
 }
 
-/// A text that is refused, the table that it is, and its fault.
+/// A refused text, its table, and its fault.
 #[derive(Clone, Copy)]
 pub struct Refused<'t> {
     pub alloc: Global,
@@ -103,7 +103,7 @@ pub struct Refused<'t> {
 }
 
 impl<'t> Refused<'t> {
-    /// The place that has the fault: a key, with its entry and its field as far as these can be told.
+    /// The place with the fault: a key, with its entry and its field as far as they can be found.
     pub fn place(self) -> Result<Option<Place<'t>>, AllocError> {
         match self.key()? {
             Some(part) => Ok(Some(self.place_in(part)?)),
@@ -119,7 +119,7 @@ impl<'t> Refused<'t> {
         }
     }
 
-    /// The place that has the fault of a key's part. A key that no configuration has is a place itself, whatever stands at it.
+    /// The place with the fault of a key's part. An unknown key is a place itself, whatever its value.
     fn place_in(self, part: Part<'t>) -> Result<Place<'t>, AllocError> {
         if !KEYS.iter().any(|key| *key == part.key) {
             return Ok(Place {
@@ -164,7 +164,7 @@ impl<'t> Refused<'t> {
         }
     }
 
-    /// Whether the text of a part has the fault. The pool is judged with a prefix, so that this is not missed.
+    /// Whether the text of a part has the fault. The pool is checked with a prefix, so that none is missing.
     fn is_fault_of(self, part: Part<'_>, text: &str) -> Result<bool, AllocError> {
         let head = if part.key == "pool" { NO_PREFIX } else { "" };
         let text = format!(in self.alloc; "{head}{text}")?;
@@ -209,7 +209,8 @@ impl<'t> Refused<'t> {
         Ok(None)
     }
 
-    /// The entry of the key's list that has the fault: the last of the fewest that have it. A list that is too long has none.
+    /// The entry of the key's list that has the fault: the last of the fewest that have it. A list that is too long has
+    /// no such entry.
     fn entry(self, part: Part<'_>) -> Result<Option<usize>, AllocError> {
         let many = match self.fault {
             ConfigFault::TooMany => 0,
@@ -224,7 +225,7 @@ impl<'t> Refused<'t> {
         Ok(None)
     }
 
-    /// The other entry that the fault of a part is about: without it, and those before it, the fault goes.
+    /// The other entry of a part's fault: without it, and those before it, the fault goes away.
     fn other(self, part: Part<'t>) -> Result<Option<Entry<'t>>, AllocError> {
         let Some(key) = self.other_key(part.key) else {
             return Ok(None);
@@ -238,7 +239,7 @@ impl<'t> Refused<'t> {
         Ok(None)
     }
 
-    /// The key of the list that has the other entry of a fault at a key.
+    /// The key of the list with the other entry of a fault at a key.
     fn other_key(self, key: &'t str) -> Option<&'t str> {
         match self.fault {
             ConfigFault::DoubleAddress | ConfigFault::DoublePair | ConfigFault::DoubleRedirect =>
@@ -248,7 +249,7 @@ impl<'t> Refused<'t> {
         }
     }
 
-    /// The first field that has the fault with those that are judged before it.
+    /// The first field that has the fault, with those checked before it.
     fn known_field(self, part: Part<'_>) -> Result<Option<&'t str>, AllocError> {
         let names = fields_of(part.key);
         for (at, name) in names.iter().enumerate() {
@@ -274,7 +275,7 @@ impl<'t> Refused<'t> {
         Ok(None)
     }
 
-    /// The first field that is not there.
+    /// The first field that is missing.
     fn missing_field(self, part: Part<'_>) -> Option<&'t str> {
         let value = value_at(self.table, part.key, part.entry);
         let names = fields_of(part.key);
@@ -296,7 +297,7 @@ impl<'t> Refused<'t> {
     }
 }
 
-/// Leaves out the entries and the fields that are not in a part; answers nothing where the place of these is not there.
+/// Removes the entries and fields that are not in a part; returns `None` if their place is missing.
 fn narrow(table: &mut Table, part: Part<'_>) -> Option<()> {
     if part.entry.is_some() || part.fields.is_some() {
         narrow_key(table, part)?;
@@ -307,7 +308,7 @@ fn narrow(table: &mut Table, part: Part<'_>) -> Option<()> {
     }
 }
 
-/// The same for those of the last key, but for the first entries.
+/// The same for the last key, except its first entries.
 fn narrow_key(table: &mut Table, part: Part<'_>) -> Option<()> {
     let value = table.get_mut(part.key)?;
     let value = match part.entry {
@@ -320,14 +321,14 @@ fn narrow_key(table: &mut Table, part: Part<'_>) -> Option<()> {
     Some(())
 }
 
-/// Leaves out the entries of a list behind one, and answers that one.
+/// Removes the entries of a list after one, and returns that one.
 fn last_entry(value: &mut Value, last: usize) -> Option<&mut Value> {
     let entries = value.as_array_mut()?;
     entries.truncate(last.saturating_add(1));
     entries.get_mut(last)
 }
 
-/// Leaves out the entries of a list up to one; answers nothing where that is not there.
+/// Removes the entries of a list up to one; returns `None` if that is missing.
 fn leave_out(table: &mut Table, last: Entry<'_>) -> Option<()> {
     let entries = table.get_mut(last.key)?.as_array_mut()?;
     if last.at >= entries.len() {

@@ -1,19 +1,19 @@
-//! One thing that is said of what is refused.
+//! One thing said about what is refused.
 
 ghost use Rattle.std.specs.Prelude.{◌≡◌, ◌+◌, OnOk, vec_len};
 
 use std::alloc::AllocError;
 
-/// One thing that is said of what is refused.
+/// One thing said about what is refused.
 #[derive(Drop)]
 pub struct Reason {
-    /// What it is about: `why`, `at`, `line`, `meant`, `value`, `with`, `expected`, `it is` or `do`; empty where it goes on with the
-    /// reason before.
+    /// What it is about: `why`, `at`, `line`, `meant`, `value`, `with`, `expected`, `it is` or `do`; empty if it
+    /// continues the reason before.
     pub title: &'static str,
     pub text: String,
 }
 
-/// Adds a reason to others. Fails where its text does, and where memory runs out.
+/// Adds a reason to others. Fails if its text does, or if memory runs out.
 pub fn add(
     reasons: &mut Vec<Reason>,
     title: &'static str,

@@ -1,10 +1,10 @@
-//! A name that no configuration has: its line, and the name that was meant.
+//! An unknown name: its line, and the name that was meant.
 
 use crate::part::{Place, known_names};
 use std::alloc::{AllocError, Global};
 use strsim::levenshtein;
 
-/// How many letters apart a name is from the one that was meant, at most.
+/// The most letters by which a name differs from the one meant.
 const NEAR: usize = 2;
 
 /// The name of a place: that of its field, else its key.
@@ -12,7 +12,7 @@ fn name_of<'t>(place: Place<'t>) -> &'t str {
     place.field.unwrap_or(place.key)
 }
 
-/// The known name that was meant by the name of a place: the first of the nearest ones, if it is near.
+/// The known name that was meant at a place: the first of the nearest ones, if it is near.
 pub fn meant(alloc: Global, place: Place<'_>) -> Result<Option<&'static str>, AllocError> {
     let mut found = None;
     let mut least = NEAR + 1;
@@ -26,8 +26,8 @@ pub fn meant(alloc: Global, place: Place<'_>) -> Result<Option<&'static str>, Al
     Ok(found)
 }
 
-/// The line of a text, from 1, on which the name of a place stands, where it is found: a value of its own, or the head of a table.
-/// A field is looked for behind the head of its table.
+/// The line of a text, from 1, with the name of a place, if it is found: with a value, or as the head of a table. A
+/// field is looked for after the head of its table.
 pub fn line_of_name(text: &str, place: Place<'_>) -> Option<usize> {
     let behind = match place.field {
         Some(_) => head_line(text, place.key, place.entry.unwrap_or(0))?.saturating_add(1),
@@ -41,7 +41,7 @@ pub fn line_of_name(text: &str, place: Place<'_>) -> Option<usize> {
     Some(line.saturating_add(behind).saturating_add(1))
 }
 
-/// The line, from 0, of a head of a table of a key: the first one, or of several the one at a place.
+/// The line, from 0, of head number `at`, from 0, of the tables of a key.
 fn head_line(text: &str, key: &str, at: usize) -> Option<usize> {
     let mut heads = text
         .lines()
