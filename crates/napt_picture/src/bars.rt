@@ -1,4 +1,4 @@
-//! The picture of a run of few bindings: the bar of each, the packets upon it, and the drops below.
+//! The picture of a run of few bindings: the bar of each, the packets on it, and the drops below.
 
 use crate::frame::{draw_axis, draw_lanes, draw_legend, draw_page, name_at};
 use crate::layout::{Bar, Cause, Layout, Mark, MarkKind, Packets};
@@ -129,7 +129,7 @@ fn draw_marks(text: &mut String, layout: &Layout) -> Result<(), AllocError> {
     Ok(())
 }
 
-/// The end of a mark, with a title that tells its packets and their times.
+/// The end of a mark, with a title that gives its packets and times.
 fn end_mark(text: &mut String, span: Span, packets: Packets) -> Result<(), AllocError> {
     text.push_str("><title>")?;
     if packets.many == 1 {
@@ -167,7 +167,7 @@ fn draw_cross(text: &mut String, mark: Mark) -> Result<(), AllocError> {
     )
 }
 
-/// An arrow from the bar of one top into that of another, up to its end; to the same bar it goes round.
+/// An arrow from one bar into another, up to its end; to the same bar it goes round.
 fn draw_hairpin(text: &mut String, mark: Mark) -> Result<(), AllocError> {
     write!(text, "<path class=\"hairpin\" d=\"M{} ", mark.column)?;
     let above = mark.top.saturating_add(BAR_TOP);

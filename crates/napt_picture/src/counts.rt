@@ -1,5 +1,5 @@
-//! The picture of a run of many bindings: how many live at each address, and below it how many packets there are, how many of
-//! them are hairpins, and how many were dropped for each cause.
+//! The picture of a run of many bindings: how many live at each address, and below it the numbers of packets, of
+//! hairpins among them, and of drops for each cause.
 
 use crate::frame::{
     LANE_PAD, Lane, NAME_END, draw_axis, draw_lane, draw_lanes, draw_legend, draw_page,
@@ -26,7 +26,7 @@ const LIVE_LANE: u64 = 70;
 
 const ROW_LANE: u64 = 40;
 
-/// What a lane has above its highest bar.
+/// The space above a lane's highest bar.
 const PAD: u64 = 6;
 
 /// A lane of packets.
@@ -78,7 +78,7 @@ fn lanes_of(alloc: Global, addresses: usize) -> Result<Vec<Lane>, AllocError> {
     Ok(lanes)
 }
 
-/// The lane at a place of those of packets, which stand below those of so many addresses.
+/// The lane of packets at a place, below the lanes of this many addresses.
 fn row_lane(addresses: usize, place: usize) -> Lane {
     let above = LIVE_LANE
         .saturating_mul(addresses as u64)
@@ -90,7 +90,7 @@ fn row_lane(addresses: usize, place: usize) -> Lane {
     }
 }
 
-/// The lanes of all packets, of the hairpins where there are any, and of each cause.
+/// The lanes of all packets, of the hairpins if there are any, and of each cause.
 fn rows_of<'a>(
     alloc: Global,
     scene: &'a Scene,
@@ -187,7 +187,7 @@ fn draw_live_bins(
     Ok(())
 }
 
-/// The bar of a run of bins with a number, in a lane where the highest bar has another one.
+/// The bar of a run of bins for `number`, in a lane whose highest bar is for `most`.
 fn bar_of(lane: Lane, run: Run, number: u64, most: u64) -> Area {
     let floor = lane.bottom.saturating_sub(LANE_PAD);
     let full = floor.saturating_sub(lane.top).saturating_sub(PAD);
@@ -215,7 +215,7 @@ fn draw_live_title(
     )
 }
 
-/// The times of a run of bins, at the begin of its title.
+/// The times of a run of bins, to begin its title.
 fn open_title(text: &mut String, span: Span, run: Run) -> Result<(), AllocError> {
     text.push_str("><title>")?;
     push_moment(text, span, span.start_of(run.first))?;

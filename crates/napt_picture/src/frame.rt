@@ -40,10 +40,10 @@ const LEGEND_TOP: u64 = 48;
 /// The whole width of a drawing.
 const WIDTH: u64 = RIGHT + 30;
 
-/// What stands below all lanes: the axis.
+/// The space below all lanes, for the axis.
 const FOOT: u64 = 36;
 
-/// What a lane has below it.
+/// The space below a lane.
 pub const LANE_PAD: u64 = 3;
 
 /// The column where the names of lanes and rows end.
@@ -56,7 +56,7 @@ pub struct Lane {
     pub bottom: u64,
 }
 
-/// The page whose lanes end at a line, with the line above them.
+/// The page, whose lanes end at `bottom`, with its head.
 pub fn draw_page(text: &mut String, head: &str, bottom: u64) -> Result<(), AllocError> {
     let height = bottom.saturating_add(FOOT);
     write!(
@@ -110,7 +110,7 @@ pub fn draw_lane(text: &mut String, name: &str, lane: Lane) -> Result<(), AllocE
     draw_words(text, "side", name_at(lane.top), name)
 }
 
-/// Where the name of a lane or a row of a top ends.
+/// Where the name of a lane or row with this top ends.
 pub fn name_at(top: u64) -> Point {
     Point {
         column: NAME_END,

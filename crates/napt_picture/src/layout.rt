@@ -1,4 +1,4 @@
-//! Where the bars, the packets and the drops of a picture stand, in pixels.
+//! Where the bars, packets and drops of a picture are, in pixels.
 
 use crate::frame::Lane;
 use crate::scene::{Binding, BindingKind, Pass, Scene};
@@ -9,7 +9,7 @@ use std::collections::BTreeMap;
 /// The height of a bar with its label.
 const ROW: u64 = 26;
 
-/// How far apart arrows stand that would stand in one column, and how many may stand beside the first.
+/// How far apart arrows of the same column are, and how many may be beside the first.
 const BESIDE: u64 = 8;
 
 const MOST_BESIDE: u64 = 8;
@@ -20,7 +20,7 @@ const LAST_ARROW: u64 = RIGHT + 24;
 /// The height of the row of a cause.
 const CAUSE_ROW: u64 = 20;
 
-/// What a lane has above its first row and below its last.
+/// The space above a lane's first row and below its last.
 const PAD: u64 = 5;
 
 /// The width of a letter of a label.
@@ -40,7 +40,7 @@ pub struct Bar {
     pub top: u64,
 }
 
-/// What a mark says of a packet, in the order in which marks are drawn.
+/// What a mark says of a packet, in the order of drawing.
 #[derive(Clone, Copy, PartialEq, Eq, PartialOrd, Ord)]
 pub enum MarkKind {
     /// It went out at the bar of the mark's top.
@@ -53,7 +53,7 @@ pub enum MarkKind {
     Dropped,
 }
 
-/// What a packet leaves in the picture. Packets that fall together leave one mark.
+/// What a packet leaves in the picture. Packets at one place leave one mark.
 #[derive(Clone, Copy, PartialEq, Eq, PartialOrd, Ord)]
 pub struct Mark {
     pub kind: MarkKind,
@@ -78,7 +78,7 @@ pub struct Cause {
     pub many: u64,
 }
 
-/// Where everything in a picture stands.
+/// Where everything in a picture is.
 #[derive(Drop)]
 pub struct Layout {
     pub span: Span,
@@ -121,7 +121,7 @@ fn label_width(label: &str) -> u64 {
     (label.len() as u64).saturating_mul(LETTER)
 }
 
-/// The columns that a bar takes with its label, the last one with what keeps it from the next bar.
+/// The columns that a bar takes with its label and the space to the next bar.
 fn columns_of(bar: Bar, label: &str) -> (u64, u64) {
     let label_end = bar.label_at.saturating_add(label_width(label));
     (
@@ -130,7 +130,7 @@ fn columns_of(bar: Bar, label: &str) -> (u64, u64) {
     )
 }
 
-/// The first row that is free from a column on, of rows that are taken up to theirs; it is taken up to another column.
+/// The first row that is free at `from`, where each is taken up to its column in `taken`; it is then taken up to `to`.
 fn row_for(taken: &mut Vec<u64>, from: u64, to: u64) -> Result<usize, AllocError> {
     let at = match taken.iter().position(|end| *end <= from) {
         Some(at) => at,
@@ -166,7 +166,7 @@ impl Layout {
         self.add_marks(&scene.passes)
     }
 
-    /// So many lanes, with the bars of their bindings.
+    /// `many` lanes, with the bars of their bindings.
     fn add_lanes(
         &mut self,
         alloc: Global,
@@ -200,7 +200,7 @@ impl Layout {
         Ok(())
     }
 
-    /// The bar of a binding in the first row of its lane that is free for it, where the rows are taken up to some columns.
+    /// The bar of a binding in the first row of its lane that is free for it; `taken` is up to where each row is taken.
     fn add_bar(
         &mut self,
         taken: &mut Vec<u64>,
@@ -218,7 +218,7 @@ impl Layout {
         Ok(())
     }
 
-    /// A row for each of so many causes.
+    /// A row for each of `many` causes.
     fn add_causes(&mut self, many: usize) -> Result<(), AllocError> {
         for _ in 0..many {
             self.causes.push(Cause {
@@ -253,7 +253,7 @@ impl Layout {
         }
     }
 
-    /// The arrow of a hairpin at a time, beside others that stand in its column.
+    /// The arrow of a hairpin at a time, beside others in its column.
     fn add_arrow(&mut self, clock: u64, top: u64, into: u64) -> Result<(), AllocError> {
         let column = self.column_beside(self.span.column_of(clock), (top, into));
         self.arrows.insert(column, (top, into))?;
@@ -266,7 +266,8 @@ impl Layout {
         self.count_packet(mark, clock)
     }
 
-    /// The first column, of this one and those beside it, where no arrow of other tops stands; the last one where there is none.
+    /// The first column, of this one and those beside it, without an arrow between other bars; the last one if there is
+    /// none.
     fn column_beside(&self, first: u64, tops: (u64, u64)) -> u64 {
         let mut column = first;
         for beside in 0..=MOST_BESIDE {
@@ -279,7 +280,7 @@ impl Layout {
         column
     }
 
-    /// A mark at a time, where its top is there.
+    /// A mark at a time, if it has a top.
     fn add_mark(&mut self, kind: MarkKind, clock: u64, top: Option<u64>) -> Result<(), AllocError> {
         let Some(top) = top else {
             return Ok(());

@@ -1,8 +1,9 @@
-//! A picture of a run in SVG: over time the bindings of each external address as bars, the packets as strokes upon them, the
-//! hairpins as arrows between them, and the dropped packets below. Of many bindings it is how many live at each address, and how
-//! many packets there are.
+//! A picture of a run over time in SVG: the bindings of each external address as bars, packets as strokes on them,
+//! hairpins as arrows between them, and dropped packets below. With many bindings it is how many live at each address,
+//! and how many packets there are.
 //!
-//! The caller says what is shown (`Scene`), in its own words and with times in ns; `drawing_of` puts it in its place and draws it.
+//! The caller says what to show (`Scene`), in its own words and with times in ns; `drawing_of` lays it out and draws
+//! it.
 #![tactic(auto)]
 
 mod bars;

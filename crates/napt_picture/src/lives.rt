@@ -1,4 +1,4 @@
-//! How many bindings of each lane live, in bins of the time that is shown.
+//! How many bindings of each lane live, in bins of the time shown.
 
 use crate::scene::{Binding, BindingKind};
 use crate::span::{BINS, Span};
@@ -19,7 +19,7 @@ pub struct LiveBin {
 #[derive(Drop)]
 pub struct Lives {
     pub bins: Vec<LiveBin>,
-    /// The most that live at one moment of the time that is shown.
+    /// The most that live at one moment of the time shown.
     pub most: u64,
     /// How many live, and since when.
     now: u64,
@@ -38,7 +38,7 @@ struct Turn {
 #[derive(Clone, Copy, PartialEq, Eq, PartialOrd, Ord)]
 enum TurnKind {
     Ends,
-    /// It lives as the time that is shown begins.
+    /// It is live when the time shown begins.
     Stands,
     Begins,
 }
@@ -79,7 +79,7 @@ fn add_turns(turns: &mut Vec<Turn>, span: Span, bindings: &[Binding]) -> Result<
     Ok(())
 }
 
-/// Where a binding begins in the time that is shown.
+/// Where a binding begins in the time shown.
 fn begin_of(span: Span, binding: &Binding) -> Turn {
     let stands = binding.kind == BindingKind::Redirect || binding.made < span.start;
     let (moment, kind) = if stands {
@@ -94,7 +94,7 @@ fn begin_of(span: Span, binding: &Binding) -> Turn {
     }
 }
 
-/// Takes the turns, which are in the order of time.
+/// Takes the turns, which are in order of time.
 fn follow(all: &mut Vec<Lives>, span: Span, turns: &[Turn]) {
     for turn in turns {
         if let Some(lives) = all.get_mut(turn.lane) {
@@ -103,7 +103,7 @@ fn follow(all: &mut Vec<Lives>, span: Span, turns: &[Turn]) {
     }
 }
 
-/// Those that live go on to the end of the time that is shown.
+/// What is live stays so to the end of the time shown.
 fn end_all(all: &mut Vec<Lives>, span: Span) {
     for lives in all.iter_mut() {
         lives.hold(span, span.end.saturating_add(1));
@@ -111,7 +111,7 @@ fn end_all(all: &mut Vec<Lives>, span: Span) {
 }
 
 impl Lives {
-    /// None lives as the time that is shown begins.
+    /// None is live when the time shown begins.
     fn new(alloc: Global, span: Span) -> Result<Lives, AllocError> {
         let none = LiveBin {
             most: 0,

@@ -5,12 +5,12 @@
 pub struct Scene {
     /// The line above the lanes.
     pub head: String,
-    /// The part of the time that is shown; absent, the time of all packets.
+    /// The part of the time to show; absent, the time of all packets.
     pub from: Option<u64>,
     pub until: Option<u64>,
     /// The names of the lanes.
     pub lanes: Vec<String>,
-    /// The bindings, of which each has a bar.
+    /// The bindings, each a bar if they are few.
     pub bindings: Vec<Binding>,
     /// The names of the rows of causes for which packets were dropped.
     pub causes: Vec<String>,
@@ -18,13 +18,13 @@ pub struct Scene {
     pub passes: Vec<Pass>,
 }
 
-/// What a binding is, which is the colour of its bar.
+/// The kind of a binding, which colours its bar.
 #[derive(Clone, Copy, PartialEq, Eq)]
 pub enum BindingKind {
     Udp,
     Tcp,
     Icmp,
-    /// It stands before the first packet and after the last, whatever its times are.
+    /// It lives before the first packet and after the last, whatever its times.
     Redirect,
 }
 
@@ -32,7 +32,7 @@ pub enum BindingKind {
 #[derive(Drop)]
 pub struct Binding {
     pub kind: BindingKind,
-    /// The place of its lane, from 0; where there is none, it is not shown.
+    /// The place of its lane, from 0; if there is none, it is not shown.
     pub lane: usize,
     /// The words at its bar.
     pub label: String,
@@ -42,7 +42,7 @@ pub struct Binding {
     pub made: u64,
     /// When a packet last went through it.
     pub used: u64,
-    /// From when on it is gone.
+    /// When it is gone.
     pub end: u64,
 }
 

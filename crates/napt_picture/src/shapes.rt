@@ -46,13 +46,14 @@ pub fn draw_words(
     text.push_str("</text>\n")
 }
 
-/// What stands before words at a column, on a line.
+/// Opens words at a column, on a line.
 pub fn open_words(text: &mut String, class: &str, at: Point) -> Result<(), AllocError> {
     let Point { column, line } = at;
     write!(text, "<text class=\"{class}\" x=\"{column}\" y=\"{line}\">")
 }
 
-/// A moment in seconds since the first packet, with nine decimals where a column is less than a microsecond, else with six.
+/// A moment in seconds since the first packet, with nine decimals if a column is less than a microsecond, else with
+/// six.
 pub fn push_moment(text: &mut String, span: Span, moment: u64) -> Result<(), AllocError> {
     push_time(text, span, moment.saturating_sub(span.zero))
 }
@@ -67,7 +68,7 @@ pub fn push_time(text: &mut String, span: Span, time: u64) -> Result<(), AllocEr
     }
 }
 
-/// Words as XML has them.
+/// Words, escaped for XML.
 pub fn push_escaped(text: &mut String, words: &str) -> Result<(), AllocError> {
     for letter in words.chars() {
         match escape_of(letter) {
@@ -78,7 +79,7 @@ pub fn push_escaped(text: &mut String, words: &str) -> Result<(), AllocError> {
     Ok(())
 }
 
-/// What XML has in place of a letter that is not to stand in a text, or in a value in quotation marks.
+/// The XML escape of a letter that may not be in a text, or in a value in quotation marks.
 fn escape_of(letter: char) -> Option<&'static str> {
     match letter {
         '&' => Some("&amp;"),

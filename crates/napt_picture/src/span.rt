@@ -7,7 +7,7 @@ use crate::scene::{Binding, BindingKind, Scene};
 /// The line above the first lane, below the legend and the axis.
 pub const HEAD: u64 = 140;
 
-/// The columns between which time passes.
+/// The first and the last column of time.
 pub const LEFT: u64 = 170;
 
 pub const RIGHT: u64 = 1170;
@@ -33,14 +33,14 @@ pub struct Span {
     pub zero: u64,
     /// Where the picture begins.
     pub start: u64,
-    /// Where it ends: behind the last packet, where no other end is chosen.
+    /// Where it ends: after the last packet, if no other end is chosen.
     pub end: u64,
-    /// What a column stands for.
+    /// The time of a column.
     pub column: u64,
 }
 
 impl Span {
-    /// The time from the first of the packets to the last, and a sixteenth more; a second where none passes. Of it the part that
+    /// The time from the first packet to the last, a second if that is none, and a sixteenth more. Of it the part that
     /// is chosen.
     pub fn of(scene: &Scene) -> Span {
         let (zero, last) = match (scene.passes.first(), scene.passes.last()) {
@@ -67,17 +67,17 @@ impl Span {
         self.start <= moment && moment <= self.end
     }
 
-    /// Whether any of the time from one moment on and before another is shown.
+    /// Whether any of the time from a moment until before another is shown.
     pub fn meets(self, from: u64, to: u64) -> bool {
         from <= self.end && self.start < to
     }
 
-    /// Whether a binding lives in the time that is shown; a redirect always does.
+    /// Whether a binding lives in the time shown; a redirect always does.
     pub fn shows(self, binding: &Binding) -> bool {
         binding.kind == BindingKind::Redirect || self.meets(binding.made, binding.end)
     }
 
-    /// How many bindings live in the time that is shown.
+    /// How many bindings live in the time shown.
     pub fn count_shown(self, bindings: &[Binding]) -> usize {
         bindings
             .iter()
@@ -102,7 +102,7 @@ impl Span {
         (columns / BIN_WIDTH).min(BINS as u64 - 1) as usize
     }
 
-    /// When a bin begins: its time goes on to where the next one begins.
+    /// When a bin begins: it lasts until the next one begins.
     pub fn start_of(self, bin: usize) -> u64 {
         let passed = self.bin_time().saturating_mul(bin as u64);
         self.start.saturating_add(passed)

@@ -9,10 +9,10 @@ use crate::scene::Scene;
 use crate::span::Span;
 use std::alloc::{AllocError, Global};
 
-/// Of so many bindings at most each has a bar; of more it is shown how many live.
+/// Up to this many bindings have a bar each; of more, only numbers are shown.
 pub const MOST_BARS: usize = 30;
 
-/// The text of the drawing of a scene, an SVG file. Fails only where memory runs out.
+/// The text of the drawing of a scene, an SVG file. Fails only if memory runs out.
 pub fn drawing_of(alloc: Global, scene: &Scene) -> Result<String, AllocError>
     ensures element { IfOk result (λ text. IsElement (string_bytes text)) }
 {
@@ -20,7 +20,7 @@ pub fn drawing_of(alloc: Global, scene: &Scene) -> Result<String, AllocError>
     format!(in alloc; "<svg {inner}</svg>\n")
 }
 
-/// What stands between the name of the element and its end.
+/// What is between the name of the element and its end.
 fn inner_of(alloc: Global, scene: &Scene) -> Result<String, AllocError> {
     let span = Span::of(scene);
     let mut text = String::new(alloc);

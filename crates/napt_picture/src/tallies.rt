@@ -1,4 +1,4 @@
-//! How many packets there are, in bins of the time that is shown.
+//! How many packets there are, in bins of the time shown.
 
 use crate::scene::{Pass, Scene};
 use crate::span::{BINS, Span};
@@ -18,11 +18,11 @@ pub struct Tally {
 pub struct Tallies {
     pub packets: Tally,
     pub hairpins: Tally,
-    /// Those that were dropped, one for each cause.
+    /// Those dropped, one for each cause.
     pub drops: Vec<Tally>,
 }
 
-/// The packets of a scene in the time that is shown.
+/// The packets of a scene in the time shown.
 pub fn tallies_of(alloc: Global, span: Span, scene: &Scene) -> Result<Tallies, AllocError> {
     let mut tallies = Tallies {
         packets: Tally::new(alloc)?,
