@@ -10,7 +10,7 @@ pub trait Gate {
     ghost is_open: { Bool };
 
     /// Whether the worker may take its next step. `turn` is the number of its steps so far, at most `u64::MAX`. If
-    /// refused, it asks again, 1,000,000 times in all for one item, and then stops.
+    /// refused, the worker asks again, 1,000,000 times in all for one item, and then stops.
     fn enter(&self, worker: u32, turn: u64) -> bool
         ensures { is_open ≡ true → IsTrue result };
 }

@@ -13,7 +13,7 @@ use std::alloc::Global;
 use std::sync::{Arc, Wait};
 use std::thread::Threads;
 
-/// Workers on threads of their own, one for each machine. A pool can't be dropped: `close` takes it.
+/// Workers on threads of their own, one for each machine. A pool can't be dropped: `close` consumes it.
 ///
 /// Contracts see its capacity and, for each worker, the machine it was given, the items accepted for it and the answers
 /// taken from it, oldest first.

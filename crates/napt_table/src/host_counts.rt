@@ -64,7 +64,7 @@ impl HostCounts {
         }
     }
 
-    /// Uncounts the binding.
+    /// Counts it no longer.
     pub(crate) fn take(&mut self, binding: &Binding)
         ensures counted { are_counted self.new ≡ are_counted self.old }
         ensures counts { (host : ℕ) →

@@ -31,7 +31,7 @@ pub(crate) struct Part {
     /// The external address.
     address: u32,
     timers: Timers,
-    /// The time of the last outgoing packet of any protocol without a binding, in ns: what had ended by then is gone.
+    /// The time of the last outgoing packet without a binding, of any protocol, in ns: what had ended by then is gone.
     at: u64,
     by_number: HashMap<u16, Binding>,
     /// The external number for an inside address and number.
@@ -224,7 +224,7 @@ impl Part {
         }
     }
 
-    /// Requeues an entry that came up with its later end, or removes its binding; whether there was one.
+    /// Requeues an entry that came up, with its later end, or removes its binding; whether there was one.
     fn purge_first(&mut self) -> bool
         requires part { IsPart self.old }
         requires due { AreDue self.old }

@@ -59,9 +59,9 @@ impl Translator {
         })
     }
 
-    /// Translates a packet one way: its source to the external endpoint on the way out, its destination to the inside
-    /// one on the way in, an ICMP error by the datagram that it quotes. The packet is changed in place. A time before
-    /// the last leg's counts as that; an error changes no binding and no time. An incoming packet never ends `Onward`.
+    /// Translates a packet one way: its source on the way out, its destination on the way in, an ICMP error by the
+    /// datagram that it quotes. The packet is changed in place. A time before the last leg's counts as that; an error
+    /// changes no binding and no time. An incoming packet never ends `Onward`.
     ///
     /// If memory is refused nothing changes, and the leg is lost.
     pub fn translate(&mut self, alloc: Global, leg: Leg) -> Result<Answer, AllocError>
