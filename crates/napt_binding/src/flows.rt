@@ -230,7 +230,7 @@ impl Flows {
         }
     }
 
-    /// Uses the flow of the remote, if there is one, now by an incoming segment.
+    /// Marks the remote's flow, if any, as used now by an incoming segment.
     pub(crate) fn refresh_flow(&mut self, now: u64, remote: Endpoint, flags: Flags)
         ensures { self.new ≡ change_first (traffic.is_flow_of remote)
             (traffic.used Protocol.Tcp Way.Incoming flags now) self.old }

@@ -46,7 +46,7 @@ pub(crate) struct Fields {
 /// Reads a capture file: all records before its end, or its first fault. It asks for 24 bytes, then for 16 and
 /// the captured bytes of each record, and for nothing past a header with a fault.
 ///
-/// Returns `Read` if and only if a read failed, and that was the last one; `Memory` if memory ran out.
+/// Returns `Read` if and only if a read failed, which was then the last one; `Memory` if memory ran out.
 pub fn read_capture<R: Source>(alloc: Global, reader: &mut R) -> Result<Capture, CaptureFault>
     requires { R.failed reader.old < 2 ^ 64 - 1 }
     // If the reader's bytes are known, they are read as what they are.

@@ -33,7 +33,7 @@ pub enum ConfigFault {
     /// A number is out of range.
     #[error("expected a timer of 0 to 1000000000 seconds, a `ring` of 1 to 4096, a `quota` of 1 to 65535, or an `external` port of 1 to 65535")]
     BadNumber,
-    /// A text is not a word of its key.
+    /// A text is not a word its key allows.
     #[error("expected `independent`, `address` or `address-port` as `filter`, `outbound` or `both` as `refresh`, or `udp` or `tcp` as `protocol`")]
     BadWord,
     /// An address is in the pool twice.

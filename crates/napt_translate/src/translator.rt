@@ -60,8 +60,8 @@ impl Translator {
     }
 
     /// Translates a packet one way: its source on the way out, its destination on the way in, an ICMP error by the
-    /// datagram that it quotes. The packet is changed in place. A time before the last leg's counts as that; an error
-    /// changes no binding and no time. An incoming packet never ends `Onward`.
+    /// datagram that it quotes. The packet is changed in place. A time before the last leg's counts as the last leg's;
+    /// an error changes no binding and no time. An incoming packet never ends `Onward`.
     ///
     /// If memory is refused nothing changes, and the leg is lost.
     pub fn translate(&mut self, alloc: Global, leg: Leg) -> Result<Answer, AllocError>
@@ -98,7 +98,7 @@ impl Translator {
     }
 
     /// The live bindings at a time, in ns, sorted by protocol and external number; a time before the last leg's counts
-    /// as that.
+    /// as the last leg's.
     pub fn bindings(&self, alloc: Global, now: u64) -> Result<Vec<Row>, AllocError>
         ensures { IfOk result (λ made. made.items ≡ rows self.now.rules.timers
             (max now self.now.table.at) self.now.table.list) }
@@ -106,7 +106,8 @@ impl Translator {
         self.table.bindings(alloc, now.max(self.table.at()))
     }
 
-    /// The binding of an inside endpoint at a time, in ns, with its end; a time before the last leg's counts as that.
+    /// The binding of an inside endpoint at a time, in ns, with its end; a time before the last leg's counts as the
+    /// last leg's.
     pub fn timed_by_inside(
         &self,
         now: u64,
@@ -121,7 +122,8 @@ impl Translator {
             .timed_by_inside(now.max(self.table.at()), protocol, inside)
     }
 
-    /// The binding with an external number at a time, in ns, with its end; a time before the last leg's counts as that.
+    /// The binding with an external number at a time, in ns, with its end; a time before the last leg's counts as the
+    /// last leg's.
     pub fn timed_by_number(&self, now: u64, protocol: Protocol, number: u16) -> Option<TimedRow>
         ensures { result ≡ option_map (timed self.now.rules.timers)
             (steps.by_number self.now.rules.timers self.now.table.address

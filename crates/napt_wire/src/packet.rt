@@ -182,9 +182,9 @@ impl Packet {
     }
 
     /// Restores an end of the datagram that an ICMP error quotes. On the way in, its source becomes `end`, and
-    /// the error itself goes to that address; on the way out, its destination becomes `end`, and the error comes
-    /// from that address. Each checksum that covers a replaced word is updated, if it is present (RFC 3022
-    /// section 4.3, RFC 5508 section 4). Takes constant time.
+    /// the error itself goes to the address of `end`; on the way out, its destination becomes `end`, and the
+    /// error comes from the address of `end`. Each checksum that covers a replaced word is updated, if it is
+    /// present (RFC 3022 section 4.3, RFC 5508 section 4). Takes constant time.
     pub fn revert_inner(&mut self, way: Way, end: Endpoint)
         requires error { is_error (kind self.old) ≡ true }
         requires number { CanCarry (kind self.old) end.number }

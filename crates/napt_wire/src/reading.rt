@@ -171,7 +171,7 @@ fn has_bad_transport(form: Form, payload: &[u8]) -> bool
     }
 }
 
-/// Whether a message of this form and ICMP type is translated from a side.
+/// Whether a message of this form and ICMP type from a side is translated.
 fn is_translated(side: Side, form: Form, icmp_type: u8) -> bool
     ensures { result ≡ is_translated side form icmp_type }
 {

@@ -106,7 +106,7 @@ pub(super) fn use_flow(flows: &mut Vec<Flow>, timers: Timers, sent: Sent) -> Res
     Ok(())
 }
 
-/// Uses the flow of the remote, if there is one, now by an incoming segment.
+/// Marks the remote's flow, if any, as used now by an incoming segment.
 pub(super) fn refresh_flow(flows: &mut [Flow], now: u64, remote: Endpoint, flags: Flags)
     requires distinct { AreDistinct flows.old }
     ensures distinct { AreDistinct flows.new }

@@ -321,7 +321,7 @@ impl Many {
         Ok(())
     }
 
-    /// Uses the flow of the remote, if there is one, now by an incoming segment.
+    /// Marks the remote's flow, if any, as used now by an incoming segment.
     pub(super) fn refresh_flow(&mut self, now: u64, remote: Endpoint, flags: Flags)
         requires { IsMany self.old }
         ensures many { IsMany self.new }
