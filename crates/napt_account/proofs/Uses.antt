@@ -145,7 +145,8 @@ found_out es i e x n at noted_is more same =
 pub found_in : (es : List Entry) (i : ℕ) (e x : Entry) (n : Note) → slice_get es i ≡ Some e → n ≡ noted_by (Some e) →
     x.sent ≡ e.sent → x.received ≡ e.received + 1 → used_as n None (Some i) ≡ use_between es (set es i x)
 found_in es i e x n at noted_is same more =
-    ap (λ (m : Note). used_as m None (Some i)) (noted_is ∙ sym (ap noted_by at)) ∙ sym (received_used es i e x at same more)
+    ap (λ (m : Note). used_as m None (Some i)) (noted_is ∙ sym (ap noted_by at))
+    ∙ sym (received_used es i e x at same more)
 
 pub made_out_of : (es : List Entry) (i : ℕ) (x : Entry) → i ≡ length es → x.sent ≡ 1 → x.received ≡ 0 →
     used_as notes.Made (Some i) None ≡ use_between es (es ++ x ∷ [])
@@ -310,8 +311,9 @@ module _ (rules : Rules) (now : ℕ) (final : List Binding) where
       let q : Passage = second_of rules.timers now final
       (follow_by rules address leg (act rules address leg list) (ends.Onward place packet)).acts in
       subst (λ (e : End). AreLegs (passage_by rules.timers now final address (seen_of leg.packet)
-      (carried_by (kind leg.packet)) (went_by e)) q) (sym is) (legs_out address leg.packet (carried_by (kind leg.packet))
-      place packet q (second_follow rules now final address leg list (ends.Onward place packet)))
+      (carried_by (kind leg.packet)) (went_by e)) q) (sym is)
+      (legs_out address leg.packet (carried_by (kind leg.packet)) place packet q
+      (second_follow rules now final address leg list (ends.Onward place packet)))
 
   legs_step : (number : ℕ) (list : List Binding) (input : Arrival) → Legs (step rules number now input list).acts
   legs_step number list input = of_step rules number now list (λ (s : Course). Legs s.acts) (λ cause. tt)

@@ -63,7 +63,8 @@ loop-trace-preserved c =
           ∙ (ap (λ (us : List Use). us ++ c.in_ok-used.used ∷ []) before.uses
           ∙ (ap (λ (u : Use). uses_told entries (take n all) ++ u ∷ [])
           (c.in_ok-used.ensures.uses ∙ (ap (use_between c.loop-trace.self.log.entries.items)
-          c.in_ok-used.ensures.entries ∙ ap (λ (es : List Entry). use_between es (after_trace es trace)) before.entries))
+          c.in_ok-used.ensures.entries
+          ∙ ap (λ (es : List Entry). use_between es (after_trace es trace)) before.entries))
           ∙ (sym (uses_more entries (take n all) trace) ∙ ap (uses_told entries) (sym more))));
       kept = (
         trace.now,
