@@ -31,6 +31,7 @@ use crate::against::tell_against;
 use crate::ended::Ended;
 use crate::log_file::write_log;
 use crate::measures::tell_sizes;
+use crate::objects::Objects;
 use crate::options::{Form, Options};
 use crate::page::Page;
 use crate::places::{picture_stop, tell_failed};
@@ -213,8 +214,9 @@ fn tell_in_json<R: Print + Eprint + AllocGlobal>(
     progress: Progress,
 ) -> Result<(), Stop> {
     let mut page = Page::new(rt.alloc());
+    let mut objects = Objects::new(rt.alloc());
     for number in 1..=told.inputs.len() as u64 {
-        told.add_json(rt.alloc(), &mut page.text, number)?;
+        told.add_json(rt.alloc(), &mut page.text, &mut objects, number)?;
         page.turn(rt)?;
         progress.tell(rt, number);
     }

@@ -1,139 +1,211 @@
 //! A JSON object for each packet, for programs. Its fields are told in docs/FORMATS.md.
+//!
+//! Of a million objects most of the time goes into their texts. All that an object says but its numbers and ends is one of a few
+//! texts, so serde_json makes each of these once; the rest are digits, added straight to the text of all lines.
 
-use crate::digits::address_text;
+use crate::digits::{add_address, add_number};
 use crate::names::side_name;
 use crate::shown::{arrival, is_reply};
 use crate::summary::Line;
 use napt_account::Note;
 use napt_records::{cause_name, protocol_name};
 use napt_sequential::Outcome;
-use napt_wire::{Inner, Kind, Packet, Protocol, Side};
+use napt_wire::{Cause, Endpoint, Inner, Kind, Packet, Protocol, Side};
 use serde::Serialize;
 use std::alloc::{AllocError, Global};
-use std::fmt::Write;
 
-/// What became of a packet.
+/// What became of a packet, but for its numbers and its ends.
+#[derive(Clone, Copy, PartialEq, Eq)]
+struct Fate {
+    side: Side,
+    /// Where it left to, or why it did not.
+    left: Result<Side, Cause>,
+    note: Note,
+}
+
+/// The members of an object that tell what became of its packet.
 #[derive(Drop, Serialize)]
-struct Object {
-    number: u64,
-    time: u64,
+struct Members {
     side: &'static str,
     outcome: &'static str,
     cause: Option<&'static str>,
     binding: Option<&'static str>,
     hairpin: bool,
-    before: Option<Ends>,
-    after: Option<Ends>,
 }
 
-/// A packet by its ends.
-#[derive(Drop, Serialize)]
-struct Ends {
-    kind: &'static str,
-    source: String,
-    source_port: Option<u16>,
-    destination: String,
-    destination_port: Option<u16>,
-    identifier: Option<u16>,
-    about: Option<Quoted>,
+/// The text of what became of a packet.
+#[derive(Drop)]
+struct Known {
+    fate: Fate,
+    members: String,
 }
 
-/// The packet that an ICMP error quotes, by its ends.
-#[derive(Drop, Serialize)]
-struct Quoted {
-    protocol: &'static str,
-    source: String,
-    source_port: Option<u16>,
-    destination: String,
-    destination_port: Option<u16>,
-    identifier: Option<u16>,
+/// The objects of a run. It knows the text of each fate that a packet had.
+#[derive(Drop)]
+pub struct Objects {
+    known: Vec<Known>,
 }
 
-/// Adds the object of a packet to a text, on a line of its own.
-pub fn add_object(alloc: Global, text: &mut String, line: Line<'_>) -> Result<(), AllocError> {
-    let object = object_of(alloc, line)?;
-    match serde_json::to_string(alloc, &object) {
-        Ok(object) => writeln!(text, "{object}"),
-        Err(_) => Err(AllocError),
+/// What the numbers of a packet's ends are.
+#[derive(Clone, Copy, PartialEq, Eq)]
+enum Numbers {
+    Ports,
+    Identifier,
+    /// An ICMP error has none.
+    Absent,
+}
+
+impl Objects {
+    pub fn new(alloc: Global) -> Objects {
+        Objects {
+            known: Vec::new(alloc),
+        }
+    }
+
+    /// Adds the object of a packet to a text, on a line of its own.
+    pub fn add(
+        &mut self,
+        alloc: Global,
+        text: &mut String,
+        line: Line<'_>,
+    ) -> Result<(), AllocError> {
+        text.push_str("{\"number\":")?;
+        add_number(text, line.number)?;
+        text.push_str(",\"time\":")?;
+        add_number(text, line.input.time)?;
+        self.add_fate(alloc, text, Fate::of(line))?;
+        text.push_str(",\"before\":")?;
+        match arrival(alloc, line.input.side, &line.input.bytes)? {
+            Some(packet) => add_packet(text, &packet)?,
+            None => text.push_str("null")?,
+        }
+        text.push_str(",\"after\":")?;
+        match line.outcome {
+            Outcome::ToOutside(packet) | Outcome::ToInside(packet) => add_packet(text, packet)?,
+            Outcome::Dropped(_) => text.push_str("null")?,
+        }
+        text.push_str("}\n")
+    }
+
+    /// Adds the members that tell what became of a packet, with a comma before them.
+    fn add_fate(
+        &mut self,
+        alloc: Global,
+        text: &mut String,
+        fate: Fate,
+    ) -> Result<(), AllocError> {
+        if let Some(known) = self.known.iter().find(|known| known.fate == fate) {
+            return text.push_str(&known.members);
+        }
+        let members = fate.members(alloc)?;
+        text.push_str(&members)?;
+        self.known.push(Known { fate, members })?;
+        Ok(())
     }
 }
 
-fn object_of(alloc: Global, line: Line<'_>) -> Result<Object, AllocError> {
-    let Line {
-        number,
-        input,
-        outcome,
-        note,
-    } = line;
-    Ok(Object {
-        number,
-        time: input.time,
-        side: side_name(input.side),
-        outcome: outcome_name(outcome),
-        cause: cause_of(outcome),
-        binding: binding_name(outcome, note),
-        hairpin: input.side == Side::Inside && matches!(outcome, Outcome::ToInside(_)),
-        before: ends_before(alloc, input.side, &input.bytes)?,
-        after: ends_after(alloc, outcome)?,
-    })
-}
+impl Fate {
+    fn of(line: Line<'_>) -> Fate {
+        Fate {
+            side: line.input.side,
+            left: match line.outcome {
+                Outcome::ToOutside(_) => Ok(Side::Outside),
+                Outcome::ToInside(_) => Ok(Side::Inside),
+                Outcome::Dropped(cause) => Err(*cause),
+            },
+            note: line.note,
+        }
+    }
 
-fn outcome_name(outcome: &Outcome) -> &'static str {
-    match outcome {
-        Outcome::ToOutside(_) => "to-outside",
-        Outcome::ToInside(_) => "to-inside",
-        Outcome::Dropped(_) => "dropped",
+    /// Its members in JSON, with a comma before them.
+    fn members(self, alloc: Global) -> Result<String, AllocError> {
+        let members = Members {
+            side: side_name(self.side),
+            outcome: match self.left {
+                Ok(Side::Outside) => "to-outside",
+                Ok(Side::Inside) => "to-inside",
+                Err(_) => "dropped",
+            },
+            cause: self.left.err().map(cause_name),
+            binding: self.binding(),
+            hairpin: self.side == Side::Inside && self.left == Ok(Side::Inside),
+        };
+        let Ok(object) = serde_json::to_string(alloc, &members) else {
+            return Err(AllocError);
+        };
+        let mut text = String::from_str(alloc, ",")?;
+        text.push_str(object.trim_matches(['{', '}']))?;
+        Ok(text)
+    }
+
+    /// What a packet that went through did to the binding that it used first; an ICMP error did nothing to it.
+    fn binding(self) -> Option<&'static str> {
+        match (self.left, self.note) {
+            (Err(_), _) | (_, Note::Nothing) => None,
+            (_, Note::Made) => Some("made"),
+            (_, Note::Found) => Some("found"),
+            (_, Note::Redirect) => Some("redirect"),
+        }
     }
 }
 
-fn cause_of(outcome: &Outcome) -> Option<&'static str> {
-    match outcome {
-        Outcome::Dropped(cause) => Some(cause_name(*cause)),
-        Outcome::ToOutside(_) | Outcome::ToInside(_) => None,
-    }
-}
-
-/// What a packet that went through did to the binding that it used first; an ICMP error did nothing to it.
-fn binding_name(outcome: &Outcome, note: Note) -> Option<&'static str> {
-    match (outcome, note) {
-        (Outcome::Dropped(_), _) | (_, Note::Nothing) => None,
-        (_, Note::Made) => Some("made"),
-        (_, Note::Found) => Some("found"),
-        (_, Note::Redirect) => Some("redirect"),
-    }
-}
-
-fn ends_before(alloc: Global, side: Side, bytes: &[u8]) -> Result<Option<Ends>, AllocError> {
-    match arrival(alloc, side, bytes)? {
-        Some(packet) => Ok(Some(ends_of(alloc, &packet)?)),
-        None => Ok(None),
-    }
-}
-
-fn ends_after(alloc: Global, outcome: &Outcome) -> Result<Option<Ends>, AllocError> {
-    match outcome {
-        Outcome::ToOutside(packet) | Outcome::ToInside(packet) => Ok(Some(ends_of(alloc, packet)?)),
-        Outcome::Dropped(_) => Ok(None),
-    }
-}
-
-fn ends_of(alloc: Global, packet: &Packet) -> Result<Ends, AllocError> {
-    let (source, destination) = (packet.source(), packet.destination());
+/// Adds the object of a packet by its ends.
+fn add_packet(text: &mut String, packet: &Packet) -> Result<(), AllocError> {
     let kind = packet.kind();
-    let (has_ports, about) = match kind {
-        Kind::Udp | Kind::Tcp(_) => (true, None),
-        Kind::Echo => (false, None),
-        Kind::ErrorOf(inner) => (false, Some(quoted_of(alloc, inner)?)),
+    let numbers = match kind {
+        Kind::Udp | Kind::Tcp(_) => Numbers::Ports,
+        Kind::Echo => Numbers::Identifier,
+        Kind::ErrorOf(_) => Numbers::Absent,
     };
-    Ok(Ends {
-        kind: kind_name(packet),
-        source: address_text(alloc, source.address)?,
-        source_port: has_ports.then_some(source.number),
-        destination: address_text(alloc, destination.address)?,
-        destination_port: has_ports.then_some(destination.number),
-        identifier: matches!(kind, Kind::Echo).then_some(source.number.max(destination.number)),
-        about,
-    })
+    text.push_str("{\"kind\":\"")?;
+    text.push_str(kind_name(packet))?;
+    add_ends(text, packet.source(), packet.destination(), numbers)?;
+    text.push_str(",\"about\":")?;
+    match kind {
+        Kind::ErrorOf(inner) => add_quoted(text, inner)?,
+        Kind::Udp | Kind::Tcp(_) | Kind::Echo => text.push_str("null")?,
+    }
+    text.push_str("}")
+}
+
+/// Adds the object of the packet that an ICMP error quotes.
+fn add_quoted(text: &mut String, inner: Inner) -> Result<(), AllocError> {
+    let numbers = match inner.protocol {
+        Protocol::Icmp => Numbers::Identifier,
+        Protocol::Tcp | Protocol::Udp => Numbers::Ports,
+    };
+    text.push_str("{\"protocol\":\"")?;
+    text.push_str(protocol_name(inner.protocol))?;
+    add_ends(text, inner.source, inner.destination, numbers)?;
+    text.push_str("}")
+}
+
+/// Adds the end of a name, and the members for the ends of a packet.
+fn add_ends(
+    text: &mut String,
+    source: Endpoint,
+    destination: Endpoint,
+    numbers: Numbers,
+) -> Result<(), AllocError> {
+    let is_port = numbers == Numbers::Ports;
+    text.push_str("\",\"source\":\"")?;
+    add_address(text, source.address)?;
+    text.push_str("\",\"source_port\":")?;
+    add_number_or_null(text, is_port.then_some(source.number))?;
+    text.push_str(",\"destination\":\"")?;
+    add_address(text, destination.address)?;
+    text.push_str("\",\"destination_port\":")?;
+    add_number_or_null(text, is_port.then_some(destination.number))?;
+    text.push_str(",\"identifier\":")?;
+    let identifier = source.number.max(destination.number);
+    add_number_or_null(text, (numbers == Numbers::Identifier).then_some(identifier))
+}
+
+fn add_number_or_null(text: &mut String, number: Option<u16>) -> Result<(), AllocError> {
+    match number {
+        Some(number) => add_number(text, u64::from(number)),
+        None => text.push_str("null"),
+    }
 }
 
 fn kind_name(packet: &Packet) -> &'static str {
@@ -144,17 +216,4 @@ fn kind_name(packet: &Packet) -> &'static str {
         Kind::Echo => "icmp-echo-request",
         Kind::ErrorOf(_) => "icmp-error",
     }
-}
-
-fn quoted_of(alloc: Global, inner: Inner) -> Result<Quoted, AllocError> {
-    let (source, destination) = (inner.source, inner.destination);
-    let is_query = inner.protocol == Protocol::Icmp;
-    Ok(Quoted {
-        protocol: protocol_name(inner.protocol),
-        source: address_text(alloc, source.address)?,
-        source_port: (!is_query).then_some(source.number),
-        destination: address_text(alloc, destination.address)?,
-        destination_port: (!is_query).then_some(destination.number),
-        identifier: is_query.then_some(source.number.max(destination.number)),
-    })
 }

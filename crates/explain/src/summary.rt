@@ -3,7 +3,7 @@
 use crate::digits::{add_number_within, add_seconds, add_spaces, pad};
 use crate::ended::Ended;
 use crate::names::Seconds;
-use crate::objects::add_object;
+use crate::objects::Objects;
 use crate::options::Choice;
 use crate::page::Page;
 use crate::shown::{Party, add_arrival, add_packet};
@@ -133,9 +133,15 @@ impl<'a> Told<'a> {
     }
 
     /// Adds the JSON object of the packet of a number, from 1, where it is asked for.
-    pub fn add_json(self, alloc: Global, text: &mut String, number: u64) -> Result<(), AllocError> {
+    pub fn add_json(
+        self,
+        alloc: Global,
+        text: &mut String,
+        objects: &mut Objects,
+        number: u64,
+    ) -> Result<(), AllocError> {
         match self.line_at(number) {
-            Some(line) if is_chosen(alloc, self.choice, line)? => add_object(alloc, text, line),
+            Some(line) if is_chosen(alloc, self.choice, line)? => objects.add(alloc, text, line),
             _ => Ok(()),
         }
     }

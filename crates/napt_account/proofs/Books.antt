@@ -15,8 +15,10 @@ use Rattle.napt_account.specs.declared.log.Entry.{Entry}
 use Rattle.napt_account.specs.declared.places.Places.{Places}
 use Rattle.napt_account.specs.Book.{shares, is_of, through}
 use Rattle.napt_account.specs.Kept.{AreKept}
+use Rattle.napt_account.specs.Latest.{is_at}
 use Rattle.napt_account.specs.Places.{place_at}
 use Rattle.napt_sequential.proofs.Lists.{get_before, get_last, get_set, get_set_other}
+use Rattle.napt_account.proofs.Latest.{last_joined, last_set}
 use Rattle.napt_account.proofs.Telling.{shares_itself}
 
 -- LISTS
@@ -160,6 +162,8 @@ kept_set now most es places kept w i e at passed x same sent received =
                 ∙ (placed ∙ ap Some (sym here))
             | false ↦ λ h. kept.latest j f (sym (get_set_other es i j x (eqb-false j i h)) ∙ there) also
           ] refl;
+      last = λ protocol external. kept.last protocol external ∙ sym (last_set (is_at protocol external) es i e x at
+          (ap (λ (r : Row). same_protocol r.protocol protocol && same_endpoint r.external external) same));
       few = λ j f there. elim (eqb j i) as (λ v. eqb j i ≡ v → (f.sent ≤ most + 1) × (f.received ≤ most + 1)) [
         | true ↦ λ h.
             let here : j ≡ i = eqb-true j i h in
@@ -203,6 +207,9 @@ kept_put now most es old new kept x none sent received put =
                 (ap (λ (y : Entry). shares x.binding y.binding) (sym is) ∙ shares_itself x.binding)
                 ∙ ap Some (sym last))
           ];
+      last = λ protocol external. put protocol external
+          ∙ (ap (cond (is_at protocol external x) (Some (length es))) (kept.last protocol external)
+          ∙ sym (last_joined (is_at protocol external) es x));
       few = λ j f there.
           let within : j < length (es ++ x ∷ []) = slice_get_within (es ++ x ∷ []) j f there in
           elim (cases_lt j (length es)) [
@@ -218,6 +225,7 @@ pub kept_more : (now most more : ℕ) → most ≤ more → (es : List Entry) (p
     AreKept now most es places → AreKept now more es places
 kept_more now most more le es places kept = record {
   latest = kept.latest;
+  last = kept.last;
   few = λ i e at. let old = kept.few i e at in (omega (arith, old.0), omega (arith, old.1));
 }
 
@@ -225,5 +233,6 @@ pub kept_later : (now later most : ℕ) → now ≤ later → (es : List Entry) 
     AreKept now most es places → AreKept later most es places
 kept_later now later most le es places kept = record {
   latest = λ i e at opened. kept.latest i e at (before_sooner now later le e.end opened);
+  last = kept.last;
   few = kept.few;
 }

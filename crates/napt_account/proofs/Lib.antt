@@ -7,6 +7,8 @@ pub mod Shortages
 pub mod Books
 pub mod Placed
 pub mod Begun
+pub mod Latest
+pub mod Uses
 pub mod Told
 pub mod Lists
 pub mod Steps

@@ -37,6 +37,7 @@ use Rattle.napt_sequential.proofs.AnyStep.{of_step}
 use Rattle.napt_sequential.proofs.Grown.{step_one}
 use Rattle.napt_sequential.proofs.Sound.{run_sound}
 use Rattle.napt_account.specs.declared.log.Entry.{Entry}
+use Rattle.napt_account.specs.Kept.{IsNotOut}
 use Rattle.napt_account.specs.Log.{living, has_row, end_told, counted, begun, made_between, told, logged, entries_from, entries_of}
 use Rattle.napt_account.specs.Book.{shares, is_of, through, sent_through, received_through, made_by, after, after_trace, told_by}
 use Rattle.napt_account.proofs.Entries.{Tells, hold, hold_of, row_itself, is_row, binding_of, is_open, open_rows, made_added, each_found, tells_later, tells_step}
@@ -142,12 +143,6 @@ none_shares (x ∷ xs) w apart =
 
 -- WHAT A FIRST LEG TELLS LIVES, AND A SECOND GOES OUT THROUGH NO BINDING
 
-abbrev pub IsNotOut : Passage → Type 0
-IsNotOut Nothing = Unit {0}
-IsNotOut (Out timed) = ⊥
-IsNotOut (In timed) = Unit {0}
-IsNotOut (Dropped loss) = Unit {0}
-
 in_not_out : (o : Option TimedRow) → IsNotOut (in_through o)
 in_not_out None = tt
 in_not_out (Some timed) = tt
@@ -219,7 +214,7 @@ module _ (rules : Rules) (now : ℕ) (final : List Binding) where
   second_in address leg list Echo is = ended_in rules.timers now final address leg.packet (carried_by Echo) _
   second_in address leg list (ErrorOf inner) is = tt
 
-  second_follow : (address : ℕ) (leg : Leg) (list : List Binding) (e : End) →
+  pub second_follow : (address : ℕ) (leg : Leg) (list : List Binding) (e : End) →
       IsNotOut (second_of rules.timers now final (follow_by rules address leg (act rules address leg list) e).acts)
   second_follow address leg list (ends.ToOutside packet) = tt
   second_follow address leg list (ends.ToInside packet) = tt

@@ -3,6 +3,7 @@
 -- none, one begins.
 use Rattle.std.specs.Prelude.{ℕ, ◌+◌, Bool, ◌&&◌, cond, List, [], ◌∷◌, ◌++◌, map, Option}
 use Rattle.std.specs.List.{list_any, fold}
+use Rattle.std.specs.Option.{option_or}
 use Rattle.napt_config.specs.Rules.{Rules}
 use Rattle.napt_rules.specs.Prelude.{same_protocol, same_endpoint, opening}
 use Rattle.napt_binding.specs.Ends.{is_before}
@@ -13,7 +14,11 @@ use Rattle.napt_sequential.specs.declared.passage.Passage.TheVariants.{Nothing, 
 use Rattle.napt_sequential.specs.declared.passage.Trace.{Trace}
 use Rattle.napt_account.specs.declared.log.Entry.{Entry}
 use Rattle.napt_account.specs.declared.log.Shortage.{Shortage}
+use Rattle.napt_account.specs.declared.account.Note.{Note}
+use Rattle.napt_account.specs.declared.account.Note.TheVariants as notes
+use Rattle.napt_account.specs.declared.account.Use.{Use}
 use Rattle.napt_account.specs.Log.{begun, is_shortage}
+use Rattle.napt_account.specs.Uses.{use_between}
 
 -- whether a row has the protocol and the external endpoint of another
 abbrev pub shares : Row → Row → Bool
@@ -74,3 +79,23 @@ lost now (Dropped loss) = cond (is_shortage loss.cause)
 
 abbrev pub lost_by : Trace → List Shortage
 lost_by trace = lost trace.now trace.first ++ lost trace.now trace.second
+
+-- uses
+abbrev pub first_note : Note → Note → Note
+first_note notes.Nothing second = second
+first_note notes.Made second = notes.Made
+first_note notes.Found second = notes.Found
+first_note notes.Redirect second = notes.Redirect
+
+-- what both legs did
+abbrev pub both_uses : Use → Use → Use
+both_uses first second = record {
+  note = first_note first.note second.note;
+  out = option_or first.out second.out;
+  into = option_or first.into second.into;
+}
+
+abbrev pub uses_told : List Entry → List Trace → List Use
+uses_told entries [] = []
+uses_told entries (trace ∷ traces) =
+    use_between entries (after_trace entries trace) ∷ uses_told (after_trace entries trace) traces

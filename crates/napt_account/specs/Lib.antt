@@ -1,8 +1,10 @@
 pub mod Attribution
 pub mod Book
 pub mod Kept
+pub mod Latest
 pub mod Places
 pub mod Fronts
 pub mod Log
 pub mod Passages
+pub mod Uses
 pub use Rattle.napt_rules.specs.Prelude

@@ -3,7 +3,10 @@
 ghost use Rattle.std.specs.Prelude.{◌≡◌, ◌↔◌, ◌≤◌, ◌^◌, IfOk, IfErr, Err, length, option_map, slice_get};
 ghost use Rattle.napt_rules.specs.Sequential as model;
 ghost use Rattle.napt_sequential.specs.Faults.{IsOneThreadFault};
+ghost use Rattle.napt_account.specs.Kept.{IsIndex};
+ghost use Rattle.napt_account.specs.Latest.{latest_of};
 ghost use Rattle.napt_account.specs.Log.{log_of};
+ghost use Rattle.napt_account.specs.Uses.{uses_of};
 
 use crate::book::Book;
 use crate::log::{Entry, Log};
@@ -47,8 +50,9 @@ pub struct Account {
     pub log: Log,
     /// One for each input, in their order.
     pub uses: Vec<Use>,
-    /// Where the latest entry of each external endpoint stands.
+    /// Where the last entry of each external endpoint stands.
     latest: Places,
+    ghost index: { IsIndex log.entries.items latest },
 }
 
 /// The run over the inputs with its log, and what each packet did to the bindings.
@@ -63,6 +67,8 @@ pub fn account_of(alloc: Global, config: &Config, inputs: &[Input]) -> Result<Ac
         account.log.entries.items ≡ (log_of config.now inputs.now).entries) }
     ensures shortages { IfOk result (λ account.
         account.log.shortages.items ≡ (log_of config.now inputs.now).shortages) }
+    ensures uses { IfOk result (λ account.
+        account.uses.items ≡ uses_of config.now inputs.now) }
     ensures too_many { (result ≡ Err RunFault.TooMany) ↔ (2 ^ 32 ≤ length inputs.now) }
     ensures never_pool { IfErr result IsOneThreadFault }
 {
@@ -89,9 +95,19 @@ impl Account {
         self.run.outcomes.get(at)
     }
 
-    /// The latest entry of an external endpoint.
-    pub fn entry_of(&self, protocol: Protocol, external: Endpoint) -> Option<&Entry> {
+    /// The last entry of an external endpoint.
+    pub fn entry_of(&self, protocol: Protocol, external: Endpoint) -> Option<&Entry>
+        ensures { option_map (λ entry. entry.now) result
+            ≡ latest_of protocol external self.now.log.entries.items }
+    {
         let place = self.latest.get(protocol, external)?;
+        self.entry_at(place)
+    }
+
+    fn entry_at(&self, place: usize) -> Option<&Entry>
+        ensures { option_map (λ entry. entry.now) result
+            ≡ slice_get self.now.log.entries.items place }
+    {
         self.log.entries.get(place)
     }
 }

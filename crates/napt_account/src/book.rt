@@ -1,13 +1,15 @@
 //! The log while a run is told, input by input.
 
-ghost use Rattle.std.specs.Prelude.{◌≡◌, ◌+◌, ◌<◌, ◌≤◌, ◌^◌, ◌++◌, ℕ, [], ◌∷◌, false, length, map, flat_map, IfOk, OnOk, IfSome, IfNone};
+ghost use Rattle.std.specs.Prelude.{◌≡◌, ◌+◌, ◌<◌, ◌≤◌, ◌^◌, ◌++◌, ℕ, [], ◌∷◌, false, length, map, flat_map, Some, IfOk, OnOk, IfSome, IfNone};
 ghost use Rattle.std.specs.List.{list_any, fold};
 ghost use Rattle.napt_config.specs.Rules.{pair_of};
 ghost use Rattle.napt_rules.specs.Prelude.{same_protocol, same_endpoint, redirected, opening, row};
 ghost use Rattle.napt_binding.specs.Ends.{is_before};
 ghost use Rattle.napt_account.specs.Log.{begun, is_shortage};
 ghost use Rattle.napt_account.specs.Book as books;
-ghost use Rattle.napt_account.specs.Kept.{AreInTime};
+ghost use Rattle.napt_account.specs.Uses as uses;
+ghost use Rattle.napt_account.specs.Uses.{use_between};
+ghost use Rattle.napt_account.specs.Kept.{AreLegs, HaveLegs, IsIndex, AreInTime};
 
 use crate::account::{Note, Use};
 use crate::log::{Entry, Log, Shortage};
@@ -92,23 +94,13 @@ fn is_shortage(cause: Cause) -> bool
 }
 
 /// What a packet did that found its binding.
-fn found(entry: Entry) -> Note {
+fn found(entry: Entry) -> Note
+    ensures { result ≡ uses.noted_by (Some entry) }
+{
     if entry.binding.fixed {
         Note::Redirect
     } else {
         Note::Found
-    }
-}
-
-/// What a packet did that came in.
-fn came_in(through: Option<(Note, usize)>) -> Use {
-    match through {
-        Some((note, place)) => Use {
-            note,
-            out: None,
-            into: Some(place),
-        },
-        None => NO_USE,
     }
 }
 
@@ -118,6 +110,20 @@ const NO_USE: Use = Use {
     out: None,
     into: None,
 };
+
+/// What both legs of a packet did.
+fn both_uses(first: Use, second: Use) -> Use
+    ensures { result ≡ books.both_uses first second }
+{
+    Use {
+        note: match first.note {
+            Note::Nothing => second.note,
+            note => note,
+        },
+        out: first.out.or(second.out),
+        into: first.into.or(second.into),
+    }
+}
 
 impl Book {
     ghost use Rattle.napt_account.specs.Kept.{IsBook, StandsAt};
@@ -184,14 +190,16 @@ impl Book {
         }
     }
 
-    /// A packet went out through the binding, which has this end then: what it did to it, and the place of its entry.
-    fn go_out(&mut self, now: u64, timed: TimedRow) -> Result<(Note, usize), AllocError>
+    /// A packet went out through the binding, which has this end then: what it did to it.
+    fn go_out(&mut self, now: u64, timed: TimedRow) -> Result<Use, AllocError>
         requires { (most : ℕ) × IsBook now most self.old × (most + 1 < 2 ^ 64) }
         ensures entries { OnOk result (self.new.log.entries.items
             ≡ books.after_out now timed self.old.log.entries.items) }
         ensures shortages { self.new.log.shortages.items ≡ self.old.log.shortages.items }
         ensures kept { (most : ℕ) → IsBook now most self.old →
             OnOk result (IsBook now (most + 1) self.new) }
+        ensures uses { IfOk result (λ used. used ≡ use_between
+            self.old.log.entries.items self.new.log.entries.items) }
     {
         match self.place_of(now, timed.row) {
             Some(place) => {
@@ -203,7 +211,11 @@ impl Book {
                     last_sent: now,
                     ..entry
                 };
-                Ok((found(entry), place))
+                Ok(Use {
+                    note: found(entry),
+                    out: Some(place),
+                    into: None,
+                })
             }
             None => {
                 let made = self.put(Entry {
@@ -215,20 +227,28 @@ impl Book {
                     last: now,
                     last_sent: now,
                 })?;
-                Ok((Note::Made, made))
+                Ok(Use {
+                    note: Note::Made,
+                    out: Some(made),
+                    into: None,
+                })
             }
         }
     }
 
-    /// A packet came in through the binding, which has this end then: what it did to it, and the place of its entry.
-    fn come_in(&mut self, now: u64, timed: TimedRow) -> Option<(Note, usize)>
+    /// A packet came in through the binding, which has this end then: what it did to it.
+    fn come_in(&mut self, now: u64, timed: TimedRow) -> Use
         requires { (most : ℕ) × IsBook now most self.old × (most + 1 < 2 ^ 64) }
         ensures entries { self.new.log.entries.items
             ≡ books.after_in now timed self.old.log.entries.items }
         ensures shortages { self.new.log.shortages.items ≡ self.old.log.shortages.items }
         ensures kept { (most : ℕ) → IsBook now most self.old → IsBook now (most + 1) self.new }
+        ensures uses { result ≡ use_between
+            self.old.log.entries.items self.new.log.entries.items }
     {
-        let place = self.place_of(now, timed.row)?;
+        let Some(place) = self.place_of(now, timed.row) else {
+            return NO_USE;
+        };
         let entry = self.log.entries[place];
         self.log.entries[place] = Entry {
             end: timed.end,
@@ -236,7 +256,11 @@ impl Book {
             last: now,
             ..entry
         };
-        Some((found(entry), place))
+        Use {
+            note: found(entry),
+            out: None,
+            into: Some(place),
+        }
     }
 
     /// A packet was dropped: where no binding could be made for it, that is noted.
@@ -266,18 +290,13 @@ impl Book {
             ≡ self.old.log.shortages.items ++ books.lost now passage) }
         ensures kept { (most : ℕ) → IsBook now most self.old →
             OnOk result (IsBook now (most + 1) self.new) }
+        ensures uses { IfOk result (λ used. used ≡ use_between
+            self.old.log.entries.items self.new.log.entries.items) }
     {
         match passage {
             Passage::Nothing => Ok(NO_USE),
-            Passage::Out(timed) => {
-                let (note, place) = self.go_out(now, timed)?;
-                Ok(Use {
-                    note,
-                    out: Some(place),
-                    into: None,
-                })
-            }
-            Passage::In(timed) => Ok(came_in(self.come_in(now, timed))),
+            Passage::Out(timed) => self.go_out(now, timed),
+            Passage::In(timed) => Ok(self.come_in(now, timed)),
             Passage::Dropped(loss) => {
                 self.lose(now, loss)?;
                 Ok(NO_USE)
@@ -287,21 +306,20 @@ impl Book {
 
     /// What the legs of an input did to the bindings.
     fn tell(&mut self, trace: Trace) -> Result<Use, AllocError>
-        requires { (most : ℕ) × IsBook trace.now most self.old × (most + 2 < 2 ^ 64) }
+        requires kept { (most : ℕ) × IsBook trace.now most self.old × (most + 2 < 2 ^ 64) }
+        requires legs { AreLegs trace.first trace.second }
         ensures entries { OnOk result (self.new.log.entries.items
             ≡ books.after_trace self.old.log.entries.items trace) }
         ensures shortages { OnOk result (self.new.log.shortages.items
             ≡ self.old.log.shortages.items ++ books.lost_by trace) }
         ensures kept { (most : ℕ) → IsBook trace.now most self.old →
             OnOk result (IsBook trace.now (most + 2) self.new) }
+        ensures uses { IfOk result (λ used. used ≡ use_between
+            self.old.log.entries.items self.new.log.entries.items) }
     {
         let first = self.pass(trace.now, trace.first)?;
         let second = self.pass(trace.now, trace.second)?;
-        Ok(Use {
-            note: first.note,
-            out: first.out,
-            into: first.into.or(second.into),
-        })
+        Ok(both_uses(first, second))
     }
 
     /// What the legs of all inputs did, input by input.
@@ -312,11 +330,16 @@ impl Book {
     ) -> Result<Vec<Use>, AllocError>
         requires kept { IsBook 0 0 self.old }
         requires in_time { AreInTime 0 traces.now }
+        requires legs { HaveLegs traces.now }
         requires few { length traces.now < 2 ^ 32 }
         ensures entries { OnOk result (self.new.log.entries.items
             ≡ fold books.after_trace self.old.log.entries.items traces.now) }
         ensures shortages { OnOk result (self.new.log.shortages.items
             ≡ self.old.log.shortages.items ++ flat_map books.lost_by traces.now) }
+        ensures latest { OnOk result
+            (IsIndex self.new.log.entries.items self.new.latest) }
+        ensures uses { IfOk result (λ uses. uses.items
+            ≡ books.uses_told self.old.log.entries.items traces.now) }
     {
         let mut uses = Vec::new(alloc);
         for trace in traces {

@@ -7,11 +7,12 @@ use Rattle.napt_rules.specs.Prelude.{opening, Arrival}
 use Rattle.napt_sequential.proofs.Shown.{ran_long}
 use Rattle.napt_account.specs.declared.log.Entry.{Entry}
 use Rattle.napt_account.specs.declared.log.Shortage.{Shortage}
-use Rattle.napt_account.specs.Book.{after_trace, lost_by}
-use Rattle.napt_account.specs.Kept.{AreInTime}
+use Rattle.napt_account.specs.Book.{after_trace, lost_by, uses_told}
+use Rattle.napt_account.specs.Kept.{AreInTime, HaveLegs}
 use Rattle.napt_account.specs.Log.{begun}
 use Rattle.napt_account.proofs.Retold.{entries_told}
 use Rattle.napt_account.proofs.Shortages.{shortages_told, in_time, traces_long, log_is}
+use Rattle.napt_account.proofs.Uses.{have_legs, uses_are}
 use Rattle.napt_account.proofs.account.account_of.Goals as goal
 
 pub tell_all-requires-clause-kept : goal.tell_all-requires-clause-kept
@@ -21,6 +22,11 @@ pub tell_all-requires-clause-in_time : goal.tell_all-requires-clause-in_time
 tell_all-requires-clause-in_time c =
     subst (AreInTime 0) (sym (c.deref.ensures.value ∙ c.in_ok-told.ensures.traces))
     (in_time c.args.config.now 0 0 c.args.inputs.now (opening c.args.config.now))
+
+pub tell_all-requires-clause-legs : goal.tell_all-requires-clause-legs
+tell_all-requires-clause-legs c =
+    subst HaveLegs (sym (c.deref.ensures.value ∙ c.in_ok-told.ensures.traces))
+    (have_legs c.args.config.now 0 0 c.args.inputs.now (opening c.args.config.now))
 
 pub tell_all-requires-clause-few : goal.tell_all-requires-clause-few
 tell_all-requires-clause-few c =
@@ -46,6 +52,19 @@ returns-clause-entries c =
     ∙ (sym (entries_told c.packets_carry_numbers.ensures c.steps_stay_sound.ensures.outbound
     c.steps_stay_sound.ensures.inbound c.steps_leave_live.ensures.outbound c.steps_leave_live.ensures.inbound rules
     c.in_ok-told.ensures.kept c.opening_is_sound.ensures inputs) ∙ sym (log_is rules inputs).0)))
+
+pub returns-clause-uses : goal.returns-clause-uses
+returns-clause-uses c =
+    let rules : Rules = c.args.config.now in
+    let inputs : List Arrival = c.args.inputs.now in
+    c.in_ok-uses.ensures.uses
+    ∙ (ap (λ (es : List Entry). uses_told es c.deref.result.now) c.in_ok-book.ensures.entries
+    ∙ (ap (uses_told (map (begun rules.timers 0) (opening rules)))
+    (c.deref.ensures.value ∙ c.in_ok-told.ensures.traces)
+    ∙ uses_are rules (λ front. (log_is rules front).0
+    ∙ entries_told c.packets_carry_numbers.ensures c.steps_stay_sound.ensures.outbound
+    c.steps_stay_sound.ensures.inbound c.steps_leave_live.ensures.outbound c.steps_leave_live.ensures.inbound rules
+    c.in_ok-told.ensures.kept c.opening_is_sound.ensures front) inputs))
 
 pub returns-clause-shortages : goal.returns-clause-shortages
 returns-clause-shortages c =

@@ -1,8 +1,10 @@
-use Rattle.std.proofs.Common.{◌≡◌, ℕ, ◌+◌, ◌<◌, ◌≤◌, List, [], ◌∷◌, ◌++◌, cond, map, length, set, sym, ◌∙◌, ap, subst, arith}
+use Rattle.std.proofs.Common.{◌≡◌, ℕ, ◌+◌, ◌<◌, ◌≤◌, List, [], ◌∷◌, ◌++◌, cond, map, length, set, Some, refl, sym, ◌∙◌, ap, subst, arith}
 use Rattle.std.proofs.lemmas.Option.{slice_get_within, get_or_from_slice_get}
 use Rattle.napt_account.specs.declared.log.Entry.{Entry}
 use Rattle.napt_account.specs.Book.{is_of, through, sent_through, made_by}
 use Rattle.napt_account.proofs.Books.{any_at, changed, kept_set, kept_more}
+use Rattle.napt_account.specs.Uses.{use_between}
+use Rattle.napt_account.proofs.Uses.{found_out, made_out_of}
 use Rattle.napt_account.proofs.book.Book.go_out.Goals as goal
 
 pub index-entry-requires : goal.index-entry-requires
@@ -72,3 +74,19 @@ pub returns-in_ok-made-in-None-clause-kept : goal.returns-in_ok-made-in-None-cla
 returns-in_ok-made-in-None-clause-kept c = λ most kept.
     c.in_ok-made-in-None.ensures.kept c.args.now (most + 1) (kept_more c.args.now most (most + 1) (omega arith)
     c.args.self.now.log.entries.items c.args.self.now.latest kept) c.in-None.ensures.none (omega arith) (omega arith)
+
+pub returns-in-Some-clause-uses : goal.returns-in-Some-clause-uses
+returns-in-Some-clause-uses c =
+    let es : List Entry = c.args.self.now.log.entries.items in
+    let stands = c.in-Some.ensures.some in
+    let is : c.index-entry.result.now ≡ stands.0 = c.index-entry.ensures
+    ∙ get_or_from_slice_get es c.in-Some.place stands.0 c.index-entry.result.now stands.1 in
+    found_out es c.in-Some.place c.index-entry.result.now
+    (sent_through c.args.now c.args.timed.end c.index-entry.result.now) c.found.result
+    (stands.1 ∙ ap Some (sym is)) c.found.ensures refl refl
+
+pub returns-in_ok-made-in-None-clause-uses : goal.returns-in_ok-made-in-None-clause-uses
+returns-in_ok-made-in-None-clause-uses c =
+    let es : List Entry = c.args.self.now.log.entries.items in
+    made_out_of es c.in_ok-made-in-None.made (made_by c.args.now c.args.timed) c.in_ok-made-in-None.ensures.place refl
+    refl ∙ ap (use_between es) (sym c.in_ok-made-in-None.ensures.entries)
