@@ -1,6 +1,6 @@
 -- How long a list of few flows is.
 use Rattle.std.proofs.Common.{◌≡◌, ◌∙◌, ◌≤◌, ◌<◌, ◌+◌, ℕ, Bool, true, false, not, ◌&&◌, cond, List, [], ◌∷◌, ◌++◌, length, Option, Some, None, refl, sym, ap, leb, arith}
-use Rattle.std.specs.Prelude.{filter, position, nat_le}
+use Rattle.std.specs.Prelude.{filter, position, is_some, nat_le}
 use Rattle.std.specs.List.{list_any}
 use Rattle.std.proofs.lemmas.List.{length_push}
 use Rattle.std.proofs.lemmas.Bool.Decides.{nat_tests}
@@ -11,6 +11,7 @@ use Rattle.napt_binding.specs.Standing.{is_standing, standing_flow_of}
 use Rattle.napt_binding.specs.Sent.{standing_at}
 use Rattle.napt_binding.specs.Kept.{few, is_full}
 use Rattle.napt_binding.proofs.Standing.{standing}
+use Rattle.napt_binding.proofs.Lists.{some_place}
 
 pub short_filter : {X : Type 0} (p : X → Bool) (xs : List X) → length (filter p xs) ≤ length xs
 short_filter p [] = omega arith
@@ -28,6 +29,25 @@ module _ (timers : Timers) (sent : Sent) where
 
   pub short_standing : (flows : List Flow) → length (standing_at timers sent flows) ≤ length flows
   short_standing flows = rw (all_standing flows) (short_filter (is_standing timers sent.now sent.protocol) flows)
+
+  pub never_full : (flows : List Flow) → length flows < few → is_full timers sent flows ≡ false
+  never_full flows lt =
+      let short : length (standing_at timers sent flows) ≤ length flows = short_standing flows in
+      let no : nat_le few (length (standing_at timers sent flows)) ≡ false = grind (arith, nat_tests, short, lt) in
+      ap (λ v. v && not (list_any (standing_flow_of timers sent.now sent.protocol sent.remote) flows)) no
+
+  pub full_where : (flows : List Flow) (many : ℕ) (none : Bool) → many ≡ length (standing_at timers sent flows) →
+      few ≤ many → is_some (position (standing_flow_of timers sent.now sent.protocol sent.remote) flows) ≡ not none →
+      none ≡ is_full timers sent flows
+  full_where flows many none is le place =
+      let t : Flow → Bool = standing_flow_of timers sent.now sent.protocol sent.remote in
+      let yes : nat_le few (length (standing_at timers sent flows)) ≡ true = grind (arith, nat_tests, is, le) in
+      let any : list_any t flows ≡ not none = sym (some_place t flows) ∙ place in
+      elim none as (λ v. list_any t flows ≡ not v → v ≡ not (list_any t flows)) [
+        | true ↦ λ h. sym (ap not h)
+        | false ↦ λ h. sym (ap not h)
+      ] any
+      ∙ sym (ap (λ v. v && not (list_any t flows)) yes)
 
   -- a flow more of those that stand
   pub fits : (flows : List Flow) (flow : Flow) → is_full timers sent flows ≡ false →
