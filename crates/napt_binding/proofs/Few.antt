@@ -55,11 +55,11 @@ module _ (timers : Timers) (sent : Sent) where
       length (standing_at timers sent flows ++ flow ∷ []) ≤ few
   fits flows flow room none =
       let more : length (standing_at timers sent flows ++ flow ∷ []) ≡ length (standing_at timers sent flows) + 1
-          = length_push (standing_at timers sent flows) flow in
+      = length_push (standing_at timers sent flows) flow in
       let short : nat_le few (length (standing_at timers sent flows)) ≡ false =
-          elim (nat_le few (length (standing_at timers sent flows))) as (λ v.
-          (v && not (list_any (standing_flow_of timers sent.now sent.protocol sent.remote) flows)) ≡ false → v ≡ false) [
-            | true ↦ λ h. sym (ap (λ v. not v) none) ∙ h
-            | false ↦ λ h. refl
-          ] room in
+      elim (nat_le few (length (standing_at timers sent flows))) as (λ v.
+      (v && not (list_any (standing_flow_of timers sent.now sent.protocol sent.remote) flows)) ≡ false → v ≡ false) [
+        | true ↦ λ h. sym (ap (λ v. not v) none) ∙ h
+        | false ↦ λ h. refl
+      ] room in
       grind (arith, nat_tests, more, short)

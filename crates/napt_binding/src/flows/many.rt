@@ -214,7 +214,7 @@ impl Many {
 }
 
 impl Many {
-    ghost use Rattle.napt_binding.specs.Many.{IsMany, HasRoom, place_at};
+    ghost use Rattle.napt_binding.specs.Many.{IsMany, HasRoom, is_sparse, most_slots, place_at};
 
     /// These flows, no two of one remote.
     pub(super) fn of(alloc: Global, flows: &[Flow]) -> Result<Many, AllocError>
@@ -235,6 +235,8 @@ impl Many {
         requires { IsMany self.now }
         ensures many { IfOk result IsMany }
         ensures flows { IfOk result (λ many. somes many.slots.slots ≡ somes self.now.slots.slots) }
+        ensures none_empty { IfOk result (λ many. length many.slots.slots
+            ≡ length (somes self.now.slots.slots)) }
     {
         let mut many = Many::new(alloc);
         for place in 0..self.slots.len() {
@@ -246,8 +248,11 @@ impl Many {
         Ok(many)
     }
 
-    /// Whether most slots are empty.
-    fn is_sparse(&self) -> bool {
+    /// Whether most slots are empty, of so many that it matters.
+    fn is_sparse(&self) -> bool
+        requires { IsMany self.now }
+        ensures { result ≡ is_sparse self.now.slots.slots }
+    {
         let slots = self.slots.len();
         SPARSE < slots && self.places.len() < slots / 2
     }
@@ -258,6 +263,9 @@ impl Many {
         ensures many { IsMany self.new }
         ensures flows { somes self.new.slots.slots ≡ somes self.old.slots.slots }
         ensures room { OnOk result (HasRoom self.new) }
+        ensures dense { OnOk result (length self.new.slots.slots
+            ≤ most_slots (length (somes self.old.slots.slots))) }
+        ensures err { OnErr result (self.new.slots.slots ≡ self.old.slots.slots) }
     {
         if self.is_sparse() {
             let mut many = self.compacted(alloc)?;

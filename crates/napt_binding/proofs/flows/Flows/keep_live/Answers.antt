@@ -6,9 +6,8 @@ use Rattle.napt_binding.proofs.flows.Flows.keep_live.Goals as goal
 
 pub invariant_of-self-in-Few : goal.invariant_of-self-in-Few
 invariant_of-self-in-Few c =
-    let old = subst IsKept c.in-Few.is c.self.invariant in
-    (
+    let old = subst IsKept c.in-Few.is c.self.invariant in (
       rw c.keep_live.ensures.flows
-      (distinct_kept (life.is_live_flow c.args.timers c.args.now) c.in-Few.flows.items old.0),
+          (distinct_kept (life.is_live_flow c.args.timers c.args.now) c.in-Few.flows.items old.0),
       omega (arith, c.keep_live.ensures.bound, old.1),
     )
