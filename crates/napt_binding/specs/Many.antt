@@ -36,6 +36,6 @@ sparse = 64
 abbrev pub is_sparse : List (Option Flow) → Bool
 is_sparse slots = nat_lt sparse (length slots) && nat_lt (length (somes slots)) (length slots / 2)
 
--- for so many flows there are at most so many when one begins
+-- beside so many flows a new one takes a slot more up to so many
 abbrev pub most_slots : ℕ → ℕ
-most_slots flows = max sparse (2 * flows + 1)
+most_slots flows = max sparse (2 * flows + 1) + 1

@@ -124,6 +124,7 @@ impl Many {
         ensures room { HasRoom self.old → HasRoom self.new }
         ensures fewer { result ≡ true → length (somes self.new.slots.slots)
             < length (somes self.old.slots.slots) }
+        ensures as_long { length self.new.slots.slots ≡ length self.old.slots.slots }
         ensures none { result ≡ false → somes self.new.slots.slots
             ≡ filter (life.is_live_flow timers now) (somes self.old.slots.slots) }
     {
@@ -142,6 +143,7 @@ impl Many {
         ensures flows { somes self.new.slots.slots ≡ filter (life.is_live_flow timers now)
             (somes self.old.slots.slots) }
         ensures room { HasRoom self.old → HasRoom self.new }
+        ensures as_long { length self.new.slots.slots ≡ length self.old.slots.slots }
     {
         while self.drop_dead(timers, now) {}
     }
@@ -154,6 +156,7 @@ impl Many {
         ensures flows { somes self.new.slots.slots ≡ life.live_flows timers now protocol
             (somes self.old.slots.slots) }
         ensures room { HasRoom self.old → HasRoom self.new }
+        ensures as_long { length self.new.slots.slots ≡ length self.old.slots.slots }
     {
         if let Protocol::Tcp = protocol {
             self.keep_live(timers, now);
@@ -264,7 +267,7 @@ impl Many {
         ensures flows { somes self.new.slots.slots ≡ somes self.old.slots.slots }
         ensures room { OnOk result (HasRoom self.new) }
         ensures dense { OnOk result (length self.new.slots.slots
-            ≤ most_slots (length (somes self.old.slots.slots))) }
+            < most_slots (length (somes self.old.slots.slots))) }
         ensures err { OnErr result (self.new.slots.slots ≡ self.old.slots.slots) }
     {
         if self.is_sparse() {
@@ -287,6 +290,7 @@ impl Many {
         ensures live { result ≡ true →
             list_any (life.is_live_flow timers sent.now) (somes self.new.slots.slots) ≡ true }
         ensures same { result ≡ false → self.new.slots.slots ≡ self.old.slots.slots }
+        ensures as_long { length self.new.slots.slots ≡ length self.old.slots.slots }
         ensures none { result ≡ false →
             list_any (standing_flow_of timers sent.now sent.protocol sent.remote)
             (somes self.old.slots.slots) ≡ false }
@@ -319,6 +323,8 @@ impl Many {
         ensures live { OnOk result
             (list_any (life.is_live_flow timers sent.now) (somes self.new.slots.slots) ≡ true) }
         ensures err { OnErr result (somes self.new.slots.slots ≡ somes self.old.slots.slots) }
+        ensures grown { length self.old.slots.slots < length self.new.slots.slots →
+            length self.new.slots.slots ≤ most_slots (length (somes self.old.slots.slots)) }
     {
         if self.use_standing(timers, sent) {
             return Ok(());
