@@ -8,3 +8,4 @@ mod Standing
 mod Timed
 mod Manys
 mod Distinct
+mod Few

@@ -1,6 +1,6 @@
 -- Words on lists against one another.
 use Rattle.std.proofs.Common.{◌≡◌, ℕ, Bool, true, false, ◌&&◌, ◌||◌, cond, List, [], ◌∷◌, ◌++◌, map, Some, None, refl, sym, ◌∙◌, ap, subst, arith, zero, suc, ◌<◌, length, get_or, set, ltb}
-use Rattle.std.specs.Prelude.{filter, find, position}
+use Rattle.std.specs.Prelude.{filter, find, position, is_some}
 use Rattle.std.specs.List.{position_or_len, list_any}
 use Rattle.std.proofs.lemmas.Bool.{or_parts}
 use Rattle.std.proofs.lemmas.Bool.Decides.{nat_tests}
@@ -74,6 +74,12 @@ change_at t f xs i d e =
     let p : (i < length xs) × (t (get_or xs i d) ≡ true) × ((k : ℕ) → k < i → t (get_or xs k d) ≡ false) =
     position-Some t xs i d e in
     change_here t f xs i d p.0 p.1 p.2
+
+pub some_place : {X : Type 0} (t : X → Bool) (xs : List X) → is_some (position t xs) ≡ list_any t xs
+some_place t xs =
+    elim (ltb (position_or_len t xs) (length xs)) as (λ v. is_some (cond v (Some (position_or_len t xs)) None) ≡ v)
+    [ true ↦ refl | false ↦ refl ]
+    ∙ sym (any_place t xs)
 
 pub any_at : {X : Type 0} (t : X → Bool) (xs : List X) (i : ℕ) → position t xs ≡ Some i → list_any t xs ≡ true
 any_at t xs i e = any_place t xs ∙ elim (ltb (position_or_len t xs) (length xs)) as (λ v.

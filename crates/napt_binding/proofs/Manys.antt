@@ -1,6 +1,7 @@
 -- Many flows, when one begins, changes or goes.
 use Rattle.std.proofs.Common.{◌≡◌, ◌≢◌, ℕ, ◌+◌, ◌-◌, ◌≤◌, ◌⊎◌, inl, inr, true, false, cond, List, [], ◌∷◌, ◌++◌, length, set, get_or, Option, Some, None, slice_get, refl, sym, ◌∙◌, ap, arith, eqb, eqb-true}
 use Rattle.std.specs.List.{list_any}
+use Rattle.std.specs.HashMap.{hash_map_len}
 use Rattle.std.proofs.lemmas.Bool.{eq-eqb, and_from, and_parts, true≢false}
 use Rattle.std.proofs.lemmas.Option.{same_Some, get_or_from_slice_get}
 use Rattle.std.proofs.lemmas.List.Sums.{sum_by-set, sum_by_push}
@@ -11,7 +12,7 @@ use Rattle.napt_rules.specs.Prelude.{same_endpoint, is_flow_of}
 use Rattle.napt_binding.specs.Counts.{count_at}
 use Rattle.napt_binding.specs.Many.{place_at, IsMany}
 use Rattle.napt_binding.specs.Slots.{somes, Stands, of_address, count_of}
-use Rattle.napt_binding.proofs.Slots.{stands_within, stands_set, stands_there, stands_elsewhere, stands_pushed, stands_last, stands_still, any_stands, any_none}
+use Rattle.napt_binding.proofs.Slots.{one_more, as_many_set, one_fewer, stands_within, stands_set, stands_there, stands_elsewhere, stands_pushed, stands_last, stands_still, any_stands, any_none}
 
 -- ENDPOINTS
 
@@ -76,12 +77,14 @@ no_place many remote is h = elim (place_at many remote) as (λ o. place_at many 
 
 pub same_many : (old new : Many) → IsMany old → new.slots.slots ≡ old.slots.slots →
     ((e : Endpoint) → place_at new e ≡ place_at old e) →
-    ((a : ℕ) → count_at new.addresses a ≡ count_at old.addresses a) → IsMany new
-same_many old new is slots places counts = record {
+    ((a : ℕ) → count_at new.addresses a ≡ count_at old.addresses a) →
+    hash_map_len new.places ≡ hash_map_len old.places → IsMany new
+same_many old new is slots places counts many = record {
   stands = λ e i h. let s = is.stands e i (sym (places e) ∙ h) in
       (s.0, ap (λ (l : List (Option Flow)). slice_get l i) slots ∙ s.1, s.2);
   found = λ i f h. places f.remote ∙ is.found i f (ap (λ (l : List (Option Flow)). slice_get l i) (sym slots) ∙ h);
   counted = λ a. counts a ∙ (is.counted a ∙ ap (λ (l : List (Option Flow)). count_of l a) (sym slots));
+  as_many = many ∙ (is.as_many ∙ ap (λ (l : List (Option Flow)). length (somes l)) (sym slots));
 }
 
 put_stands : (slots : List (Option Flow)) (old : Endpoint → Option ℕ) (flow : Flow) (e : Endpoint) (i : ℕ) →
@@ -121,8 +124,8 @@ pub put_many : (old new : Many) (flow : Flow) → IsMany old → place_at old fl
     ((e : Endpoint) → place_at new e ≡ cond (same_endpoint flow.remote e) (Some (length old.slots.slots))
     (place_at old e)) →
     ((a : ℕ) → count_at new.addresses a ≡ count_at old.addresses a + cond {A = ℕ} (eqb flow.remote.address a) 1 0) →
-    IsMany new
-put_many old new flow is absent slots places counts = record {
+    hash_map_len new.places ≡ hash_map_len old.places + 1 → IsMany new
+put_many old new flow is absent slots places counts many = record {
   stands = λ e i h.
       let s = put_stands old.slots.slots (place_at old) flow e i is.stands (sym (places e) ∙ h) in
       (s.0, ap (λ (l : List (Option Flow)). slice_get l i) slots ∙ s.1, s.2);
@@ -133,14 +136,16 @@ put_many old new flow is absent slots places counts = record {
       + of_address a (Some flow) = sum_by_push (of_address a) old.slots.slots (Some flow) in
       counts a ∙ (ap (λ (n : ℕ). n + cond {A = ℕ} (eqb flow.remote.address a) 1 0) (is.counted a)
       ∙ (sym more ∙ ap (λ (l : List (Option Flow)). count_of l a) (sym slots)));
+  as_many = many ∙ (ap (λ (n : ℕ). n + 1) is.as_many ∙ (sym (one_more old.slots.slots flow)
+      ∙ ap (λ (l : List (Option Flow)). length (somes l)) (sym slots)));
 }
 
 pub taken_many : (old new : Many) (i : ℕ) (flow : Flow) → IsMany old → Stands old.slots.slots i flow → new.slots.slots
     ≡ set old.slots.slots i None →
     ((e : Endpoint) → place_at new e ≡ cond (same_endpoint flow.remote e) None (place_at old e)) →
     ((a : ℕ) → count_at new.addresses a ≡ count_at old.addresses a - cond {A = ℕ} (eqb flow.remote.address a) 1 0) →
-    IsMany new
-taken_many old new i flow is there slots places counts = record {
+    hash_map_len new.places + 1 ≡ hash_map_len old.places → IsMany new
+taken_many old new i flow is there slots places counts many = record {
   stands = λ e k h. elim (either flow.remote e) as (λ r. (f : Flow) × Stands new.slots.slots k f × (f.remote ≡ e)) [
     | inl p ↦ let z : None ≡ Some k = sym (places e ∙ ap (λ v. cond v None (place_at old e)) p.1) ∙ h in cc
     | inr p ↦
@@ -178,13 +183,20 @@ taken_many old new i flow is there slots places counts = record {
       counts a in
       let left : count_at new.addresses a ≡ count_of (set old.slots.slots i None) a = omega arith in
       left ∙ ap (λ (l : List (Option Flow)). count_of l a) (sym slots);
+  as_many =
+      let one : length (somes (set old.slots.slots i None)) + 1 ≡ length (somes old.slots.slots) =
+      one_fewer old.slots.slots i flow there in
+      let left : hash_map_len new.places ≡ length (somes (set old.slots.slots i None)) =
+      omega (arith, many, one, is.as_many) in
+      left ∙ ap (λ (l : List (Option Flow)). length (somes l)) (sym slots);
 }
 
 pub changed_many : (old new : Many) (i : ℕ) (was flow : Flow) → IsMany old → Stands old.slots.slots i was →
     was.remote ≡ flow.remote → new.slots.slots ≡ set old.slots.slots i (Some flow) →
     ((e : Endpoint) → place_at new e ≡ place_at old e) →
-    ((a : ℕ) → count_at new.addresses a ≡ count_at old.addresses a) → IsMany new
-changed_many old new i was flow is there same slots places counts = record {
+    ((a : ℕ) → count_at new.addresses a ≡ count_at old.addresses a) →
+    hash_map_len new.places ≡ hash_map_len old.places → IsMany new
+changed_many old new i was flow is there same slots places counts many = record {
   stands = λ e k h.
       let s = is.stands e k (sym (places e) ∙ h) in
       elim (eqb k i) as (λ v. eqb k i ≡ v → (f : Flow) × Stands new.slots.slots k f × (f.remote ≡ e)) [
@@ -223,6 +235,8 @@ changed_many old new i was flow is there same slots places counts = record {
       ∙ ap (λ (e : Endpoint). cond {A = ℕ} (eqb e.address a) 1 0) same in
       let left : count_of old.slots.slots a ≡ count_of (set old.slots.slots i (Some flow)) a = omega arith in
       counts a ∙ (is.counted a ∙ (left ∙ ap (λ (l : List (Option Flow)). count_of l a) (sym slots)));
+  as_many = many ∙ (is.as_many ∙ (sym (as_many_set old.slots.slots i was flow there)
+      ∙ ap (λ (l : List (Option Flow)). length (somes l)) (sym slots)));
 }
 
 pub few_counted : (many : Many) (address : ℕ) → IsMany many → count_at many.addresses address ≤ length many.slots.slots

@@ -4,6 +4,7 @@ use Rattle.std.specs.Prelude.{filter, ◌==◌}
 use Rattle.std.specs.List.{list_any}
 use Rattle.std.proofs.lemmas.Bool.Decides.{nat_tests}
 use Rattle.std.proofs.lemmas.Option.{same_Some}
+use Rattle.std.proofs.lemmas.List.{length_push}
 use Rattle.std.proofs.lemmas.List.Sums.{sum_by-cons}
 use Rattle.napt_config.specs.declared.settings.Timers.{Timers}
 use Rattle.napt_rules.specs.declared.Flow.{Flow}
@@ -105,8 +106,19 @@ module _ {X : Type 0} where
   kept_emptied p (Some y ∷ slots) (suc i) x h e = ap (λ (l : List X). cond (p y) (y ∷ l) l)
       (kept_emptied p slots i x h e)
 
-  pub one_fewer : (slots : List (Option X)) (i : ℕ) (x : X) → Stands slots i x → length (somes (set slots i None))
-      < length (somes slots)
+  pub one_more : (slots : List (Option X)) (y : X) → length (somes (slots ++ Some y ∷ [])) ≡ length (somes slots) + 1
+  one_more slots y = ap (λ (l : List X). length l) (somes_pushed slots y) ∙ length_push (somes slots) y
+
+  pub as_many_set : (slots : List (Option X)) (i : ℕ) (x y : X) → Stands slots i x → length (somes (set slots i (Some y)))
+      ≡ length (somes slots)
+  as_many_set [] i x y h = cc
+  as_many_set (None ∷ slots) zero x y h = cc
+  as_many_set (None ∷ slots) (suc i) x y h = as_many_set slots i x y h
+  as_many_set (Some z ∷ slots) zero x y h = refl
+  as_many_set (Some z ∷ slots) (suc i) x y h = omega (arith, as_many_set slots i x y h)
+
+  pub one_fewer : (slots : List (Option X)) (i : ℕ) (x : X) → Stands slots i x → length (somes (set slots i None)) + 1
+      ≡ length (somes slots)
   one_fewer [] i x h = cc
   one_fewer (None ∷ slots) zero x h = cc
   one_fewer (None ∷ slots) (suc i) x h = one_fewer slots i x h

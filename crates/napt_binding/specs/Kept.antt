@@ -1,10 +1,24 @@
 -- How the flows of a binding are kept: one as it is, few in a list, many behind maps.
-use Rattle.std.specs.Prelude.{List, [], ◌∷◌}
+use Rattle.std.specs.Prelude.{ℕ, ◌≤◌, nat_le, Bool, not, ◌&&◌, List, [], ◌∷◌, length}
+use Rattle.std.specs.List.{list_any}
+use Rattle.napt_config.specs.declared.settings.Timers.{Timers}
 use Rattle.napt_rules.specs.declared.Flow.{Flow}
 use Rattle.napt_binding.specs.declared.flows.Kept.{Kept}
 use Rattle.napt_binding.specs.declared.flows.Kept.TheVariants.{Empty, One, Few, Many}
 use Rattle.napt_binding.specs.Slots.{somes, AreDistinct}
 use Rattle.napt_binding.specs.Many.{IsMany}
+use Rattle.napt_rules.specs.declared.Sent.{Sent}
+use Rattle.napt_binding.specs.Standing.{standing_flow_of}
+use Rattle.napt_binding.specs.Sent.{standing_at}
+
+-- so many are kept in a list at most
+abbrev pub few : ℕ
+few = 8
+
+-- no flow of the list is the packet's, and with a new one it would be too long
+abbrev pub is_full : Timers → Sent → List Flow → Bool
+is_full timers sent flows = nat_le few (length (standing_at timers sent flows))
+    && not (list_any (standing_flow_of timers sent.now sent.protocol sent.remote) flows)
 
 -- in the order in which they began
 abbrev pub flows_of : Kept → List Flow
@@ -16,5 +30,5 @@ flows_of (Many many) = somes many.value.slots.slots
 abbrev pub IsKept : Kept → Type 0
 IsKept Empty = Unit {0}
 IsKept (One flow) = Unit {0}
-IsKept (Few flows) = AreDistinct flows.items
+IsKept (Few flows) = AreDistinct flows.items × (length flows.items ≤ few)
 IsKept (Many many) = IsMany many.value

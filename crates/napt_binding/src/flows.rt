@@ -8,6 +8,7 @@ ghost use Rattle.napt_config.specs.Rules.{AreTimers};
 ghost use Rattle.napt_binding.specs.Ends.{last_end};
 ghost use Rattle.napt_rules.specs.Life as life;
 ghost use Rattle.napt_binding.specs.Kept.{flows_of, IsKept};
+ghost use Rattle.napt_binding.specs.Kept as storage;
 ghost use Rattle.napt_rules.specs.Prelude.{change_first};
 ghost use Rattle.napt_binding.specs.Sent as packets;
 ghost use Rattle.napt_binding.specs.Slots.{AreDistinct, somes};
@@ -62,14 +63,13 @@ impl Model for Flows {
 /// Whether so many flows of a binding count that one more is kept with maps.
 fn is_full(flows: &[Flow], timers: Timers, sent: Sent) -> bool
     requires { AreTimers timers }
+    ensures { result ≡ storage.is_full timers sent flows.now }
 {
     if flows.len() < FEW {
         return false;
     }
-    let standing = flows
-        .iter()
-        .filter(|flow| is_standing(flow, timers, sent.now, sent.protocol));
-    FEW <= standing.count() && few::standing_place(flows, timers, sent).is_none()
+    FEW <= few::count_standing(flows, timers, sent)
+        && few::standing_place(flows, timers, sent).is_none()
 }
 
 /// One flow, after a packet goes out: still one if it is of the packet's remote, or is dead.

@@ -2,7 +2,6 @@
 
 ghost use Rattle.std.specs.Prelude.{◌≡◌, true, OnOk, OnErr};
 ghost use Rattle.napt_config.specs.Rules.{AreTimers};
-ghost use Rattle.napt_rules.specs.Prelude.{same_endpoint};
 ghost use Rattle.napt_rules.specs.Filtering as filtering;
 ghost use Rattle.napt_rules.specs.Life as life;
 ghost use Rattle.napt_rules.specs.Marks as marks;
@@ -16,12 +15,6 @@ use napt_config::{Filter, Refresh, Timers};
 use napt_rules::{Flow, Inbound, Sent};
 use napt_wire::{Cause, Endpoint, Flags, Protocol, Way};
 use std::alloc::{AllocError, Global};
-
-fn same_endpoint(a: Endpoint, b: Endpoint) -> bool
-    ensures { result ≡ same_endpoint a b }
-{
-    a.address == b.address && a.number == b.number
-}
 
 /// A flow of the remote that begins now, without marks.
 pub(crate) fn fresh_flow(remote: Endpoint, now: u64) -> Flow
@@ -38,7 +31,7 @@ pub(crate) fn fresh_flow(remote: Endpoint, now: u64) -> Flow
 pub(crate) fn is_flow_of(flow: &Flow, remote: Endpoint) -> bool
     ensures { result ≡ traffic.is_flow_of remote flow.now }
 {
-    same_endpoint(flow.remote, remote)
+    flow.remote == remote
 }
 
 /// The flow used now, in TCP with new marks.

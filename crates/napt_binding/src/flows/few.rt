@@ -1,12 +1,13 @@
 //! Few flows, one after another.
 
-ghost use Rattle.std.specs.Prelude.{◌≡◌, ◌==◌, ◌≤◌, ℕ, Bool, true, false, position, filter, vec_len, vec_capacity, OnOk, OnErr};
+ghost use Rattle.std.specs.Prelude.{◌≡◌, ◌==◌, ◌≤◌, ℕ, Bool, true, false, length, position, filter, vec_len, vec_capacity, OnOk, OnErr};
 ghost use Rattle.std.specs.List.{list_any};
 ghost use Rattle.napt_config.specs.Rules.{AreTimers};
 ghost use Rattle.napt_rules.specs.Prelude.{change_first};
 ghost use Rattle.napt_rules.specs.Life as life;
 ghost use Rattle.napt_binding.specs.Standing.{standing_flow_of};
 ghost use Rattle.napt_binding.specs.Ends.{last_end};
+ghost use Rattle.napt_binding.specs.Kept.{few, is_full};
 ghost use Rattle.napt_binding.specs.Sent as packets;
 ghost use Rattle.napt_binding.specs.Slots.{AreDistinct};
 ghost use Rattle.napt_rules.specs.Traffic as traffic;
@@ -60,6 +61,20 @@ pub(super) fn standing_place(flows: &[Flow], timers: Timers, sent: Sent) -> Opti
         && is_flow_of(flow, sent.remote))
 }
 
+/// How many flows stand when the packet goes out.
+pub(super) fn count_standing(flows: &[Flow], timers: Timers, sent: Sent) -> usize
+    requires { AreTimers timers }
+    ensures { result ≡ length (packets.standing_at timers sent flows.now) }
+{
+    let mut many = 0;
+    for flow in flows {
+        if is_standing(flow, timers, sent.now, sent.protocol) {
+            many += 1;
+        }
+    }
+    many
+}
+
 /// Removes the dead ones of these TCP flows.
 pub(super) fn keep_live(flows: &mut Vec<Flow>, timers: Timers, now: u64)
     requires { AreTimers timers }
@@ -86,7 +101,10 @@ fn keep_standing(flows: &mut Vec<Flow>, timers: Timers, now: u64, protocol: Prot
 pub(super) fn use_flow(flows: &mut Vec<Flow>, timers: Timers, sent: Sent) -> Result<(), AllocError>
     requires timers { AreTimers timers }
     requires distinct { AreDistinct flows.old.items }
+    requires bound { length flows.old.items ≤ few }
+    requires room { is_full timers sent flows.old.items ≡ false }
     ensures distinct { AreDistinct flows.new.items }
+    ensures bound { length flows.new.items ≤ few }
     ensures ok { OnOk result (packets.standing_at timers sent flows.new.items
         ≡ packets.used_by sent (packets.standing_at timers sent flows.old.items)) }
     ensures live { OnOk result
@@ -110,6 +128,7 @@ pub(super) fn use_flow(flows: &mut Vec<Flow>, timers: Timers, sent: Sent) -> Res
 pub(super) fn refresh_flow(flows: &mut [Flow], now: u64, remote: Endpoint, flags: Flags)
     requires distinct { AreDistinct flows.old }
     ensures distinct { AreDistinct flows.new }
+    ensures bound { length flows.new ≡ length flows.old }
     ensures flows { flows.new ≡ change_first (traffic.is_flow_of remote)
         (traffic.used Protocol.Tcp Way.Incoming flags now) flows.old }
 {

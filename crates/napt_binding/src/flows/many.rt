@@ -124,6 +124,7 @@ impl Many {
         ensures room { HasRoom self.old → HasRoom self.new }
         ensures fewer { result ≡ true → length (somes self.new.slots.slots)
             < length (somes self.old.slots.slots) }
+        ensures as_long { length self.new.slots.slots ≡ length self.old.slots.slots }
         ensures none { result ≡ false → somes self.new.slots.slots
             ≡ filter (life.is_live_flow timers now) (somes self.old.slots.slots) }
     {
@@ -142,6 +143,7 @@ impl Many {
         ensures flows { somes self.new.slots.slots ≡ filter (life.is_live_flow timers now)
             (somes self.old.slots.slots) }
         ensures room { HasRoom self.old → HasRoom self.new }
+        ensures as_long { length self.new.slots.slots ≡ length self.old.slots.slots }
     {
         while self.drop_dead(timers, now) {}
     }
@@ -154,6 +156,7 @@ impl Many {
         ensures flows { somes self.new.slots.slots ≡ life.live_flows timers now protocol
             (somes self.old.slots.slots) }
         ensures room { HasRoom self.old → HasRoom self.new }
+        ensures as_long { length self.new.slots.slots ≡ length self.old.slots.slots }
     {
         if let Protocol::Tcp = protocol {
             self.keep_live(timers, now);
@@ -214,7 +217,7 @@ impl Many {
 }
 
 impl Many {
-    ghost use Rattle.napt_binding.specs.Many.{IsMany, HasRoom, place_at};
+    ghost use Rattle.napt_binding.specs.Many.{IsMany, HasRoom, is_sparse, most_slots, place_at};
 
     /// These flows, no two of one remote.
     pub(super) fn of(alloc: Global, flows: &[Flow]) -> Result<Many, AllocError>
@@ -235,6 +238,8 @@ impl Many {
         requires { IsMany self.now }
         ensures many { IfOk result IsMany }
         ensures flows { IfOk result (λ many. somes many.slots.slots ≡ somes self.now.slots.slots) }
+        ensures none_empty { IfOk result (λ many. length many.slots.slots
+            ≡ length (somes self.now.slots.slots)) }
     {
         let mut many = Many::new(alloc);
         for place in 0..self.slots.len() {
@@ -246,8 +251,11 @@ impl Many {
         Ok(many)
     }
 
-    /// Whether most slots are empty.
-    fn is_sparse(&self) -> bool {
+    /// Whether most slots are empty, of so many that it matters.
+    fn is_sparse(&self) -> bool
+        requires { IsMany self.now }
+        ensures { result ≡ is_sparse self.now.slots.slots }
+    {
         let slots = self.slots.len();
         SPARSE < slots && self.places.len() < slots / 2
     }
@@ -258,6 +266,9 @@ impl Many {
         ensures many { IsMany self.new }
         ensures flows { somes self.new.slots.slots ≡ somes self.old.slots.slots }
         ensures room { OnOk result (HasRoom self.new) }
+        ensures dense { OnOk result (length self.new.slots.slots
+            < most_slots (length (somes self.old.slots.slots))) }
+        ensures err { OnErr result (self.new.slots.slots ≡ self.old.slots.slots) }
     {
         if self.is_sparse() {
             let mut many = self.compacted(alloc)?;
@@ -279,6 +290,7 @@ impl Many {
         ensures live { result ≡ true →
             list_any (life.is_live_flow timers sent.now) (somes self.new.slots.slots) ≡ true }
         ensures same { result ≡ false → self.new.slots.slots ≡ self.old.slots.slots }
+        ensures as_long { length self.new.slots.slots ≡ length self.old.slots.slots }
         ensures none { result ≡ false →
             list_any (standing_flow_of timers sent.now sent.protocol sent.remote)
             (somes self.old.slots.slots) ≡ false }
@@ -311,6 +323,8 @@ impl Many {
         ensures live { OnOk result
             (list_any (life.is_live_flow timers sent.now) (somes self.new.slots.slots) ≡ true) }
         ensures err { OnErr result (somes self.new.slots.slots ≡ somes self.old.slots.slots) }
+        ensures grown { length self.old.slots.slots < length self.new.slots.slots →
+            length self.new.slots.slots ≤ most_slots (length (somes self.old.slots.slots)) }
     {
         if self.use_standing(timers, sent) {
             return Ok(());

@@ -3,6 +3,7 @@ use Rattle.std.specs.List.{list_any}
 use Rattle.napt_rules.specs.declared.Flow.{Flow}
 use Rattle.napt_rules.specs.Prelude.{live_flows}
 use Rattle.napt_binding.specs.Standing.{standing_flow_of}
+use Rattle.napt_binding.proofs.Few.{fits}
 use Rattle.napt_binding.proofs.Distinct.{distinct_set, distinct_pushed, distinct_live}
 use Rattle.napt_binding.proofs.Lists.{any_nowhere}
 use Rattle.napt_binding.proofs.Standing.{flow_set, flow_begun, none_left, live_set}
@@ -46,3 +47,12 @@ returns-clause-ok c =
     any_nowhere (standing_flow_of c.args.timers sent.now sent.protocol sent.remote) old (cc) in
     rw (c.in-Ok.ensures.items, c.keep_standing.ensures.flows, c.in_ok-reserve.ensures.items, c.begun_by.ensures)
     (flow_begun c.args.timers c.requires.timers sent.now sent.protocol sent.remote sent.flags old none)
+
+pub returns-clause-bound : goal.returns-clause-bound
+returns-clause-bound c =
+    let sent = c.args.sent in
+    let old : List Flow = c.args.flows.now.items in
+    let none : list_any (standing_flow_of c.args.timers sent.now sent.protocol sent.remote) old ≡ false =
+    any_nowhere (standing_flow_of c.args.timers sent.now sent.protocol sent.remote) old (cc) in
+    rw (c.in-Ok.ensures.items, c.keep_standing.ensures.flows, c.in_ok-reserve.ensures.items)
+    (fits c.args.timers sent old c.begun_by.result c.requires.room none)

@@ -1,5 +1,6 @@
-use Rattle.std.proofs.Common.{◌∙◌, sym, arith}
-use Rattle.napt_binding.proofs.Distinct.{not_in_slots_before, absent_next, put_next, next_slot, empty_slot}
+use Rattle.std.proofs.Common.{◌∙◌, List, length, ap, sym, arith}
+use Rattle.napt_rules.specs.declared.Flow.{Flow}
+use Rattle.napt_binding.proofs.Distinct.{not_in_slots_before, absent_next, put_next, put_count, next_slot, empty_slot}
 use Rattle.napt_binding.proofs.flows.many.Many.compacted.Goals as goal
 use Rattle.napt_binding.proofs.flows.many.Many.compacted.Goals.{in_default, in-Some+in_ok-reserve}
 
@@ -14,6 +15,8 @@ loop-place-preserved c = elim c.match-get.branch [
     w.put.ensures.many,
     put_next _ _ _ _ _ w.put.ensures.slots w.reserve.ensures.slots c.loop-place.invariant.1
         ∙ sym (next_slot c.args.self.now.slots.slots c.loop-place.place w.in-Some.flow w.in-Some.ensures.stands),
+    put_count _ _ _ _ _ _ w.put.ensures.slots w.reserve.ensures.slots c.loop-place.invariant.2
+        (next_slot c.args.self.now.slots.slots c.loop-place.place w.in-Some.flow w.in-Some.ensures.stands),
     omega (arith, c.loop-place-test.true, c.len-place-end.ensures),
   )
   | in_default w ↦ rw w.many-is (
@@ -21,6 +24,10 @@ loop-place-preserved c = elim c.match-get.branch [
     c.loop-place.invariant.1
         ∙ sym (empty_slot c.args.self.now.slots.slots c.loop-place.place (λ flow h. let z =
         w.in_default.ensures.found flow h in cc)),
+    c.loop-place.invariant.2
+        ∙ sym (ap (λ (l : List Flow). length l)
+        (empty_slot c.args.self.now.slots.slots c.loop-place.place (λ flow h. let z =
+        w.in_default.ensures.found flow h in cc))),
     omega (arith, c.loop-place-test.true, c.len-place-end.ensures),
   )
 ]

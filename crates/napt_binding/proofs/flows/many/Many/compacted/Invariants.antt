@@ -6,4 +6,5 @@ use Rattle.napt_binding.proofs.flows.many.Many.compacted.Given as goal
 abbrev pub invariant-loop-place : goal.invariant-loop-place
 invariant-loop-place l =
     IsMany l.many × (somes l.many.slots.slots ≡ somes (take l.place l.self.slots.slots))
+    × (length l.many.slots.slots ≡ length (somes (take l.place l.self.slots.slots)))
     × (l.place ≤ length l.self.slots.slots)

@@ -1,4 +1,4 @@
-use Rattle.std.proofs.Common.{sym}
+use Rattle.std.proofs.Common.{sym, arith}
 use Rattle.napt_rules.specs.Life as life
 use Rattle.napt_binding.proofs.Slots.{all_kept, kept_emptied, one_fewer}
 use Rattle.napt_binding.proofs.flows.many.Many.drop_dead.Goals as goal
@@ -16,4 +16,5 @@ returns-clause-kept c =
 pub returns-clause-fewer : goal.returns-clause-fewer
 returns-clause-fewer c given =
     let dead = c.in-Some.ensures.some in
-    rw c.take_out.ensures.slots (one_fewer c.args.self.now.slots.slots c.in-Some.place dead.0 dead.1)
+    let one = one_fewer c.args.self.now.slots.slots c.in-Some.place dead.0 dead.1 in
+    rw c.take_out.ensures.slots (omega (arith, one))

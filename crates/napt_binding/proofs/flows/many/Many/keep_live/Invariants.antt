@@ -10,6 +10,7 @@ invariant-loop-timers l =
     IsMany l.self × (filter (life.is_live_flow l.timers l.now) (somes l.self.slots.slots)
     ≡ filter (life.is_live_flow l.timers l.now) (somes l.fn.self.slots.slots))
     × (HasRoom l.fn.self → HasRoom l.self)
+    × (length l.self.slots.slots ≡ length l.fn.self.slots.slots)
 
 abbrev pub decreases-loop-timers : goal.decreases-loop-timers
 decreases-loop-timers l = length (somes l.self.slots.slots)

@@ -1,4 +1,6 @@
-use Rattle.std.proofs.Common.{arith}
+use Rattle.std.proofs.Common.{◌∙◌, ◌+◌, ℕ, Option, cond, ap, arith}
+use Rattle.std.specs.Prelude.{is_some}
+use Rattle.std.specs.HashMap.{hash_map_len}
 use Rattle.napt_binding.proofs.Manys.{put_many, few_counted}
 use Rattle.napt_binding.proofs.flows.many.Many.put.Goals as goal
 
@@ -11,3 +13,5 @@ pub returns-clause-many : goal.returns-clause-many
 returns-clause-many c =
     put_many c.args.self.now _ c.args.flow c.requires.many c.requires.absent c.put-place.ensures.slots
     (λ e. rw (← c.put-place.ensures.place) (c.in-Ok.ensures.updates.0 (e.address, e.number))) c.put.ensures
+    (c.in-Ok.ensures.len ∙ ap (λ (o : Option ℕ). hash_map_len c.args.self.now.places + cond {A = ℕ} (is_some o) 0 1)
+    (c.in-Ok.ensures.old ∙ c.requires.absent))
