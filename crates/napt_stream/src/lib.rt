@@ -1,0 +1,10 @@
+//! A run over captures that are read, translated and written as they come, in bounded memory.
+//!
+//! [`run_streams`] is `run_captures` of `napt_run` for captures that no memory holds and for pipes that do not end: where it
+//! ends well, each output holds the same bytes.
+#![tactic(auto)]
+
+mod leaving;
+mod streams;
+
+pub use streams::run_streams;
