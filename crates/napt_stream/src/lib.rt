@@ -4,7 +4,10 @@
 //! ends well, each output holds the same bytes.
 #![tactic(auto)]
 
+mod departing;
 mod leaving;
+mod output;
+mod puts;
 mod streams;
 
 pub use streams::run_streams;
