@@ -1,6 +1,6 @@
 use Rattle.std.proofs.Common.{refl, arith, rules}
-use Rattle.leaving.proofs.Outputs.{keeps_as_none}
-use Rattle.leaving.proofs.output.Output.flush.Goals as goal
+use Rattle.napt_stream.proofs.Outputs.{keeps_as_none}
+use Rattle.napt_stream.proofs.output.Output.flush.Goals as goal
 
 pub returns-in-Ok-clause-ok : goal.returns-in-Ok-clause-ok
 returns-in-Ok-clause-ok g c = record {
