@@ -12,7 +12,7 @@ mod laws;
 mod outcome;
 mod run;
 
-pub use arrivals::Arrivals;
+pub use arrivals::{Arrivals, NoFault};
 pub use fault::RunFault;
 pub use input::Input;
 pub use laws::{

@@ -1,6 +1,6 @@
 use Rattle.std.proofs.Common.{◌≡◌, ◌+◌, length, refl, sym, ap, ◌∙◌, arith}
 use Rattle.napt_records.proofs.MergesExist.{as_many}
-use Rattle.napt_records.proofs.merging.MergedArrivals.count.Goals as goal
+use Rattle.napt_records.proofs.merging.Merged.count.Goals as goal
 
 pub returns : goal.returns
 returns c =

@@ -2,7 +2,7 @@ use Rattle.std.proofs.Common.{Some, refl, sym, subst}
 use Rattle.napt_capture.specs.Contents.{Entry}
 use Rattle.napt_records.specs.Taking.{Takes}
 use Rattle.napt_records.proofs.MergesExist.{hands}
-use Rattle.napt_records.proofs.merging.MergedArrivals.next.Goals as goal
+use Rattle.napt_records.proofs.merging.Merged.take.Goals as goal
 
 pub returns-in_err-side : goal.returns-in_err-side
 returns-in_err-side c =
