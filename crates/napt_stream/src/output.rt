@@ -10,12 +10,12 @@ const LATEST: u64 = 4_294_967_295_999_999_999;
 
 /// A capture that is written record by record.
 #[derive(Drop)]
-pub struct Output<'a, W: Sink> {
-    device: &'a mut W,
+pub(crate) struct Output<'a, W: Sink> {
+    pub(crate) device: &'a mut W,
     /// How many bytes are written, which stops at the greatest number.
-    written: u64,
+    pub(crate) written: u64,
     /// A write or a flush failed.
-    is_broken: bool,
+    pub(crate) is_broken: bool,
     ghost can_fail: { is_broken ≡ false → W.failed device.now < 2 ^ 64 - 1 },
 }
 
@@ -24,7 +24,7 @@ impl<'a, W: Sink> Output<'a, W> {
     ghost use Rattle.napt_stream.specs.Outputs.{Grows, Breaks};
 
     /// Of a device to which nothing of the capture is written.
-    pub fn over(device: &'a mut W) -> Output<'a, W>
+    pub(crate) fn over(device: &'a mut W) -> Output<'a, W>
         requires { W.failed device.old < 2 ^ 64 - 1 }
         ensures same_reference { result.device.ghost_name ≡ device.entry.ghost_name }
         ensures device { result.device.now ≡ device.old }
@@ -39,7 +39,7 @@ impl<'a, W: Sink> Output<'a, W> {
     }
 
     /// Writes the header of the capture.
-    pub fn begin(&mut self) -> Result<(), WriteFault>
+    pub(crate) fn begin(&mut self) -> Result<(), WriteFault>
         ensures ok { OnOk result (Grows W.contents W.failed self.old file_header self.new) }
         ensures err { IfErr result (λ fault. self.old.is_broken ≡ false →
             Breaks W.contents W.failed self.old file_header fault self.new) }
@@ -61,7 +61,7 @@ impl<'a, W: Sink> Output<'a, W> {
     }
 
     /// Writes the record of a packet that arrived at a time, in ns.
-    pub fn put(&mut self, time: u64, bytes: &[u8]) -> Result<(), WriteFault>
+    pub(crate) fn put(&mut self, time: u64, bytes: &[u8]) -> Result<(), WriteFault>
         requires { length bytes.now < 2 ^ 16 }
         ensures ok { IsTime time → OnOk result (Grows W.contents W.failed self.old
             (record_text (entry_of_packet time bytes.now)) self.new) }
@@ -86,7 +86,7 @@ impl<'a, W: Sink> Output<'a, W> {
     }
 
     /// Passes on what is written.
-    pub fn flush(&mut self) -> Result<(), WriteFault>
+    pub(crate) fn flush(&mut self) -> Result<(), WriteFault>
         ensures ok { OnOk result (Grows W.contents W.failed self.old [] self.new) }
         ensures flushed { OnOk result (W.is_flushed self.new.device.now) }
         ensures err { IfErr result (λ fault. self.old.is_broken ≡ false →
