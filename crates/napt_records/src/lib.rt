@@ -10,6 +10,7 @@ mod merging;
 mod names;
 mod output;
 mod report;
+mod stream;
 
 pub use fault::{Fault, Which};
 pub use merge_laws::merge_is_one;
@@ -17,3 +18,4 @@ pub use merging::{Merged, merge};
 pub use names::{EndpointText, cause_name, protocol_name};
 pub use output::write_packets;
 pub use report::report_text;
+pub use stream::Stream;
