@@ -3,3 +3,7 @@ pub mod Taking
 pub mod MergeLaws
 pub mod Output
 pub mod Report
+pub mod HandedLaws
+pub mod Merged
+pub mod Rests
+pub mod Streams

@@ -24,6 +24,12 @@ IsAtFault rest fault = (rest.records ≡ []) × (rest.end ≡ Err fault)
 abbrev pub IsKnown : Rest → Type 0
 IsKnown rest = (fault : CaptureFault) → ¬ IsAtFault rest fault
 
+-- a side was looked at, of which these records were read and not handed out: what is next is known, and is one of these,
+-- if it is a record
+pub record IsLooked (firsts : List Entry) (rest : Rest) : Type 0 where
+  pub known : IsKnown rest
+  pub shown : firsts ≡ [] → rest.records ≡ []
+
 -- what both sides have left, and the greatest time so far
 pub record Sides : Type 0 where
   pub clock : ℕ

@@ -6,6 +6,7 @@
 
 mod fault;
 mod merge_laws;
+mod merged_streams;
 mod merging;
 mod names;
 mod output;
@@ -14,6 +15,7 @@ mod stream;
 
 pub use fault::{Fault, Which};
 pub use merge_laws::merge_is_one;
+pub use merged_streams::{MergedStreams, SideFault};
 pub use merging::{Merged, merge};
 pub use names::{EndpointText, cause_name, protocol_name};
 pub use output::write_packets;
