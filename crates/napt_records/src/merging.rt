@@ -27,7 +27,7 @@ fn is_outside_next(inside: &VecDeque<Record>, outside: &VecDeque<Record>) -> boo
 }
 
 /// Takes the next record, with its side; none where both sides are at their ends.
-fn take_next(
+pub(crate) fn take_next(
     inside: &mut VecDeque<Record>,
     outside: &mut VecDeque<Record>,
 ) -> Option<(Side, Record)>

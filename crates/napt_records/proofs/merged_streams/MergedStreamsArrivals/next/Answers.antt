@@ -1,0 +1,8 @@
+use Rattle.napt_records.proofs.Handed.{Hands-any}
+use Rattle.napt_records.proofs.merged_streams.MergedStreamsArrivals.next.Goals as goal
+
+pub returns : goal.returns
+returns g c =
+    Hands-any g.R.Source.remaining g.Q.Source.remaining g.R.Source.failed g.Q.Source.failed c.args.self.now
+    c.look.new.self c.take.new.self c.take.result c.look.ensures.same c.in_ok-look.ensures.looks c.take.ensures.takes
+    c.take.ensures.inside c.take.ensures.outside
