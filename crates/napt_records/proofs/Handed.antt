@@ -111,22 +111,23 @@ no_more firsts more rest is looked none = ap (λ l. l ++ more) (sym none) ∙ sy
 
 cut_told : (records : Records) (left : Option (List ℕ)) (cut : Option Bool) (firsts : List Entry) (rest : Rest) →
     IsSome cut → HasRest records left cut firsts rest → rest.end ≡ Ok (unwrap_or cut false)
-cut_told records left None firsts rest some p = absurd some
+cut_told records left None firsts rest some p = let never : false ≡ true = some in cc
 cut_told records left (Some cut) firsts rest some p = let told = p.told in told.1
+
+module _ {R : Type 0} {G : Ghosts R} (remaining : R → Option (List ℕ)) where
+  ends_cut : (stream : Stream R G) (firsts : List Entry) (rest : Rest) → IsSome stream.cut →
+      StreamHas remaining stream firsts rest → rest.end ≡ Ok (cut_of stream)
+  ends_cut stream firsts rest some p = cut_told _ _ stream.cut firsts rest some p
+
+  ends_cut_if : (stream : Option (Stream R G)) (firsts : List Entry) (rest : Rest) → IsToldIf stream →
+      StreamHasIf remaining stream firsts rest → rest.end ≡ Ok (cut_if stream)
+  ends_cut_if None firsts rest some (is, none) = ap (λ r. r.end) is
+  ends_cut_if (Some stream) firsts rest some p = cut_told _ _ stream.cut firsts rest some p
 
 -- ---- one input
 
 module _ {R Q : Type 0} {G : Ghosts R} {H : Ghosts Q} (inside : R → Option (List ℕ)) (outside : Q → Option (List ℕ))
     (in_failed : R → ℕ) (out_failed : Q → ℕ) where
-
-  ends_cut : (stream : Stream R G) (firsts : List Entry) (rest : Rest) → IsSome stream.cut →
-      StreamHas inside stream firsts rest → rest.end ≡ Ok (cut_of stream)
-  ends_cut stream firsts rest some p = cut_told _ _ stream.cut firsts rest some p
-
-  ends_cut_if : (stream : Option (Stream Q H)) (firsts : List Entry) (rest : Rest) → IsToldIf stream →
-      StreamHasIf outside stream firsts rest → rest.end ≡ Ok (cut_if stream)
-  ends_cut_if None firsts rest some (is, none) = ap (λ r. r.end) is
-  ends_cut_if (Some stream) firsts rest some p = cut_told _ _ stream.cut firsts rest some p
 
   takes_input : (mid new : MergedStreams R Q G H) (input : Arrival) (sides : Sides) → Has inside outside mid sides
       → IsLooked mid.inside_first.items sides.inside → IsLooked mid.outside_first.items sides.outside
@@ -222,10 +223,10 @@ module _ {R Q : Type 0} {G : Ghosts R} {H : Ghosts Q} (inside : R → Option (Li
               let b = looked.outside_looked sides has in
               ((a.shown none, b.shown other), (a.known, b.known));
           inside_cut =
-              λ sides has. ends_cut mid.inside mid.inside_first.items sides.inside (looked.inside_told none)
+              λ sides has. ends_cut inside mid.inside mid.inside_first.items sides.inside (looked.inside_told none)
               ((looked.keeps sides has).inside_has) ∙ ap (λ s. Ok (cut_of s)) (sym ins);
           outside_cut =
-              λ sides has. ends_cut_if mid.outside mid.outside_first.items sides.outside (looked.outside_told other)
+              λ sides has. ends_cut_if outside mid.outside mid.outside_first.items sides.outside (looked.outside_told other)
               ((looked.keeps sides has).outside_has) ∙ ap (λ s. Ok (cut_if s)) (sym outs);
         },
   )
@@ -289,7 +290,7 @@ module _ {R Q : Type 0} {G : Ghosts R} {H : Ghosts Q} (inside : R → Option (Li
 
 module _ {Q : Type 0} {H : Ghosts Q} (failed : Q → ℕ) where
   pub CountsIf-none : (o : Option (Stream Q H)) → CountsIf failed o 0 o
-  CountsIf-none None = tt
+  CountsIf-none None = refl
   CountsIf-none (Some stream) = omega arith
 
   pub NoneFailedIf-counts : (a b : Option (Stream Q H)) → CountsIf failed a 0 b → NoneFailedIf failed a b

@@ -46,7 +46,8 @@ IsSameIf old new = ⊥
 
 abbrev pub CountsIf : {R : Type 0} {G : Ghosts R} → (R → ℕ) → Option (Stream R G) → ℕ → Option (Stream R G) → Type 0
 CountsIf failed (Some old) more (Some new) = Counts failed old more new
-CountsIf failed old more new = Unit {0}
+CountsIf failed None more new = more ≡ 0
+CountsIf failed (Some old) more None = ⊥
 
 abbrev pub NoneFailedIf : {R : Type 0} {G : Ghosts R} → (R → ℕ) → Option (Stream R G) → Option (Stream R G) → Type 0
 NoneFailedIf failed (Some old) (Some new) = NoneFailed failed old new

@@ -69,8 +69,8 @@ impl<'a, 'b, R: Source, Q: Source> MergedStreams<'a, 'b, R, Q> {
         inside: Stream<'a, R>,
         outside: Option<Stream<'b, Q>>,
     ) -> MergedStreams<'a, 'b, R, Q>
-        ensures inside { result.inside ≡ inside }
-        ensures outside { result.outside ≡ outside }
+        ensures inside { result.inside ≡ inside.entry }
+        ensures outside { result.outside ≡ outside.entry }
         ensures inside_first { result.inside_first.items ≡ [] }
         ensures outside_first { result.outside_first.items ≡ [] }
         ensures clock { result.clock ≡ 0 }
@@ -98,8 +98,8 @@ impl<'a, 'b, R: Source, Q: Source> MergedStreams<'a, 'b, R, Q> {
 
     /// The captures again.
     pub fn into_streams(self) -> (Stream<'a, R>, Option<Stream<'b, Q>>)
-        ensures inside { result.0 ≡ self.inside }
-        ensures outside { result.1 ≡ self.outside }
+        ensures inside { result.0 ≡ self.entry.inside }
+        ensures outside { result.1 ≡ self.entry.outside }
     {
         (self.inside, self.outside)
     }

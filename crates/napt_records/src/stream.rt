@@ -71,6 +71,8 @@ impl<'a, R: Source> Stream<'a, R> {
         ensures name { result.live.source.ghost_name ≡ source.entry.ghost_name }
         ensures value { result.live.source.now ≡ source.old }
         ensures live { result.live.fault ≡ None }
+        ensures records { result.records ≡ records }
+        ensures cut { result.cut ≡ None }
     {
         Stream {
             live: Live {
