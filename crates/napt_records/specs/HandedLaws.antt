@@ -18,7 +18,7 @@ module _ {Q : Type 0} {H : Ghosts Q} where
   same_if None = tt
   same_if (Some stream) = refl
 
-  same_on : (a b c : Option (Stream Q H)) → IsSameIf a b → IsSameIf b c → IsSameIf a c
+  pub same_on : (a b c : Option (Stream Q H)) → IsSameIf a b → IsSameIf b c → IsSameIf a c
   same_on None None None p q = tt
   same_on None None (Some z) p q = absurd q
   same_on None (Some y) c p q = absurd p
@@ -31,7 +31,7 @@ module _ {Q : Type 0} {H : Ghosts Q} (failed : Q → ℕ) where
   counts_if None = tt
   counts_if (Some stream) = refl
 
-  counts_on : (a b c : Option (Stream Q H)) → IsSameIf a b → NoneFailedIf failed a b → NoneFailedIf failed b c →
+  pub counts_on : (a b c : Option (Stream Q H)) → IsSameIf a b → NoneFailedIf failed a b → NoneFailedIf failed b c →
       NoneFailedIf failed a c
   counts_on None b c s p q = tt
   counts_on (Some x) None c s p q = absurd s

@@ -14,7 +14,7 @@ mod report;
 mod stream;
 
 pub use fault::{Fault, Which};
-pub use merge_laws::merge_is_one;
+pub use merge_laws::{merge_is_one, merge_until_fault};
 pub use merged_streams::{MergedStreams, SideFault};
 pub use merging::{Merged, merge};
 pub use names::{EndpointText, cause_name, protocol_name};
