@@ -1,5 +1,6 @@
 -- What came of two captures of which only the headers were read, by all that they hold.
-use Rattle.std.proofs.Common.{◌≡◌, ℕ, ◌+◌, ◌≤◌, inl, inr, List, [], ◌∷◌, ◌++◌, length, length-append, map, Option, Some, None, Result, Ok, Err, refl, sym, ap, ◌∙◌, subst, arith}
+use Rattle.std.proofs.Common.{◌≡◌, ℕ, ◌+◌, ◌≤◌, inl, inr, All, List, [], ◌∷◌, ◌++◌, length, length-append, map, Option, Some, None, Result, Ok, Err, refl, sym, ap, ◌∙◌, subst, arith}
+use Rattle.std.proofs.lemmas.List.Elements.{All-nil}
 use Rattle.std.specs.Io.KnownBytes.{Consumes}
 use Rattle.napt_wire.specs.declared.Side.{Side}
 use Rattle.napt_wire.specs.declared.Side.TheVariants.{Inside, Outside}
@@ -8,11 +9,12 @@ use Rattle.napt_capture.specs.declared.records.Records.{Records}
 use Rattle.napt_capture.specs.declared.spelling.Spelling.{Spelling}
 use Rattle.napt_capture.specs.declared.fault.CaptureFault.{CaptureFault}
 use Rattle.napt_capture.specs.declared.fault.CaptureFault.TheVariants.{NoHeader, BadMagic, BadVersion, BadLink, BadFraction, TooLong, TooLarge, Read, Memory}
-use Rattle.napt_capture.specs.Capture.{HasLink, HasMagic, HasVersion, IsFileHeader, IsRefusedFile, IsRefusedRecord}
-use Rattle.napt_capture.specs.Reading.{StopsBy}
+use Rattle.napt_capture.specs.Capture.{HasLink, HasMagic, HasVersion, IsCapture, IsFileHeader, IsRefusedFile, IsRefusedRecord}
+use Rattle.napt_capture.specs.Reading.{RefusesFile, StopsBy}
 use Rattle.napt_capture.specs.Records.{left_of}
-use Rattle.napt_capture.specs.Stream.{EndsAs, HasRecords, IsStream}
-use Rattle.napt_capture.proofs.OneAnswer.{front_same, magic-one, rest_same}
+use Rattle.napt_capture.specs.Stream.{EndsAs, HasRecords, IsStream, number_at}
+use Rattle.napt_capture.specs.Text.{IsWritable}
+use Rattle.napt_capture.proofs.OneAnswer.{IsCapture-one, front_same, magic-one, rest_same}
 use Rattle.napt_rules.specs.Prelude.{Arrival}
 use Rattle.napt_sequential.specs.Inputs.{Came}
 use Rattle.napt_records.specs.declared.stream.Stream.{Stream}
@@ -22,6 +24,7 @@ use Rattle.napt_records.specs.Begun.{AreBegun, IsBegun, IsBegunIf}
 use Rattle.napt_records.specs.HandedLaws.{counts_on, same_on}
 use Rattle.napt_records.specs.Merge.{of_record}
 use Rattle.napt_records.specs.Merged.{AreLive, AreSame, Counts, CountsIf, EndsWith, HandsOut, Has, IsLiveIf, IsSameIf, NoneFailed, NoneFailedIf, StreamHasIf, cut_if, cut_of, failed_by}
+use Rattle.napt_records.specs.Output.{IsTimely}
 use Rattle.napt_records.specs.Rests.{HasRest, StreamHas}
 use Rattle.napt_records.specs.Streams.{IsMergedUntil, Rest, Sides, Stops, TakesInputs}
 use Rattle.napt_records.specs.Taking.{inputs_from}
@@ -139,7 +142,13 @@ module _ {R Q : Type 0} {G : Ghosts R} {H : Ghosts Q} (inside : R → Option (Li
 
   pub begun_live : (begin : MergedStreams R Q G H) (bytes : List ℕ) (others : Option (List ℕ)) →
       AreBegun inside outside begin bytes others → AreLive begin
-  begun_live begin bytes others p = (p.inside_begun.live, begun_live_if outside begin.outside others p.outside_begun)
+  begun_live begin bytes others p = (
+    (p.inside_begun.live, begun_live_if outside begin.outside others p.outside_begun),
+    (
+      subst (All IsWritable) (sym p.inside_first) (All-nil IsWritable),
+      subst (All IsWritable) (sym p.outside_first) (All-nil IsWritable),
+    ),
+  )
 
   begun_both : (begin : MergedStreams R Q G H) (bytes : List ℕ) (others : Option (List ℕ)) (both : Both) →
       AreBegun inside outside begin bytes others → AreHeld bytes others both
@@ -170,6 +179,11 @@ module _ {R Q : Type 0} {G : Ghosts R} {H : Ghosts Q} (inside : R → Option (Li
       let goes = handed.1 (begun_live begin bytes others p) in
       let (later, now, taken) = goes.takes (begin_of both) (begun_both begin bytes others both p held) in
       taken_front both inputs later taken
+
+  -- whether or not the bytes are known
+  pub handed_timely : (begin mid : MergedStreams R Q G H) (inputs : List Arrival) → AreLive begin →
+      Handed begin inputs mid → All IsTimely inputs
+  handed_timely begin mid inputs live handed = (handed.1 live).timely
 
   pub came_whole : (begin end : MergedStreams R Q G H) (bytes : List ℕ) (others : Option (List ℕ)) (both : Both)
       (inputs : List Arrival)
@@ -266,6 +280,31 @@ refused_before side fault both is = record {
   least = λ k other its short end all. omega (arith, short);
 }
 
+refusal_one : (bytes header left other behind : List ℕ) (fault its : CaptureFault) → bytes ≡ header ++ left →
+    IsRefusedFile header fault → (fault ≡ NoHeader → left ≡ []) → bytes ≡ other ++ behind → IsRefusedFile other its
+    → (its ≡ NoHeader → behind ≡ []) → its ≡ fault
+unfolding IsCapture
+refusal_one bytes header left other behind fault its split refused short cut bad none =
+    let one : IsCapture bytes (Err fault) = (header, left, split, (inl refused, short)) in
+    let two : IsCapture bytes (Err its) = (other, behind, cut, (inl bad, none)) in
+    let same : Err its ≡ Err fault = IsCapture-one bytes (Err its) (Err fault) two one in
+    cc
+
+rest_refused : (bytes header left : List ℕ) (fault : CaptureFault) (rest : Rest) → bytes ≡ header ++ left →
+    IsRefusedFile header fault → (fault ≡ NoHeader → left ≡ []) → Holds bytes rest
+    → rest ≡ record { records = []; end = Err fault }
+rest_refused bytes header left fault rest split refused short (inl q) =
+    absurd (not_refused q.spelling bytes q.header q.behind header left fault q.whole q.file_header split refused short)
+rest_refused bytes header left fault rest split refused short (inr q) =
+    q.rest_is ∙ ap (λ f. record { records = []; end = Err f })
+    (refusal_one bytes header left q.header q.behind fault q.fault split refused short q.whole q.refused q.short)
+
+pub refused_rest : (bytes : List ℕ) (new : Option (List ℕ)) (rest : Rest) (fault : CaptureFault) →
+    RefusesFile fault (Some bytes) new → Holds bytes rest → rest ≡ record { records = []; end = Err fault }
+refused_rest bytes None rest fault p holds = absurd p.consumed
+refused_rest bytes (Some left) rest fault p holds =
+    rest_refused bytes p.header left fault rest p.consumed p.refused p.end holds
+
 -- ---- no stream is too large
 
 ends_small : (s : Spelling) (number : ℕ) (text : List ℕ) → EndsAs s number text (Err TooLarge) → ⊥
@@ -274,7 +313,8 @@ ends_small s number text (header, behind, split, inr (good, may, never)) = never
 
 pub never_too_large : (bytes : List ℕ) (rest : Rest) → Holds bytes rest → rest.end ≡ Err TooLarge → ⊥
 never_too_large bytes rest (inl q) end =
-    ends_small q.spelling _ q.has.rest (subst (EndsAs q.spelling _ q.has.rest) end q.has.ends)
+    let number = number_at 1 q.has.stored in
+    ends_small q.spelling number q.has.rest (subst (EndsAs q.spelling number q.has.rest) end q.has.ends)
 never_too_large bytes rest (inr q) end =
     let faults : Err q.fault ≡ Err TooLarge = sym (ap (λ (r : Rest). r.end) q.rest_is) ∙ end in
     let is : q.fault ≡ TooLarge = cc in

@@ -1,5 +1,5 @@
 -- What is taken of the records that were read is what merging takes of all that is left.
-use Rattle.std.proofs.Common.{◌≡◌, ℕ, ◌+◌, max, Bool, true, false, List, [], ◌∷◌, ◌++◌, Option, None, Some, IsSome, unwrap_or, Result, Ok, Err, refl, sym, ap, ◌∙◌, subst, subst₂, arith}
+use Rattle.std.proofs.Common.{◌≡◌, ℕ, ◌+◌, max, Bool, true, false, All, List, [], ◌∷◌, ◌++◌, Option, None, Some, IsSome, unwrap_or, Result, Ok, Err, refl, sym, ap, ◌∙◌, subst, subst₂, arith}
 use Rattle.napt_wire.specs.declared.Side.{Side}
 use Rattle.napt_wire.specs.declared.Side.TheVariants.{Inside, Outside}
 use Rattle.napt_capture.specs.declared.device.Source.{Ghosts}
@@ -11,6 +11,8 @@ use Rattle.napt_records.specs.declared.merged_streams.MergedStreams.{MergedStrea
 use Rattle.napt_records.specs.declared.merged_streams.SideFault.{SideFault}
 use Rattle.napt_capture.specs.Reading.{StopsBy}
 use Rattle.napt_records.proofs.Left.{StopsBy-then}
+use Rattle.napt_records.proofs.Merges.{none_yet, takes_timely}
+use Rattle.napt_records.specs.Output.{IsTimely}
 use Rattle.napt_sequential.specs.Inputs.{Hands}
 use Rattle.napt_rules.specs.Prelude.{Arrival}
 use Rattle.napt_records.specs.Merged.{AreLive, AreSame, CountsIf, EndsWith, HandsOut, Has, IsSame, IsSameIf, IsToldIf, Looks, NoneFailed, NoneFailedIf, StreamHasIf, TakesAny, TakesFirst, cut_if, cut_of}
@@ -194,10 +196,13 @@ module _ {R Q : Type 0} {G : Ghosts R} {H : Ghosts Q} (inside : R → Option (Li
     same_moved old mid new same ins outs,
     λ live.
         let looked = looks live in
+        let kept = takes_timely [] mid.inside_first.items mid.outside_first.items new.inside_first.items
+        new.outside_first.items new.clock first.side first.entry first.taken (none_yet, looked.live.1) in
         record {
-          live = rw (ins, outs) looked.live;
+          live = (rw (ins, outs) looked.live.0, kept.1);
           inside_count = rw ins looked.inside_count;
           outside_count = rw outs looked.outside_count;
+          timely = subst (λ i. All IsTimely (i ∷ [])) (sym first.input_is) kept.0;
           takes =
               λ sides has. takes_input mid new input sides (looked.keeps sides has) (looked.inside_looked sides has)
               (looked.outside_looked sides has) first ins outs;

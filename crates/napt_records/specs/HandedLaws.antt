@@ -1,11 +1,13 @@
 -- Nothing is handed out where nothing happens, and what is handed out twice is handed out in a row.
 use Rattle.std.specs.Prelude.{◌≡◌, ℕ, List, [], ◌∷◌, ◌++◌, Option, None, Some}
 use Rattle.std.proofs.Common.{refl, ◌∙◌, subst}
+use Rattle.std.proofs.lemmas.List.Elements.{All-append, All-nil}
 use Rattle.napt_capture.specs.declared.device.Source.{Ghosts}
 use Rattle.napt_records.specs.declared.stream.Stream.{Stream}
 use Rattle.napt_records.specs.declared.merged_streams.MergedStreams.{MergedStreams}
 use Rattle.napt_rules.specs.Prelude.{Arrival}
 use Rattle.napt_records.specs.Merged.{HandsOut, IsSameIf, NoneFailedIf}
+use Rattle.napt_records.specs.Output.{IsTimely}
 use Rattle.napt_records.specs.Streams.{Sides, TakesInputs}
 
 join : (old mid later : Sides) (xs ys : List Arrival) → TakesInputs old xs mid → TakesInputs mid ys later →
@@ -48,6 +50,7 @@ module _ {R Q : Type 0} {G : Ghosts R} {H : Ghosts Q} (inside : R → Option (Li
       live = live;
       inside_count = refl;
       outside_count = counts_if out_failed x.outside;
+      timely = All-nil IsTimely;
       takes = λ sides has. (sides, has, refl);
     },
   )
@@ -64,6 +67,7 @@ module _ {R Q : Type 0} {G : Ghosts R} {H : Ghosts Q} (inside : R → Option (Li
           live = b.live;
           inside_count = b.inside_count ∙ a.inside_count;
           outside_count = counts_on out_failed x.outside y.outside z.outside first.0.1 a.outside_count b.outside_count;
+          timely = All-append IsTimely xs ys a.timely b.timely;
           takes =
               λ sides has.
               let (mid, then, one) = a.takes sides has in

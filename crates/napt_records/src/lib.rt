@@ -15,7 +15,7 @@ mod stream;
 
 pub use fault::{Fault, Which};
 pub use merge_laws::{merge_is_one, merge_until_fault};
-pub use merged_streams::{MergedStreams, SideFault};
+pub use merged_streams::{Cuts, MergedStreams, SideFault};
 pub use merging::{Merged, merge};
 pub use names::{EndpointText, cause_name, protocol_name};
 pub use output::write_packets;
