@@ -1,5 +1,5 @@
 -- What came of two captures of which only the headers were read, by all that they hold.
-use Rattle.std.proofs.Common.{◌≡◌, ℕ, ◌+◌, ◌≤◌, inl, inr, All, List, [], ◌∷◌, ◌++◌, length, length-append, map, Option, Some, None, Result, Ok, Err, refl, sym, ap, ◌∙◌, subst, arith}
+use Rattle.std.proofs.Common.{◌≡◌, ℕ, ◌+◌, inl, inr, All, List, [], ◌++◌, length, length-append, map, Option, Some, None, Err, refl, sym, ap, ◌∙◌, subst, arith}
 use Rattle.std.proofs.lemmas.List.Elements.{All-nil}
 use Rattle.std.specs.Io.KnownBytes.{Consumes}
 use Rattle.napt_wire.specs.declared.Side.{Side}
@@ -9,7 +9,7 @@ use Rattle.napt_capture.specs.declared.records.Records.{Records}
 use Rattle.napt_capture.specs.declared.spelling.Spelling.{Spelling}
 use Rattle.napt_capture.specs.declared.fault.CaptureFault.{CaptureFault}
 use Rattle.napt_capture.specs.declared.fault.CaptureFault.TheVariants.{NoHeader, BadMagic, BadVersion, BadLink, BadFraction, TooLong, TooLarge, Read, Memory}
-use Rattle.napt_capture.specs.Capture.{HasLink, HasMagic, HasVersion, IsCapture, IsFileHeader, IsRefusedFile, IsRefusedRecord}
+use Rattle.napt_capture.specs.Capture.{HasLink, HasMagic, HasVersion, IsCapture, IsFileHeader, IsRefusedFile}
 use Rattle.napt_capture.specs.Reading.{RefusesFile, StopsBy}
 use Rattle.napt_capture.specs.Records.{left_of}
 use Rattle.napt_capture.specs.Stream.{EndsAs, HasRecords, IsStream, number_at}
@@ -26,9 +26,9 @@ use Rattle.napt_records.specs.Merge.{of_record}
 use Rattle.napt_records.specs.Merged.{AreLive, AreSame, Counts, CountsIf, EndsWith, HandsOut, Has, IsLiveIf, IsSameIf, NoneFailed, NoneFailedIf, StreamHasIf, cut_if, cut_of, failed_by}
 use Rattle.napt_records.specs.Output.{IsTimely}
 use Rattle.napt_records.specs.Rests.{HasRest, StreamHas}
-use Rattle.napt_records.specs.Streams.{IsMergedUntil, Rest, Sides, Stops, TakesInputs}
+use Rattle.napt_records.specs.Streams.{IsMergedUntil, Rest, Sides, Stops}
 use Rattle.napt_records.specs.Taking.{inputs_from}
-use Rattle.napt_records.specs.UntilFault.{AreAll, AreBefore, AreFront, AreHeld, AreTaken, Both, Holds, HoldsIf, IsRefused, rest_of}
+use Rattle.napt_records.specs.UntilFault.{AreAll, AreBefore, AreFront, AreHeld, AreTaken, Both, Holds, HoldsIf, rest_of}
 use Rattle.napt_records.proofs.Left.{StopsBy-then}
 use Rattle.napt_records.proofs.MergesExist.{comes}
 use Rattle.napt_records.proofs.UntilFault.{IsMergedUntil-whole, before_fault, begin_of, same_ends, taken_front}
@@ -38,8 +38,16 @@ use Rattle.napt_records.proofs.UntilFault.{IsMergedUntil-whole, before_fault, be
 not_refused : (s : Spelling) (bytes header left other behind : List ℕ) (fault : CaptureFault) → bytes ≡ header ++ left →
     IsFileHeader s header → bytes ≡ other ++ behind → IsRefusedFile other fault → (fault ≡ NoHeader → behind ≡ []) → ⊥
 not_refused s bytes header left other behind NoHeader split good cut bad short =
-    omega (arith, ap length split, ap length cut, length-append header left, length-append other behind,
-    ap length (short refl), good.whole, bad)
+    omega (
+      arith,
+      ap length split,
+      ap length cut,
+      length-append header left,
+      length-append other behind,
+      ap length (short refl),
+      good.whole,
+      bad,
+    )
 not_refused s bytes header left other behind BadMagic split good cut (whole, bad) short =
     let same : other ≡ header = front_same other header behind left (whole ∙ sym good.whole) (sym cut ∙ split) in
     let magic : HasMagic s other = subst (HasMagic s) (sym same) good.magic in
@@ -139,7 +147,6 @@ taken_before both inputs side Memory front p = front
 
 module _ {R Q : Type 0} {G : Ghosts R} {H : Ghosts Q} (inside : R → Option (List ℕ)) (outside : Q → Option (List ℕ))
     (in_failed : R → ℕ) (out_failed : Q → ℕ) where
-
   pub begun_live : (begin : MergedStreams R Q G H) (bytes : List ℕ) (others : Option (List ℕ)) →
       AreBegun inside outside begin bytes others → AreLive begin
   begun_live begin bytes others p = (
@@ -250,7 +257,7 @@ module _ {R Q : Type 0} {G : Ghosts R} {H : Ghosts Q} (inside : R → Option (Li
       let ended = came.ended.1 goes.live in (
         ended.inside_count ∙ goes.inside_count,
         counts_on out_failed begin.outside came.last.outside end.outside came.handed.0.1 goes.outside_count
-        ended.outside_count,
+            ended.outside_count,
       )
 
   pub came_failed : (begin end : MergedStreams R Q G H) (inputs : List Arrival) (fault : SideFault) → AreLive begin →
@@ -262,7 +269,7 @@ module _ {R Q : Type 0} {G : Ghosts R} {H : Ghosts Q} (inside : R → Option (Li
       let met = came.ended.1 goes.live in (
         met.inside_count ∙ ap (λ n. n + failed_by Inside fault.side fault.fault) goes.inside_count,
         counts_after out_failed begin.outside came.last.outside end.outside
-        (failed_by Outside fault.side fault.fault) came.handed.0.1 goes.outside_count met.outside_count,
+            (failed_by Outside fault.side fault.fault) came.handed.0.1 goes.outside_count met.outside_count,
       )
 
 -- ---- where a header is refused, or could not be read

@@ -1,5 +1,5 @@
 -- What is taken of the records that were read is what merging takes of all that is left.
-use Rattle.std.proofs.Common.{◌≡◌, ℕ, ◌+◌, max, Bool, true, false, All, List, [], ◌∷◌, ◌++◌, Option, None, Some, IsSome, unwrap_or, Result, Ok, Err, refl, sym, ap, ◌∙◌, subst, subst₂, arith}
+use Rattle.std.proofs.Common.{◌≡◌, ℕ, max, Bool, true, false, All, List, [], ◌∷◌, ◌++◌, Option, None, Some, IsSome, unwrap_or, Ok, refl, sym, ap, ◌∙◌, subst, subst₂, arith}
 use Rattle.napt_wire.specs.declared.Side.{Side}
 use Rattle.napt_wire.specs.declared.Side.TheVariants.{Inside, Outside}
 use Rattle.napt_capture.specs.declared.device.Source.{Ghosts}
@@ -8,7 +8,6 @@ use Rattle.napt_capture.specs.declared.fault.CaptureFault.{CaptureFault}
 use Rattle.napt_capture.specs.Contents.{Entry}
 use Rattle.napt_records.specs.declared.stream.Stream.{Stream}
 use Rattle.napt_records.specs.declared.merged_streams.MergedStreams.{MergedStreams}
-use Rattle.napt_records.specs.declared.merged_streams.SideFault.{SideFault}
 use Rattle.napt_capture.specs.Reading.{StopsBy}
 use Rattle.napt_records.proofs.Left.{StopsBy-then}
 use Rattle.napt_records.proofs.Merges.{none_yet, takes_timely}
@@ -130,7 +129,6 @@ module _ {R : Type 0} {G : Ghosts R} (remaining : R → Option (List ℕ)) where
 
 module _ {R Q : Type 0} {G : Ghosts R} {H : Ghosts Q} (inside : R → Option (List ℕ)) (outside : Q → Option (List ℕ))
     (in_failed : R → ℕ) (out_failed : Q → ℕ) where
-
   takes_input : (mid new : MergedStreams R Q G H) (input : Arrival) (sides : Sides) → Has inside outside mid sides
       → IsLooked mid.inside_first.items sides.inside → IsLooked mid.outside_first.items sides.outside
       → TakesFirst mid.inside_first.items mid.outside_first.items mid.clock input new.inside_first.items

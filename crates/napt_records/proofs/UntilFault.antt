@@ -31,9 +31,11 @@ pub IsMergedUntil-front : (inside outside : Rest) (inputs : List Arrival) (stop 
     IsMergedUntil inside outside inputs stop
     → (left : List Arrival) × IsMerged inside.records outside.records (inputs ++ left)
 IsMergedUntil-front inside outside inputs stop (last, taken, stops) =
-    let begin : Sides = record { clock = 0; inside = inside; outside = outside } in
-    (all_of last, subst (IsMerged inside.records outside.records) (front_of begin last inputs taken)
-    (comes inside.records outside.records))
+    let begin : Sides = record { clock = 0; inside = inside; outside = outside } in (
+      all_of last,
+      subst (IsMerged inside.records outside.records) (front_of begin last inputs taken)
+          (comes inside.records outside.records),
+    )
 
 none_left : (last : Sides) → Stops last None → all_of last ≡ []
 none_left last stops = rw (stops.0.0, stops.0.1) refl
@@ -151,9 +153,11 @@ begin_of both = record { clock = 0; inside = both.inside; outside = both.outside
 
 pub taken_front : (both : Both) (inputs : List Arrival) (last : Sides) →
     TakesInputs (begin_of both) inputs last → AreFront both inputs
-taken_front both inputs last taken =
-    (all_of last, subst (IsMerged both.inside.records both.outside.records) (front_of (begin_of both) last inputs taken)
-    (comes both.inside.records both.outside.records))
+taken_front both inputs last taken = (
+  all_of last,
+  subst (IsMerged both.inside.records both.outside.records) (front_of (begin_of both) last inputs taken)
+      (comes both.inside.records both.outside.records),
+)
 
 pub before_fault : (both : Both) (inputs : List Arrival) (side : Side) (fault : CaptureFault) →
     IsMergedUntil both.inside both.outside inputs (Some (side, fault)) → AreBefore side fault both inputs

@@ -1,5 +1,5 @@
 -- Nothing is handed out where nothing happens, and what is handed out twice is handed out in a row.
-use Rattle.std.specs.Prelude.{◌≡◌, ℕ, List, [], ◌∷◌, ◌++◌, Option, None, Some}
+use Rattle.std.specs.Prelude.{ℕ, List, [], ◌∷◌, ◌++◌, Option, None, Some}
 use Rattle.std.proofs.Common.{refl, ◌∙◌, subst}
 use Rattle.std.proofs.lemmas.List.Elements.{All-append, All-nil}
 use Rattle.napt_capture.specs.declared.device.Source.{Ghosts}
@@ -42,7 +42,6 @@ module _ {Q : Type 0} {H : Ghosts Q} (failed : Q → ℕ) where
 
 module _ {R Q : Type 0} {G : Ghosts R} {H : Ghosts Q} (inside : R → Option (List ℕ)) (outside : Q → Option (List ℕ))
     (in_failed : R → ℕ) (out_failed : Q → ℕ) where
-
   pub HandsOut-none : (x : MergedStreams R Q G H) → HandsOut inside outside in_failed out_failed x [] x
   HandsOut-none x = (
     (refl, same_if x.outside),

@@ -6,10 +6,10 @@ ghost use Rattle.napt_capture.specs.Text.{IsWritable};
 ghost use Rattle.napt_records.specs.Streams.{IsAtFault, IsLooked, Rest};
 ghost use Rattle.napt_records.specs.Merged.{CountsIf, IsLiveIf, IsSameIf, IsToldIf, StreamHasIf};
 
-use napt_sequential::{Arrivals, Input};
 use crate::merging::take_next;
 use crate::stream::Stream;
 use napt_capture::{CaptureFault, Record, Source};
+use napt_sequential::{Arrivals, Input};
 use napt_wire::Side;
 use std::alloc::Global;
 use std::collections::VecDeque;

@@ -1,5 +1,5 @@
 -- What is next of both is known, or has a fault.
-use Rattle.std.proofs.Common.{◌≡◌, ◌∙◌, refl, arith}
+use Rattle.std.proofs.Common.{◌∙◌, refl, arith}
 use Rattle.napt_records.proofs.Handed.{CountsIf-none, Looks-both, NoneFailedIf-counts, stops_inside, stops_outside}
 use Rattle.napt_records.proofs.merged_streams.MergedStreams.look.Goals as goal
 
@@ -13,8 +13,7 @@ returns-in-Err-clause-looks g c live = record {
 
 pub returns-in-Ok-clause-looks : goal.returns-in-Ok-clause-looks
 returns-in-Ok-clause-looks g c live =
-    Looks-both g.R.Source.remaining g.Q.Source.remaining g.R.Source.failed g.Q.Source.failed c.args.self.now _
-    (
+    Looks-both g.R.Source.remaining g.Q.Source.remaining g.R.Source.failed g.Q.Source.failed c.args.self.now _ (
       (c.in_default.ensures.live ∙ live.0.0, c.in-Ok.ensures.live live.0.1),
       (c.in_default.ensures.writable live.1.0, c.in-Ok.ensures.writable live.1.1),
     )

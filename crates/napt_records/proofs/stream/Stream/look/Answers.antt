@@ -1,10 +1,10 @@
 -- What was told is the first of what is left.
-use Rattle.std.proofs.Common.{deque_len, ◌≡◌, [], ◌∷◌, ◌<◌, length, None, arith, subst}
+use Rattle.std.proofs.Common.{deque_len, ◌≡◌, [], arith}
 use Rattle.std.proofs.lemmas.List.Elements.{All-push}
 use Rattle.std.proofs.lemmas.Result.{err_from_is_err_and}
 use Rattle.napt_capture.specs.Text.{IsWritable}
-use Rattle.napt_records.specs.Rests.{HasRest, StreamHas}
-use Rattle.napt_records.specs.Streams.{IsAtFault, Rest}
+use Rattle.napt_records.specs.Rests.{StreamHas}
+use Rattle.napt_records.specs.Streams.{Rest}
 use Rattle.napt_capture.specs.declared.fault.CaptureFault.{CaptureFault}
 use Rattle.napt_capture.specs.Records.{TellsEnd, left_of}
 use Rattle.std.specs.Prelude.{Err}
