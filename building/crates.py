@@ -5,7 +5,7 @@ import sys
 
 TOP = os.path.dirname(os.path.dirname(os.path.realpath(__file__)))
 # each has a launcher of its name at the top
-PROGRAMS = ("napt", "explain")
+PROGRAMS = ("napt", "stream", "explain")
 
 
 def listed():

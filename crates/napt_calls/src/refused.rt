@@ -2,7 +2,7 @@
 //! each time with another growth of memory refused.
 //!
 //! `pool` starts a pool of three workers, fills it and closes it; `run` runs over captures on two workers, `workers` so over their
-//! inputs, and `plain` on one thread; `dispatch` dispatches these inputs to a pool that is started before, and `merge` merges them;
+//! inputs, and `plain` on one thread; `streams` while the captures come, and `devices` so with each call of a device refused in turn; `dispatch` dispatches these inputs to a pool that is started before, and `merge` merges them;
 //! `capture` and `configuration` read one; `bindings`, `flows` and `ends` send packets through a table: of new bindings, of new flows
 //! of bindings that are there, and of bindings that have ended.
 //!
@@ -14,6 +14,7 @@ mod left;
 mod pool;
 mod readers;
 mod run;
+mod streams;
 mod table;
 
 use self::table::Kind;
@@ -78,6 +79,8 @@ fn ended<R: Files + AllocGlobal + Threads + Wait + Copy + Send + 'static>(
         Some("pool") => pool::ended(rt),
         Some("run") => run::ended(rt),
         Some("workers") => run::workers_ended(rt),
+        Some("streams") => streams::ended(rt),
+        Some("devices") => streams::devices_ended(rt),
         Some("plain") => run::plain_ended(alloc),
         Some("dispatch") => dispatching::ended(rt),
         Some("merge") => run::merge_ended(alloc),

@@ -34,10 +34,17 @@ impl Model for Written {
 
 impl Written {
     /// Nothing is written.
-    pub(crate) fn nothing() -> Written
+    pub fn nothing() -> Written
         ensures { result ≡ 0 }
     {
         Written { bytes: 0 }
+    }
+
+    /// How many bytes are written.
+    pub fn bytes(&self) -> u64
+        ensures { result ≡ self.now }
+    {
+        self.bytes
     }
 
     /// Writes the header of a capture.

@@ -20,16 +20,9 @@ use Rattle.napt_sequential.specs.CountedTranslators.{IsAtOnce}
 use Rattle.napt_dispatch.specs.Dispatch.{started, of_worker, fresh, rows_after, IsFaultUnder, is_gate_fault, IsDispatched, first_fault}
 use Rattle.napt_pool.specs.declared.fault.PoolFault.{PoolFault}
 use Rattle.napt_sequential.proofs.RunsLocal.{seen}
-use Rattle.napt_dispatch.proofs.Ended.{zip_index, length_started, started_at}
+use Rattle.napt_dispatch.proofs.Ended.{zip_index, zip_long, length_started, started_at}
 
 -- LISTS
-
-zip_long : {X Y Z : Type 0} (f : X → Y → Z) (xs : List X) (ys : List Y) → length xs ≡ length ys →
-    length (zip_with f xs ys) ≡ length ys
-zip_long f [] [] e = refl
-zip_long f [] (y ∷ ys) e = absurd (omega arith)
-zip_long f (x ∷ xs) [] e = absurd (omega arith)
-zip_long f (x ∷ xs) (y ∷ ys) e = ap suc (zip_long f xs ys (omega arith))
 
 map_index : {X : Type 0} (f : ℕ → List X) (pool : List ℕ) (w : ℕ) → w < length pool → of_worker (map f pool) w
     ≡ f (slice_index pool w)

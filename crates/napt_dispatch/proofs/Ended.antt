@@ -1,5 +1,5 @@
 -- What the end of a dispatch tells.
-use Rattle.std.proofs.Common.{◌≡◌, ℕ, zero, suc, ◌+◌, ◌<◌, List, [], ◌∷◌, ◌++◌, length, map, Option, Some, refl, ◌∙◌, arith, append-nil, length-append, inl, inr}
+use Rattle.std.proofs.Common.{◌≡◌, ℕ, zero, suc, ◌+◌, ◌<◌, List, [], ◌∷◌, ◌++◌, length, map, Option, Some, refl, sym, ap, ◌∙◌, arith, append-nil, append_assoc, length-append, inl, inr}
 use Rattle.std.specs.Prelude.{slice_index, slice_index_or, slice_get}
 use Rattle.std.proofs.lemmas.Bool.{cases_eq}
 use Rattle.std.proofs.Math.ListN.{get_or-append}
@@ -40,16 +40,19 @@ same_lengths (x ∷ xs) [] e h = absurd (omega arith)
 same_lengths (x ∷ xs) (y ∷ ys) e h =
     rw (h zero (omega arith), same_lengths xs ys (omega arith) (λ v lt. h (suc v) (omega arith))) refl
 
-pub same_known : (all outs : List Outcome) → length all ≡ length outs →
-    ((i : ℕ) (o : Outcome) → slice_get (map (λ (x : Outcome). let s : Option Outcome = Some x in s) all) i
-    ≡ Some (Some o) → slice_get outs i ≡ Some o) → all ≡ outs
-same_known [] [] e h = refl
-same_known [] (o ∷ outs) e h = absurd (omega arith)
-same_known (a ∷ all) [] e h = absurd (omega arith)
-same_known (a ∷ all) (o ∷ outs) e h =
-    let here : slice_get (o ∷ outs) 0 ≡ Some a = h zero a refl in
-    let rest = same_known all outs (omega arith) (λ i x g. h (suc i) x g) in
-    cc
+pub zip_long : {X Y Z : Type 0} (f : X → Y → Z) (xs : List X) (ys : List Y) → length xs ≡ length ys →
+    length (zip_with f xs ys) ≡ length ys
+zip_long f [] [] e = refl
+zip_long f [] (y ∷ ys) e = absurd (omega arith)
+zip_long f (x ∷ xs) [] e = absurd (omega arith)
+zip_long f (x ∷ xs) (y ∷ ys) e = ap suc (zip_long f xs ys (omega arith))
+
+zip_joined : {X : Type 0} (xs ys : List (List X)) (w : ℕ) → w < length (zip_with (λ x y. x ++ y) xs ys) →
+    of_worker (zip_with (λ x y. x ++ y) xs ys) w ≡ of_worker xs w ++ of_worker ys w
+zip_joined [] ys w lt = absurd (omega arith)
+zip_joined (x ∷ xs) [] w lt = absurd (omega arith)
+zip_joined (x ∷ xs) (y ∷ ys) zero lt = refl
+zip_joined (x ∷ xs) (y ∷ ys) (suc w) lt = zip_joined xs ys w (omega arith)
 
 -- WORKERS
 
@@ -97,3 +100,20 @@ module _ (g : Ghosts TranslatorState Leg Answer) (stepped_is : (s : TranslatorSt
       )
       (replies_kept (begun w rules) (of_worker offered w)) in
       ([], append-nil (of_worker taken w) ∙ is)
+
+  -- so is a front of it
+  pub right_front : (rules : Rules) (starts : List TranslatorState) (offered : List (List Leg))
+      (taken rests : List (List Answer)) → starts ≡ started rules (length rules.pool) → length offered
+      ≡ length rules.pool → zip_with (λ t rest. t ++ rest) taken rests ≡ zip_with (replies g) starts offered →
+      Right rules offered taken
+  right_front rules starts offered taken rests began many is = λ w lt.
+      let long : length starts ≡ length offered = ap length began ∙ (length_started rules (length rules.pool)
+      ∙ sym many) in
+      let all : length (zip_with (replies g) starts offered) ≡ length offered = zip_long (replies g) starts offered long in
+      let same : length (zip_with (λ t rest. t ++ rest) taken rests) ≡ length (zip_with (replies g) starts offered) =
+      ap length is in
+      let right = right_since rules starts offered (zip_with (replies g) starts offered) began many refl w lt in
+      let joined : of_worker taken w ++ of_worker rests w ≡ of_worker (zip_with (replies g) starts offered) w =
+      sym (zip_joined taken rests w (omega (arith, lt, many, all, same))) ∙ ap (λ l. of_worker l w) is in
+      (of_worker rests w ++ right.0, sym (append_assoc (of_worker taken w) (of_worker rests w) right.0)
+      ∙ (ap (λ l. l ++ right.0) joined ∙ right.1))

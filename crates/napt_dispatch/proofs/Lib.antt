@@ -1,9 +1,11 @@
 pub mod Closed
 pub mod Ended
+pub mod Ending
 pub mod Hairpin
 pub mod Lists
 pub mod Offering
 pub mod Offers
+pub mod Passing
 pub mod Queues
-pub mod Stages
 pub mod Standing
+pub mod Windows

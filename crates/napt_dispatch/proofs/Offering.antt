@@ -14,7 +14,7 @@ use Rattle.napt_dispatch.specs.declared.dispatcher.progress.Progress.TheVariants
 use Rattle.napt_dispatch.specs.declared.dispatcher.second.Second.TheVariants as seconds
 use Rattle.napt_dispatch.specs.Dispatch.{of_worker}
 use Rattle.napt_dispatch.specs.Queues.{pushed, put_first, Popped}
-use Rattle.napt_dispatch.specs.Stages.{is_unknown}
+use Rattle.napt_dispatch.specs.Windows.{Window, progress_in, is_unknown}
 use Rattle.napt_dispatch.specs.Standing.{Parts, DispatchState, parts_of, state_of, Keeps, with_held, with_first, IsSecond, Forgets, TakesFirst, first_waits, Offers, PutsBack, waits, IsRingFull, HasOffered, OffersOnlyTo}
 use Rattle.napt_dispatch.proofs.Lists.{push_other}
 use Rattle.napt_dispatch.proofs.Queues.{nothing}
@@ -63,9 +63,9 @@ ready_keeps w leg state held within p = λ rules done all s.
     rw (put_back_same state.parts.held held w (Ready leg) within p) s
 
 -- of no input more was known, whether its leg was taken out or not
-pub second_forgets : (number : ℕ) (progress later : List Progress) (leg : Leg) →
-    IsSecond number progress later (seconds.Known leg) → Forgets progress later
-second_forgets number progress later leg is = rw is.0 (set_forgets progress number)
+pub second_forgets : (number : ℕ) (window later : Window) (leg : Leg) →
+    IsSecond number window later (seconds.Known leg) → Forgets (progress_in window) (progress_in later)
+second_forgets number window later leg is = rw is.0.progress_is (set_forgets (progress_in window) number)
 
 -- OFFERS
 

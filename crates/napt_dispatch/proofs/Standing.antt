@@ -30,7 +30,11 @@ use Rattle.napt_sequential.specs.Dispatching.{IsFront, told, IsTold, IsForetold,
 use Rattle.napt_dispatch.specs.Dispatch.{of_worker, Right, Distinct, IsDispatched}
 use Rattle.napt_sequential.specs.Places.{first_act, second_legs, second_of, IsSeconded}
 use Rattle.napt_dispatch.specs.Queues.{pushed, put_first, Popped}
-use Rattle.napt_dispatch.specs.Standing.{Parts, DispatchState, IsSized, owed_of, IsOwed, resolved, next_leg, IsKnown, Reaches, Stands, Keeps, with_held, with_progress, with_first, ended, IsToldBy, Noted, IsSecond, Admits, IsDone, outcome_in}
+use Rattle.napt_dispatch.specs.Collecting.{outcome_of}
+use Rattle.napt_dispatch.specs.Passing.{timed}
+use Rattle.napt_dispatch.specs.Windows.{Window, progress_in, times_in, next_leg, IsKnown, AllKnown, IsWritten}
+use Rattle.napt_dispatch.specs.Standing.{Journal, journal_of, Parts, DispatchState, IsSized, owed_of, IsOwed, resolved, Reaches, Stands, Keeps, with_held, with_progress, with_first, ended, IsToldBy, Noted, IsSecond, Admits, IsDone}
+use Rattle.napt_dispatch.proofs.Windows.{known_set, known_push, left_front, left_whole, timed_outcomes}
 use Rattle.napt_dispatch.proofs.Lists.{push_own, push_other, count_push, place_within, no_lengths, of_replicate}
 use Rattle.napt_sequential.proofs.Dispatched.{right_answers, answers_tell}
 use Rattle.napt_sequential.proofs.Grown.{outcomes_long}
@@ -38,7 +42,7 @@ use Rattle.napt_sequential.proofs.Places.{legs_append, answers_fill, cond_map, p
 use Rattle.napt_dispatch.proofs.Hairpin.{offer_back, answer_back, single_by}
 use Rattle.napt_sequential.proofs.OneInput.{acts_begin, outcomes_begin, get_at, grown}
 use Rattle.napt_sequential.proofs.Steps.{stands_at}
-use Rattle.napt_dispatch.proofs.Ended.{map_at, same_known}
+use Rattle.napt_dispatch.proofs.Ended.{map_at}
 
 -- LISTS OF WORKERS
 
@@ -71,11 +75,15 @@ state_as : {offered offered' : List (List Leg)} {taken taken' : List (List Answe
 state_as a b c = rw (a, b, c)
 
 pub parts_as : {counts counts' : List ℕ} {owed owed' : List (List Owed)} {held held' : List (List Held)}
-    {progress progress' : List Progress} →
-    counts ≡ counts' → owed ≡ owed' → held ≡ held' → progress ≡ progress' →
-    (let p : Parts = record { counts = counts; owed = owed; held = held; progress = progress } in p)
-    ≡ record { counts = counts'; owed = owed'; held = held'; progress = progress' }
-parts_as a b c d = rw (a, b, c, d)
+    {progress progress' : List Progress} {journal journal' : Journal} →
+    counts ≡ counts' → owed ≡ owed' → held ≡ held' → progress ≡ progress' → journal ≡ journal' →
+    (let p : Parts = record { counts = counts; owed = owed; held = held; progress = progress; journal = journal } in p)
+    ≡ record { counts = counts'; owed = owed'; held = held'; progress = progress'; journal = journal' }
+parts_as a b c d e = rw (a, b, c, d, e)
+
+journal_as : {times times' : List ℕ} {left left' : List (ℕ × Outcome)} → times ≡ times' → left ≡ left' →
+    (let j : Journal = record { times = times; left = left } in j) ≡ record { times = times'; left = left' }
+journal_as a b = rw (a, b)
 
 -- OWED
 
@@ -176,33 +184,18 @@ module _ (w : ℕ) (leg : Leg) (state : DispatchState) (within : w < length stat
 pub offered_parts_are : (w : ℕ) (leg : Leg) (parts mid later : Parts) →
     mid ≡ record parts { counts = slice_set parts.counts w (slice_index parts.counts w + 1) } →
     later.counts ≡ mid.counts → later.owed ≡ pushed w (owed_of leg) mid.owed → later.held ≡ mid.held → later.progress
-    ≡ mid.progress →
+    ≡ mid.progress → later.journal ≡ mid.journal →
     later ≡ record parts {
       counts = slice_set parts.counts w (slice_index parts.counts w + 1);
       owed =
           pushed w (owed_of leg) parts.owed;
     }
-offered_parts_are w leg parts mid later m counts owed held progress =
+offered_parts_are w leg parts mid later m counts owed held progress journal =
     parts_as (counts ∙ ap (λ (p : Parts). p.counts) m) (owed ∙ ap (λ (p : Parts). pushed w (owed_of leg) p.owed) m)
     (held ∙ ap (λ (p : Parts). p.held) m) (progress ∙ ap (λ (p : Parts). p.progress) m)
+    (journal ∙ ap (λ (p : Parts). p.journal) m)
 
 -- AN ANSWER
-
-get_set : (xs : List Progress) (n i : ℕ) (v x : Progress) → slice_get (set xs n v) i ≡ Some x →
-    ((i ≡ n) × (v ≡ x)) ⊎ (slice_get xs i ≡ Some x)
-get_set [] n i v x h = inr h
-get_set (o ∷ os) zero zero v x h = inl (refl, (cc))
-get_set (o ∷ os) zero (suc i) v x h = inr h
-get_set (o ∷ os) (suc n) zero v x h = inr h
-get_set (o ∷ os) (suc n) (suc i) v x h = elim (get_set os n i v x h) [ inl e ↦ inl (ap suc e.0, e.1) | inr e ↦ inr e ]
-
-known_set : (course : Course) (progress : List Progress) (n : ℕ) (p : Progress) → IsKnown course n p →
-    ((i : ℕ) (q : Progress) → slice_get progress i ≡ Some q → IsKnown course i q) →
-    (i : ℕ) (q : Progress) → slice_get (slice_set progress n p) i ≡ Some q → IsKnown course i q
-known_set course progress n p here known i q h = elim (get_set progress n i p q h) [
-  | inl e ↦ subst (IsKnown course i) e.1 (subst (λ (k : ℕ). IsKnown course k p) (sym e.0) here)
-  | inr e ↦ known i q e
-]
 
 each_at : (P : Act → Type 0) (address : ℕ) (acts : List Act) → Each P acts → Each P (acts_at address acts)
 each_at P address [] h = tt
@@ -296,6 +289,7 @@ module _ (w : ℕ) (answer : Answer) (state later : DispatchState) (within : w <
     held =
         state.parts.held;
     progress = slice_set state.parts.progress answer.number n.progress;
+    journal = state.parts.journal;
   }
 
   abbrev answered_now : DispatchState
@@ -391,7 +385,7 @@ module _ (w : ℕ) (answer : Answer) (state later : DispatchState) (within : w <
   pub answered_keeps : Keeps state later
   answered_keeps = λ rules done all s.
       subst (Stands rules done all)
-      (sym (state_as same took (parts_as n.counts_are n.popped.later_is n.held_is n.progress_is)))
+      (sym (state_as same took (parts_as n.counts_are n.popped.later_is n.held_is n.progress_is n.journal_stays)))
       (answered_stand rules done all s)
 
 -- WHAT IS HELD
@@ -474,12 +468,26 @@ module _ (w : ℕ) (number : ℕ) (state : DispatchState) (held : List (List Hel
         known_set (run rules all (opening rules)) state.parts.progress number Awaited tt r.known,
       )) s)
 
+pub journal_same : (number : ℕ) (p : Progress) (window later : Window) → IsWritten number p window later →
+    journal_of later ≡ journal_of window
+journal_same number p window later is = journal_as is.times_stay is.left_stays
+
 pub next_keeps_as : (w number : ℕ) (state : DispatchState) (held : List (List Held)) → w < length state.parts.held →
-    Popped w (Place number) state.parts.held held → (leg : Leg) (progress : List Progress) →
-    IsSecond number state.parts.progress progress (seconds.Known leg) →
-    Keeps state (with_first w leg (held_as state held progress))
-next_keeps_as w number state held within p leg progress is = λ rules done all s.
-    rw is.0 (next_keeps w number state held within p leg is.1 is.2 rules done all s)
+    Popped w (Place number) state.parts.held held → (leg : Leg) (window later : Window) →
+    IsSecond number window later (seconds.Known leg) → state.parts.progress ≡ progress_in window →
+    state.parts.journal ≡ journal_of window →
+    Keeps state (with_first w leg (record state { parts = record state.parts {
+      held = held;
+      progress = progress_in later;
+      journal = journal_of later;
+    } }))
+next_keeps_as w number state held within p leg window later is before journal = λ rules done all s.
+    let known : slice_get state.parts.progress number ≡ Some (Onward leg.now leg.packet) =
+    ap (λ ps. slice_get ps number) before ∙ is.1 in
+    let same : journal_of later ≡ state.parts.journal = journal_same number Awaited window later is.0 ∙ sym journal in
+    let now : progress_in later ≡ slice_set state.parts.progress number Awaited =
+    is.0.progress_is ∙ ap (λ ps. slice_set ps number Awaited) (sym before) in
+    rw (same, now) (next_keeps w number state held within p leg known is.2 rules done all s)
 
 -- ONE INPUT MORE
 
@@ -665,23 +673,43 @@ admitted_admits rules number now input parts later packet w distinct foretold is
       parts = parts;
     }) packet admitted foretold is w p.0 p.1 v q.0 q.1 some.0 s)
 
+-- a place for what is known of the next input
+pub expected_keeps : (offered : List (List Leg)) (taken : List (List Answer)) (parts later : Parts) →
+    later.counts ≡ parts.counts → later.owed ≡ parts.owed → later.held ≡ parts.held →
+    later.progress ≡ parts.progress ++ Awaited ∷ [] →
+    Keeps (record { offered = offered; taken = taken; parts = parts }) (record {
+      offered = offered;
+      taken = taken;
+      parts = later;
+    })
+expected_keeps offered taken parts later counts owed held progress = λ rules done all s. record {
+  rest = s.rest;
+  whole = s.whole;
+  sized = rw (counts, owed, held) (record { counts = s.sized.counts; owed = s.sized.owed; held = s.sized.held });
+  offered_many = s.offered_many;
+  taken_many = s.taken_many;
+  counts_are = counts ∙ s.counts_are;
+  owes = λ v lt. rw owed (s.owes v lt);
+  reaches = λ right.
+      let r : Reaches rules done all (record { offered = offered; taken = taken; parts = parts }) = s.reaches right in
+      record {
+        reached = λ v lt. rw held (r.reached v lt);
+        known = rw progress (known_push (run rules all (opening rules)) parts.progress r.known);
+      };
+}
+
 -- THE START
 
-awaited_is : (n i : ℕ) (p : Progress) → slice_get (replicate n Awaited) i ≡ Some p → Awaited ≡ p
-awaited_is zero i p h = cc
-awaited_is (suc n) zero p h = cc
-awaited_is (suc n) (suc i) p h = awaited_is n i p h
-
-awaited_known : (course : Course) (n i : ℕ) (p : Progress) → slice_get (replicate n Awaited) i ≡ Some p →
+none_known : (course : Course) (i : ℕ) (p : Progress) → slice_get (let ps : List Progress = [] in ps) i ≡ Some p →
     IsKnown course i p
-awaited_known course n i p h = subst (IsKnown course i) (awaited_is n i p h) tt
+none_known course i p h = cc
 
-pub begin_stands : (rules : Rules) (inputs : List Arrival) (state : DispatchState) (n : ℕ) →
+pub begin_stands : (rules : Rules) (inputs : List Arrival) (state : DispatchState) →
     IsSized (length rules.pool) state.parts → state.offered ≡ replicate (length rules.pool) [] → state.taken
     ≡ replicate (length rules.pool) [] →
-    state.parts.counts ≡ replicate (length rules.pool) 0 → IsDone state.parts → state.parts.progress
-    ≡ replicate n Awaited → Stands rules [] inputs state
-begin_stands rules inputs state n sized offered taken counts idle progress =
+    state.parts.counts ≡ replicate (length rules.pool) 0 → IsDone state.parts → state.parts.progress ≡ [] →
+    Stands rules [] inputs state
+begin_stands rules inputs state sized offered taken counts idle progress =
     let none : (v : ℕ) → of_worker state.offered v ≡ [] = λ v. rw offered (of_replicate Leg (length rules.pool) v) in
     let no_answers : (v : ℕ) → of_worker state.taken v ≡ [] =
     λ v. rw taken (of_replicate Answer (length rules.pool) v) in
@@ -701,7 +729,7 @@ begin_stands rules inputs state n sized offered taken counts idle progress =
       };
       reaches = λ right. record {
         reached = λ v lt. rw (none v, idle.held v) refl;
-        known = λ i p h. awaited_known (run rules inputs (opening rules)) n i p (rw progress at h);
+        known = λ i p h. none_known (run rules inputs (opening rules)) i p (rw progress at h);
       };
     }
 
@@ -722,24 +750,23 @@ pub all_taken : (rules : Rules) (done all : List Arrival) (state : DispatchState
 all_taken rules done all state s idle v lt = none_owed (of_worker state.offered v) (of_worker state.taken v)
     (of_worker state.parts.owed v) (s.owes v lt) (idle.owed v)
 
-get_map : (ps : List Progress) (i : ℕ) (o : Outcome) → slice_get (map outcome_in ps) i ≡ Some (Some o) → (p : Progress)
-    × (slice_get ps i ≡ Some p) × (outcome_in p ≡ Some o)
-get_map [] i o h = cc
-get_map (p ∷ ps) zero o h = (p, refl, cc)
-get_map (p ∷ ps) (suc i) o h = get_map ps i o h
+-- what left is the front of what the run gives
+pub left_right : (rules : Rules) (inputs : List Arrival) (state : DispatchState) (window : Window) →
+    Stands rules inputs inputs state → state.parts.progress ≡ progress_in window →
+    times_in window ≡ map (λ i. i.time) inputs → Right rules state.offered state.taken →
+    IsFront window.left (timed inputs (run rules inputs (opening rules)).outcomes)
+left_right rules inputs state window s progress times right =
+    left_front (run rules inputs (opening rules)) window inputs times
+    (λ i p h. (s.reaches right).known i p (ap (λ ps. slice_get ps i) progress ∙ h))
+    (outcomes_long rules 0 0 inputs (opening rules))
 
-known_outcome : (course : Course) (i : ℕ) (p : Progress) (o : Outcome) → outcome_in p ≡ Some o → IsKnown course i p →
-    slice_get course.outcomes i ≡ Some o
-known_outcome course i Awaited o is known = cc
-known_outcome course i (Onward now packet) o is known = cc
-known_outcome course i (EndedOut outcome) o is known = known.0 ∙ is
-known_outcome course i (EndedIn outcome) o is known = known ∙ is
-
-pub dispatched : (rules : Rules) (inputs : List Arrival) (state : DispatchState) (all : List Outcome) →
-    Stands rules inputs inputs state → IsDone state.parts → map outcome_in state.parts.progress ≡ map Some all →
-    length state.parts.progress ≡ length inputs →
-    Right rules state.offered state.taken → IsDispatched rules inputs state.offered all state.parts.counts
-dispatched rules inputs state all s idle found long right =
+-- all of it, where no input is open
+pub dispatched : (rules : Rules) (inputs : List Arrival) (state : DispatchState) (window : Window) →
+    Stands rules inputs inputs state → IsDone state.parts → state.parts.progress ≡ progress_in window →
+    times_in window ≡ map (λ i. i.time) inputs → window.under_way ≡ [] → Right rules state.offered state.taken →
+    (window.left ≡ timed inputs (run rules inputs (opening rules)).outcomes)
+    × IsDispatched rules inputs state.offered (map outcome_of window.left) state.parts.counts
+dispatched rules inputs state window s idle progress times none right =
     let course : Course = run rules inputs (opening rules) in
     let r : Reaches rules inputs inputs state = s.reaches right in
     let reached : (w : ℕ) → w < length rules.pool → of_worker state.offered w
@@ -747,20 +774,12 @@ dispatched rules inputs state all s idle found long right =
     rw (idle.held w, append-nil) at (r.reached w lt) in
     let legs : state.offered ≡ map (λ (address : ℕ). legs_at address course.acts) rules.pool =
     map_at (λ address. legs_at address course.acts) state.offered rules.pool s.offered_many reached in
-    let known : (i : ℕ) (o : Outcome) → slice_get (map (λ (x : Outcome). let s : Option Outcome = Some x in s) all) i
-    ≡ Some (Some o) → slice_get course.outcomes i ≡ Some o = λ i o h.
-    let p = get_map state.parts.progress i o (ap (λ (os : List (Option Outcome)). slice_get os i) found ∙ h) in
-    known_outcome course i p.0 o p.2 (r.known i p.0 p.1) in
-    let one : length (map outcome_in state.parts.progress) ≡ length state.parts.progress =
-    length-map state.parts.progress outcome_in in
-    let two : length (map (λ (x : Outcome). let s : Option Outcome = Some x in s) all) ≡ length all =
-    length-map all Some in
-    let same : length (map outcome_in state.parts.progress)
-    ≡ length (map (λ (x : Outcome). let s : Option Outcome = Some x in s) all) = ap length found in
     let run_long : length course.outcomes ≡ length inputs = outcomes_long rules 0 0 inputs (opening rules) in
-    record {
+    let left : window.left ≡ timed inputs course.outcomes =
+    left_whole course window inputs times (λ i p h. r.known i p (ap (λ ps. slice_get ps i) progress ∙ h)) run_long none in
+    (left, record {
       legs = legs;
-      outcomes_are = same_known all course.outcomes (omega arith) known;
+      outcomes_are = ap (map outcome_of) left ∙ timed_outcomes inputs course.outcomes run_long;
       numbers_are = s.counts_are
           ∙ (ap (map length) legs ∙ map-map length (λ (address : ℕ). legs_at address course.acts) rules.pool);
-    }
+    })

@@ -14,7 +14,6 @@ use Rattle.napt_pool.specs.declared.fault.PoolFault.{PoolFault}
 use Rattle.napt_rules.specs.declared.Outcome.{Outcome}
 use Rattle.napt_sequential.specs.declared.fault.RunFault.{RunFault}
 use Rattle.napt_sequential.specs.declared.fault.RunFault.TheVariants as faults
-use Rattle.napt_dispatch.specs.declared.dispatcher.arrived.Arrived.{Arrived}
 use Rattle.napt_sequential.specs.Dispatching.{IsFront}
 
 -- WORKERS
@@ -84,8 +83,3 @@ pub record IsDispatched (rules : Rules) (inputs : List Arrival) (offered : List 
   pub outcomes_are : outcomes ≡ (run rules inputs (opening rules)).outcomes
   pub numbers_are : numbers ≡ map (λ address. length (legs_at address (run rules inputs (opening rules)).acts))
       rules.pool
-
--- when the inputs arrived
-pub record HaveArrived (inputs : List Arrival) (arrived : Arrived) : Type 0 where
-  pub times : arrived.times.items ≡ map (λ i. i.time) inputs
-  pub clock : arrived.clock ≡ last_clock 0 inputs

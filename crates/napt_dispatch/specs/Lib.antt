@@ -1,5 +1,7 @@
+pub mod Collecting
 pub mod Dispatch
 pub mod Offers
+pub mod Passing
 pub mod Queues
-pub mod Stages
 pub mod Standing
+pub mod Windows

@@ -3,7 +3,7 @@
 -- For each worker: what it was offered, followed by what is held for it, are its legs of the run over the inputs that
 -- were read. A place among what is held stands for a second leg (RFC 4787, REQ-9) that the answer of the first will
 -- tell. That the answers are right is a premise until the workers are joined, which then tells it.
-use Rattle.std.specs.Prelude.{◌≡◌, ◌≢◌, ◌⊎◌, ◌||◌, ℕ, ◌+◌, ◌<◌, max, nat_le, Bool, true, false, List, [], ◌∷◌, ◌++◌, map, flat_map, length, slice_index, slice_set, slice_get, Option, Some, None, Result, MatchResult}
+use Rattle.std.specs.Prelude.{◌≡◌, ◌≢◌, ◌⊎◌, ◌||◌, ℕ, ◌+◌, ◌<◌, ◌≤◌, max, nat_le, Bool, true, false, List, [], ◌∷◌, ◌++◌, map, flat_map, length, slice_index, slice_set, slice_get, Option, Some, None, Result, MatchResult}
 use Rattle.napt_wire.specs.declared.Way.{Way}
 use Rattle.napt_wire.specs.declared.Way.TheVariants.{Outgoing, Incoming}
 use Rattle.napt_config.specs.Rules.{Rules}
@@ -23,31 +23,42 @@ use Rattle.napt_dispatch.specs.declared.dispatcher.holding.First.TheVariants as 
 use Rattle.napt_dispatch.specs.declared.dispatcher.held.Held.{Held}
 use Rattle.napt_dispatch.specs.declared.dispatcher.held.Held.TheVariants.{Ready, Place}
 use Rattle.napt_dispatch.specs.declared.dispatcher.held.Owed.{Owed}
+use Rattle.napt_dispatch.specs.declared.dispatcher.open_input.OpenInput.{OpenInput}
 use Rattle.napt_dispatch.specs.declared.dispatcher.progress.Progress.{Progress}
 use Rattle.napt_dispatch.specs.declared.dispatcher.progress.Progress.TheVariants.{Awaited, Onward, EndedOut, EndedIn}
 use Rattle.napt_dispatch.specs.declared.dispatcher.second.Second.{Second}
 use Rattle.napt_dispatch.specs.declared.dispatcher.second.Second.TheVariants as seconds
 use Rattle.napt_dispatch.specs.Dispatch.{of_worker, IsDispatchFault, Right}
 use Rattle.napt_dispatch.specs.Queues.{pushed, put_first, Popped, many_in}
-use Rattle.napt_dispatch.specs.Stages.{is_unknown}
+use Rattle.napt_dispatch.specs.Windows.{Window, progress_in, times_in, is_unknown, next_leg, AllKnown, IsWritten}
 use Rattle.napt_sequential.specs.Places.{second_legs}
 
 -- WHAT A DISPATCHER KEEPS
 
+-- when the inputs that were read arrived, and the outcomes that left
+pub record Journal : Type 0 where
+  pub times : List ℕ
+  pub left : List (ℕ × Outcome)
+
+abbrev pub journal_of : Window → Journal
+journal_of window = record { times = times_in window; left = window.left }
+
 -- of each worker the number of legs that it was offered, the legs whose answers it owes, and what is held for it; of
--- each input what is known
+-- each input that was read what is known
 pub record Parts : Type 0 where
   pub counts : List ℕ
   pub owed : List (List Owed)
   pub held : List (List Held)
   pub progress : List Progress
+  pub journal : Journal
 
 abbrev pub parts_of : Dispatcher → Parts
 parts_of d = record {
   counts = d.offered.items;
   owed = map (λ q. q.items) d.owed.items;
   held = d.held;
-  progress = d.progress;
+  progress = progress_in d.progress;
+  journal = journal_of d.progress;
 }
 
 -- with what each worker was offered, and what was taken of each
@@ -83,25 +94,13 @@ abbrev pub resolved : List Act → Held → List Leg
 resolved acts (Ready leg) = leg ∷ []
 resolved acts (Place number) = second_legs number acts
 
-abbrev pub next_leg : ℕ → ℕ → List ℕ → Leg
-next_leg number now packet = record { number = number; now = now; way = Incoming; packet = packet }
-
--- what is known of an input is so in the run
-abbrev pub IsKnown : Course → ℕ → Progress → Type 0
-IsKnown course number Awaited = Unit {0}
-IsKnown course number (Onward now packet) = second_legs number course.acts ≡ next_leg number now packet ∷ []
-IsKnown course number (EndedOut outcome) = (slice_get course.outcomes number ≡ Some outcome)
-    × (second_legs number course.acts ≡ [])
-IsKnown course number (EndedIn outcome) = slice_get course.outcomes number ≡ Some outcome
-
 -- where the answers are right
 pub record Reaches (rules : Rules) (done all : List Arrival) (state : DispatchState) : Type 0 where
   pub reached : (w : ℕ) → w < length rules.pool →
       of_worker state.offered w ++ flat_map (resolved (run rules all (opening rules)).acts)
       (of_worker state.parts.held w)
       ≡ legs_at (slice_index rules.pool w) (run rules done (opening rules)).acts
-  pub known : (i : ℕ) (p : Progress) → slice_get state.parts.progress i ≡ Some p →
-      IsKnown (run rules all (opening rules)) i p
+  pub known : AllKnown (run rules all (opening rules)) state.parts.progress
 
 -- after the first inputs of all
 pub record Stands (rules : Rules) (done all : List Arrival) (state : DispatchState) : Type 0 where
@@ -141,6 +140,7 @@ pub record Continues {M G : Type 0} (pool : Pool M G Leg Answer) (d : Dispatcher
     (later : Dispatcher) : Type 0 where
   pub starts_stay : starts later_pool ≡ starts pool
   pub sized : IsSizedFor later_pool later
+  pub journal_stays : (parts_of later).journal ≡ (parts_of d).journal
   pub keeps : Keeps (state_of pool d) (state_of later_pool later)
 
 -- so it is after an answer; with a fault the workers are the same, and it is one of dispatching
@@ -182,15 +182,29 @@ pub record Noted (w : ℕ) (answer : Answer) (parts later : Parts) : Type 0 wher
   pub counts_are : later.counts ≡ parts.counts
   pub held_is : later.held ≡ parts.held
   pub progress_is : later.progress ≡ slice_set parts.progress answer.number progress
+  pub journal_stays : later.journal ≡ parts.journal
 
--- the second leg of an input, as far as it is known
-abbrev pub IsSecond : ℕ → List Progress → List Progress → Second → Type 0
-IsSecond number progress later seconds.Unknown = (later ≡ progress) × (is_unknown (slice_get progress number) ≡ true)
-IsSecond number progress later seconds.Never = (later ≡ progress) × (outcome : Outcome)
-    × (slice_get progress number ≡ Some (EndedOut outcome))
-IsSecond number progress later (seconds.Known leg) =
-    (later ≡ slice_set progress number Awaited)
-    × (slice_get progress number ≡ Some (Onward leg.now leg.packet)) × (leg ≡ next_leg number leg.now leg.packet)
+-- the second leg of the input of a number, as far as it is known
+abbrev pub IsSecondOf : ℕ → OpenInput → OpenInput → Second → Type 0
+IsSecondOf number input later seconds.Unknown =
+    (later.time ≡ input.time) × (later.progress ≡ input.progress) × (is_unknown (Some input.progress) ≡ true)
+IsSecondOf number input later seconds.Never =
+    (later.time ≡ input.time) × (later.progress ≡ input.progress)
+    × (outcome : Outcome) × (input.progress ≡ EndedOut outcome)
+IsSecondOf number input later (seconds.Known leg) =
+    (later.time ≡ input.time) × (later.progress ≡ Awaited) × (input.progress ≡ Onward leg.now leg.packet)
+    × (leg ≡ next_leg number leg.now leg.packet)
+
+-- the same of the inputs that were read
+abbrev pub IsSecond : ℕ → Window → Window → Second → Type 0
+IsSecond number window later seconds.Unknown =
+    (later ≡ window) × (is_unknown (slice_get (progress_in window) number) ≡ true)
+IsSecond number window later seconds.Never =
+    (later ≡ window) × (outcome : Outcome) × (slice_get (progress_in window) number ≡ Some (EndedOut outcome))
+IsSecond number window later (seconds.Known leg) =
+    IsWritten number Awaited window later
+    × (slice_get (progress_in window) number ≡ Some (Onward leg.now leg.packet))
+    × (leg ≡ next_leg number leg.now leg.packet)
 
 -- of an input whose second leg was not known it is not known now
 abbrev pub Forgets : List Progress → List Progress → Type 0
@@ -203,6 +217,7 @@ pub record TakesFirst (w : ℕ) (parts later : Parts) : Type 0 where
   pub popped : Popped w first parts.held later.held
   pub counts_stay : later.counts ≡ parts.counts
   pub owed_stays : later.owed ≡ parts.owed
+  pub journal_stays : later.journal ≡ parts.journal
   pub forgets : Forgets parts.progress later.progress
   pub room : many_in later.held < 65536
 
@@ -283,16 +298,16 @@ pub record OffersOnlyTo {M G : Type 0} (w : ℕ) (pool : Pool M G Leg Answer) (d
   pub held_else : (v : ℕ) → v ≢ w → of_worker (parts_of later).held v ≡ of_worker (parts_of d).held v
   pub forgets : Forgets (parts_of d).progress (parts_of later).progress
 
+-- ROOM
+
+-- one input more may be read
+pub record HasRoom (d : Dispatcher) : Type 0 where
+  pub held : many_in (parts_of d).held + 2 ≤ 65536
+  pub under_way : length d.progress.under_way < 131072
+
 -- THE END
 
 -- nothing is held and nothing owed
 pub record IsDone (parts : Parts) : Type 0 where
   pub owed : (w : ℕ) → of_worker parts.owed w ≡ []
   pub held : (w : ℕ) → of_worker parts.held w ≡ []
-
--- the outcome that is known
-abbrev pub outcome_in : Progress → Option Outcome
-outcome_in Awaited = None
-outcome_in (Onward now packet) = None
-outcome_in (EndedOut outcome) = Some outcome
-outcome_in (EndedIn outcome) = Some outcome

@@ -6,33 +6,35 @@
 ghost use Rattle.std.specs.Prelude.{◌≡◌, ◌<◌, ◌^◌, [], length, map, replicate, IfOk, IfErr, OnOk};
 ghost use Rattle.napt_pool.specs.Pools.{starts, accepts, takes, zip_with};
 ghost use Rattle.napt_pool.specs.Histories.{replies};
-ghost use Rattle.napt_dispatch.specs.declared.dispatcher.progress.Progress.TheVariants.{Awaited as AwaitedInput};
-ghost use Rattle.napt_dispatch.specs.Dispatch.{started, HaveArrived, IsDispatchFault, IsDispatched};
+ghost use Rattle.napt_dispatch.specs.Dispatch.{started, IsDispatchFault, IsDispatched};
+ghost use Rattle.napt_dispatch.specs.Passing.{EndsBy};
 ghost use Rattle.napt_dispatch.specs.Standing.{parts_of, IsSized, IsDone};
 
-mod arrived;
+mod halted;
 mod held;
 mod holding;
 mod impossible_answer;
 mod offer;
 mod offering;
+mod open_input;
 mod progress;
 mod queues;
 mod reading;
 mod run_progress;
 mod second;
-mod stage;
 mod taking;
 
 use crate::Worker;
+use crate::collected::Collected;
+use crate::departures::Departures;
 use crate::inputs::copies;
-use arrived::Arrived;
+use halted::Halted;
 use held::{HeldLegs, Owed};
-use impossible_answer::ImpossibleAnswer;
 use napt_config::Config;
 use napt_pool::{Gate, Machine, Pool};
 use napt_sequential::{Arrivals, Input, Outcome, RunFault};
 use queues::empty;
+use reading::EndOfInputs;
 use run_progress::RunProgress;
 use std::alloc::{AllocError, Global};
 use std::collections::VecDeque;
@@ -54,24 +56,20 @@ pub(crate) struct Dispatcher {
 }
 
 impl Dispatcher {
-    /// For so many workers, with rings for so many legs, and inputs.
-    fn new(
-        alloc: Global,
-        workers: usize,
-        ring: usize,
-        inputs: usize,
-    ) -> Result<Dispatcher, AllocError>
+    /// For so many workers, with rings for so many legs.
+    fn new(alloc: Global, workers: usize, ring: usize) -> Result<Dispatcher, AllocError>
         ensures sized { IfOk result (λ d. IsSized workers (parts_of d)) }
         ensures counts { IfOk result (λ d. d.offered.items ≡ replicate workers 0) }
         ensures idle { IfOk result (λ d. IsDone (parts_of d)) }
-        ensures progress { IfOk result (λ d. d.progress ≡ replicate inputs AwaitedInput) }
+        ensures left { IfOk result (λ d. d.progress.left ≡ []) }
+        ensures under_way { IfOk result (λ d. d.progress.under_way ≡ []) }
     {
         Ok(Dispatcher {
             ring,
             offered: vec![in alloc; 0; workers]?,
             owed: empty(alloc, workers)?,
             held: HeldLegs::new(alloc, workers)?,
-            progress: RunProgress::new(alloc, inputs)?,
+            progress: RunProgress::new(alloc),
         })
     }
 }
@@ -99,60 +97,83 @@ pub fn dispatch<R: Wait, G: Gate>(
         (accepts pool.new) done.0.items done.1.items) }
     ensures fault { IfErr result (IsDispatchFault G.is_open) }
 {
+    let mut collected = Collected::with_capacity(alloc, inputs.len())?;
     let mut inputs = copies(alloc, inputs)?;
-    let Dispatched { outcomes, legs, .. } = dispatch_arrivals(
-        rt,
-        alloc,
-        pool,
-        config,
-        &mut inputs,
-    )?;
-    Ok((outcomes, legs))
+    let done = dispatch_to(rt, alloc, pool, config, &mut inputs, &mut collected)?;
+    match done.ending {
+        Ending::Whole => Ok((collected.outcomes, done.legs)),
+        Ending::Arrival(none) => match none {},
+        Ending::Departure(_) => Err(RunFault::Memory),
+    }
+}
+
+/// How dispatching ended.
+#[derive(Drop)]
+pub(crate) enum Ending<A, D> {
+    /// The end of the arrivals was told, and all outcomes have left.
+    Whole,
+    /// The arrivals told a fault, and the outcomes of all inputs before it have left.
+    Arrival(A),
+    /// The departures told a fault.
+    Departure(D),
 }
 
 /// What dispatching comes to.
 #[derive(Drop)]
-pub(crate) struct Dispatched {
-    pub(crate) outcomes: Vec<Outcome>,
+pub(crate) struct Dispatched<A, D> {
     /// How many legs each worker was offered.
     pub(crate) legs: Vec<u64>,
-    pub(crate) arrived: Arrived,
+    /// The greatest clock of the inputs, in ns; 0 where there are none, or where the departures told a fault.
+    pub(crate) clock: u64,
+    pub(crate) ending: Ending<A, D>,
 }
 
-/// The same over inputs that move into the run.
-pub(crate) fn dispatch_arrivals<R: Wait, G: Gate, I: Arrivals>(
+/// The same over inputs that come until an end or a fault is told, and whose outcomes leave in their order. Before a device
+/// is asked for an input all outcomes have left and are settled, and so it is at the end.
+pub(crate) fn dispatch_to<R: Wait, G: Gate, A: Arrivals, D: Departures>(
     rt: &R,
     alloc: Global,
     pool: &mut Pool<Worker, G>,
     config: &Config,
-    inputs: &mut I,
-) -> Result<Dispatched, RunFault>
-    requires few { length (I.rest inputs.old) < 2 ^ 32 }
+    arrivals: &mut A,
+    departures: &mut D,
+) -> Result<Dispatched<A::Fault, D::Fault>, RunFault>
     requires started { starts pool.old ≡ started config.now (length config.now.pool) }
     requires unoffered { accepts pool.old ≡ replicate (length config.now.pool) [] }
     requires untaken { takes pool.old ≡ replicate (length config.now.pool) [] }
     ensures starts { starts pool.new ≡ starts pool.old }
-    ensures settled { OnOk result (map length (takes pool.new) ≡ map length (accepts pool.new)) }
-    ensures run { IfOk result (λ done. takes pool.new ≡ zip_with (replies ⟦<Worker as Machine>⟧)
-        (starts pool.new) (accepts pool.new) → IsDispatched config.now (I.rest inputs.old)
-        (accepts pool.new) done.outcomes.items done.legs.items) }
-    ensures arrived { IfOk result (λ done. HaveArrived (I.rest inputs.old) done.arrived) }
+    ensures ends { IfOk result (λ done. EndsBy config.now A.hands A.ends D.takes D.fails D.is_settled
+        arrivals.old departures.old pool.new arrivals.new departures.new done done.ending) }
     ensures fault { IfErr result (IsDispatchFault G.is_open) }
 {
     let count = config.pool().len();
-    let many = inputs.count();
-    let mut dispatcher = Dispatcher::new(alloc, count, config.ring(), many)?;
-    let arrived = dispatcher.dispatch_all(rt, alloc, pool, config, inputs)?;
-    dispatcher.finish(rt, alloc, pool, count as u32)?;
-    let Dispatcher {
-        offered,
-        progress,
-        ..
-    } = dispatcher;
-    let outcomes = progress.into_outcomes(many).ok_or(ImpossibleAnswer)?;
-    Ok(Dispatched {
-        outcomes,
-        legs: offered,
-        arrived,
-    })
+    let mut dispatcher = Dispatcher::new(alloc, count, config.ring())?;
+    match dispatcher.pass_all(rt, alloc, pool, config, arrivals, departures) {
+        Ok(EndOfInputs { clock, fault }) => Ok(Dispatched {
+            legs: dispatcher.offered,
+            clock,
+            ending: Ending::of(fault),
+        }),
+        Err(Halted::Departure(fault)) => Ok(Dispatched {
+            legs: dispatcher.offered,
+            clock: 0,
+            ending: Ending::Departure(fault),
+        }),
+        Err(Halted::Run(fault)) => Err(fault),
+    }
+}
+
+impl<A, D> Ending<A, D> {
+    ghost use Rattle.std.specs.Prelude.{◌≡◌, MatchOption};
+    ghost use Rattle.napt_dispatch.specs.declared.dispatcher.Ending.TheVariants.{Whole, Arrival};
+
+    /// That of arrivals which told the end, or a fault.
+    fn of(fault: Option<A>) -> Ending<A, D>
+        ensures { MatchOption fault (result ≡ Whole) (λ fault. result ≡ Arrival fault) }
+    {
+        match fault {
+            None => Ending::Whole,
+            Some(fault) => Ending::Arrival(fault),
+        }
+    }
 }

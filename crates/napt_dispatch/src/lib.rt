@@ -4,11 +4,16 @@
 //! pool, dispatches, joins the workers, and answers what the sequential run answers.
 #![tactic(auto)]
 
+mod collected;
+mod departures;
 mod dispatcher;
 mod inputs;
+mod stopped;
 mod worker;
 mod workers;
 
+pub use departures::Departures;
 pub use dispatcher::dispatch;
+pub use stopped::Stopped;
 pub use worker::Worker;
-pub use workers::{TimedRun, run_on_pool, run_workers};
+pub use workers::{Passed, TimedRun, run_on_pool, run_through, run_workers};

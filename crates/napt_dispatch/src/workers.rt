@@ -1,19 +1,23 @@
 //! The run over workers on threads of their own.
 
-ghost use Rattle.std.specs.Prelude.{◌≡◌, ◌↔◌, ◌^◌, ◌≤◌, ◌<◌, [], length, map, flat_map, replicate, vec_len, AllPairs, IfOk, IfErr, OnOk, Ok, Err, true, false};
+ghost use Rattle.std.specs.Prelude.{◌≡◌, ◌↔◌, ◌^◌, ◌≤◌, ◌++◌, [], length, map, flat_map, replicate, vec_len, AllPairs, IfOk, IfErr, OnOk, Ok, Err, true, false};
 ghost use Rattle.napt_config.specs.Rules.{KeepsRules};
 ghost use Rattle.napt_pool.specs.Histories.{after, replies};
 ghost use Rattle.napt_pool.specs.Pools.{starts, accepts, takes, zip_with};
 ghost use Rattle.napt_rules.specs.Sequential as model;
 ghost use Rattle.napt_dispatch.specs.Dispatch.{first_fault, started, rows_after, IsDispatchFault, IsFaultUnder, is_gate_fault};
+ghost use Rattle.napt_dispatch.specs.Passing.{Passes, RunsAll, IsStoppedUnder};
 ghost use Rattle.napt_rules.specs.Prelude.{AreRowsApart};
 
 use crate::Worker;
-use crate::dispatcher::{Dispatched, dispatch, dispatch_arrivals};
+use crate::collected::Collected;
+use crate::departures::Departures;
+use crate::dispatcher::{Dispatched, Ending, dispatch, dispatch_to};
 use crate::inputs::last_clock;
+use crate::stopped::Stopped;
 use napt_config::Config;
 use napt_pool::{Ended, Gate, Machine, Pool, PoolFault};
-use napt_sequential::{Arrivals, Input, Run, RunFault, runs_are_sound};
+use napt_sequential::{Arrivals, Input, NoFault, Run, RunFault, runs_are_sound};
 use napt_table::Row;
 use napt_translate::Translator;
 use std::alloc::{AllocError, Global};
@@ -130,6 +134,56 @@ pub fn run_workers<
     })
 }
 
+/// What a run leaves beside the outcomes of its inputs.
+#[derive(Drop)]
+pub struct Passed {
+    /// The bindings that live at the last clock, in the order of `Run`.
+    pub bindings: Vec<Row>,
+    /// How many legs acted at each external address, in the order of the pool.
+    pub legs: Vec<u64>,
+}
+
+/// The run of `run_workers` over inputs that come until an end or a fault is told, and whose outcomes leave in the order of
+/// the inputs, each as soon as it is known. It keeps at most 131,072 inputs and 65,536 legs.
+///
+/// Before a device is asked for an input, the outcomes of all inputs before it have left and are settled; so it is at the
+/// end, and where the arrivals told a fault. Before any refusal is told the workers are closed and joined: a fault of the run
+/// is told before one of the departures, and that before one of the arrivals.
+pub fn run_through<
+    R: Threads + Wait + Copy + Send + 'static,
+    G: Gate + Send + Sync + Drop + 'static,
+    A: Arrivals,
+    D: Departures,
+>(
+    rt: &R,
+    alloc: Global,
+    config: &Config,
+    arrivals: &mut A,
+    departures: &mut D,
+    gate: Arc<G>,
+) -> Result<Passed, Stopped<A::Fault, D::Fault>>
+    ensures passes { Passes config.now A.hands A.ends D.takes D.fails D.is_settled
+        arrivals.old departures.old arrivals.new departures.new result }
+    ensures fault { IfErr result (IsStoppedUnder G.is_open) }
+{
+    let mut pool = start(rt, alloc, config, gate)?;
+    let dispatched = dispatch_to(rt, alloc, &mut pool, config, arrivals, departures);
+    let (dispatched, ended) = close(rt, alloc, pool, dispatched)?;
+    let Dispatched {
+        legs,
+        clock,
+        ending,
+    } = dispatched;
+    match ending {
+        Ending::Whole => match bindings(alloc, &ended, clock) {
+            Ok(bindings) => Ok(Passed { bindings, legs }),
+            Err(_) => Err(Stopped::Run(RunFault::Memory)),
+        },
+        Ending::Arrival(fault) => Err(Stopped::Arrival(fault)),
+        Ending::Departure(fault) => Err(Stopped::Departure(fault)),
+    }
+}
+
 /// A run, with the arrival time of each of its inputs, in ns.
 #[derive(Drop)]
 pub struct TimedRun {
@@ -137,40 +191,36 @@ pub struct TimedRun {
     pub times: Vec<u64>,
 }
 
-/// The run of `run_workers` over at most 4,294,967,295 inputs, which it takes as it needs them.
+/// The run of `run_workers` over inputs that cannot fail, which it takes as it needs them. Memory is reserved for so many.
 ///
 /// A refusal is told as by `run_workers`; `RunFault::TooMany` never comes.
 pub fn run_on_pool<
     R: Threads + Wait + Copy + Send + 'static,
     G: Gate + Send + Sync + Drop + 'static,
-    I: Arrivals,
+    A: Arrivals<Fault = NoFault>,
 >(
     rt: &R,
     alloc: Global,
     config: &Config,
-    inputs: &mut I,
+    arrivals: &mut A,
+    many: usize,
     gate: Arc<G>,
 ) -> Result<TimedRun, RunFault>
-    requires few { length (I.rest inputs.old) < 2 ^ 32 }
-    ensures run { IfOk result (λ done. done.run ≡ model.ran config.now (I.rest inputs.old)) }
-    ensures times { IfOk result (λ done. done.times.items ≡ map (λ i. i.time) (I.rest inputs.old)) }
+    ensures run { IfOk result (λ done. RunsAll config.now A.hands A.ends arrivals.old done arrivals.new) }
     ensures fault { IfErr result (IsFaultUnder G.is_open) }
 {
-    let mut pool = start(rt, alloc, config, gate)?;
-    let dispatched = dispatch_arrivals(rt, alloc, &mut pool, config, inputs);
-    let (dispatched, ended) = close(rt, alloc, pool, dispatched)?;
-    let Dispatched {
-        outcomes,
-        legs,
-        arrived,
-    } = dispatched;
-    let bindings = bindings(alloc, &ended, arrived.clock)?;
-    Ok(TimedRun {
-        run: Run {
-            outcomes,
-            bindings,
-            legs,
-        },
-        times: arrived.times,
-    })
+    let mut collected = Collected::with_capacity(alloc, many)?;
+    match run_through(rt, alloc, config, arrivals, &mut collected, gate) {
+        Ok(Passed { bindings, legs }) => Ok(TimedRun {
+            run: Run {
+                outcomes: collected.outcomes,
+                bindings,
+                legs,
+            },
+            times: collected.times,
+        }),
+        Err(Stopped::Run(fault)) => Err(fault),
+        Err(Stopped::Arrival(none)) => match none {},
+        Err(Stopped::Departure(_)) => Err(RunFault::Memory),
+    }
 }

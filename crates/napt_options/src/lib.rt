@@ -7,7 +7,7 @@ mod place;
 mod places;
 mod role;
 
-pub use crate::options::{LineFault, Options, parse_words};
+pub use crate::options::{LineFault, Manual, Options, parse_words, parse_words_of};
 pub use crate::place::{Node, Place, is_same, place_of};
 pub use crate::places::lost_file;
 pub use crate::role::Role;

@@ -7,6 +7,24 @@ use clap::error::ErrorKind;
 use clap::{Arg, ArgAction, ArgMatches, Command, Error};
 use std::alloc::{AllocError, Global};
 
+/// A program that takes the options, by what its help says beside them.
+#[derive(Clone, Copy, Debug)]
+pub struct Manual {
+    /// What the program is called.
+    pub name: &'static str,
+    /// What it does, in a paragraph.
+    pub about: &'static str,
+    /// What stands behind the options.
+    pub notes: &'static str,
+}
+
+/// The help of the program `napt`.
+const NAPT: Manual = Manual {
+    name: "napt",
+    about: ABOUT,
+    notes: NOTES,
+};
+
 const ABOUT: &str = "Network address and port translation for IPv4: reads captures of the packets \
 that inside hosts and the outside send, and writes the captures of what leaves for the other side, \
 with addresses and ports translated.";
@@ -130,7 +148,7 @@ impl From<AllocError> for LineFault {
     }
 }
 
-/// Reads the words of the command line, the program's name first, as `clap` reads them.
+/// Reads the words of the command line of `napt`, the program's name first, as `clap` reads them.
 ///
 /// Each option is a long one with one value, in the word after it or after `=`. It stands at most
 /// once. A value begins with `-` only where it is `-` alone, or follows `=`. `-h` and `--help` ask
@@ -143,7 +161,23 @@ pub fn parse_words(alloc: Global, words: Vec<String>) -> Result<Options, LineFau
     ensures usage { result ≡ Err LineFault.Usage
         → line_of_words (map string_bytes words.items) ≡ mistake }
 {
-    let command = napt_command(alloc)?;
+    parse_words_of(alloc, NAPT, words)
+}
+
+/// The same for the program of this help, which takes the same words.
+pub fn parse_words_of(
+    alloc: Global,
+    manual: Manual,
+    words: Vec<String>,
+) -> Result<Options, LineFault>
+    ensures ok { IfOk result (λ o. line_of_words (map string_bytes words.items)
+        ≡ files (files_of o)) }
+    ensures help { IfErr result (λ fault. IsHelp fault
+        → line_of_words (map string_bytes words.items) ≡ help) }
+    ensures usage { result ≡ Err LineFault.Usage
+        → line_of_words (map string_bytes words.items) ≡ mistake }
+{
+    let command = command_of(alloc, manual)?;
     match command.try_get_matches_from(words.as_slice()) {
         Ok(matches) => Ok(Options {
             config: value_of(alloc, &matches, "config")?,
@@ -157,13 +191,14 @@ pub fn parse_words(alloc: Global, words: Vec<String>) -> Result<Options, LineFau
     }
 }
 
-fn napt_command<'a>(alloc: Global) -> Result<Command<'a>, AllocError>
+/// The command: what a program is called changes its help alone.
+fn command_of<'a>(alloc: Global, manual: Manual) -> Result<Command<'a>, AllocError>
     ensures { IfOk result (λ command. app_of command ≡ napt_app) }
 {
     let mut command = Command::new(alloc, "napt")
-        .bin_name("napt")?
-        .about(ABOUT)
-        .after_help(NOTES);
+        .bin_name(manual.name)?
+        .about(manual.about)
+        .after_help(manual.notes);
     for (name, meaning) in OPTIONS {
         command = command.arg(file_arg(alloc, name, meaning))?;
     }

@@ -3,3 +3,7 @@ pub mod MergesAreOne
 pub mod MergesExist
 pub mod Sends
 pub mod Texts
+pub mod Handed
+pub mod Left
+pub mod UntilFault
+pub mod Came

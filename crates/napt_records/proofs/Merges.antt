@@ -11,7 +11,7 @@ use Rattle.napt_wire.specs.declared.Side.{Side}
 use Rattle.napt_wire.specs.declared.Side.TheVariants.{Inside, Outside}
 use Rattle.napt_capture.specs.Contents.{Entry}
 use Rattle.napt_rules.specs.Prelude.{Arrival}
-use Rattle.napt_sequential.specs.Inputs.{Hands}
+use Rattle.napt_sequential.specs.Inputs.{IsTaken}
 use Rattle.napt_capture.specs.Text.{IsWritable}
 use Rattle.napt_records.specs.Output.{IsTimely}
 use Rattle.napt_records.specs.Taking.{Takes, input_of, is_outside_next}
@@ -430,6 +430,6 @@ none_yet k d within = absurd (let none : k < 0 = within in omega (arith, none))
 
 -- where nothing was handed out, nothing is left
 pub none_left : (before after : List Arrival) (handed : Option Arrival) → ((x : Arrival) → handed ≡ Some x → ⊥) →
-    Hands before handed after → before ≡ []
+    IsTaken before handed after → before ≡ []
 none_left before after None never is = is.0
 none_left before after (Some x) never is = absurd (never x refl)

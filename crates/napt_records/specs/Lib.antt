@@ -4,3 +4,9 @@ pub mod MergeLaws
 pub mod Output
 pub mod Report
 pub mod Counts
+pub mod HandedLaws
+pub mod Merged
+pub mod Rests
+pub mod Streams
+pub mod UntilFault
+pub mod Begun

@@ -6,14 +6,18 @@
 
 mod fault;
 mod merge_laws;
+mod merged_streams;
 mod merging;
 mod names;
 mod output;
 mod report;
+mod stream;
 
 pub use fault::{Fault, Which};
-pub use merge_laws::merge_is_one;
+pub use merge_laws::{merge_is_one, merge_until_fault};
+pub use merged_streams::{Cuts, MergedStreams, SideFault};
 pub use merging::{Merged, merge};
 pub use names::{EndpointText, cause_name, protocol_name};
 pub use output::write_packets;
 pub use report::{Counts, report_of, report_text};
+pub use stream::Stream;

@@ -1,12 +1,13 @@
 //! The inputs of a run: the records of both captures, merged by their arrival times.
-ghost use Rattle.std.specs.Prelude.{◌≡◌, All, IfOk};
+ghost use Rattle.std.specs.Prelude.{◌≡◌, ◌++◌, [], length, All, IfOk};
 ghost use Rattle.napt_capture.specs.Text.{IsWritable};
+ghost use Rattle.napt_sequential.specs.Inputs.{IsTaken};
 ghost use Rattle.napt_records.specs.Merge.{IsMerged};
 ghost use Rattle.napt_records.specs.Output.{IsTimely};
 ghost use Rattle.napt_records.specs.Taking.{Takes, is_outside_next};
 
 use napt_capture::Record;
-use napt_sequential::{Arrivals, Input};
+use napt_sequential::{Arrivals, Input, NoFault};
 use napt_wire::Side;
 use std::alloc::{AllocError, Global};
 use std::collections::VecDeque;
@@ -26,7 +27,7 @@ fn is_outside_next(inside: &VecDeque<Record>, outside: &VecDeque<Record>) -> boo
 }
 
 /// Takes the next record, with its side; none where both sides are at their ends.
-fn take_next(
+pub(crate) fn take_next(
     inside: &mut VecDeque<Record>,
     outside: &mut VecDeque<Record>,
 ) -> Option<(Side, Record)>
@@ -75,14 +76,18 @@ impl Merged {
     }
 }
 
-impl Arrivals for Merged {
-    ghost rest = { λ merged. merged };
-
-    fn count(&self) -> usize {
+impl Merged {
+    /// How many inputs are still to come.
+    fn count(&self) -> usize
+        ensures { result ≡ length self.now }
+    {
         self.inside.len() + self.outside.len()
     }
 
-    fn next(&mut self) -> Option<Input> {
+    /// The next input; none at the end.
+    fn take(&mut self) -> Option<Input>
+        ensures { IsTaken self.old result self.new }
+    {
         let (side, record) = take_next(&mut self.inside, &mut self.outside)?;
         self.clock = self.clock.max(record.time);
         Some(Input {
@@ -91,6 +96,29 @@ impl Arrivals for Merged {
             clock: self.clock,
             bytes: record.bytes,
         })
+    }
+}
+
+impl Arrivals for Merged {
+    ghost use Rattle.std.specs.Prelude.{refl};
+    ghost use Rattle.napt_sequential.specs.Inputs.{fronts_join};
+
+    type Fault = NoFault;
+
+    ghost hands = { λ merged inputs later. merged ≡ inputs ++ later };
+
+    ghost ends = { λ merged fault later. merged ≡ [] };
+
+    ghost hands_none = { λ x. refl };
+
+    ghost hands_more = { λ x y z xs ys first second. fronts_join x y z xs ys first second };
+
+    fn asks_device(&self) -> bool {
+        false
+    }
+
+    fn next(&mut self) -> Result<Option<Input>, NoFault> {
+        Ok(self.take())
     }
 }
 
@@ -107,7 +135,7 @@ pub fn merge(
 {
     let mut merged = Merged::new(inside, outside);
     let mut inputs = Vec::with_capacity(alloc, merged.count())?;
-    while let Some(input) = merged.next() {
+    while let Some(input) = merged.take() {
         inputs.push(input)?;
     }
     Ok(inputs)

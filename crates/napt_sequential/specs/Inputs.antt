@@ -1,8 +1,28 @@
 -- What contracts see of an input of a run: everything but where it lies in memory. Its number is its place, from 0.
-use Rattle.std.specs.Prelude.{◌≡◌, List, [], ◌∷◌, Option, Some, None}
+use Rattle.std.specs.Prelude.{◌≡◌, List, [], ◌∷◌, ◌++◌, Option, Some, None, Result, Ok, Err}
+use Rattle.std.proofs.Common.{refl, ap, ◌∙◌}
 use Rattle.napt_rules.specs.Prelude.{Arrival}
 
--- the first of those that were still to come was handed out; at the end there was none
-abbrev pub Hands : List Arrival → Option Arrival → List Arrival → Type 0
-Hands before None after = (before ≡ []) × (after ≡ [])
-Hands before (Some input) after = before ≡ input ∷ after
+-- the first of those that were still to come was taken; at the end there was none
+abbrev pub IsTaken : List Arrival → Option Arrival → List Arrival → Type 0
+IsTaken before None after = (before ≡ []) × (after ≡ [])
+IsTaken before (Some input) after = before ≡ input ∷ after
+
+-- what a call for the next input comes to: it was handed out, or the end was told, or a fault
+abbrev pub Hands : {S F : Type 0} → (S → List Arrival → S → Type 0) → (S → Option F → S → Type 0) → S →
+    Result (Option Arrival) F → S → Type 0
+Hands hands ends before (Ok (Some input)) after = hands before (input ∷ []) after
+Hands hands ends before (Ok None) after = ends before None after
+Hands hands ends before (Err fault) after = ends before (Some fault) after
+
+-- these inputs came, and then the end was told, or a fault
+pub record Came {S F : Type 0} (hands : S → List Arrival → S → Type 0) (ends : S → Option F → S → Type 0) (before : S)
+    (inputs : List Arrival) (fault : Option F) (after : S) : Type 0 where
+  pub last : S
+  pub handed : hands before inputs last
+  pub ended : ends last fault after
+
+-- a front of a list, and a front of what is left of it
+pub fronts_join : {X : Type 0} (x y z xs ys : List X) → x ≡ xs ++ y → y ≡ ys ++ z → x ≡ (xs ++ ys) ++ z
+fronts_join x y z [] ys first second = first ∙ second
+fronts_join x y z (a ∷ xs) ys first second = first ∙ ap (λ l. a ∷ l) (fronts_join (xs ++ y) y z xs ys refl second)

@@ -13,7 +13,7 @@ mod outcome;
 mod passage;
 mod run;
 
-pub use arrivals::Arrivals;
+pub use arrivals::{Arrivals, NoFault};
 pub use fault::RunFault;
 pub use input::Input;
 pub use laws::{

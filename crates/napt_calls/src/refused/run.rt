@@ -17,7 +17,7 @@ const CONFIGURATION: &str =
     "pool = [\"203.0.113.1\", \"203.0.113.2\"]\ninside = [\"10.0.0.0/8\"]\n";
 
 /// At 1 s udp 10.0.0.3:7000 > 198.51.100.7:53, and at 2 s a hairpin, udp 10.0.0.2:5000 > 203.0.113.2:7000.
-const INSIDE: [u8; 112] = [
+pub(crate) const INSIDE: [u8; 112] = [
     0xd4, 0xc3, 0xb2, 0xa1, 2, 0, 4, 0, 0, 0, 0, 0, 0, 0, 0, 0, 0xff, 0xff, 0, 0, 0x65, 0, 0, 0,
     // time, captured and original length
     1, 0, 0, 0, 0, 0, 0, 0, 28, 0, 0, 0, 28, 0, 0, 0, // and the packet
@@ -30,7 +30,7 @@ const INSIDE: [u8; 112] = [
 ];
 
 /// At 3 s the answer to the first, udp 198.51.100.7:53 > 203.0.113.2:7000.
-const OUTSIDE: [u8; 68] = [
+pub(crate) const OUTSIDE: [u8; 68] = [
     0xd4, 0xc3, 0xb2, 0xa1, 2, 0, 4, 0, 0, 0, 0, 0, 0, 0, 0, 0, 0xff, 0xff, 0, 0, 0x65, 0, 0, 0,
     // time, captured and original length
     3, 0, 0, 0, 0, 0, 0, 0, 28, 0, 0, 0, 28, 0, 0, 0, // and the packet

@@ -1,6 +1,6 @@
 //! What a dispatcher keeps of each worker, and what it notes.
 
-ghost use Rattle.std.specs.Prelude.{◌≡◌, ◌+◌, ◌<◌, ℕ, true, length, slice_set, slice_index, IfOk, OnOk};
+ghost use Rattle.std.specs.Prelude.{◌≡◌, ◌+◌, ◌^◌, ◌<◌, ℕ, true, [], length, slice_set, slice_index, IfOk, OnOk};
 ghost use Rattle.napt_dispatch.specs.Dispatch.{of_worker};
 ghost use Rattle.napt_dispatch.specs.Standing.{parts_of, IsSized, Noted, IsFirst, first_waits, waits, IsDone};
 
@@ -102,5 +102,17 @@ impl Dispatcher {
         ensures { result ≡ true → IsDone (parts_of self.now) }
     {
         self.held.is_empty() && are_empty(&self.owed)
+    }
+
+    /// Checks that all outcomes have left, as they have where nothing is held and nothing owed.
+    pub(super) fn check_left(&self) -> Result<(), ImpossibleAnswer>
+        ensures none { OnOk result (self.now.progress.under_way ≡ []) }
+        ensures few { OnOk result (length self.now.progress.left < 2 ^ 64) }
+    {
+        if self.progress.is_empty() {
+            Ok(())
+        } else {
+            Err(ImpossibleAnswer)
+        }
     }
 }

@@ -31,6 +31,7 @@ impl Dispatcher {
         requires room { many_in (parts_of self.old).held < 65536 }
         ensures starts { starts pool.new ≡ starts pool.old }
         ensures sized { OnOk result (IsSizedFor pool.new self.new) }
+        ensures journal { OnOk result ((parts_of self.new).journal ≡ (parts_of self.old).journal) }
         ensures keeps { OnOk result (Keeps (with_first w leg (state_of pool.old self.old))
             (state_of pool.new self.new)) }
         ensures went { IfOk result (λ went. MatchBool went

@@ -1,15 +1,14 @@
 //! What a dispatcher knows of an input.
 
-ghost use Rattle.std.specs.Prelude.{◌≡◌, IfOk};
+ghost use Rattle.std.specs.Prelude.{◌≡◌, Some, IfOk};
 ghost use Rattle.napt_dispatch.specs.Standing.{ended, IsToldBy};
-ghost use Rattle.napt_dispatch.specs.Stages.{progress_of};
+ghost use Rattle.napt_dispatch.specs.Windows.{has_ended, outcome_in, is_unknown};
 
 use crate::dispatcher::held::Owed;
 use crate::dispatcher::impossible_answer::ImpossibleAnswer;
-use crate::dispatcher::stage::Stage;
 use napt_sequential::Outcome;
 use napt_translate::End;
-use napt_wire::{Cause, Packet, Way};
+use napt_wire::{Packet, Way};
 
 /// What is known of an input.
 #[derive(Drop)]
@@ -48,15 +47,27 @@ impl Progress {
         }
     }
 
-    /// The stage that it is and what is kept beside it.
-    pub(crate) fn into_parts(self) -> (Stage, Outcome)
-        ensures { progress_of result.0 result.1 ≡ self }
+    /// Whether its outcome is known.
+    pub(crate) fn has_ended(&self) -> bool
+        ensures { result ≡ has_ended self.now }
+    {
+        matches!(self, Progress::EndedOut(_) | Progress::EndedIn(_))
+    }
+
+    /// Whether nothing is known of its second leg.
+    pub(crate) fn is_unknown(&self) -> bool
+        ensures { result ≡ is_unknown (Some self.now) }
+    {
+        matches!(self, Progress::Awaited | Progress::EndedIn(_))
+    }
+
+    /// The outcome, where it is known.
+    pub(crate) fn into_outcome(self) -> Option<Outcome>
+        ensures { result ≡ outcome_in self }
     {
         match self {
-            Progress::Awaited => (Stage::Awaited, Outcome::Dropped(Cause::NoBinding)),
-            Progress::Onward(now, packet) => (Stage::Onward(now), Outcome::ToInside(packet)),
-            Progress::EndedOut(outcome) => (Stage::EndedOut, outcome),
-            Progress::EndedIn(outcome) => (Stage::EndedIn, outcome),
+            Progress::EndedOut(outcome) | Progress::EndedIn(outcome) => Some(outcome),
+            Progress::Awaited | Progress::Onward(..) => None,
         }
     }
 }

@@ -1,6 +1,6 @@
 //! Reading the inputs in their order.
 
-ghost use Rattle.std.specs.Prelude.{◌≡◌, ◌↔◌, ◌+◌, ◌<◌, ◌≤◌, ◌^◌, ℕ, Bool, true, [], length, slice_set, slice_get, Ok, Err, Some, None, IfOk, IfErr, IfSome, OnOk, MatchOption};
+ghost use Rattle.std.specs.Prelude.{◌≡◌, ◌↔◌, ◌+◌, ◌<◌, ◌≤◌, ◌^◌, ℕ, Bool, true, [], length, slice_set, slice_get, Ok, Err, Some, None, IfOk, IfErr, IfSome, OnOk, MatchOption, MatchResult};
 ghost use Rattle.napt_wire.specs.declared.Side.TheVariants.{Inside as InsideSide};
 ghost use Rattle.napt_wire.specs.Fields.{destination};
 ghost use Rattle.napt_wire.specs.Packet.{IsPacket};
@@ -11,14 +11,16 @@ ghost use Rattle.napt_pool.specs.Pools.{starts};
 ghost use Rattle.napt_rules.specs.declared.Outcome.TheVariants.{Dropped};
 ghost use Rattle.napt_dispatch.specs.declared.dispatcher.held.Held.TheVariants.{Ready, Place};
 ghost use Rattle.napt_dispatch.specs.declared.dispatcher.progress.Progress.TheVariants.{EndedIn};
-ghost use Rattle.napt_dispatch.specs.Dispatch.{of_worker, HaveArrived, IsDispatchFault};
+ghost use Rattle.napt_dispatch.specs.Dispatch.{of_worker, IsDispatchFault};
 ghost use Rattle.napt_dispatch.specs.Offers.{with_offer, with_offered};
+ghost use Rattle.napt_dispatch.specs.Passing.{LetsGoUnlessFault, Serves, ReadsToEnd, ReadsAll, ReadsHalted};
 ghost use Rattle.napt_dispatch.specs.Queues.{pushed, many_in};
-ghost use Rattle.napt_dispatch.specs.Standing.{parts_of, state_of, IsSized, Stands, Keeps, IsSizedFor, with_held, with_progress, Admits};
+ghost use Rattle.napt_dispatch.specs.Standing.{parts_of, state_of, IsSized, Keeps, IsSizedFor, HasRoom, with_held, with_progress, Admits};
 
 use crate::Worker;
+use crate::departures::Departures;
 use crate::dispatcher::Dispatcher;
-use crate::dispatcher::arrived::Arrived;
+use crate::dispatcher::halted::Halted;
 use crate::dispatcher::held::Held;
 use crate::dispatcher::impossible_answer::ImpossibleAnswer;
 use crate::dispatcher::offer::Offer;
@@ -36,7 +38,7 @@ use std::sync::Wait;
 
 /// After so many inputs the answers of one worker are looked at, of each in its turn. Each look may fetch what another
 /// processor wrote, so fewer looks cost less.
-const LOOK_EACH: usize = 4;
+const LOOK_EACH: u64 = 4;
 
 impl Dispatcher {
     /// Holds a place at worker `to`, where there is one, for the second leg of the input of a number.
@@ -49,7 +51,10 @@ impl Dispatcher {
     {
         match to {
             None => Ok(()),
-            Some(v) => self.held.push(v, Held::Place(number)),
+            Some(v) => {
+                self.progress.note_place(number);
+                self.held.push(v, Held::Place(number))
+            }
         }
     }
 
@@ -80,6 +85,7 @@ impl Dispatcher {
             IsSized count (parts_of self.new)) }
         ensures room { IfOk result (λ found.
             IfSome found (λ o. many_in (parts_of self.new).held < 65536)) }
+        ensures journal { OnOk result ((parts_of self.new).journal ≡ (parts_of self.old).journal) }
         ensures placed { IfOk result (λ found.
             MatchOption to (with_offer found (parts_of self.new)
             ≡ with_held (pushed w (Ready leg) (parts_of self.old).held) (parts_of self.old)) (λ v.
@@ -108,13 +114,6 @@ impl Dispatcher {
         Ok(())
     }
 
-    /// Makes a place for what is known of the next input.
-    fn expect_input(&mut self) -> Result<(), AllocError>
-        ensures { OnOk result (parts_of self.new ≡ parts_of self.old) }
-    {
-        self.progress.expect_next()
-    }
-
     /// Reads an input of a number, at a time in ns, and gives its first leg where that may be offered at once.
     fn admit(
         &mut self,
@@ -131,6 +130,7 @@ impl Dispatcher {
             IfSome found (λ o. many_in (parts_of self.new).held < 65536)) }
         ensures place { IfOk result (λ found.
             IfSome found (λ o. o.worker < length config.now.pool)) }
+        ensures journal { OnOk result ((parts_of self.new).journal ≡ (parts_of self.old).journal) }
         ensures admits { IfOk result (λ found. Admits config.now number now input
             (parts_of self.old) (with_offer found (parts_of self.new))) }
         ensures fault { (open_gate : Bool) → IfErr result (IsDispatchFault open_gate) }
@@ -168,6 +168,7 @@ impl Dispatcher {
         requires room { IfSome found (λ o. many_in (parts_of self.old).held < 65536) }
         ensures starts { starts pool.new ≡ starts pool.old }
         ensures sized { OnOk result (IsSizedFor pool.new self.new) }
+        ensures journal { OnOk result ((parts_of self.new).journal ≡ (parts_of self.old).journal) }
         ensures keeps { OnOk result (Keeps (with_offered found (state_of pool.old self.old))
             (state_of pool.new self.new)) }
         ensures fault { IfErr result (IsDispatchFault G.is_open) }
@@ -181,47 +182,146 @@ impl Dispatcher {
         }
     }
 
-    /// Dispatches all inputs, in their order; their bytes move. Between them the answers of one worker after the other are
-    /// taken. Says when they arrived.
-    pub(super) fn dispatch_all<R: Wait, G: Gate, I: Arrivals>(
+    /// Reads an input at a time in ns, offers what may then be offered, and looks at the answers of one worker.
+    fn serve<R: Wait, G: Gate>(
         &mut self,
         rt: &R,
         alloc: Global,
         pool: &mut Pool<Worker, G>,
         config: &Config,
-        inputs: &mut I,
-    ) -> Result<Arrived, RunFault>
+        now: u64,
+        input: Input,
+    ) -> Result<(), RunFault>
         requires keeps { KeepsRules config.now }
         requires count { length (starts pool.old) ≡ length config.now.pool }
         requires sized { IsSizedFor pool.old self.old }
-        ensures starts { starts pool.new ≡ starts pool.old }
-        ensures sized { OnOk result (IsSizedFor pool.new self.new) }
-        ensures served { OnOk result (Stands config.now [] (I.rest inputs.old)
-            (state_of pool.old self.old) →
-            Stands config.now (I.rest inputs.old) (I.rest inputs.old)
-            (state_of pool.new self.new)) }
-        ensures arrived { IfOk result (HaveArrived (I.rest inputs.old)) }
-        ensures fault { IfErr result (IsDispatchFault G.is_open) }
+        requires room { HasRoom self.old }
+        ensures serves { OnOk result (Serves config.now now input pool.old self.old pool.new self.new) }
+        ensures fault { IfErr result (λ fault. (starts pool.new ≡ starts pool.old)
+            × IsDispatchFault G.is_open fault) }
     {
         let count = config.pool().len();
-        let many = inputs.count();
-        let mut arrived = Arrived::new(alloc, many)?;
-        for number in 0..many {
-            let input = inputs.next().ok_or(ImpossibleAnswer)?;
-            arrived.note(&input)?;
-            self.make_room(rt, alloc, pool, count as u32)?;
-            self.expect_input()?;
-            let found = self.admit(config, number as u64, arrived.clock, input)?;
-            self.offer_admitted(alloc, pool, found)?;
-            let turn = turn_after(number, count);
-            self.look_at(rt, alloc, pool, turn, count as u32)?;
+        let number = self.progress.expect(input.time)?;
+        let found = self.admit(config, number, now, input)?;
+        self.offer_admitted(alloc, pool, found)?;
+        let turn = turn_after(number, count as u64);
+        self.look_at(rt, alloc, pool, turn, count as u32)?;
+        Ok(())
+    }
+
+    /// Makes room for one input more. Before a device is asked for it all outcomes leave and are settled.
+    fn make_ready<R: Wait, G: Gate, D: Departures>(
+        &mut self,
+        rt: &R,
+        alloc: Global,
+        pool: &mut Pool<Worker, G>,
+        departures: &mut D,
+        count: u32,
+        asks_device: bool,
+    ) -> Result<(), Halted<D::Fault>>
+        requires count { count ≤ length (starts pool.old) }
+        requires sized { IsSizedFor pool.old self.old }
+        ensures state { LetsGoUnlessFault G.is_open D.takes D.fails
+            pool.old self.old departures.old pool.new self.new departures.new result }
+        ensures room { OnOk result (HasRoom self.new) }
+        ensures left { asks_device ≡ true → OnOk result ((self.new.progress.under_way ≡ [])
+            × D.is_settled departures.new) }
+    {
+        if asks_device {
+            self.settle(rt, alloc, pool, departures, count)
+        } else {
+            self.make_room(rt, alloc, pool, departures, count)
         }
-        Ok(arrived)
+    }
+
+    /// Reads all inputs, in their order, until the end or a fault is told; their bytes move. Between them the answers of one
+    /// worker after the other are taken.
+    fn read_all<R: Wait, G: Gate, A: Arrivals, D: Departures>(
+        &mut self,
+        rt: &R,
+        alloc: Global,
+        pool: &mut Pool<Worker, G>,
+        config: &Config,
+        arrivals: &mut A,
+        departures: &mut D,
+    ) -> Result<EndOfInputs<A::Fault>, Halted<D::Fault>>
+        requires keeps { KeepsRules config.now }
+        requires count { length (starts pool.old) ≡ length config.now.pool }
+        requires sized { IsSizedFor pool.old self.old }
+        requires left { self.old.progress.left ≡ [] }
+        requires under_way { self.old.progress.under_way ≡ [] }
+        ensures { MatchResult result
+            (ReadsToEnd config.now A.hands A.ends D.takes D.fails D.is_settled pool.old self.old
+            arrivals.old departures.old pool.new self.new arrivals.new departures.new)
+            (ReadsHalted config.now A.hands A.ends D.takes D.fails D.is_settled pool.old self.old
+            arrivals.old departures.old pool.new self.new arrivals.new departures.new G.is_open) }
+    {
+        let count = config.pool().len() as u32;
+        let mut clock = 0u64;
+        for _ in rt.forever() {
+            let asks_device = arrivals.asks_device();
+            self.make_ready(rt, alloc, pool, departures, count, asks_device)?;
+            match arrivals.next() {
+                Ok(Some(input)) => {
+                    clock = clock.max(input.clock);
+                    self.serve(rt, alloc, pool, config, clock, input)?;
+                }
+                Ok(None) => return Ok(EndOfInputs::new(clock, None)),
+                Err(fault) => return Ok(EndOfInputs::new(clock, Some(fault))),
+            }
+        }
+        unreachable!()
+    }
+
+    /// Reads all inputs, and lets all their outcomes leave.
+    pub(super) fn pass_all<R: Wait, G: Gate, A: Arrivals, D: Departures>(
+        &mut self,
+        rt: &R,
+        alloc: Global,
+        pool: &mut Pool<Worker, G>,
+        config: &Config,
+        arrivals: &mut A,
+        departures: &mut D,
+    ) -> Result<EndOfInputs<A::Fault>, Halted<D::Fault>>
+        requires keeps { KeepsRules config.now }
+        requires count { length (starts pool.old) ≡ length config.now.pool }
+        requires sized { IsSizedFor pool.old self.old }
+        requires left { self.old.progress.left ≡ [] }
+        requires under_way { self.old.progress.under_way ≡ [] }
+        ensures { MatchResult result
+            (ReadsAll config.now A.hands A.ends D.takes D.fails D.is_settled pool.old self.old
+            arrivals.old departures.old pool.new self.new arrivals.new departures.new)
+            (ReadsHalted config.now A.hands A.ends D.takes D.fails D.is_settled pool.old self.old
+            arrivals.old departures.old pool.new self.new arrivals.new departures.new G.is_open) }
+    {
+        let count = config.pool().len() as u32;
+        let end = self.read_all(rt, alloc, pool, config, arrivals, departures)?;
+        self.settle(rt, alloc, pool, departures, count)?;
+        Ok(end)
+    }
+}
+
+/// What arrivals told at their end.
+#[derive(Drop)]
+pub(crate) struct EndOfInputs<F> {
+    /// The greatest clock of the inputs, in ns; 0 where there are none.
+    pub(crate) clock: u64,
+    /// The fault that was told, if it was one.
+    pub(crate) fault: Option<F>,
+}
+
+impl<F> EndOfInputs<F> {
+    ghost use Rattle.std.specs.Prelude.{◌≡◌};
+
+    fn new(clock: u64, fault: Option<F>) -> EndOfInputs<F>
+        ensures { (result.clock ≡ clock) × (result.fault ≡ fault) }
+    {
+        EndOfInputs { clock, fault }
     }
 }
 
 /// The worker whose answers are looked at after the input of a number.
-fn turn_after(number: usize, count: usize) -> Option<u32>
+fn turn_after(number: u64, count: u64) -> Option<u32>
     requires { (0 < count) × (count < 2 ^ 32) }
     ensures { IfSome result (λ w. w < count) }
 {

@@ -1,158 +1,191 @@
-//! What a dispatcher knows of each input.
+//! What a dispatcher knows of the inputs that it read.
 
-ghost use Rattle.std.specs.Prelude.{◌≡◌, map, length, slice_set, slice_get, replicate, Some, IfOk, OnOk, IfSome};
-ghost use Rattle.napt_wire.specs.declared.Cause.TheVariants.{NoBinding};
-ghost use Rattle.napt_rules.specs.declared.Outcome.TheVariants.{Dropped};
-ghost use Rattle.napt_dispatch.specs.declared.dispatcher.progress.Progress.TheVariants.{Awaited};
-ghost use Rattle.napt_dispatch.specs.Stages.{is_unknown};
-ghost use Rattle.napt_dispatch.specs.Standing.{IsSecond, outcome_in};
+ghost use Rattle.std.specs.Prelude.{◌≡◌, ◌↔◌, ◌+◌, ◌^◌, ◌<◌, Bool, [], length, slice_get, true, IfOk, IfErr, OnOk, MatchOption, MatchResult};
+ghost use Rattle.napt_dispatch.specs.Dispatch.{IsDispatchFault};
+ghost use Rattle.napt_dispatch.specs.Windows.{progress_in, expecting, is_unknown, FirstHasEnded, IsWritten, Leaves};
+ghost use Rattle.napt_dispatch.specs.Passing.{HandsOver, FailsOver};
+ghost use Rattle.napt_dispatch.specs.Standing.{IsSecond};
 
+use crate::departures::Departures;
 use crate::dispatcher::impossible_answer::ImpossibleAnswer;
+use crate::dispatcher::open_input::OpenInput;
 use crate::dispatcher::progress::Progress;
 use crate::dispatcher::second::Second;
-use crate::dispatcher::stage::Stage;
-use napt_sequential::Outcome;
-use napt_translate::Leg;
-use napt_wire::{Cause, Way};
-use std::alloc::{AllocError, Global};
+use http_server::Log;
+use napt_sequential::{Outcome, RunFault};
+use std::alloc::Global;
+use std::collections::VecDeque;
 use std::marker::Model;
-use std::mem;
 
-/// What is known of each input. Contracts see the list of it.
+/// The most inputs that were read and whose outcomes have not left. No input is read while there are so many.
+const WINDOW: usize = 131_072;
+
+/// What is known of the inputs that were read: of at most 131,072, whose outcomes have not left, how far they have come. Of
+/// the others only how many there are is kept; contracts see their outcomes.
 #[derive(Drop)]
 pub(crate) struct RunProgress {
-    /// Of each input that was read how far it has come.
-    stages: Vec<Stage>,
-    /// Of each of these its outcome, or the packet that went onward as if it went to the inside. Where nothing is known, a
-    /// dropped outcome stands.
-    outcomes: Vec<Outcome>,
-    /// How many inputs were not read yet.
-    unread: usize,
+    /// How many outcomes have left: the number of the first open input.
+    first: u64,
+    under_way: VecDeque<OpenInput>,
+    /// The outcomes that left. It takes no memory: only proofs read it.
+    past: Log<u64, Outcome>,
 }
 
 impl Model for RunProgress {
-    ghost use Rattle.std.specs.Prelude.{◌≡◌, List, length};
-    ghost use Rattle.napt_dispatch.specs.declared.dispatcher.progress.Progress.{Progress as KnownProgress};
-    ghost use Rattle.napt_dispatch.specs.Stages.{known};
+    ghost use Rattle.std.specs.Prelude.{◌≡◌, ◌+◌, ◌<◌, ◌≤◌, ◌^◌, length, map};
+    ghost use Rattle.napt_dispatch.specs.Windows.{Window};
 
-    ghost Value = { List KnownProgress };
+    ghost Value = { Window };
 
-    ghost view = { λ all. known all.stages.items all.outcomes.items all.unread };
+    ghost view = { λ all. record { left = all.past.items; under_way = map (λ o. (o.time, o.progress)) all.under_way.items } };
 
-    ghost invariant = { λ all. length all.stages.items ≡ length all.outcomes.items };
+    ghost invariant = { λ all. (all.first ≡ length all.past.items) × ((length all.under_way.items ≤ 131072)
+        × (all.first + length all.under_way.items < 2 ^ 64)) };
 }
 
 impl RunProgress {
-    /// Nothing is known of so many inputs.
-    pub(crate) fn new(alloc: Global, inputs: usize) -> Result<RunProgress, AllocError>
-        ensures { IfOk result (λ all. all ≡ replicate inputs Awaited) }
+    /// Before the first input.
+    pub(crate) fn new(alloc: Global) -> RunProgress
+        ensures left { result.left ≡ [] }
+        ensures under_way { result.under_way ≡ [] }
     {
-        Ok(RunProgress {
-            stages: Vec::with_capacity(alloc, inputs)?,
-            outcomes: Vec::with_capacity(alloc, inputs)?,
-            unread: inputs,
-        })
-    }
-
-    /// Makes a place for the next input, if there is one more: nothing is known of it yet.
-    pub(crate) fn expect_next(&mut self) -> Result<(), AllocError>
-        ensures { OnOk result (self.new ≡ self.old) }
-    {
-        if self.unread == 0 {
-            return Ok(());
-        }
-        self.stages.push(Stage::Awaited)?;
-        match self.outcomes.push(Outcome::Dropped(Cause::NoBinding)) {
-            Ok(()) => {
-                self.unread -= 1;
-                Ok(())
-            }
-            Err(_) => {
-                self.stages.pop();
-                Err(AllocError)
-            }
+        RunProgress {
+            first: 0,
+            under_way: VecDeque::new(alloc),
+            past: Log::new(),
         }
     }
 
-    /// Writes down what is known of an input that was read. A number that none has makes an impossible answer.
+    /// Whether one input more may be read.
+    pub(crate) fn has_room(&self) -> bool
+        ensures { (result ≡ true) ↔ (length self.now.under_way < 131072) }
+    {
+        self.under_way.len() < WINDOW
+    }
+
+    /// Whether the outcome of each input that was read has left.
+    pub(crate) fn is_empty(&self) -> bool
+        ensures none { result ≡ true → self.now.under_way ≡ [] }
+        ensures few { length self.now.left < 2 ^ 64 }
+    {
+        self.under_way.is_empty()
+    }
+
+    /// Makes a place for the next input, which arrived at a time in ns: nothing is known of it yet. Gives its number, which is
+    /// below `u64::MAX`.
+    pub(crate) fn expect(&mut self, time: u64) -> Result<u64, RunFault>
+        requires { length self.old.under_way < 131072 }
+        ensures number { IfOk result (λ number. number ≡ length (progress_in self.old)) }
+        ensures expecting { OnOk result (self.new ≡ expecting time self.old) }
+        ensures fault { (open_gate : Bool) → IfErr result (IsDispatchFault open_gate) }
+    {
+        let number = self.first + self.under_way.len() as u64;
+        if number == u64::MAX {
+            return Err(RunFault::from(ImpossibleAnswer));
+        }
+        let next = OpenInput {
+            time,
+            progress: Progress::Awaited,
+            has_place: false,
+        };
+        match self.under_way.push_back(next) {
+            Ok(()) => Ok(number),
+            Err(_) => Err(RunFault::Memory),
+        }
+    }
+
+    /// Where the input of a number stands, if its outcome has not left.
+    fn place_of(&self, number: u64) -> Option<usize>
+        ensures { MatchOption result (is_unknown (slice_get (progress_in self.now) number) ≡ true)
+            (λ place. (number ≡ length self.now.left + place) × (place < length self.now.under_way)) }
+    {
+        if number < self.first {
+            return None;
+        }
+        let place = number - self.first;
+        if place < self.under_way.len() as u64 {
+            Some(place as usize)
+        } else {
+            None
+        }
+    }
+
+    /// Writes down what is known of an open input. A number that none has makes an impossible answer.
     pub(crate) fn write(&mut self, number: u64, progress: Progress) -> Result<(), ImpossibleAnswer>
-        ensures { OnOk result (self.new ≡ slice_set self.old number progress) }
+        ensures { OnOk result (IsWritten number progress self.old self.new) }
     {
-        if number >= self.stages.len() as u64 {
+        let Some(place) = self.place_of(number) else {
             return Err(ImpossibleAnswer);
-        }
-        let (stage, outcome) = progress.into_parts();
-        self.stages[number as usize] = stage;
-        self.outcomes[number as usize] = outcome;
+        };
+        self.under_way[place].progress = progress;
         Ok(())
+    }
+
+    /// Notes that a place is held for the second leg of the input of a number.
+    pub(crate) fn note_place(&mut self, number: u64)
+        ensures { self.new ≡ self.old }
+    {
+        if let Some(place) = self.place_of(number) {
+            self.under_way[place].has_place = true;
+        }
     }
 
     /// Whether nothing is known of the second leg of the input of a number.
     pub(crate) fn is_unknown(&self, number: u64) -> bool
-        ensures { result ≡ is_unknown (slice_get self.now number) }
+        ensures { result ≡ is_unknown (slice_get (progress_in self.now) number) }
     {
-        if number >= self.stages.len() as u64 {
-            return true;
-        }
-        match self.stages[number as usize] {
-            Stage::EndedOut => false,
-            Stage::Onward(_) => match self.outcomes[number as usize] {
-                Outcome::ToInside(_) => false,
-                _ => true,
-            },
-            Stage::Awaited | Stage::EndedIn => true,
+        match self.place_of(number) {
+            Some(place) => self.under_way[place].progress.is_unknown(),
+            None => true,
         }
     }
 
-    /// The second leg of the input of a number, taken out where it is known.
+    /// The second leg of the input of a number, taken out where it is known. Its place is gone then, or where there is none.
     pub(crate) fn second_leg(&mut self, number: u64) -> Second
         ensures { IsSecond number self.old self.new result }
     {
-        if number >= self.stages.len() as u64 {
+        let Some(place) = self.place_of(number) else {
             return Second::Unknown;
-        }
-        match self.stages[number as usize] {
-            Stage::EndedOut => Second::Never,
-            Stage::Onward(now) => {
-                let kept = &mut self.outcomes[number as usize];
-                match mem::replace(kept, Outcome::Dropped(Cause::NoBinding)) {
-                    Outcome::ToInside(packet) => {
-                        self.stages[number as usize] = Stage::Awaited;
-                        Second::Known(Leg {
-                            number,
-                            now,
-                            way: Way::Incoming,
-                            packet,
-                        })
-                    }
-                    other => {
-                        self.outcomes[number as usize] = other;
-                        Second::Unknown
-                    }
-                }
-            }
-            Stage::Awaited | Stage::EndedIn => Second::Unknown,
+        };
+        self.under_way[place].second_leg(number)
+    }
+
+    /// Whether the first open input has ended, and no place is held for its second leg.
+    fn may_leave(&self) -> bool
+        ensures { result ≡ true → FirstHasEnded self.now.under_way }
+    {
+        match self.under_way.front() {
+            Some(input) => input.progress.has_ended() && !input.has_place,
+            None => false,
         }
     }
 
-    /// All outcomes, where there are so many and each is known.
-    pub(crate) fn into_outcomes(self, count: usize) -> Option<Vec<Outcome>>
-        ensures known { IfSome result (λ outcomes. map outcome_in self ≡ map Some outcomes.items) }
-        ensures many { IfSome result (λ outcomes. length self ≡ count) }
+    /// Takes out the outcome of the first open input with its arrival time, if it may leave.
+    fn take_first(&mut self) -> Option<(u64, Outcome)>
+        ensures { MatchOption result (self.new ≡ self.old) (λ pair. Leaves pair self.old self.new) }
     {
-        let RunProgress {
-            stages,
-            outcomes,
-            unread,
-        } = self;
-        if stages.len() != count || unread > 0 {
+        if !self.may_leave() {
             return None;
         }
-        for stage in &stages {
-            if !stage.has_ended() {
-                return None;
+        let OpenInput { time, progress, .. } = self.under_way.pop_front()?;
+        let outcome = progress.into_outcome()?;
+        self.first += 1;
+        self.past = self.past.and(&time, &outcome);
+        Some((time, outcome))
+    }
+
+    /// Lets the outcomes of the first open inputs leave, as far as these have ended.
+    pub(crate) fn hand_over<D: Departures>(&mut self, departures: &mut D) -> Result<(), D::Fault>
+        ensures { MatchResult result
+            (λ _. HandsOver D.takes departures.old self.old departures.new self.new)
+            (FailsOver D.takes D.fails departures.old self.old departures.new self.new) }
+    {
+        while let Some((time, outcome)) = self.take_first() {
+            match departures.leave(time, outcome) {
+                Ok(()) => {}
+                Err(fault) => return Err(fault),
             }
         }
-        Some(outcomes)
+        Ok(())
     }
 }

@@ -1,12 +1,14 @@
 //! Taking the answers of the workers, and going on where there are any.
 
-ghost use Rattle.std.specs.Prelude.{◌+◌, ◌≤◌, ◌<◌, ℕ, length, IfSome, OnOk};
+ghost use Rattle.std.specs.Prelude.{◌≡◌, ◌^◌, ◌≤◌, ◌<◌, ℕ, [], length, true, IfSome, OnOk};
 ghost use Rattle.napt_pool.specs.Pools.{starts};
-ghost use Rattle.napt_dispatch.specs.Queues.{many_in};
-ghost use Rattle.napt_dispatch.specs.Standing.{parts_of, IsSizedFor, ContinuesUnlessFault, HasOffered, IsDone};
+ghost use Rattle.napt_dispatch.specs.Passing.{LetsGoUnlessFault};
+ghost use Rattle.napt_dispatch.specs.Standing.{parts_of, IsSizedFor, ContinuesUnlessFault, HasOffered, HasRoom, IsDone};
 
 use crate::Worker;
+use crate::departures::Departures;
 use crate::dispatcher::Dispatcher;
+use crate::dispatcher::halted::Halted;
 use crate::dispatcher::impossible_answer::ImpossibleAnswer;
 use crate::dispatcher::queues::{are_empty, len_at};
 use napt_pool::{Backoff, Gate, Pool};
@@ -120,21 +122,47 @@ impl Dispatcher {
         Ok(())
     }
 
-    /// Goes on until two more legs or places may be held.
-    pub(super) fn make_room<R: Wait, G: Gate>(
+    /// Lets the outcomes of the first inputs leave, as far as these have ended.
+    fn hand_over<G: Gate, D: Departures>(
+        &mut self,
+        pool: &Pool<Worker, G>,
+        departures: &mut D,
+    ) -> Result<(), Halted<D::Fault>>
+        requires sized { IsSizedFor pool.now self.old }
+        ensures { LetsGoUnlessFault G.is_open D.takes D.fails
+            pool.now self.old departures.old pool.now self.new departures.new result }
+    {
+        match self.progress.hand_over(departures) {
+            Ok(()) => Ok(()),
+            Err(fault) => Err(Halted::Departure(fault)),
+        }
+    }
+
+    /// Whether one input more may be read: it, and two more legs or places.
+    fn has_room(&self) -> bool
+        ensures { result ≡ true → HasRoom self.now }
+    {
+        self.held.has_room() && self.progress.has_room()
+    }
+
+    /// Goes on until one input more may be read.
+    pub(super) fn make_room<R: Wait, G: Gate, D: Departures>(
         &mut self,
         rt: &R,
         alloc: Global,
         pool: &mut Pool<Worker, G>,
+        departures: &mut D,
         count: u32,
-    ) -> Result<(), RunFault>
+    ) -> Result<(), Halted<D::Fault>>
         requires count { count ≤ length (starts pool.old) }
         requires sized { IsSizedFor pool.old self.old }
-        ensures state { ContinuesUnlessFault G.is_open pool.old self.old pool.new self.new result }
-        ensures room { OnOk result (many_in (parts_of self.new).held + 2 ≤ 65536) }
+        ensures state { LetsGoUnlessFault G.is_open D.takes D.fails
+            pool.old self.old departures.old pool.new self.new departures.new result }
+        ensures room { OnOk result (HasRoom self.new) }
     {
         for _ in rt.forever() {
-            if self.held.has_room() {
+            self.hand_over(pool, departures)?;
+            if self.has_room() {
                 return Ok(());
             }
             self.go_on(rt, alloc, pool, count)?;
@@ -142,26 +170,60 @@ impl Dispatcher {
         unreachable!()
     }
 
-    /// Goes on until nothing is held and nothing owed.
-    pub(super) fn finish<R: Wait, G: Gate>(
+    /// Goes on until nothing is held and nothing owed, and all outcomes have left.
+    fn finish<R: Wait, G: Gate, D: Departures>(
         &mut self,
         rt: &R,
         alloc: Global,
         pool: &mut Pool<Worker, G>,
+        departures: &mut D,
         count: u32,
-    ) -> Result<(), RunFault>
+    ) -> Result<(), Halted<D::Fault>>
         requires count { count ≤ length (starts pool.old) }
         requires sized { IsSizedFor pool.old self.old }
-        ensures state { ContinuesUnlessFault G.is_open pool.old self.old pool.new self.new result }
+        ensures state { LetsGoUnlessFault G.is_open D.takes D.fails
+            pool.old self.old departures.old pool.new self.new departures.new result }
         ensures done { OnOk result (IsDone (parts_of self.new)) }
+        ensures left { OnOk result (self.new.progress.under_way ≡ []) }
+        ensures few { OnOk result (length self.new.progress.left < 2 ^ 64) }
     {
         for _ in rt.forever() {
+            self.hand_over(pool, departures)?;
             if self.is_done() {
-                return Ok(());
+                return match self.check_left() {
+                    Ok(()) => Ok(()),
+                    Err(impossible) => Err(Halted::Run(RunFault::from(impossible))),
+                };
             }
             self.go_on(rt, alloc, pool, count)?;
         }
         unreachable!()
+    }
+
+    /// Lets all outcomes leave, and settles them.
+    pub(super) fn settle<R: Wait, G: Gate, D: Departures>(
+        &mut self,
+        rt: &R,
+        alloc: Global,
+        pool: &mut Pool<Worker, G>,
+        departures: &mut D,
+        count: u32,
+    ) -> Result<(), Halted<D::Fault>>
+        requires count { count ≤ length (starts pool.old) }
+        requires sized { IsSizedFor pool.old self.old }
+        ensures state { LetsGoUnlessFault G.is_open D.takes D.fails
+            pool.old self.old departures.old pool.new self.new departures.new result }
+        ensures done { OnOk result (IsDone (parts_of self.new)) }
+        ensures left { OnOk result (self.new.progress.under_way ≡ []) }
+        ensures few { OnOk result (length self.new.progress.left < 2 ^ 64) }
+        ensures room { OnOk result (HasRoom self.new) }
+        ensures settled { OnOk result (D.is_settled departures.new) }
+    {
+        self.finish(rt, alloc, pool, departures, count)?;
+        match departures.settle() {
+            Ok(()) => Ok(()),
+            Err(fault) => Err(Halted::Departure(fault)),
+        }
     }
 
     /// Takes what answers a worker has, if there is one, and where there were any offers what may then be offered.

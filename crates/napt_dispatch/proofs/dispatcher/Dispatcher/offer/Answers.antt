@@ -13,7 +13,7 @@ returns-in-Ok-clause-keeps g c =
     (state_of c.offer.new.self later)
     c.in-Ok.ensures.accepted c.in-Ok.ensures.takes
     (offered_parts_are c.args.w c.args.leg (parts_of c.args.self.now) (parts_of c.count_offer.new.self)
-    (parts_of later) c.in_ok-count_offer-in-Ok.ensures.counted refl c.in_ok-push_back-in-Ok.ensures.ok refl refl)
+    (parts_of later) c.in_ok-count_offer-in-Ok.ensures.counted refl c.in_ok-push_back-in-Ok.ensures.ok refl refl refl)
 
 pub returns-in-Ok-clause-went : goal.returns-in-Ok-clause-went
 returns-in-Ok-clause-went g c =
@@ -24,5 +24,5 @@ returns-in-Ok-clause-went g c =
       capacity_stays = c.in-Ok.ensures.capacity;
       ring_stays = c.in_ok-count_offer-in-Ok.ensures.ring;
       parts_are = offered_parts_are c.args.w c.args.leg (parts_of c.args.self.now) (parts_of c.count_offer.new.self)
-          (parts_of later) c.in_ok-count_offer-in-Ok.ensures.counted refl c.in_ok-push_back-in-Ok.ensures.ok refl refl;
+          (parts_of later) c.in_ok-count_offer-in-Ok.ensures.counted refl c.in_ok-push_back-in-Ok.ensures.ok refl refl refl;
     }

@@ -14,6 +14,7 @@ returns g c =
     record {
       starts_stay = c.in_ok-answer.ensures.starts;
       sized = search rules;
+      journal_stays = c.in_ok-note.ensures.journal_stays;
       keeps = answered_keeps c.args.w c.in-Some.answer (state_of c.args.pool.now c.args.self.now)
           (state_of c.take.new.self c.note.new.self) within c.in_ok-answer.ensures.accepts took c.in_ok-note.ensures;
     }

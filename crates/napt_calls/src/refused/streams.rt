@@ -1,0 +1,251 @@
+//! A run while its captures come: with a growth of memory refused, and with each call of each device refused in turn.
+
+use crate::refused::End;
+use crate::refused::left::{Asked, Counts, gate, looked_at};
+use crate::refused::run::{INSIDE, OUTSIDE, configuration, end_of_run};
+use napt_capture::{CaptureFault, Faulty, Plan, Trouble, Watched};
+use napt_config::Config;
+use napt_records::{Fault, Which};
+use napt_stream::run_streams;
+use napt_wire::Side;
+use std::alloc::Global;
+use std::rt::Files;
+use std::sync::{Arc, Wait};
+use std::thread::Threads;
+
+/// How many bytes an output has room for, so that none grows while it is written.
+const ROOM: usize = 4096;
+
+/// How many bytes a device moves at once.
+const AT_ONCE: usize = 16;
+
+/// The most calls that a device has in a run.
+const MOST_CALLS: u64 = 200;
+
+/// A device of the run.
+#[derive(Clone, Copy, PartialEq, Eq)]
+enum Device {
+    Inside,
+    Outside,
+    ToOutside,
+    ToInside,
+    Report,
+}
+
+/// The call of a device that goes wrong, counted from 1; none where it is 0.
+#[derive(Clone, Copy)]
+struct Refusal {
+    device: Device,
+    call: u64,
+    trouble: Trouble,
+}
+
+impl Refusal {
+    /// What a device does.
+    fn plan(self, device: Device) -> Plan
+        ensures { 0 < result.most }
+    {
+        let call = if self.device == device { self.call } else { 0 };
+        Plan {
+            most: AT_ONCE,
+            call,
+            trouble: self.trouble,
+        }
+    }
+}
+
+/// What a run answers and writes.
+#[derive(Drop)]
+struct Streamed {
+    answer: Result<(), Fault>,
+    to_outside: Vec<u8>,
+    to_inside: Vec<u8>,
+    report: Vec<u8>,
+}
+
+/// Makes the run, through the gate; none where memory is refused before.
+fn streamed<R: Threads + Wait + Copy + Send + 'static>(
+    rt: &R,
+    alloc: Global,
+    config: &Config,
+    refusal: Refusal,
+    gate: Arc<Asked>,
+) -> Option<Streamed> {
+    let written = Vec::with_capacity(alloc, ROOM).ok()?;
+    let mut to_outside = Faulty::new(Watched::new(written), refusal.plan(Device::ToOutside));
+    let written = Vec::with_capacity(alloc, ROOM).ok()?;
+    let mut to_inside = Faulty::new(Watched::new(written), refusal.plan(Device::ToInside));
+    let written = Vec::with_capacity(alloc, ROOM).ok()?;
+    let mut report = Faulty::new(Watched::new(written), refusal.plan(Device::Report));
+    let answer = run_streams(
+        rt,
+        alloc,
+        config,
+        &mut Faulty::new(Watched::new(INSIDE.as_slice()), refusal.plan(Device::Inside)),
+        Some(&mut Faulty::new(Watched::new(OUTSIDE.as_slice()), refusal.plan(Device::Outside))),
+        &mut to_outside,
+        Some(&mut to_inside),
+        Some(&mut report),
+        gate,
+    );
+    Some(Streamed {
+        answer,
+        to_outside: to_outside.into_inner().into_inner(),
+        to_inside: to_inside.into_inner().into_inner(),
+        report: report.into_inner().into_inner(),
+    })
+}
+
+/// No call goes wrong.
+const NONE: Refusal = Refusal {
+    device: Device::Inside,
+    call: 0,
+    trouble: Trouble::Fails,
+};
+
+/// The run, and what it leaves: outputs that are whole, or where memory or a thread was refused begin as the whole ones.
+pub(crate) fn ended<R: Files + AllocGlobal + Threads + Wait + Copy + Send + 'static>(
+    rt: &R,
+) -> End {
+    let alloc = rt.alloc();
+    let Some(config) = configuration(alloc) else {
+        return End::Before;
+    };
+    let Ok(counts) = Counts::shared(alloc) else {
+        return End::Before;
+    };
+    let Ok(gate) = gate(alloc, &counts) else {
+        return End::Before;
+    };
+    let Some(run) = streamed(rt, alloc, &config, NONE, gate) else {
+        return End::Before;
+    };
+    looked_at(rt, &counts, end_of(&run))
+}
+
+/// What a run comes to in which no device is refused a call.
+fn end_of(run: &Streamed) -> End {
+    // a packet to the outside, two to inside hosts
+    let (to_outside, to_inside) = (run.to_outside.len(), run.to_inside.len());
+    match run.answer {
+        Ok(()) if to_outside == 68 && to_inside == 112 && !run.report.is_empty() => End::Done,
+        Ok(()) => End::Wrong("other outputs"),
+        Err(_) if to_outside > 68 || to_inside > 112 || !run.report.is_empty() => {
+            End::Wrong("too much is written")
+        }
+        Err(Fault::Capture(_, CaptureFault::Memory)) => End::Memory,
+        Err(Fault::Run(fault)) => end_of_run(fault),
+        Err(_) => End::Wrong("another fault"),
+    }
+}
+
+/// Refuses each call of each device in turn: no thread is left, each output begins as that of the whole run, and the fault names
+/// the device, and how much of an output is written.
+pub(crate) fn devices_ended<R: Files + AllocGlobal + Threads + Wait + Copy + Send + 'static>(
+    rt: &R,
+) -> End {
+    let alloc = rt.alloc();
+    let Some(config) = configuration(alloc) else {
+        return End::Before;
+    };
+    let whole = match tried(rt, alloc, &config, NONE) {
+        Ok(run) => run,
+        Err(end) => return end,
+    };
+    for device in [
+        Device::Inside,
+        Device::Outside,
+        Device::ToOutside,
+        Device::ToInside,
+        Device::Report,
+    ] {
+        if let Err(end) = sweep(rt, alloc, &config, device, &whole) {
+            return end;
+        }
+    }
+    End::Done
+}
+
+/// Refuses each call of a device in turn.
+fn sweep<R: Files + AllocGlobal + Threads + Wait + Copy + Send + 'static>(
+    rt: &R,
+    alloc: Global,
+    config: &Config,
+    device: Device,
+    whole: &Streamed,
+) -> Result<(), End> {
+    for call in 1..MOST_CALLS {
+        let mut is_over = false;
+        for trouble in [Trouble::Fails, Trouble::TakesNone] {
+            // a capture that ends earlier is another capture
+            let is_source = matches!(device, Device::Inside | Device::Outside);
+            if is_source && trouble == Trouble::TakesNone {
+                continue;
+            }
+            let refusal = Refusal {
+                device,
+                call,
+                trouble,
+            };
+            let run = tried(rt, alloc, config, refusal)?;
+            is_over = is_over || trouble == Trouble::Fails && run.answer == Ok(());
+            judge(device, &run, whole)?;
+        }
+        if is_over {
+            return Ok(());
+        }
+    }
+    Err(End::Wrong("a device has no end of calls"))
+}
+
+/// Makes the run, and looks at what it leaves.
+fn tried<R: Files + AllocGlobal + Threads + Wait + Copy + Send + 'static>(
+    rt: &R,
+    alloc: Global,
+    config: &Config,
+    refusal: Refusal,
+) -> Result<Streamed, End> {
+    let counts = Counts::shared(alloc).map_err(|_| End::Before)?;
+    let gate = gate(alloc, &counts).map_err(|_| End::Before)?;
+    let run = streamed(rt, alloc, config, refusal, gate).ok_or(End::Before)?;
+    match looked_at(rt, &counts, End::Done) {
+        End::Done => Ok(run),
+        end => Err(end),
+    }
+}
+
+/// Whether a run in which one call of a device went wrong ended as it should.
+fn judge(device: Device, run: &Streamed, whole: &Streamed) -> Result<(), End> {
+    let begins = whole.to_outside.starts_with(&run.to_outside)
+        && whole.to_inside.starts_with(&run.to_inside)
+        && whole.report.starts_with(&run.report);
+    if !begins {
+        return Err(End::Wrong("an output is no front"));
+    }
+    let is_right = match (run.answer, device) {
+        (Ok(()), _) => is_whole(run, whole),
+        (Err(Fault::Capture(side, CaptureFault::Read)), Device::Inside) => side == Side::Inside,
+        (Err(Fault::Capture(side, CaptureFault::Read)), Device::Outside) => side == Side::Outside,
+        (Err(Fault::Write(Which::Outside, fault)), Device::ToOutside) => {
+            fault.written == run.to_outside.len() as u64
+        }
+        (Err(Fault::Write(Which::Inside, fault)), Device::ToInside) => {
+            fault.written == run.to_inside.len() as u64
+        }
+        (Err(Fault::Write(Which::Report, fault)), Device::Report) => {
+            fault.written == run.report.len() as u64
+        }
+        _ => false,
+    };
+    match is_right {
+        true if run.report.is_empty() || device == Device::Report || run.answer == Ok(()) => Ok(()),
+        true => Err(End::Wrong("a report is begun")),
+        false => Err(End::Wrong("another fault")),
+    }
+}
+
+fn is_whole(run: &Streamed, whole: &Streamed) -> bool {
+    run.to_outside.len() == whole.to_outside.len()
+        && run.to_inside.len() == whole.to_inside.len()
+        && run.report.len() == whole.report.len()
+}

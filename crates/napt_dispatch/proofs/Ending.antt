@@ -1,0 +1,96 @@
+-- What a run from arrivals to departures comes to.
+use Rattle.std.proofs.Common.{◌≡◌, ◌⊎◌, inl, inr, ℕ, ◌+◌, ◌<◌, ◌^◌, Bool, List, [], ◌∷◌, ◌++◌, length, map, Option, Some, None, MatchOption, refl, sym, ◌∙◌, ap, subst, arith, append-nil}
+use Rattle.std.proofs.lemmas.List.{length-map}
+use Rattle.napt_config.specs.Rules.{Rules}
+use Rattle.napt_rules.specs.Prelude.{opening, Arrival, run}
+use Rattle.napt_rules.specs.declared.Leg.{Leg}
+use Rattle.napt_rules.specs.declared.Answer.{Answer}
+use Rattle.napt_pool.specs.declared.pool.Pool.{Pool}
+use Rattle.napt_pool.specs.Pools.{accepts, takes as taken}
+use Rattle.napt_rules.specs.declared.Outcome.{Outcome}
+use Rattle.napt_sequential.specs.Dispatching.{IsFront}
+use Rattle.napt_dispatch.specs.declared.dispatcher.Dispatcher.{Dispatcher}
+use Rattle.napt_dispatch.specs.declared.dispatcher.Dispatched.{Dispatched}
+use Rattle.napt_dispatch.specs.declared.dispatcher.Ending.{Ending}
+use Rattle.napt_dispatch.specs.declared.dispatcher.Ending.TheVariants as endings
+use Rattle.napt_dispatch.specs.declared.dispatcher.reading.EndOfInputs.{EndOfInputs}
+use Rattle.napt_dispatch.specs.Collecting.{outcome_of}
+use Rattle.napt_dispatch.specs.Dispatch.{of_worker, IsDispatched, Right}
+use Rattle.napt_dispatch.specs.Standing.{DispatchState, parts_of, state_of, Stands}
+use Rattle.napt_dispatch.specs.Passing.{timed, Reads, ReadsAll, ReadsSome, EndsWith, EndsEarly, EndsBy}
+use Rattle.napt_dispatch.proofs.Ended.{same_lengths}
+use Rattle.napt_dispatch.proofs.Passing.{many_read}
+use Rattle.napt_dispatch.proofs.Windows.{length_all}
+use Rattle.napt_dispatch.proofs.Standing.{all_taken, dispatched, left_right}
+
+module _ {A F S B M G : Type 0} (rules : Rules) (hands : A → List Arrival → A → Type 0)
+    (ends : A → Option F → A → Type 0) (takes : S → List (ℕ × Outcome) → S → Type 0)
+    (fails : S → List (ℕ × Outcome) → B → S → Type 0) (is_settled : S → Type 0) (pool : Pool M G Leg Answer)
+    (d : Dispatcher) (from : A) (before : S) (later_pool : Pool M G Leg Answer) (later : Dispatcher) (left : A)
+    (after : S) (begun : (inputs : List Arrival) → Stands rules [] inputs (state_of pool d)) where
+  stand_now : (inputs : List Arrival) (went : List (ℕ × Outcome)) → Reads rules pool d inputs went later_pool later →
+      Stands rules inputs inputs (state_of later_pool later)
+  stand_now inputs went r = subst (λ all. Stands rules inputs all (state_of later_pool later)) (append-nil inputs)
+      (r.served [] (begun (inputs ++ [])))
+
+  pub ends_with : (end : EndOfInputs F) (done : Dispatched F B) →
+      ReadsAll rules hands ends takes fails is_settled pool d from before later_pool later left after end →
+      done.legs.items ≡ later.offered.items → done.clock ≡ end.clock →
+      EndsWith rules hands ends takes fails is_settled from before later_pool left after end.fault done
+  ends_with end done r legs clock =
+      let inputs : List Arrival = r.to_end.inputs in
+      let reads : Reads rules pool d inputs r.to_end.went later_pool later = r.to_end.reads in
+      let now : DispatchState = state_of later_pool later in
+      let stands : Stands rules inputs inputs now = stand_now inputs r.to_end.went reads in
+      record {
+        inputs = inputs;
+        went = r.to_end.went;
+        came = r.to_end.came;
+        clock = clock ∙ r.to_end.clock;
+        took = r.to_end.took;
+        settled = r.settled;
+        few =
+            let one : length inputs ≡ length (parts_of later).progress = many_read later inputs reads.times_are in
+            let two = length_all later.progress in
+            let none : length later.progress.under_way ≡ 0 = ap length r.none_under_way in
+            omega (arith, one, two, none, r.few);
+        offered_many = stands.offered_many;
+        answered = same_lengths _ _ (stands.taken_many ∙ sym stands.offered_many)
+            (λ v lt. all_taken rules inputs inputs now stands r.done v (rw stands.offered_many at lt));
+        right = λ right.
+            let both = dispatched rules inputs now later.progress stands r.done refl reads.times_are
+            r.none_under_way right in
+            (
+              sym reads.left_is ∙ both.0,
+              subst (λ legs. IsDispatched rules inputs (accepts later_pool) (map outcome_of r.to_end.went) legs)
+                  (sym legs)
+                  (subst (λ (l : List (ℕ × Outcome)). IsDispatched rules inputs (accepts later_pool) (map outcome_of l)
+                  later.offered.items) reads.left_is both.1),
+            );
+      }
+
+  pub ends_early : (fault : B) →
+      ReadsSome rules hands ends takes fails is_settled pool d from before later_pool later left after fault →
+      EndsEarly rules hands ends takes fails is_settled from before later_pool left after fault
+  ends_early fault r =
+      let stands : Stands rules r.inputs r.inputs (state_of later_pool later) = stand_now r.inputs r.went r.reads in
+      record {
+        inputs = r.inputs;
+        went = r.went;
+        come = r.come;
+        failed = r.failed;
+        offered_many = stands.offered_many;
+        right = λ right. subst (λ (l : List (ℕ × Outcome)). IsFront l (timed r.inputs (run rules r.inputs
+            (opening rules)).outcomes)) r.reads.left_is
+            (left_right rules r.inputs (state_of later_pool later) later.progress stands refl r.reads.times_are right);
+      }
+
+pub ends_by : {A F S B M G : Type 0} (rules : Rules) (hands : A → List Arrival → A → Type 0)
+    (ends : A → Option F → A → Type 0) (takes : S → List (ℕ × Outcome) → S → Type 0)
+    (fails : S → List (ℕ × Outcome) → B → S → Type 0) (is_settled : S → Type 0) (from : A) (before : S)
+    (pool : Pool M G Leg Answer) (left : A) (after : S) (done : Dispatched F B) (fault : Option F) (ending : Ending F B) →
+    MatchOption fault (ending ≡ endings.Whole) (λ f. ending ≡ endings.Arrival f) →
+    EndsWith rules hands ends takes fails is_settled from before pool left after fault done →
+    EndsBy rules hands ends takes fails is_settled from before pool left after done ending
+ends_by rules hands ends takes fails is_settled from before pool left after done None ending is e = rw is e
+ends_by rules hands ends takes fails is_settled from before pool left after done (Some f) ending is e = rw is e

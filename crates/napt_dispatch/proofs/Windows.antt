@@ -1,0 +1,316 @@
+-- What is known of the inputs that were read.
+use Rattle.std.proofs.Common.{◌≡◌, ◌≢◌, ◌⊎◌, inl, inr, ℕ, zero, suc, ◌+◌, ◌<◌, ◌≤◌, Bool, true, false, List, [], ◌∷◌, ◌++◌, length, map, set, get_or, Option, Some, None, refl, sym, ◌∙◌, ap, subst, arith, append-nil, append_assoc, length-append}
+use Rattle.std.specs.Prelude.{slice_get, slice_set}
+use Rattle.std.proofs.lemmas.List.{map-set, map-append, get_or-map, length-map}
+use Rattle.std.proofs.lemmas.Simd.{map-map}
+use Rattle.napt_pool.proofs.Lists.{map-kept}
+use Rattle.napt_pool.specs.Pools.{zip_with}
+use Rattle.napt_rules.specs.declared.Outcome.{Outcome}
+use Rattle.napt_rules.specs.Prelude.{Arrival, Course}
+use Rattle.napt_sequential.specs.Dispatching.{IsFront}
+use Rattle.napt_dispatch.specs.declared.dispatcher.progress.Progress.{Progress}
+use Rattle.napt_dispatch.specs.declared.dispatcher.progress.Progress.TheVariants.{Awaited, Onward, EndedOut, EndedIn}
+use Rattle.napt_dispatch.specs.declared.dispatcher.open_input.OpenInput.{OpenInput}
+use Rattle.napt_dispatch.specs.declared.dispatcher.second.Second.{Second}
+use Rattle.napt_dispatch.specs.declared.dispatcher.second.Second.TheVariants as seconds
+use Rattle.napt_dispatch.specs.Collecting.{outcome_of}
+use Rattle.napt_dispatch.specs.Standing.{IsSecond, IsSecondOf}
+use Rattle.napt_dispatch.specs.Passing.{timed}
+use Rattle.napt_dispatch.specs.Windows.{Window, time_in, ended_in, known_in, progress_in, times_in, has_ended, outcome_in, is_unknown, expecting, IsWritten, Leaves, IsKnown, AllKnown, IsHandedOver}
+
+-- LISTS
+
+set_behind : {X : Type 0} (xs ys : List X) (n i : ℕ) (v : X) → n ≡ length xs + i → set (xs ++ ys) n v
+    ≡ xs ++ set ys i v
+set_behind [] ys n i v e = let same : n ≡ i = omega arith in ap (λ (m : ℕ). set ys m v) same
+set_behind (x ∷ xs) ys zero i v e = absurd (omega arith)
+set_behind (x ∷ xs) ys (suc n) i v e = ap (λ (l : List _). x ∷ l) (set_behind xs ys n i v (omega arith))
+
+get_behind : {X : Type 0} (xs ys : List X) (n i : ℕ) → n ≡ length xs + i → slice_get (xs ++ ys) n ≡ slice_get ys i
+get_behind [] ys n i e = let same : n ≡ i = omega arith in ap (slice_get ys) same
+get_behind (x ∷ xs) ys zero i e = absurd (omega arith)
+get_behind (x ∷ xs) ys (suc n) i e = get_behind xs ys n i (omega arith)
+
+get_at : {X : Type 0} (xs : List X) (i : ℕ) (x : X) → i < length xs → x ≡ get_or xs i x → slice_get xs i ≡ Some x
+get_at [] i x lt is = absurd (omega arith)
+get_at (y ∷ xs) zero x lt is = ap Some (sym is)
+get_at (y ∷ xs) (suc i) x lt is = get_at xs i x (omega arith) is
+
+-- WHAT IS KNOWN
+
+get_set : (xs : List Progress) (n i : ℕ) (v x : Progress) → slice_get (set xs n v) i ≡ Some x →
+    ((i ≡ n) × (v ≡ x)) ⊎ (slice_get xs i ≡ Some x)
+get_set [] n i v x h = inr h
+get_set (o ∷ os) zero zero v x h = inl (refl, (cc))
+get_set (o ∷ os) zero (suc i) v x h = inr h
+get_set (o ∷ os) (suc n) zero v x h = inr h
+get_set (o ∷ os) (suc n) (suc i) v x h = elim (get_set os n i v x h) [ inl e ↦ inl (ap suc e.0, e.1) | inr e ↦ inr e ]
+
+pub known_set : (course : Course) (progress : List Progress) (n : ℕ) (p : Progress) → IsKnown course n p →
+    AllKnown course progress → AllKnown course (slice_set progress n p)
+known_set course progress n p here known = λ i q h. elim (get_set progress n i p q h) [
+  | inl e ↦ subst (IsKnown course i) e.1 (subst (λ (k : ℕ). IsKnown course k p) (sym e.0) here)
+  | inr e ↦ known i q e
+]
+
+get_push : (xs : List Progress) (x : Progress) (i : ℕ) (y : Progress) → slice_get (xs ++ x ∷ []) i ≡ Some y →
+    (slice_get xs i ≡ Some y) ⊎ (x ≡ y)
+get_push [] x zero y h = inr (cc)
+get_push [] x (suc i) y h = cc
+get_push (z ∷ xs) x zero y h = inl h
+get_push (z ∷ xs) x (suc i) y h = get_push xs x i y h
+
+-- nothing is known of one more
+pub known_push : (course : Course) (progress : List Progress) → AllKnown course progress →
+    AllKnown course (progress ++ Awaited ∷ [])
+known_push course progress known = λ i p h. elim (get_push progress Awaited i p h) [
+  | inl e ↦ known i p e
+  | inr e ↦ subst (IsKnown course i) e tt
+]
+
+known_outcome : (course : Course) (i : ℕ) (p : Progress) (o : Outcome) → outcome_in p ≡ Some o → IsKnown course i p →
+    slice_get course.outcomes i ≡ Some o
+known_outcome course i Awaited o is known = cc
+known_outcome course i (Onward now packet) o is known = cc
+known_outcome course i (EndedOut outcome) o is known = known.0 ∙ is
+known_outcome course i (EndedIn outcome) o is known = known ∙ is
+
+-- A WINDOW
+
+abbrev window_of : List (ℕ × Outcome) → List OpenInput → Window
+window_of left items = record { left = left; under_way = map (λ o. (o.time, o.progress)) items }
+
+known_of_items : (items : List OpenInput) → map known_in (map (λ o. (o.time, o.progress)) items)
+    ≡ map (λ o. o.progress) items
+known_of_items items = map-map known_in (λ (o : OpenInput). let p : ℕ × Progress = (o.time, o.progress) in p) items
+
+times_of_items : (items : List OpenInput) → map time_in (map (λ o. (o.time, o.progress)) items)
+    ≡ map (λ o. o.time) items
+times_of_items items = map-map time_in (λ (o : OpenInput). let p : ℕ × Progress = (o.time, o.progress) in p) items
+
+module _ (left : List (ℕ × Outcome)) (items : List OpenInput) (window : Window) (is : window_of left items ≡ window)
+    (number place : ℕ) (n : number ≡ length window.left + place) (within : place < length window.under_way)
+    (o : OpenInput) (at : o ≡ get_or items place o) where
+  lt : place < length items
+  lt =
+      let one : length window.under_way ≡ length items =
+      ap (λ (w : Window). length w.under_way) (sym is)
+      ∙ length-map items (λ (o : OpenInput). let p : ℕ × Progress = (o.time, o.progress) in p) in
+      omega (arith, within, one)
+
+  place_is : number ≡ length (map ended_in left) + place
+  place_is =
+      let long : length (map ended_in left) ≡ length left = length-map left ended_in in
+      let same : length window.left ≡ length left = ap (λ (w : Window). length w.left) (sym is) in
+      omega (arith, n, long, same)
+
+  -- what is known of an open input
+  pub open_get : slice_get (progress_in window) number ≡ Some o.progress
+  open_get =
+      let long : length (map (λ (o : OpenInput). o.progress) items) ≡ length items =
+      length-map items (λ (o : OpenInput). o.progress) in
+      let here : slice_get (map (λ (o : OpenInput). o.progress) items) place ≡ Some o.progress =
+      get_at (map (λ (o : OpenInput). o.progress) items) place o.progress (omega (arith, lt, long))
+      (ap (λ (o : OpenInput). o.progress) at
+      ∙ sym (get_or-map (λ (o : OpenInput). o.progress) items place o o.progress lt)) in
+      ap (λ (w : Window). slice_get (progress_in w) number) (sym is)
+      ∙ (get_behind (map ended_in left) (map known_in (map (λ o. (o.time, o.progress)) items)) number place place_is
+      ∙ (ap (λ ps. slice_get ps place) (known_of_items items) ∙ here))
+
+  -- something is written down of it
+  pub open_written : (later : OpenInput) (p : Progress) → later.time ≡ o.time → later.progress ≡ p →
+      IsWritten number p window (window_of left (set items place later))
+  open_written later p time same =
+      let times : map (λ (o : OpenInput). o.time) (set items place later) ≡ map (λ (o : OpenInput). o.time) items =
+      map-kept (λ (o : OpenInput). o.time) items place later o at time in
+      let progress : map (λ (o : OpenInput). o.progress) (set items place later)
+      ≡ set (map (λ (o : OpenInput). o.progress) items) place p =
+      map-set (λ (o : OpenInput). o.progress) items place later
+      ∙ ap (set (map (λ (o : OpenInput). o.progress) items) place) same in
+      record {
+        left_stays = ap (λ (w : Window). w.left) is;
+        times_stay = ap (λ ts. map time_in left ++ ts)
+            (times_of_items (set items place later) ∙ (times ∙ sym (times_of_items items)))
+            ∙ ap times_in is;
+        progress_is = ap (λ ps. map ended_in left ++ ps) (known_of_items (set items place later) ∙ (progress
+            ∙ ap (λ ps. set ps place p) (sym (known_of_items items))))
+            ∙ (sym (set_behind (map ended_in left) (map known_in (map (λ o. (o.time, o.progress)) items)) number place
+            p place_is) ∙ ap (λ (w : Window). set (progress_in w) number p) is);
+      }
+
+  -- nothing that contracts see is changed of it
+  pub open_kept : (later : OpenInput) → later.time ≡ o.time → later.progress ≡ o.progress →
+      window_of left (set items place later) ≡ window
+  open_kept later time progress =
+      ap (λ xs. let w : Window = record { left = left; under_way = xs } in w)
+      (map-kept (λ (o : OpenInput). let p : ℕ × Progress = (o.time, o.progress) in p) items place later o at
+      (rw (time, progress) refl)) ∙ is
+
+  -- its second leg
+  pub open_second : (later : OpenInput) (second : Second) → IsSecondOf number o later second →
+      IsSecond number window (window_of left (set items place later)) second
+  open_second later seconds.Unknown s = (open_kept later s.0 s.1, ap is_unknown open_get ∙ s.2)
+  open_second later seconds.Never s = (open_kept later s.0 s.1, s.2, open_get ∙ ap Some s.3)
+  open_second later (seconds.Known leg) s = (open_written later Awaited s.0 s.1, open_get ∙ ap Some s.2, s.3)
+
+-- nothing of the second leg of one whose outcome left
+pub left_unknown : (left : List (ℕ × Outcome)) (ps : List Progress) (number : ℕ) → number < length left →
+    is_unknown (slice_get (map ended_in left ++ ps) number) ≡ true
+left_unknown [] ps number lt = absurd (omega arith)
+left_unknown (x ∷ left) ps zero lt = refl
+left_unknown (x ∷ left) ps (suc number) lt = left_unknown left ps number (omega arith)
+
+past_unknown : (ps : List Progress) (number : ℕ) → length ps ≤ number → is_unknown (slice_get ps number) ≡ true
+past_unknown [] number le = refl
+past_unknown (p ∷ ps) zero le = absurd (omega arith)
+past_unknown (p ∷ ps) (suc number) le = past_unknown ps number (omega arith)
+
+length_of : {X : Type 0} {m n : ℕ} (xs ys : List X) → length xs ≡ m → length ys ≡ n → length (xs ++ ys) ≡ m + n
+length_of xs ys one two = omega (arith, one, two, length-append xs ys)
+
+pub length_all : (window : Window) → length (progress_in window) ≡ length window.left + length window.under_way
+length_all window = length_of (map ended_in window.left) (map known_in window.under_way) (length-map window.left ended_in)
+    (length-map window.under_way known_in)
+
+pub times_long : (window : Window) → length (times_in window) ≡ length (progress_in window)
+times_long window =
+    length_of (map time_in window.left) (map time_in window.under_way) (length-map window.left time_in)
+    (length-map window.under_way time_in) ∙ sym (length_all window)
+
+-- nor of one that was not read
+pub unread_unknown : (left : List (ℕ × Outcome)) (items : List OpenInput) (number : ℕ) →
+    length left + length items ≤ number → is_unknown (slice_get (progress_in (window_of left items)) number) ≡ true
+unread_unknown left items number le =
+    let long : length (map (λ (o : OpenInput). let p : ℕ × Progress = (o.time, o.progress) in p) items)
+    ≡ length items = length-map items (λ (o : OpenInput). let p : ℕ × Progress = (o.time, o.progress) in p) in
+    past_unknown (progress_in (window_of left items)) number (omega (arith, le, long,
+    length_all (window_of left items)))
+
+-- STEPS
+
+pub expecting_times : (time : ℕ) (window : Window) → times_in (expecting time window) ≡ times_in window ++ time ∷ []
+expecting_times time window =
+    rw (map-append time_in window.under_way ((time, Awaited) ∷ []))
+    (sym (append_assoc (map time_in window.left) (map time_in window.under_way) (time ∷ [])))
+
+pub expecting_progress : (time : ℕ) (window : Window) → progress_in (expecting time window)
+    ≡ progress_in window ++ Awaited ∷ []
+expecting_progress time window =
+    rw (map-append known_in window.under_way ((time, Awaited) ∷ []))
+    (sym (append_assoc (map ended_in window.left) (map known_in window.under_way) (Awaited ∷ [])))
+
+-- one outcome left
+pub leaves_over : (pair : ℕ × Outcome) (window later : Window) → Leaves pair window later →
+    IsHandedOver (pair ∷ []) window later
+leaves_over pair window later l =
+    let lefts : List Progress = map ended_in window.left in
+    let rest : List Progress = map known_in later.under_way in
+    let was : progress_in window ≡ lefts ++ l.progress ∷ rest = ap (λ xs. lefts ++ map known_in xs) l.first in
+    let now : progress_in later ≡ lefts ++ ended_in pair ∷ rest =
+    ap (λ xs. map ended_in xs ++ rest) l.left_is
+    ∙ (ap (λ xs. xs ++ rest) (map-append ended_in window.left (pair ∷ []))
+    ∙ append_assoc lefts (ended_in pair ∷ []) rest) in
+    let place : length window.left ≡ length lefts + 0 = omega (arith, length-map window.left ended_in) in
+    let set_is : progress_in later ≡ slice_set (progress_in window) (length window.left) (ended_in pair) =
+    now ∙ (sym (set_behind lefts (l.progress ∷ rest) (length window.left) 0 (ended_in pair) place)
+    ∙ ap (λ ps. set ps (length window.left) (ended_in pair)) (sym was)) in
+    let there : slice_get (progress_in window) (length window.left) ≡ Some l.progress =
+    ap (λ ps. slice_get ps (length window.left)) was
+    ∙ get_behind lefts (l.progress ∷ rest) (length window.left) 0 place in
+    record {
+      left_is = l.left_is;
+      times_stay = ap (λ xs. map time_in xs ++ map time_in later.under_way) l.left_is
+          ∙ (ap (λ xs. xs ++ map time_in later.under_way) (map-append time_in window.left (pair ∷ []))
+          ∙ (append_assoc (map time_in window.left) (pair.0 ∷ []) (map time_in later.under_way)
+          ∙ sym (ap (λ xs. map time_in window.left ++ map time_in xs) l.first)));
+      known = λ course known.
+          rw set_is (known_set course (progress_in window) (length window.left) (ended_in pair)
+          (known_outcome course (length window.left) l.progress pair.1 l.ended (known (length window.left) l.progress
+          there)) known);
+    }
+
+pub over_none : (window : Window) → IsHandedOver [] window window
+over_none window = record {
+  left_is = sym (append-nil window.left);
+  times_stay = refl;
+  known = λ course known. known;
+}
+
+pub over_more : (xs ys : List (ℕ × Outcome)) (window middle later : Window) → IsHandedOver xs window middle →
+    IsHandedOver ys middle later → IsHandedOver (xs ++ ys) window later
+over_more xs ys window middle later a b = record {
+  left_is = b.left_is ∙ (ap (λ l. l ++ ys) a.left_is ∙ append_assoc window.left xs ys);
+  times_stay = b.times_stay ∙ a.times_stay;
+  known = λ course known. b.known course (a.known course known);
+}
+
+-- THE END
+
+get_left : (left : List (ℕ × Outcome)) (ps : List Progress) (i : ℕ) (pair : ℕ × Outcome) → slice_get left i ≡ Some pair →
+    slice_get (map ended_in left ++ ps) i ≡ Some (ended_in pair)
+get_left [] ps i pair h = cc
+get_left (x ∷ left) ps zero pair h = cc
+get_left (x ∷ left) ps (suc i) pair h = get_left left ps i pair h
+
+front_by : (left : List (ℕ × Outcome)) (more : List ℕ) (inputs : List Arrival) (outs : List Outcome) →
+    length outs ≡ length inputs → map time_in left ++ more ≡ map (λ i. i.time) inputs →
+    ((i : ℕ) (pair : ℕ × Outcome) → slice_get left i ≡ Some pair → slice_get outs i ≡ Some pair.1) →
+    IsFront left (timed inputs outs)
+front_by [] more inputs outs long times h = (timed inputs outs, refl)
+front_by (x ∷ left) more [] outs long times h = cc
+front_by (x ∷ left) more (i ∷ inputs) [] long times h = absurd (omega arith)
+front_by (x ∷ left) more (i ∷ inputs) (o ∷ outs) long times h =
+    let here : Some o ≡ Some x.1 = h zero x refl in
+    let rest : IsFront left (timed inputs outs) =
+    front_by left more inputs outs (omega arith) (cc (times)) (λ k pair g. h (suc k) pair g) in
+    let time : x.0 ≡ i.time = cc (times) in
+    let outcome : x.1 ≡ o = cc (here) in
+    (rest.0, ap (λ l. x ∷ l) rest.1 ∙ ap (λ (y : ℕ × Outcome). y ∷ timed inputs outs) (rw (time, outcome) refl))
+
+pub left_front : (course : Course) (window : Window) (inputs : List Arrival) →
+    times_in window ≡ map (λ i. i.time) inputs → AllKnown course (progress_in window) →
+    length course.outcomes ≡ length inputs → IsFront window.left (timed inputs course.outcomes)
+left_front course window inputs times known long =
+    front_by window.left (map time_in window.under_way) inputs course.outcomes long times
+    (λ i pair g. known i (ended_in pair) (get_left window.left (map known_in window.under_way) i pair g))
+
+no_more : {X : Type 0} (xs ys zs : List X) → xs ++ ys ≡ zs → length xs ≡ length zs → xs ≡ zs
+no_more [] [] zs e long = e
+no_more [] (y ∷ ys) zs e long = absurd (let h : suc (length ys) ≡ length zs = ap length e in omega arith)
+no_more (x ∷ xs) ys [] e long = absurd (omega arith)
+no_more (x ∷ xs) ys (z ∷ zs) e long = let rest : xs ≡ zs = no_more xs ys zs (cc (e)) (omega arith) in
+    let first : x ≡ z = cc (e) in
+    rw (first, rest) refl
+
+length_timed : (inputs : List Arrival) (outs : List Outcome) → length outs ≡ length inputs →
+    length (timed inputs outs) ≡ length inputs
+length_timed [] outs e = refl
+length_timed (i ∷ inputs) [] e = absurd (omega arith)
+length_timed (i ∷ inputs) (o ∷ outs) e = ap suc (length_timed inputs outs (omega arith))
+
+pub left_whole : (course : Course) (window : Window) (inputs : List Arrival) →
+    times_in window ≡ map (λ i. i.time) inputs → AllKnown course (progress_in window) →
+    length course.outcomes ≡ length inputs → window.under_way ≡ [] → window.left ≡ timed inputs course.outcomes
+left_whole course window inputs times known long none =
+    let front : IsFront window.left (timed inputs course.outcomes) = left_front course window inputs times known long in
+    let all : map time_in window.left ≡ map (λ (i : Arrival). i.time) inputs =
+    sym (append-nil (map time_in window.left)) ∙ (ap (λ xs. map time_in window.left ++ map time_in xs) (sym none)
+    ∙ times) in
+    let one : length (map time_in window.left) ≡ length window.left = length-map window.left time_in in
+    let two : length (map (λ (i : Arrival). i.time) inputs) ≡ length inputs = length-map inputs (λ (i : Arrival). i.time) in
+    let same : length (map time_in window.left) ≡ length (map (λ (i : Arrival). i.time) inputs) = ap length all in
+    no_more window.left front.0 (timed inputs course.outcomes) front.1
+    (omega (arith, one, two, same, length_timed inputs course.outcomes long))
+
+pub timed_outcomes : (inputs : List Arrival) (outs : List Outcome) → length outs ≡ length inputs →
+    map outcome_of (timed inputs outs) ≡ outs
+timed_outcomes [] [] e = refl
+timed_outcomes [] (o ∷ outs) e = absurd (omega arith)
+timed_outcomes (i ∷ inputs) [] e = absurd (omega arith)
+timed_outcomes (i ∷ inputs) (o ∷ outs) e = ap (λ l. o ∷ l) (timed_outcomes inputs outs (omega arith))
+
+pub timed_times : (inputs : List Arrival) (outs : List Outcome) → length outs ≡ length inputs →
+    map time_in (timed inputs outs) ≡ map (λ i. i.time) inputs
+timed_times [] outs e = refl
+timed_times (i ∷ inputs) [] e = absurd (omega arith)
+timed_times (i ∷ inputs) (o ∷ outs) e = ap (λ l. i.time ∷ l) (timed_times inputs outs (omega arith))

@@ -1,0 +1,24 @@
+use Rattle.std.proofs.Common.{refl}
+use Rattle.napt_dispatch.specs.declared.dispatcher.Dispatcher.{Dispatcher}
+use Rattle.napt_dispatch.proofs.Passing.{goes_over}
+use Rattle.napt_dispatch.proofs.dispatcher.Dispatcher.hand_over.Goals as goal
+
+pub returns-in-Ok : goal.returns-in-Ok
+returns-in-Ok g c =
+    let later : Dispatcher = record c.args.self.now { progress = c.hand_over.new.self } in
+    record {
+      went = c.in-Ok.ensures.went;
+      goes = goes_over c.args.pool.now c.args.self.now later c.in-Ok.ensures.went c.requires.sized refl refl refl
+          c.in-Ok.ensures.handed;
+      took = c.in-Ok.ensures.took;
+    }
+
+pub returns-in-Err : goal.returns-in-Err
+returns-in-Err g c =
+    let later : Dispatcher = record c.args.self.now { progress = c.hand_over.new.self } in
+    record {
+      went = c.in-Err.ensures.went;
+      goes = goes_over c.args.pool.now c.args.self.now later c.in-Err.ensures.went c.requires.sized refl refl refl
+          c.in-Err.ensures.handed;
+      failed = c.in-Err.ensures.failed;
+    }

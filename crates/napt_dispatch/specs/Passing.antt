@@ -1,0 +1,244 @@
+-- A run from arrivals to departures.
+use Rattle.std.specs.Prelude.{◌≡◌, ◌⊎◌, ⊤, ℕ, ◌^◌, ◌<◌, max, Bool, List, [], ◌∷◌, ◌++◌, map, length, Option, Some, None, Result, Ok, Err, MatchResult}
+use Rattle.napt_config.specs.Rules.{Rules}
+use Rattle.napt_rules.specs.Prelude.{opening, Arrival, run, last_clock, ran}
+use Rattle.napt_rules.specs.declared.Row.{Row}
+use Rattle.napt_rules.specs.declared.Leg.{Leg}
+use Rattle.napt_rules.specs.declared.Answer.{Answer}
+use Rattle.napt_pool.specs.declared.pool.Pool.{Pool}
+use Rattle.napt_pool.specs.Pools.{starts, accepts, zip_with, takes as taken}
+use Rattle.napt_sequential.specs.declared.fault.RunFault.{RunFault}
+use Rattle.napt_rules.specs.declared.Outcome.{Outcome}
+use Rattle.napt_sequential.specs.Inputs.{Came}
+use Rattle.napt_sequential.specs.Dispatching.{IsFront}
+use Rattle.napt_dispatch.specs.declared.dispatcher.Dispatcher.{Dispatcher}
+use Rattle.napt_dispatch.specs.declared.dispatcher.halted.Halted.{Halted}
+use Rattle.napt_dispatch.specs.declared.dispatcher.halted.Halted.TheVariants as halts
+use Rattle.napt_dispatch.specs.declared.dispatcher.Dispatched.{Dispatched}
+use Rattle.napt_dispatch.specs.declared.dispatcher.Ending.{Ending}
+use Rattle.napt_dispatch.specs.declared.dispatcher.Ending.TheVariants as endings
+use Rattle.napt_dispatch.specs.declared.dispatcher.reading.EndOfInputs.{EndOfInputs}
+use Rattle.napt_dispatch.specs.declared.stopped.Stopped.{Stopped}
+use Rattle.napt_dispatch.specs.declared.stopped.Stopped.TheVariants as stops
+use Rattle.napt_dispatch.specs.declared.workers.Passed.{Passed}
+use Rattle.napt_dispatch.specs.declared.workers.TimedRun.{TimedRun}
+use Rattle.napt_dispatch.specs.Collecting.{outcome_of}
+use Rattle.napt_dispatch.specs.Dispatch.{IsDispatchFault, IsFaultUnder, IsDispatched, Right}
+use Rattle.napt_dispatch.specs.Windows.{Window, IsHandedOver}
+use Rattle.napt_dispatch.specs.Standing.{parts_of, state_of, IsSizedFor, Stands, Keeps, IsDone}
+
+-- OUTCOMES THAT LEAVE
+
+-- the outcomes of inputs, with their arrival times
+abbrev pub timed : List Arrival → List Outcome → List (ℕ × Outcome)
+timed inputs outcomes = zip_with (λ input outcome. (input.time, outcome)) inputs outcomes
+
+-- the first of these were taken, and while the others were the fault was told
+pub record Fails {S F : Type 0} (takes : S → List (ℕ × Outcome) → S → Type 0)
+    (fails : S → List (ℕ × Outcome) → F → S → Type 0) (before : S) (went : List (ℕ × Outcome)) (fault : F) (after : S)
+    : Type 0 where
+  pub first : List (ℕ × Outcome)
+  pub others : List (ℕ × Outcome)
+  pub middle : S
+  pub went_is : went ≡ first ++ others
+  pub took : takes before first middle
+  pub failed : fails middle others fault after
+
+-- what left a window was taken
+pub record HandsOver {S : Type 0} (takes : S → List (ℕ × Outcome) → S → Type 0) (before : S) (window : Window)
+    (after : S) (later : Window) : Type 0 where
+  pub went : List (ℕ × Outcome)
+  pub handed : IsHandedOver went window later
+  pub took : takes before went after
+
+-- or a fault was told of it
+pub record FailsOver {S F : Type 0} (takes : S → List (ℕ × Outcome) → S → Type 0)
+    (fails : S → List (ℕ × Outcome) → F → S → Type 0) (before : S) (window : Window) (after : S) (later : Window)
+    (fault : F) : Type 0 where
+  pub went : List (ℕ × Outcome)
+  pub handed : IsHandedOver went window later
+  pub failed : Fails takes fails before went fault after
+
+-- OVER A POOL
+
+-- the pool has the same workers, what stood of it and of its dispatcher still stands, and these outcomes left
+pub record GoesOn {M G : Type 0} (pool : Pool M G Leg Answer) (d : Dispatcher) (went : List (ℕ × Outcome))
+    (later_pool : Pool M G Leg Answer) (later : Dispatcher) : Type 0 where
+  pub starts_stay : starts later_pool ≡ starts pool
+  pub sized : IsSizedFor later_pool later
+  pub times_stay : (parts_of later).journal.times ≡ (parts_of d).journal.times
+  pub left_is : (parts_of later).journal.left ≡ (parts_of d).journal.left ++ went
+  pub keeps : Keeps (state_of pool d) (state_of later_pool later)
+
+-- these were taken
+pub record LetsGo {M G S : Type 0} (takes : S → List (ℕ × Outcome) → S → Type 0) (pool : Pool M G Leg Answer)
+    (d : Dispatcher) (before : S) (later_pool : Pool M G Leg Answer) (later : Dispatcher) (after : S) : Type 0 where
+  pub went : List (ℕ × Outcome)
+  pub goes : GoesOn pool d went later_pool later
+  pub took : takes before went after
+
+-- or a fault was told
+pub record StopsAt {M G S F : Type 0} (takes : S → List (ℕ × Outcome) → S → Type 0)
+    (fails : S → List (ℕ × Outcome) → F → S → Type 0) (pool : Pool M G Leg Answer) (d : Dispatcher) (before : S)
+    (later_pool : Pool M G Leg Answer) (later : Dispatcher) (after : S) (fault : F) : Type 0 where
+  pub went : List (ℕ × Outcome)
+  pub goes : GoesOn pool d went later_pool later
+  pub failed : Fails takes fails before went fault after
+
+-- with a fault of the run the workers are the same, and it is one of dispatching
+abbrev pub HaltsAt : {M G S F : Type 0} → Bool → (S → List (ℕ × Outcome) → S → Type 0) →
+    (S → List (ℕ × Outcome) → F → S → Type 0) → Pool M G Leg Answer → Dispatcher → S → Pool M G Leg Answer →
+    Dispatcher → S → Halted F → Type 0
+HaltsAt open_gate takes fails pool d before later_pool later after (halts.Departure fault) =
+    StopsAt takes fails pool d before later_pool later after fault
+HaltsAt open_gate takes fails pool d before later_pool later after (halts.Run fault) =
+    (starts later_pool ≡ starts pool) × IsDispatchFault open_gate fault
+
+abbrev pub LetsGoUnlessFault : {M G S F X : Type 0} → Bool → (S → List (ℕ × Outcome) → S → Type 0) →
+    (S → List (ℕ × Outcome) → F → S → Type 0) → Pool M G Leg Answer → Dispatcher → S → Pool M G Leg Answer →
+    Dispatcher → S → Result X (Halted F) → Type 0
+LetsGoUnlessFault open_gate takes fails pool d before later_pool later after result =
+    MatchResult result (λ done. LetsGo takes pool d before later_pool later after)
+    (HaltsAt open_gate takes fails pool d before later_pool later after)
+
+-- READING
+
+-- one input more was read, at a time
+pub record Serves {M G : Type 0} (rules : Rules) (now : ℕ) (input : Arrival) (pool : Pool M G Leg Answer)
+    (d : Dispatcher) (later_pool : Pool M G Leg Answer) (later : Dispatcher) : Type 0 where
+  pub starts_stay : starts later_pool ≡ starts pool
+  pub sized : IsSizedFor later_pool later
+  pub times_are : (parts_of later).journal.times ≡ (parts_of d).journal.times ++ input.time ∷ []
+  pub left_stays : (parts_of later).journal.left ≡ (parts_of d).journal.left
+  pub served : (done rest : List Arrival) → length done ≡ length (parts_of d).progress →
+      max (last_clock 0 done) input.clock ≡ now →
+      Stands rules done ((done ++ input ∷ []) ++ rest) (state_of pool d) →
+      Stands rules (done ++ input ∷ []) ((done ++ input ∷ []) ++ rest) (state_of later_pool later)
+
+-- these inputs were read, from the first on, and these outcomes left
+pub record Reads {M G : Type 0} (rules : Rules) (pool : Pool M G Leg Answer) (d : Dispatcher) (inputs : List Arrival)
+    (went : List (ℕ × Outcome)) (later_pool : Pool M G Leg Answer) (later : Dispatcher) : Type 0 where
+  pub starts_stay : starts later_pool ≡ starts pool
+  pub sized : IsSizedFor later_pool later
+  pub times_are : (parts_of later).journal.times ≡ map (λ i. i.time) inputs
+  pub left_is : (parts_of later).journal.left ≡ went
+  pub served : (rest : List Arrival) → Stands rules [] (inputs ++ rest) (state_of pool d) →
+      Stands rules inputs (inputs ++ rest) (state_of later_pool later)
+
+-- these inputs came, and perhaps the end or a fault was told
+abbrev pub HasCome : {A F : Type 0} → (A → List Arrival → A → Type 0) → (A → Option F → A → Type 0) → A → List Arrival →
+    A → Type 0
+HasCome {A} {F} hands ends before inputs after =
+    hands before inputs after ⊎ ((end : Option F) × Came hands ends before inputs end after)
+
+module _ {A F S B : Type 0} (rules : Rules) (hands : A → List Arrival → A → Type 0) (ends : A → Option F → A → Type 0)
+    (takes : S → List (ℕ × Outcome) → S → Type 0) (fails : S → List (ℕ × Outcome) → B → S → Type 0)
+    (is_settled : S → Type 0) where
+  module _ {M G : Type 0} (pool : Pool M G Leg Answer) (d : Dispatcher) (from : A) (before : S)
+      (later_pool : Pool M G Leg Answer) (later : Dispatcher) (left : A) (after : S) where
+    -- all inputs were read
+    pub record ReadsToEnd (end : EndOfInputs F) : Type 0 where
+      pub inputs : List Arrival
+      pub went : List (ℕ × Outcome)
+      pub came : Came hands ends from inputs end.fault left
+      pub clock : end.clock ≡ last_clock 0 inputs
+      pub reads : Reads rules pool d inputs went later_pool later
+      pub took : takes before went after
+
+    -- they were read, and all outcomes left
+    pub record ReadsAll (end : EndOfInputs F) : Type 0 where
+      pub to_end : ReadsToEnd end
+      pub done : IsDone (parts_of later)
+      pub none_under_way : later.progress.under_way ≡ []
+      pub few : length later.progress.left < 2 ^ 64
+      pub settled : is_settled after
+
+    -- some were read, and the departures told a fault
+    pub record ReadsSome (fault : B) : Type 0 where
+      pub inputs : List Arrival
+      pub went : List (ℕ × Outcome)
+      pub come : HasCome hands ends from inputs left
+      pub reads : Reads rules pool d inputs went later_pool later
+      pub failed : Fails takes fails before went fault after
+
+    abbrev pub ReadsHalted : Bool → Halted B → Type 0
+    ReadsHalted open_gate (halts.Departure fault) = ReadsSome fault
+    ReadsHalted open_gate (halts.Run fault) = (starts later_pool ≡ starts pool) × IsDispatchFault open_gate fault
+
+  -- WHAT DISPATCHING COMES TO
+
+  module _ {M G : Type 0} (from : A) (before : S) (pool : Pool M G Leg Answer) (left : A) (after : S) where
+    -- the end of the arrivals was told, or their fault, and the outcomes of all inputs left
+    pub record EndsWith (end : Option F) (done : Dispatched F B) : Type 0 where
+      pub inputs : List Arrival
+      pub went : List (ℕ × Outcome)
+      pub came : Came hands ends from inputs end left
+      pub clock : done.clock ≡ last_clock 0 inputs
+      pub took : takes before went after
+      pub settled : is_settled after
+      pub few : length inputs < 2 ^ 64
+      pub offered_many : length (accepts pool) ≡ length rules.pool
+      pub answered : map length (taken pool) ≡ map length (accepts pool)
+      pub right : Right rules (accepts pool) (taken pool) →
+          (went ≡ timed inputs (run rules inputs (opening rules)).outcomes)
+          × IsDispatched rules inputs (accepts pool) (map outcome_of went) done.legs.items
+
+    -- the departures told a fault
+    pub record EndsEarly (fault : B) : Type 0 where
+      pub inputs : List Arrival
+      pub went : List (ℕ × Outcome)
+      pub come : HasCome hands ends from inputs left
+      pub failed : Fails takes fails before went fault after
+      pub offered_many : length (accepts pool) ≡ length rules.pool
+      pub right : Right rules (accepts pool) (taken pool) →
+          IsFront went (timed inputs (run rules inputs (opening rules)).outcomes)
+
+    abbrev pub EndsBy : Dispatched F B → Ending F B → Type 0
+    EndsBy done endings.Whole = EndsWith None done
+    EndsBy done (endings.Arrival fault) = EndsWith (Some fault) done
+    EndsBy done (endings.Departure fault) = EndsEarly fault
+
+  -- WHAT A RUN COMES TO
+
+  module _ (from : A) (before : S) (left : A) (after : S) where
+    -- all inputs came, and then the end was told or a fault; their outcomes are those of the sequential run, and all
+    -- of them left
+    pub record PassesTo (end : Option F) : Type 0 where
+      pub inputs : List Arrival
+      pub came : Came hands ends from inputs end left
+      pub took : takes before (timed inputs (ran rules inputs).outcomes) after
+      pub settled : is_settled after
+      pub few : length inputs < 2 ^ 64
+
+    pub record PassesWell (passed : Passed) : Type 0 where
+      pub whole : PassesTo None
+      pub bindings : passed.bindings.items ≡ (ran rules whole.inputs).bindings
+      pub legs : passed.legs.items ≡ (ran rules whole.inputs).legs
+
+    -- some of them left, in the order of the inputs, and then the departures told a fault
+    pub record PassesEarly (fault : B) : Type 0 where
+      pub inputs : List Arrival
+      pub went : List (ℕ × Outcome)
+      pub come : HasCome hands ends from inputs left
+      pub front : IsFront went (timed inputs (ran rules inputs).outcomes)
+      pub failed : Fails takes fails before went fault after
+
+    abbrev pub Passes : Result Passed (Stopped F B) → Type 0
+    Passes (Ok passed) = PassesWell passed
+    Passes (Err (stops.Arrival fault)) = PassesTo (Some fault)
+    Passes (Err (stops.Departure fault)) = PassesEarly fault
+    Passes (Err (stops.Run fault)) = ⊤
+
+-- a fault of a run that has begun, under a gate that promises yes or one that does not
+abbrev pub IsStoppedUnder : {F B : Type 0} → Bool → Stopped F B → Type 0
+IsStoppedUnder open_gate (stops.Run fault) = IsFaultUnder open_gate fault
+IsStoppedUnder open_gate (stops.Arrival fault) = ⊤
+IsStoppedUnder open_gate (stops.Departure fault) = ⊤
+
+-- all inputs came, and the run over them is the sequential one
+pub record RunsAll {A F : Type 0} (rules : Rules) (hands : A → List Arrival → A → Type 0) (ends : A → Option F → A → Type 0)
+    (from : A) (done : TimedRun) (left : A) : Type 0 where
+  pub inputs : List Arrival
+  pub came : Came hands ends from inputs None left
+  pub run_is : done.run ≡ ran rules inputs
+  pub times : done.times.items ≡ map (λ i. i.time) inputs

@@ -1,0 +1,54 @@
+//! The outcomes of a run, kept in memory.
+
+ghost use Rattle.std.specs.Prelude.{◌≡◌, [], IfOk};
+
+use crate::departures::Departures;
+use napt_sequential::Outcome;
+use std::alloc::{AllocError, Global};
+
+/// The outcomes of a run, one for each input, and when these arrived, in ns.
+#[derive(Drop)]
+pub(crate) struct Collected {
+    pub(crate) outcomes: Vec<Outcome>,
+    pub(crate) times: Vec<u64>,
+}
+
+impl Collected {
+    /// Before the first, with room for so many.
+    pub(crate) fn with_capacity(alloc: Global, inputs: usize) -> Result<Collected, AllocError>
+        ensures outcomes { IfOk result (λ none. none.outcomes.items ≡ []) }
+        ensures times { IfOk result (λ none. none.times.items ≡ []) }
+    {
+        Ok(Collected {
+            outcomes: Vec::with_capacity(alloc, inputs)?,
+            times: Vec::with_capacity(alloc, inputs)?,
+        })
+    }
+}
+
+impl Departures for Collected {
+    ghost use Rattle.std.specs.Prelude.{⊤};
+    ghost use Rattle.napt_dispatch.specs.Collecting.{Collects, collects_none, collects_more};
+
+    type Fault = AllocError;
+
+    ghost takes = { Collects };
+
+    ghost fails = { λ before pairs fault after. ⊤ };
+
+    ghost is_settled = { λ collected. ⊤ };
+
+    ghost takes_none = { collects_none };
+
+    ghost takes_more = { λ x y z xs ys first second. collects_more x y z xs ys first second };
+
+    fn leave(&mut self, time: u64, outcome: Outcome) -> Result<(), AllocError> {
+        self.times.push(time)?;
+        self.outcomes.push(outcome)?;
+        Ok(())
+    }
+
+    fn settle(&mut self) -> Result<(), AllocError> {
+        Ok(())
+    }
+}

@@ -1,0 +1,12 @@
+use Rattle.std.proofs.Common.{◌∙◌, ap}
+use Rattle.clap.specs.Words.{Rule, app_of, with_rule}
+use Rattle.napt_options.proofs.OptionLemmas.{option_added}
+use Rattle.napt_options.proofs.options.command_of.Goals as goal
+
+pub loop-name-preserved : goal.loop-name-preserved
+loop-name-preserved c =
+    option_added (λ option. option.0.now) _ c.loop-name.name-index _ (app_of c.loop-name.command)
+    (app_of c.in_ok-command.command)
+    c.loop-name-test.true c.loop-name.invariant
+    (c.in_ok-command.ensures.shape c.file_arg.ensures.local
+    ∙ ap (λ (r : Rule). with_rule (app_of c.loop-name.command) r) c.file_arg.ensures.rule)

@@ -1,0 +1,28 @@
+use Rattle.std.proofs.Common.{rules, ◌∙◌, ap}
+use Rattle.clap.specs.Words.{app_of}
+use Rattle.napt_options.specs.CommandLine.{files}
+use Rattle.napt_options.proofs.LineLemmas.{files_read, help_line, mistaken_line, taken_line}
+use Rattle.napt_options.proofs.options.parse_words_of.Goals as goal
+
+pub returns-in-Ok-clause-ok : goal.returns-in-Ok-clause-ok
+returns-in-Ok-clause-ok c =
+    let read = files_read c.in-Ok.matches _ _ _ _ _ _ c.in_ok-value_of-in-Ok.ensures c.in_ok-value_of-in-Ok-2.ensures
+    c.in_ok-value_of-in-Ok-3.ensures c.in_ok-value_of-in-Ok-4.ensures c.in_ok-value_of-in-Ok-5.ensures
+    c.in_ok-value_of-in-Ok-6.ensures in
+    rw (← c.as_slice.ensures.value)
+    (taken_line (app_of c.in_ok-command.command) _ c.in-Ok.matches c.in_ok-command.ensures c.in-Ok.ensures.matches
+    c.in-Ok.ensures.kinds
+    ∙ ap files read)
+
+pub returns-clause-help : goal.returns-clause-help
+returns-clause-help c asked =
+    rw (← c.as_slice.ensures.value)
+    (help_line (app_of c.in_ok-command.command) _ c.in-Err.error c.in_ok-command.ensures c.in-Err.ensures.kinds
+    (c.in_ok-fault_of-in-Err.ensures.help asked))
+
+pub returns-clause-usage : goal.returns-clause-usage
+returns-clause-usage c is_usage =
+    let causes = c.in_ok-fault_of-in-Err.ensures.usage (search rules) in
+    rw (← c.as_slice.ensures.value)
+    (mistaken_line (app_of c.in_ok-command.command) _ c.in-Err.error c.in_ok-command.ensures c.in-Err.ensures.kinds
+    causes.0 causes.1)

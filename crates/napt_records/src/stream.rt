@@ -1,0 +1,141 @@
+//! A capture that is read as it comes.
+ghost use Rattle.std.specs.Prelude.{◌≡◌, ◌^◌, ◌-◌, ◌<◌, None};
+
+use napt_capture::{CaptureFault, Next, Record, Records, Source};
+use std::alloc::Global;
+use std::collections::VecDeque;
+
+/// What a capture is read from, until reading it failed.
+#[derive(Drop)]
+struct Live<'a, R: Source> {
+    source: &'a mut R,
+    /// Why reading ended, if it did.
+    fault: Option<CaptureFault>,
+    ghost can_fail: { fault ≡ None → R.failed source.now < 2 ^ 64 - 1 },
+}
+
+/// A capture that is read record after record.
+#[derive(Drop)]
+pub struct Stream<'a, R: Source> {
+    live: Live<'a, R>,
+    records: Records,
+    /// Whether it ends inside a record, once its end was told.
+    cut: Option<bool>,
+}
+
+impl<'a, R: Source> Live<'a, R> {
+    ghost use Rattle.std.specs.Prelude.{◌≡◌, ◌+◌, ◌^◌, ◌-◌, ◌<◌, None, IfOk, IfErr, Err, OnErr, OnOk};
+    ghost use Rattle.napt_capture.specs.Capture.{failed_reads};
+    ghost use Rattle.napt_capture.specs.Reading.{IsWritableNext, StopsBy};
+    ghost use Rattle.napt_capture.specs.Records.{Tells, TellsEnd, counted, left_of};
+
+    /// Reads the next record. After a fault nothing is read, and the fault is told again.
+    fn next(&mut self, records: &mut Records, vector: Vec<u8>) -> Result<Next, CaptureFault>
+        ensures name { self.new.source.ghost_name ≡ self.old.source.ghost_name }
+        ensures next { self.old.fault ≡ None → IfOk result (Tells records.old
+            (left_of records.old (R.remaining self.old.source.now))
+            (left_of records.new (R.remaining self.new.source.now))) }
+        ensures number { self.old.fault ≡ None →
+            IfOk result (λ next. records.new.number ≡ counted next records.old.number) }
+        ensures fault { self.old.fault ≡ None → IfErr result (λ fault. StopsBy fault
+            (TellsEnd records.old (Err fault) (left_of records.old (R.remaining self.old.source.now)))) }
+        ensures spelling { records.new.spelling ≡ records.old.spelling }
+        ensures live { OnOk result (self.new.fault ≡ self.old.fault) }
+        ensures writable { IfOk result IsWritableNext }
+        ensures count { self.old.fault ≡ None →
+            R.failed self.new.source.now ≡ R.failed self.old.source.now + failed_reads result }
+    {
+        if let Some(fault) = self.fault {
+            return Err(fault);
+        }
+        match records.next(self.source, vector) {
+            Ok(next) => Ok(next),
+            Err(fault) => {
+                self.fault = Some(fault);
+                Err(fault)
+            }
+        }
+    }
+}
+
+impl<'a, R: Source> Stream<'a, R> {
+    ghost use Rattle.std.specs.Prelude.{◌≡◌, ◌+◌, ◌^◌, ◌-◌, ◌<◌, None, All, IfErr, OnOk, IsSome, []};
+    ghost use Rattle.napt_capture.specs.Capture.{failed_reads};
+    ghost use Rattle.napt_capture.specs.Reading.{StopsBy};
+    ghost use Rattle.napt_capture.specs.Text.{IsWritable};
+    ghost use Rattle.napt_records.specs.Streams.{IsAtFault, IsLooked, Rest};
+    ghost use Rattle.napt_records.specs.Rests.{StreamHas};
+
+    /// Of a source whose header was read.
+    pub fn new(source: &'a mut R, records: Records) -> Stream<'a, R>
+        requires { R.failed source.old < 2 ^ 64 - 1 }
+        ensures name { result.live.source.ghost_name ≡ source.entry.ghost_name }
+        ensures value { result.live.source.now ≡ source.old }
+        ensures live { result.live.fault ≡ None }
+        ensures records { result.records ≡ records }
+        ensures cut { result.cut ≡ None }
+    {
+        Stream {
+            live: Live {
+                source,
+                fault: None,
+            },
+            records,
+            cut: None,
+        }
+    }
+
+    /// Reads the next record into the list, where it is empty and the end was not told.
+    pub fn look(&mut self, alloc: Global, firsts: &mut VecDeque<Record>) -> Result<(), CaptureFault>
+        ensures name { self.new.live.source.ghost_name ≡ self.old.live.source.ghost_name }
+        ensures live { OnOk result (self.new.live.fault ≡ self.old.live.fault) }
+        ensures rest { self.old.live.fault ≡ None → OnOk result ((rest : Rest) →
+            StreamHas R.remaining self.old firsts.old.items rest →
+            StreamHas R.remaining self.new firsts.new.items rest
+            × IsLooked firsts.new.items rest) }
+        ensures fault { self.old.live.fault ≡ None → IfErr result (λ fault. StopsBy fault
+            ((rest : Rest) → StreamHas R.remaining self.old firsts.old.items rest →
+            IsAtFault rest fault)) }
+        ensures told { OnOk result (firsts.new.items ≡ [] → IsSome self.new.cut) }
+        ensures writable { OnOk result (All IsWritable firsts.old.items →
+            All IsWritable firsts.new.items) }
+        ensures count { self.old.live.fault ≡ None →
+            R.failed self.new.live.source.now
+            ≡ R.failed self.old.live.source.now + failed_reads result }
+    {
+        if !firsts.is_empty() || self.cut.is_some() {
+            return Ok(());
+        }
+        match self.live.next(&mut self.records, Vec::new(alloc))? {
+            Next::Whole(record) => firsts.push_back(record)?,
+            Next::End(cut) => self.cut = Some(cut),
+        }
+        Ok(())
+    }
+
+    /// Whether `look` asks the source.
+    pub fn asks_device(&self, firsts: &VecDeque<Record>) -> bool {
+        firsts.is_empty() && self.cut.is_none() && !self.records.has_whole()
+    }
+
+    /// Whether the capture ends inside a record, once its end was told.
+    pub fn cut(&self) -> Option<bool>
+        ensures { result ≡ self.now.cut }
+    {
+        self.cut
+    }
+
+    /// The source again.
+    pub fn into_source(self) -> &'a mut R
+        ensures name { result.ghost_name ≡ self.entry.live.source.ghost_name }
+        ensures value { result.now ≡ self.entry.live.source.now }
+    {
+        let Stream {
+            live,
+            records: _,
+            cut: _,
+        } = self;
+        let Live { source, fault: _ } = live;
+        source
+    }
+}

@@ -1,0 +1,79 @@
+-- What leaves while a run lasts, and what that does to the outputs.
+use Rattle.std.specs.Prelude.{◌≡◌, ℕ, ◌+◌, ◌-◌, ◌^◌, ◌<◌, List, [], ◌++◌, length, map, filter_map, flat_map, All, false, Option, Some, None, IfSome, Result, Ok, Err}
+use Rattle.napt_wire.specs.declared.Side.{Side}
+use Rattle.napt_wire.specs.declared.Side.TheVariants as sides
+use Rattle.napt_capture.specs.Text.{record_text}
+use Rattle.napt_capture.specs.declared.fault.WriteFault.{WriteFault}
+use Rattle.napt_rules.specs.declared.Outcome.{Outcome}
+use Rattle.napt_records.specs.Output.{packet_to, record_at}
+use Rattle.napt_records.specs.Counts.{AreCountsOf}
+use Rattle.napt_records.specs.Output.{IsTime}
+use Rattle.napt_stream.specs.Outputs.{Grows, Breaks}
+use Rattle.napt_stream.specs.declared.output.Output.{Output}
+use Rattle.napt_stream.specs.declared.leaving.Leaving.{Leaving}
+use Rattle.napt_records.specs.declared.Fault.{Fault}
+use Rattle.napt_records.specs.declared.Fault.TheVariants.{Write}
+use Rattle.napt_records.specs.declared.Which.{Which}
+use Rattle.napt_records.specs.declared.Which.TheVariants.{Outside, Inside}
+
+-- an outcome, with the arrival time of its input
+abbrev pub Timed : Type 0
+Timed = ℕ × Outcome
+
+-- the records of those that go to a side
+abbrev pub texts : Side → List Timed → List ℕ
+texts side all = flat_map record_text (filter_map (λ timed. record_at timed.0 (packet_to side timed.1)) all)
+
+abbrev pub AreTimes : List Timed → Type 0
+AreTimes all = All (λ timed. IsTime timed.0) all
+
+-- an output that may be there
+abbrev pub GrowsIf : {V : Type 0} → (V → Option (List ℕ)) → (V → ℕ) → {g : _} → Option (Output V g) → List ℕ
+    → Option (Output V g) → Type 0
+GrowsIf contents failed None text None = Unit {0}
+GrowsIf contents failed (Some old) text (Some new) = Grows contents failed old text new
+GrowsIf contents failed other text some = ⊥
+
+abbrev pub BreaksIf : {V : Type 0} → (V → Option (List ℕ)) → (V → ℕ) → {g : _} → Option (Output V g) → List ℕ → WriteFault
+    → Option (Output V g) → Type 0
+BreaksIf contents failed (Some old) text fault (Some new) = Breaks contents failed old text fault new
+BreaksIf contents failed other text fault some = ⊥
+
+abbrev pub IsSoundIf : {V : Type 0} → {g : _} → Option (Output V g) → Type 0
+IsSoundIf output = IfSome output (λ it. it.is_broken ≡ false)
+
+module _ {W V : Type 0} (outside_contents : W → Option (List ℕ)) (outside_failed : W → ℕ)
+    (inside_contents : V → Option (List ℕ)) (inside_failed : V → ℕ) {g h : _} where
+  -- these left: each output has their records, and they are counted
+  pub record Takes (old : Leaving W V g h) (all : List Timed) (new : Leaving W V g h) : Type 0 where
+    pub to_outside : AreTimes all →
+        Grows outside_contents outside_failed old.to_outside (texts sides.Outside all) new.to_outside
+    pub to_inside : AreTimes all →
+        GrowsIf inside_contents inside_failed old.to_inside (texts sides.Inside all) new.to_inside
+    pub counts : (outcomes : List Outcome) → length (outcomes ++ map (λ timed. timed.1) all) < 2 ^ 64 →
+        AreCountsOf outcomes old.counts → AreCountsOf (outcomes ++ map (λ timed. timed.1) all) new.counts
+
+  -- an output failed while these left, and the other one has nothing more, or all of them
+  abbrev pub FailsAt : Leaving W V g h → List Timed → Fault → Leaving W V g h → Type 0
+  FailsAt old all (Write Outside fault) new =
+      Breaks outside_contents outside_failed old.to_outside (texts sides.Outside all) fault new.to_outside
+      × GrowsIf inside_contents inside_failed old.to_inside [] new.to_inside
+  FailsAt old all (Write Inside fault) new =
+      Grows outside_contents outside_failed old.to_outside (texts sides.Outside all) new.to_outside
+      × BreaksIf inside_contents inside_failed old.to_inside (texts sides.Inside all) fault new.to_inside
+  FailsAt old all other new = ⊥
+
+  abbrev pub Fails : Leaving W V g h → List Timed → Fault → Leaving W V g h → Type 0
+  Fails old all fault new = old.to_outside.is_broken ≡ false → IsSoundIf old.to_inside → AreTimes all →
+      FailsAt old all fault new
+
+-- all that left is flushed
+abbrev pub IsSettled : {W V : Type 0} → (W → Type 0) → (V → Type 0) → {g h : _} → Leaving W V g h → Type 0
+IsSettled outside_flushed inside_flushed leaving =
+    outside_flushed leaving.to_outside.device.now
+    × IfSome leaving.to_inside (λ output. inside_flushed output.device.now)
+
+-- an answer of an output, by its name
+abbrev pub named : Which → Result (Unit {0}) WriteFault → Result (Unit {0}) Fault
+named which (Ok done) = Ok done
+named which (Err fault) = Err (Write which fault)

@@ -1,0 +1,68 @@
+//! Departures that write.
+ghost use Rattle.std.specs.Prelude.{◌≡◌, ◌^◌, ◌<◌, length};
+ghost use Rattle.napt_stream.specs.Leaving.{named};
+
+use napt_dispatch::Departures;
+use crate::leaving::Leaving;
+use crate::puts::{flush_if, put_if};
+use napt_records::{Fault, Which};
+use napt_capture::{Sink, WriteFault};
+use napt_rules::Outcome;
+use napt_wire::Packet;
+
+/// What an output answers, by its name.
+fn named(which: Which, answer: Result<(), WriteFault>) -> Result<(), Fault>
+    ensures { result ≡ named which answer }
+{
+    match answer {
+        Ok(()) => Ok(()),
+        Err(fault) => Err(Fault::Write(which, fault)),
+    }
+}
+
+/// The bytes of a packet, of which there are fewer than 65,536.
+fn bytes_of(packet: &Packet) -> &[u8]
+    ensures value { result.now ≡ packet.now }
+    ensures short { length result.now < 2 ^ 16 }
+{
+    let bytes = packet.bytes();
+    bytes
+}
+
+impl<W: Sink, V: Sink> Departures for Leaving<'_, W, V> {
+    ghost use Rattle.napt_stream.specs.Leaving.{Takes, Fails, IsSettled};
+    ghost use Rattle.napt_stream.specs.LeavingLaws.{takes_none, takes_more};
+
+    type Fault = Fault;
+
+    ghost takes = { λ x all y. Takes W.contents W.failed V.contents V.failed x all y };
+
+    ghost fails = { λ x all fault y. Fails W.contents W.failed V.contents V.failed x all fault y };
+
+    ghost is_settled = { λ x. IsSettled W.is_flushed V.is_flushed x };
+
+    fn leave(&mut self, time: u64, outcome: Outcome) -> Result<(), Fault> {
+        self.counts.count(&outcome);
+        match outcome {
+            Outcome::ToOutside(packet) => {
+                named(Which::Outside, self.to_outside.put(time, bytes_of(&packet)))
+            }
+            Outcome::ToInside(packet) => {
+                named(Which::Inside, put_if(&mut self.to_inside, time, bytes_of(&packet)))
+            }
+            Outcome::Dropped(_) => Ok(()),
+        }
+    }
+
+    fn settle(&mut self) -> Result<(), Fault> {
+        match self.to_outside.flush() {
+            Ok(()) => named(Which::Inside, flush_if(&mut self.to_inside)),
+            Err(fault) => Err(Fault::Write(Which::Outside, fault)),
+        }
+    }
+
+    ghost takes_none = { λ x. takes_none W.contents W.failed V.contents V.failed x };
+
+    ghost takes_more = { λ x y z first second taken then.
+        takes_more W.contents W.failed V.contents V.failed x y z first second taken then };
+}

@@ -1,0 +1,76 @@
+//! What the program does: it reads its words and its configuration, opens the files in a fixed order, and runs over them.
+
+use crate::manual::MANUAL;
+use napt_options::{LineFault, Options, parse_words_of};
+use napt_pool::OpenGate;
+use napt_program::{
+    Devices, MEMORY, Stop, Streams, buffered, closed_stream, configuration, open_files,
+};
+use napt_stream::run_streams;
+use std::env;
+use std::env::Env;
+use std::io::ErrorKind;
+use std::rt::Files;
+use std::sync::{Arc, Wait};
+use std::thread::Threads;
+
+/// Does what the words of the command line ask for: runs over the files that they name, with a worker thread for each
+/// external address, or writes help to standard output.
+///
+/// Fails, before any capture is opened, where the words are not understood, where memory runs out for them, where a
+/// standard stream that stands for a file is closed, or where the configuration is refused; else where a file cannot
+/// be opened or created, or the run fails.
+pub fn serve<R: Env + Files + Input + Print + AllocGlobal + Threads + Wait + Copy + Send + 'static>(
+    rt: &R,
+    streams: Streams,
+) -> Result<(), Stop> {
+    match parse_words_of(rt.alloc(), MANUAL, words(rt)?) {
+        Ok(options) => run(rt, streams, &options),
+        Err(LineFault::Help(text)) => rt.print(text).map_err(|_| Stop::Help),
+        Err(LineFault::Usage) => Err(Stop::Usage),
+        Err(LineFault::Memory) => Err(Stop::LineMemory),
+    }
+}
+
+/// The words of the command line. One that is no text is not understood.
+fn words<R: Env + AllocGlobal>(rt: &R) -> Result<Vec<String>, Stop> {
+    match env::args(rt) {
+        Ok(args) => args.collect(rt.alloc()).map_err(|_| Stop::LineMemory),
+        Err(error) if error.kind() == ErrorKind::OutOfMemory => Err(Stop::LineMemory),
+        Err(_) => Err(Stop::Usage),
+    }
+}
+
+/// Runs over the files of the options, and the standard streams that stand for absent ones. Refuses such a stream, by
+/// its role, where it is closed; then come the configuration, the files, and buffers over them.
+fn run<R: Files + Input + Print + AllocGlobal + Threads + Wait + Copy + Send + 'static>(
+    rt: &R,
+    streams: Streams,
+    options: &Options,
+) -> Result<(), Stop> {
+    if let Some(role) = closed_stream(streams, options) {
+        return Err(Stop::File(role));
+    }
+    let alloc = rt.alloc();
+    let config = configuration(rt, options.config.as_ref())?;
+    let Devices {
+        mut inside,
+        mut outside,
+        mut to_outside,
+        mut to_inside,
+        mut report,
+    } = buffered(alloc, open_files(rt, options)?)?;
+    let gate = Arc::new(alloc, OpenGate).map_err(|_| MEMORY)?;
+    run_streams(
+        rt,
+        alloc,
+        &config,
+        &mut inside,
+        outside.as_mut(),
+        &mut to_outside,
+        to_inside.as_mut(),
+        report.as_mut(),
+        gate,
+    )
+    .map_err(Stop::Run)
+}
