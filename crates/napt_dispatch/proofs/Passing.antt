@@ -1,18 +1,25 @@
 -- Runs from arrivals to departures, step by step.
-use Rattle.std.proofs.Common.{◌≡◌, ◌⊎◌, inl, inr, ℕ, ◌+◌, max, Bool, List, [], ◌∷◌, ◌++◌, length, map, Option, Some, None, Result, Ok, Err, refl, sym, ◌∙◌, ap, subst, arith, append-nil, append_assoc, length-append}
+use Rattle.std.proofs.Common.{◌≡◌, ◌⊎◌, inl, inr, ℕ, ◌+◌, ◌<◌, ◌≤◌, max, Bool, List, [], ◌∷◌, ◌++◌, length, map, Option, Some, None, Result, Ok, Err, refl, sym, ◌∙◌, ap, subst, arith, append-nil, append_assoc, length-append}
 use Rattle.std.proofs.lemmas.List.{map-append, length-map}
 use Rattle.napt_config.specs.Rules.{Rules}
 use Rattle.napt_rules.specs.declared.Leg.{Leg}
 use Rattle.napt_rules.specs.declared.Answer.{Answer}
 use Rattle.napt_pool.specs.declared.pool.Pool.{Pool}
-use Rattle.napt_pool.specs.Pools.{starts}
+use Rattle.napt_pool.specs.Pools.{starts, accepts, takes as taken}
 use Rattle.napt_rules.specs.declared.Outcome.{Outcome}
 use Rattle.napt_rules.specs.Prelude.{Arrival, last_clock}
 use Rattle.napt_sequential.proofs.Grown.{clock_more}
+use Rattle.napt_sequential.specs.declared.fault.RunFault.{RunFault}
 use Rattle.napt_dispatch.specs.declared.dispatcher.Dispatcher.{Dispatcher}
-use Rattle.napt_dispatch.specs.Windows.{IsHandedOver, times_in, progress_in}
-use Rattle.napt_dispatch.specs.Standing.{parts_of, state_of, IsSizedFor, Stands, Continues, Keeps, Reaches}
-use Rattle.napt_dispatch.proofs.Windows.{times_long}
+use Rattle.napt_dispatch.specs.declared.dispatcher.offer.Offer.{Offer}
+use Rattle.napt_dispatch.specs.Dispatch.{IsDispatchFault}
+use Rattle.napt_dispatch.specs.Offers.{with_offer, with_offered}
+use Rattle.napt_dispatch.specs.Queues.{many_in}
+use Rattle.napt_dispatch.specs.Windows.{Window, IsHandedOver, times_in, progress_in, expecting}
+use Rattle.napt_dispatch.specs.Standing.{journal_of, parts_of, state_of, IsSizedFor, Stands, Continues, Keeps, Reaches, Admits, HasRoom, IsDone}
+use Rattle.napt_dispatch.proofs.Queues.{many_none}
+use Rattle.napt_dispatch.proofs.Standing.{expected_keeps}
+use Rattle.napt_dispatch.proofs.Windows.{times_long, expecting_times, expecting_progress}
 use Rattle.napt_dispatch.specs.declared.dispatcher.halted.Halted.{Halted}
 use Rattle.napt_dispatch.specs.declared.dispatcher.halted.Halted.TheVariants as halts
 use Rattle.napt_dispatch.specs.declared.dispatcher.reading.EndOfInputs.{EndOfInputs}
@@ -77,6 +84,34 @@ module _ {M G : Type 0} where
     };
   }
 
+  -- WHAT IS READ
+
+  -- a place was made for an input, its first leg was held or offered, and answers were taken
+  pub serves_as : (rules : Rules) (now number : ℕ) (input : Arrival) (found : Option Offer)
+      (pool : Pool M G Leg Answer) (d admitted : Dispatcher) (window : Window) (mid_pool : Pool M G Leg Answer)
+      (mid : Dispatcher) (later_pool : Pool M G Leg Answer) (later : Dispatcher) →
+      window ≡ expecting input.time d.progress → number ≡ length (progress_in d.progress) →
+      Admits rules number now input (parts_of (record d { progress = window })) (with_offer found (parts_of admitted)) →
+      (parts_of admitted).journal ≡ journal_of window → starts mid_pool ≡ starts pool →
+      (parts_of mid).journal ≡ (parts_of admitted).journal →
+      Keeps (with_offered found (state_of pool admitted)) (state_of mid_pool mid) →
+      Continues mid_pool mid later_pool later → Serves rules now input pool d later_pool later
+  serves_as rules now number input found pool d admitted window mid_pool mid later_pool later is at admits journal began
+      same keeps goes = record {
+    starts_stay = goes.starts_stay ∙ began;
+    sized = goes.sized;
+    times_are = ap (λ j. j.times) (goes.journal_stays ∙ (same ∙ journal))
+        ∙ (ap times_in is ∙ expecting_times input.time d.progress);
+    left_stays = ap (λ j. j.left) (goes.journal_stays ∙ (same ∙ journal)) ∙ ap (λ (w : Window). w.left) is;
+    served = λ done rest long clock s.
+        let all : List Arrival = (done ++ input ∷ []) ++ rest in
+        let expected = expected_keeps (accepts pool) (taken pool) (parts_of d)
+        (parts_of (record d { progress = window })) refl refl refl
+        (ap progress_in is ∙ expecting_progress input.time d.progress) rules done all s in
+        goes.keeps rules (done ++ input ∷ []) all (keeps rules (done ++ input ∷ []) all
+        (admits (accepts pool) (taken pool) done rest (long ∙ sym at) clock expected));
+  }
+
   -- WHAT WAS READ
 
   pub reads_none : (rules : Rules) (pool : Pool M G Leg Answer) (d : Dispatcher) → IsSizedFor pool d →
@@ -130,6 +165,13 @@ module _ {M G : Type 0} where
         (a.served (input ∷ rest) (subst (λ all. Stands rules [] all (state_of pool d)) whole s)));
   }
 
+-- where nothing is held and all outcomes left there is room
+pub room_idle : (d : Dispatcher) → IsDone (parts_of d) → d.progress.under_way ≡ [] → HasRoom d
+room_idle d done none =
+    let held : many_in (parts_of d).held ≡ 0 = many_none (parts_of d).held done.held in
+    let open : length d.progress.under_way ≡ 0 = ap length none in
+    record { held = omega arith; under_way = omega arith }
+
 -- OUTCOMES THAT LEAVE
 
 module _ {S F : Type 0} (takes : S → List (ℕ × Outcome) → S → Type 0) (fails : S → List (ℕ × Outcome) → F → S → Type 0)
@@ -170,6 +212,12 @@ module _ {S F : Type 0} (takes : S → List (ℕ × Outcome) → S → Type 0) (
     lets_halt open_gate (halts.Departure fault) a b = lets_stop fault a b
     lets_halt open_gate (halts.Run fault) a b = (b.0 ∙ a.goes.starts_stay, b.1)
 
+    -- a fault of the run
+    pub lets_fault : (open_gate : Bool) (fault : RunFault) (e : Halted F) → e ≡ halts.Run fault →
+        LetsGo takes pool d before mid_pool mid between → starts later_pool ≡ starts mid_pool →
+        IsDispatchFault open_gate fault → HaltsAt open_gate takes fails pool d before later_pool later after e
+    lets_fault open_gate fault e is a began b = rw is (began ∙ a.goes.starts_stay, b)
+
   pub lets_then : {M G : Type 0} (pool : Pool M G Leg Answer) (d : Dispatcher) (before : S)
       (mid_pool : Pool M G Leg Answer) (mid : Dispatcher) (after : S) (later_pool : Pool M G Leg Answer)
       (later : Dispatcher) → LetsGo takes pool d before mid_pool mid after →
@@ -179,6 +227,26 @@ module _ {S F : Type 0} (takes : S → List (ℕ × Outcome) → S → Type 0) (
     goes = goes_then pool d a.went mid_pool mid later_pool later a.goes b;
     took = a.took;
   }
+
+  -- what left was settled
+  module _ {M G : Type 0} (pool : Pool M G Leg Answer) (d : Dispatcher) (before : S) (later_pool : Pool M G Leg Answer)
+      (later : Dispatcher) (between after : S) (a : LetsGo takes pool d before later_pool later between) where
+    pub lets_settle : takes between [] after → LetsGo takes pool d before later_pool later after
+    lets_settle b = lets_more pool d before later_pool later between later_pool later after a (record {
+      went = [];
+      goes = goes_none later_pool later a.goes.sized;
+      took = b;
+    })
+
+    -- or a fault was told
+    pub lets_unsettled : (fault : F) → takes between [] between → fails between [] fault after →
+        StopsAt takes fails pool d before later_pool later after fault
+    lets_unsettled fault none b =
+        lets_stop pool d before later_pool later between later_pool later after fault a (record {
+      went = [];
+      goes = goes_none later_pool later a.goes.sized;
+      failed = record { first = []; others = []; middle = between; went_is = refl; took = none; failed = b };
+    })
 
   -- WHAT WAS READ
 
