@@ -9,14 +9,16 @@ use Rattle.napt_rules.specs.Prelude.{opening, Arrival, run, Ran, ran}
 use Rattle.napt_pool.specs.declared.pool.Pool.{Pool}
 use Rattle.napt_pool.specs.Pools.{accepts, takes as taken}
 use Rattle.napt_sequential.specs.Dispatching.{IsFront}
+use Rattle.napt_sequential.proofs.Inputs.{came_whole}
 use Rattle.napt_sequential.proofs.Shown.{ran_long}
 use Rattle.napt_dispatch.specs.declared.collected.Collected.{Collected}
 use Rattle.napt_dispatch.specs.declared.dispatcher.Dispatched.{Dispatched}
 use Rattle.napt_dispatch.specs.declared.workers.Passed.{Passed}
+use Rattle.napt_dispatch.specs.declared.workers.TimedRun.{TimedRun}
 use Rattle.napt_dispatch.specs.Collecting.{outcome_of, Collects}
 use Rattle.napt_dispatch.specs.Dispatch.{IsDispatched, Right}
 use Rattle.napt_dispatch.specs.Windows.{time_in}
-use Rattle.napt_dispatch.specs.Passing.{timed, EndsWith, EndsEarly, PassesTo, PassesWell, PassesEarly}
+use Rattle.napt_dispatch.specs.Passing.{timed, EndsWith, EndsEarly, PassesTo, PassesWell, PassesEarly, RunsAll}
 use Rattle.napt_dispatch.proofs.Windows.{timed_outcomes, timed_times}
 
 -- the outcomes of a run are those of its course
@@ -83,3 +85,16 @@ module _ (rules : Rules) (inputs : List Arrival) (none some : Collected)
   collected_times empty = took.times
       ∙ (ap (λ l. l ++ map time_in (timed inputs (ran rules inputs).outcomes)) empty
       ∙ timed_times inputs (ran rules inputs).outcomes (ran_long rules inputs))
+
+-- WHERE THE INPUTS COME OFF A LIST
+
+-- the run is that over the whole list
+pub runs_whole : {A F : Type 0} (rules : Rules) (list : A → List Arrival) (from : A) (done : TimedRun) (left : A) →
+    RunsAll rules {F = F} (λ x xs y. list x ≡ xs ++ list y) (λ x end y. list x ≡ []) from done left →
+    (done.run ≡ ran rules (list from)) × (done.times.items ≡ map (λ i. i.time) (list from))
+runs_whole rules list from done left r =
+    let whole : list from ≡ r.inputs = came_whole list from left r.inputs None r.came in
+    (
+      subst (λ (inputs : List Arrival). done.run ≡ ran rules inputs) (sym whole) r.run_is,
+      subst (λ (inputs : List Arrival). done.times.items ≡ map (λ i. i.time) inputs) (sym whole) r.times,
+    )
