@@ -7,12 +7,10 @@ use Rattle.napt_rules.specs.declared.Answer.{Answer}
 use Rattle.napt_pool.specs.declared.pool.Pool.{Pool}
 use Rattle.napt_pool.specs.Pools.{starts, accepts, takes as taken}
 use Rattle.napt_rules.specs.declared.Outcome.{Outcome}
-use Rattle.napt_rules.specs.Prelude.{Arrival, last_clock}
+use Rattle.napt_rules.specs.Prelude.{opening, Arrival, run, last_clock}
 use Rattle.napt_sequential.proofs.Grown.{clock_more}
-use Rattle.napt_sequential.specs.declared.fault.RunFault.{RunFault}
 use Rattle.napt_dispatch.specs.declared.dispatcher.Dispatcher.{Dispatcher}
 use Rattle.napt_dispatch.specs.declared.dispatcher.offer.Offer.{Offer}
-use Rattle.napt_dispatch.specs.Dispatch.{IsDispatchFault}
 use Rattle.napt_dispatch.specs.Offers.{with_offer, with_offered}
 use Rattle.napt_dispatch.specs.Queues.{many_in}
 use Rattle.napt_dispatch.specs.Windows.{Window, IsHandedOver, times_in, progress_in, expecting}
@@ -24,6 +22,14 @@ use Rattle.napt_dispatch.specs.declared.dispatcher.halted.Halted.{Halted}
 use Rattle.napt_dispatch.specs.declared.dispatcher.halted.Halted.TheVariants as halts
 use Rattle.napt_dispatch.specs.declared.dispatcher.reading.EndOfInputs.{EndOfInputs}
 use Rattle.napt_dispatch.specs.Passing.{Fails, GoesOn, LetsGo, StopsAt, HaltsAt, Serves, Reads, HasCome, ReadsToEnd, ReadsSome, ReadsHalted}
+
+pub many_read : (d : Dispatcher) (inputs : List Arrival) → (parts_of d).journal.times ≡ map (λ i. i.time) inputs →
+    length inputs ≡ length (parts_of d).progress
+many_read d inputs times =
+    let one : length (map (λ (i : Arrival). i.time) inputs) ≡ length inputs =
+    length-map inputs (λ (i : Arrival). i.time) in
+    let two : length (times_in d.progress) ≡ length (progress_in d.progress) = times_long d.progress in
+    sym one ∙ (sym (ap length times) ∙ two)
 
 module _ {M G : Type 0} where
   -- nothing was done
@@ -80,7 +86,7 @@ module _ {M G : Type 0} where
       owes = λ v lt. rw owed (s.owes v lt);
       reaches = λ right.
           let r : Reaches rules done all (state_of pool d) = s.reaches right in
-          record { reached = λ v lt. rw held (r.reached v lt); known = over.known _ r.known };
+          record { reached = λ v lt. rw held (r.reached v lt); known = over.known (run rules all (opening rules)) r.known };
     };
   }
 
@@ -116,10 +122,10 @@ module _ {M G : Type 0} where
 
   pub reads_none : (rules : Rules) (pool : Pool M G Leg Answer) (d : Dispatcher) → IsSizedFor pool d →
       d.progress.left ≡ [] → d.progress.under_way ≡ [] → Reads rules pool d [] [] pool d
-  reads_none rules pool d sized left open = record {
+  reads_none rules pool d sized left none = record {
     starts_stay = refl;
     sized = sized;
-    times_are = rw (left, open) refl;
+    times_are = rw (left, none) refl;
     left_is = left;
     served = λ rest s. s;
   }
@@ -136,14 +142,6 @@ module _ {M G : Type 0} where
     left_is = b.left_is ∙ ap (λ l. l ++ ys) a.left_is;
     served = λ rest s. b.keeps rules inputs (inputs ++ rest) (a.served rest s);
   }
-
-  pub many_read : (d : Dispatcher) (inputs : List Arrival) → (parts_of d).journal.times ≡ map (λ i. i.time) inputs →
-      length inputs ≡ length (parts_of d).progress
-  many_read d inputs times =
-      let one : length (map (λ (i : Arrival). i.time) inputs) ≡ length inputs =
-      length-map inputs (λ (i : Arrival). i.time) in
-      let two : length (times_in d.progress) ≡ length (progress_in d.progress) = times_long d.progress in
-      sym one ∙ (sym (ap length times) ∙ two)
 
   -- one input more
   pub reads_more : (rules : Rules) (pool : Pool M G Leg Answer) (d : Dispatcher) (inputs : List Arrival)
@@ -169,7 +167,7 @@ module _ {M G : Type 0} where
 pub room_idle : (d : Dispatcher) → IsDone (parts_of d) → d.progress.under_way ≡ [] → HasRoom d
 room_idle d done none =
     let held : many_in (parts_of d).held ≡ 0 = many_none (parts_of d).held done.held in
-    let open : length d.progress.under_way ≡ 0 = ap length none in
+    let under_way : length d.progress.under_way ≡ 0 = ap length none in
     record { held = omega arith; under_way = omega arith }
 
 -- OUTCOMES THAT LEAVE
@@ -212,12 +210,6 @@ module _ {S F : Type 0} (takes : S → List (ℕ × Outcome) → S → Type 0) (
     lets_halt open_gate (halts.Departure fault) a b = lets_stop fault a b
     lets_halt open_gate (halts.Run fault) a b = (b.0 ∙ a.goes.starts_stay, b.1)
 
-    -- a fault of the run
-    pub lets_fault : (open_gate : Bool) (fault : RunFault) (e : Halted F) → e ≡ halts.Run fault →
-        LetsGo takes pool d before mid_pool mid between → starts later_pool ≡ starts mid_pool →
-        IsDispatchFault open_gate fault → HaltsAt open_gate takes fails pool d before later_pool later after e
-    lets_fault open_gate fault e is a began b = rw is (began ∙ a.goes.starts_stay, b)
-
   pub lets_then : {M G : Type 0} (pool : Pool M G Leg Answer) (d : Dispatcher) (before : S)
       (mid_pool : Pool M G Leg Answer) (mid : Dispatcher) (after : S) (later_pool : Pool M G Leg Answer)
       (later : Dispatcher) → LetsGo takes pool d before mid_pool mid after →
@@ -227,6 +219,16 @@ module _ {S F : Type 0} (takes : S → List (ℕ × Outcome) → S → Type 0) (
     goes = goes_then pool d a.went mid_pool mid later_pool later a.goes b;
     took = a.took;
   }
+
+  -- outcomes left, and then answers were taken and legs offered
+  pub lets_turn : {M G : Type 0} (pool : Pool M G Leg Answer) (d : Dispatcher) (before : S)
+      (mid_pool : Pool M G Leg Answer) (mid : Dispatcher) (between : S) (handed : Dispatcher) (after : S)
+      (later_pool : Pool M G Leg Answer) (later : Dispatcher) → LetsGo takes pool d before mid_pool mid between →
+      LetsGo takes mid_pool mid between mid_pool handed after → Continues mid_pool handed later_pool later →
+      LetsGo takes pool d before later_pool later after
+  lets_turn pool d before mid_pool mid between handed after later_pool later a b c =
+      lets_then pool d before mid_pool handed after later_pool later
+      (lets_more pool d before mid_pool mid between mid_pool handed after a b) c
 
   -- what left was settled
   module _ {M G : Type 0} (pool : Pool M G Leg Answer) (d : Dispatcher) (before : S) (later_pool : Pool M G Leg Answer)
