@@ -5,6 +5,7 @@ pub mod Hairpin
 pub mod Lists
 pub mod Offering
 pub mod Offers
+pub mod RunsThrough
 pub mod Passing
 pub mod Queues
 pub mod Standing
