@@ -69,7 +69,9 @@ def main():
     for flow in range(words.flows):
         host = HOSTS + flow % words.hosts
         flows.append((host, FIRST_PORT + flow // words.addresses, POOL[host % words.addresses]))
-    records = {"inside": [HEADER], "outside": [HEADER]}
+    files = {side: open(f"{words.folder}/{side}.pcap", "wb") for side in ("inside", "outside")}
+    for file in files.values():
+        file.write(HEADER)
     for k in range(words.packets):
         host, port, external = flows[k] if k < len(flows) else draw.choice(flows)
         kind = 1.0 if k < len(flows) else draw.random()
@@ -82,10 +84,9 @@ def main():
             side, packet = "inside", datagram(host, port, REMOTE, 53, payload, payload_sum)
         time = 1_000_000_000 + 1000 * k
         header = struct.pack("<IIII", time // 1_000_000_000, time % 1_000_000_000, len(packet), len(packet))
-        records[side].append(header + packet)
-    for side, texts in records.items():
-        with open(f"{words.folder}/{side}.pcap", "wb") as out:
-            out.write(b"".join(texts))
+        files[side].write(header + packet)
+    for file in files.values():
+        file.close()
     with open(f"{words.folder}/napt.toml", "w") as out:
         addresses = ", ".join(f'"203.0.113.{place + 1}"' for place in range(words.addresses))
         out.write(f'pool = [{addresses}]\ninside = ["10.0.0.0/8"]\nring = {words.ring}\n')

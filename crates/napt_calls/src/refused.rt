@@ -2,9 +2,10 @@
 //! each time with another growth of memory refused.
 //!
 //! `pool` starts a pool of three workers, fills it and closes it; `run` runs over captures on two workers, `workers` so over their
-//! inputs, and `plain` on one thread; `streams` while the captures come, and `devices` so with each call of a device refused in turn; `dispatch` dispatches these inputs to a pool that is started before, and `merge` merges them;
-//! `capture` and `configuration` read one; `bindings`, `flows` and `ends` send packets through a table: of new bindings, of new flows
-//! of bindings that are there, and of bindings that have ended.
+//! inputs, and `plain` on one thread; `streams` runs while the captures come, and `devices` does so with each call of a device
+//! refused in turn; `dispatch` dispatches these inputs to a pool that is started before, and `merge` merges them; `capture` and
+//! `configuration` read one; `bindings`, `flows` and `ends` send packets through a table: of new bindings, of new flows of bindings
+//! that are there, and of bindings that have ended.
 //!
 //! One line on standard output tells the end. Statuses: 0 done, 1 something is left, changed or wrong, 2 usage, 3 memory was
 //! refused before the call, 4 after it, 5 memory or a thread was refused to the call, 6 the line is not written.

@@ -1,19 +1,23 @@
 //! The program `stream`: what `napt` does, while the packets come and in bounded memory.
 #![tactic(auto)]
 
+mod counted;
 mod manual;
 mod program;
+mod progress;
 
 ghost use Rattle.std.specs.Prelude.{◌≡◌};
 ghost use Rattle.std.specs.Process.{exit_status};
 ghost use Rattle.napt_program.specs.Stop.{status_at_end};
 
 use napt_program::{Stop, Streams, status_at_end};
+use std::io::IsTerminal;
 use std::process::ExitCode;
 
 fn main(rt: HostRuntime) -> ExitCode {
     let streams = Streams::open_now(&rt);
-    let answer = program::serve(&rt, streams);
+    let is_told = streams.error && rt.stderr().is_terminal();
+    let answer = program::serve(&rt, streams, is_told);
     ended(&rt, streams, &answer)
 }
 

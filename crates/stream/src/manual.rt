@@ -25,6 +25,8 @@ Where it ends well, each output holds the bytes that napt writes. What differs:
   written. Outputs begin with their header whatever comes; the report is written
   at the end alone.
   Captures may have any number of bytes and packets.
+  Where standard error is a terminal, a run of more than two seconds tells there
+  how many packets were read, and how many a second.
 
 Exit status, and the line on standard error that says why: as of napt, with
 stream: in place of napt: at its beginning. too-large and too-many never come.
@@ -36,4 +38,4 @@ stream: in place of napt: at its beginning. too-large and too-many never come.
   6  stream: file OPTION
      stream: write OPTION
 
-stream 1.0, its sources proved with rattle-kit-13f logic dac8208d650f15bf";
+stream 1.0, its sources proved with Rattle's logic dac8208d650f15bf";

@@ -1,0 +1,103 @@
+//! How far a run is, for whoever waits at a terminal.
+
+use std::cell::Cell;
+use std::time::{Clock, Instant};
+
+/// A run of fewer milliseconds tells nothing.
+const FIRST_AFTER: u64 = 2_000;
+
+/// After so many milliseconds the line is told anew.
+const EACH: u64 = 1_000;
+
+/// How many packets were read up to a time.
+#[derive(Clone, Copy)]
+struct Mark {
+    millis: u64,
+    packets: u64,
+}
+
+impl Mark {
+    /// Before the first packet.
+    const BEGIN: Mark = Mark {
+        millis: 0,
+        packets: 0,
+    };
+
+    /// How many packets a second were read since an earlier one.
+    fn rate_since(self, earlier: Mark) -> u64 {
+        let packets = self.packets.saturating_sub(earlier.packets);
+        let millis = self.millis.saturating_sub(earlier.millis);
+        packets.saturating_mul(1_000) / millis.max(1)
+    }
+}
+
+/// How far a run is, in one line on standard error that stands in place of the one before.
+#[derive(Drop)]
+pub struct Progress<'r, R> {
+    rt: &'r R,
+    /// When the run began; none where nobody is told.
+    began: Option<Instant>,
+    packets: Cell<u64>,
+    /// What the line says; the beginning where none was told.
+    told: Cell<Mark>,
+}
+
+impl<'r, R: Eprint + Clock> Progress<'r, R> {
+    /// Of a run that begins now, for somebody who waits or for nobody.
+    pub fn of(rt: &'r R, is_told: bool) -> Progress<'r, R> {
+        let began = if is_told { Instant::now(rt).ok() } else { None };
+        Progress {
+            rt,
+            began,
+            packets: Cell::new(0),
+            told: Cell::new(Mark::BEGIN),
+        }
+    }
+
+    /// Whether somebody waits.
+    pub fn is_told(&self) -> bool {
+        self.began.is_some()
+    }
+
+    /// Counts packets that were read.
+    pub fn count(&self, more: u64) {
+        self.packets.set(self.packets.get().saturating_add(more));
+    }
+
+    /// Says how many packets were read, and how many a second since the line before, where it is time for that.
+    pub fn tell(&self) {
+        let Some(now) = self.mark() else {
+            return;
+        };
+        let told = self.told.get();
+        if now.millis < FIRST_AFTER || now.millis.saturating_sub(told.millis) < EACH {
+            return;
+        }
+        let Mark { packets, .. } = now;
+        let rate = now.rate_since(told);
+        let _ = eprint!(self.rt; "\rstream: {packets} packets, {rate} a second    ");
+        self.told.set(now);
+    }
+
+    /// Says how many packets were read in the whole run, and ends the line, where there is one.
+    pub fn tell_end(&self) {
+        if self.told.get().millis == 0 {
+            return;
+        }
+        let Some(now) = self.mark() else {
+            return;
+        };
+        let Mark { packets, millis } = now;
+        let (seconds, rate) = (millis / 1_000, now.rate_since(Mark::BEGIN));
+        let _ = eprintln!(self.rt; "\rstream: {packets} packets in {seconds} s, {rate} a second    ");
+    }
+
+    /// How far the run is now; none where nobody is told, or the clock does not tell.
+    fn mark(&self) -> Option<Mark> {
+        let elapsed = self.began?.elapsed(self.rt).ok()?;
+        Some(Mark {
+            millis: u64::try_from(elapsed.as_millis()).ok()?,
+            packets: self.packets.get(),
+        })
+    }
+}
