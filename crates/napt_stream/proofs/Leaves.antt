@@ -14,7 +14,7 @@ use Rattle.napt_stream.specs.LeavingLaws.{grows_none, grows_if_none}
 use Rattle.napt_stream.specs.declared.output.Output.{Output}
 use Rattle.napt_stream.specs.declared.leaving.Leaving.{Leaving}
 use Rattle.napt_records.specs.declared.report.Counts.{Counts}
-use Rattle.napt_records.specs.declared.Fault.{Fault}
+use Rattle.napt_stream.specs.declared.leaving.OutputFault.{OutputFault}
 use Rattle.napt_records.specs.declared.Which.TheVariants.{Outside, Inside}
 
 pub time_of_one : (time : ℕ) (outcome : Outcome) → AreTimes ((time, outcome) ∷ []) → IsTime time
@@ -32,7 +32,7 @@ fewer outcomes outcome few = omega (arith, few, length-append outcomes (outcome 
 module _ {W V : Type 0} (oc : W → Option (List ℕ)) (of : W → ℕ) (ic : V → Option (List ℕ)) (if : V → ℕ) {g h : _} where
   -- a packet to the outside
   pub leaves_outside : (time : ℕ) (packet : List ℕ) (old : Leaving W V g h) (output : Output W g) (counts : Counts)
-      (r : Result (Unit {0}) WriteFault) (answer : Result (Unit {0}) Fault) → answer ≡ named Outside r
+      (r : Result (Unit {0}) WriteFault) (answer : Result (Unit {0}) OutputFault) → answer ≡ named Outside r
       → (IsTime time → OnOk r (Grows oc of old.to_outside (record_text (entry_of_packet time packet)) output))
       → (IsTime time → IfErr r (λ fault. old.to_outside.is_broken ≡ false →
       Breaks oc of old.to_outside (record_text (entry_of_packet time packet)) fault output))
@@ -44,7 +44,7 @@ module _ {W V : Type 0} (oc : W → Option (List ℕ)) (of : W → ℕ) (ic : V 
   leaves_outside time packet old output counts (Ok done) answer is ok err counted =
       let new : Leaving W V g h = record old { to_outside = output; counts = counts } in
       let all : List Timed = (time, ToOutside packet) ∷ [] in
-      let P : Result (Unit {0}) Fault → Type 0 = λ a. MatchResult a (λ _. Takes oc of ic if old all new)
+      let P : Result (Unit {0}) OutputFault → Type 0 = λ a. MatchResult a (λ _. Takes oc of ic if old all new)
       (λ fault. Fails oc of ic if old all fault new) in
       subst P (sym is) (record {
         to_outside = λ times. subst (λ (l : List ℕ). Grows oc of old.to_outside l output)
@@ -56,7 +56,7 @@ module _ {W V : Type 0} (oc : W → Option (List ℕ)) (of : W → ℕ) (ic : V 
   leaves_outside time packet old output counts (Err fault) answer is ok err counted =
       let new : Leaving W V g h = record old { to_outside = output; counts = counts } in
       let all : List Timed = (time, ToOutside packet) ∷ [] in
-      let P : Result (Unit {0}) Fault → Type 0 = λ a. MatchResult a (λ _. Takes oc of ic if old all new)
+      let P : Result (Unit {0}) OutputFault → Type 0 = λ a. MatchResult a (λ _. Takes oc of ic if old all new)
       (λ it. Fails oc of ic if old all it new) in
       subst P (sym is) (λ sound other times. (
         subst (λ (l : List ℕ). Breaks oc of old.to_outside l fault output)
@@ -67,7 +67,7 @@ module _ {W V : Type 0} (oc : W → Option (List ℕ)) (of : W → ℕ) (ic : V 
 
   -- a packet to the inside
   pub leaves_inside : (time : ℕ) (packet : List ℕ) (old : Leaving W V g h) (output : Option (Output V h)) (counts : Counts)
-      (r : Result (Unit {0}) WriteFault) (answer : Result (Unit {0}) Fault) → answer ≡ named Inside r
+      (r : Result (Unit {0}) WriteFault) (answer : Result (Unit {0}) OutputFault) → answer ≡ named Inside r
       → (IsTime time → OnOk r (GrowsIf ic if old.to_inside (record_text (entry_of_packet time packet)) output))
       → (IsTime time → IfErr r (λ fault. IsSoundIf old.to_inside →
       BreaksIf ic if old.to_inside (record_text (entry_of_packet time packet)) fault output))
@@ -79,7 +79,7 @@ module _ {W V : Type 0} (oc : W → Option (List ℕ)) (of : W → ℕ) (ic : V 
   leaves_inside time packet old output counts (Ok done) answer is ok err counted =
       let new : Leaving W V g h = record old { to_inside = output; counts = counts } in
       let all : List Timed = (time, ToInside packet) ∷ [] in
-      let P : Result (Unit {0}) Fault → Type 0 = λ a. MatchResult a (λ _. Takes oc of ic if old all new)
+      let P : Result (Unit {0}) OutputFault → Type 0 = λ a. MatchResult a (λ _. Takes oc of ic if old all new)
       (λ fault. Fails oc of ic if old all fault new) in
       subst P (sym is) (record {
         to_outside = λ times. grows_none oc of old.to_outside;
@@ -91,7 +91,7 @@ module _ {W V : Type 0} (oc : W → Option (List ℕ)) (of : W → ℕ) (ic : V 
   leaves_inside time packet old output counts (Err fault) answer is ok err counted =
       let new : Leaving W V g h = record old { to_inside = output; counts = counts } in
       let all : List Timed = (time, ToInside packet) ∷ [] in
-      let P : Result (Unit {0}) Fault → Type 0 = λ a. MatchResult a (λ _. Takes oc of ic if old all new)
+      let P : Result (Unit {0}) OutputFault → Type 0 = λ a. MatchResult a (λ _. Takes oc of ic if old all new)
       (λ it. Fails oc of ic if old all it new) in
       subst P (sym is) (λ other sound times. (
         grows_none oc of old.to_outside,
@@ -102,7 +102,7 @@ module _ {W V : Type 0} (oc : W → Option (List ℕ)) (of : W → ℕ) (ic : V 
 
   -- both outputs were flushed, or the second failed
   pub settles : (wf : W → Type 0) (vf : V → Type 0) (old : Leaving W V g h) (first : Output W g)
-      (second : Option (Output V h)) (r : Result (Unit {0}) WriteFault) (answer : Result (Unit {0}) Fault)
+      (second : Option (Output V h)) (r : Result (Unit {0}) WriteFault) (answer : Result (Unit {0}) OutputFault)
       → answer ≡ named Inside r → Grows oc of old.to_outside [] first → wf first.device.now
       → OnOk r (GrowsIf ic if old.to_inside [] second) → OnOk r (IfSome second (λ it. vf it.device.now))
       → IfErr r (λ fault. IsSoundIf old.to_inside → BreaksIf ic if old.to_inside [] fault second)
@@ -111,7 +111,7 @@ module _ {W V : Type 0} (oc : W → Option (List ℕ)) (of : W → ℕ) (ic : V 
       (λ fault. Fails oc of ic if old [] fault (record old { to_outside = first; to_inside = second }))
   settles wf vf old first second (Ok done) answer is one flushed two flushed_too broken =
       let new : Leaving W V g h = record old { to_outside = first; to_inside = second } in
-      let P : Result (Unit {0}) Fault → Type 0 = λ a. MatchResult a (λ _. Takes oc of ic if old [] new
+      let P : Result (Unit {0}) OutputFault → Type 0 = λ a. MatchResult a (λ _. Takes oc of ic if old [] new
       × IsSettled wf vf new) (λ fault. Fails oc of ic if old [] fault new) in
       subst P (sym is) (record {
         to_outside = λ times. one;
@@ -121,13 +121,13 @@ module _ {W V : Type 0} (oc : W → Option (List ℕ)) (of : W → ℕ) (ic : V 
       }, (flushed, flushed_too))
   settles wf vf old first second (Err fault) answer is one flushed two flushed_too broken =
       let new : Leaving W V g h = record old { to_outside = first; to_inside = second } in
-      let P : Result (Unit {0}) Fault → Type 0 = λ a. MatchResult a (λ _. Takes oc of ic if old [] new
+      let P : Result (Unit {0}) OutputFault → Type 0 = λ a. MatchResult a (λ _. Takes oc of ic if old [] new
       × IsSettled wf vf new) (λ it. Fails oc of ic if old [] it new) in
       subst P (sym is) (λ other sound times. (one, broken sound))
 
   -- or the first
   pub first_fails : (old : Leaving W V g h) (first : Output W g) (fault : WriteFault)
       → (old.to_outside.is_broken ≡ false → Breaks oc of old.to_outside [] fault first)
-      → Fails oc of ic if old [] (Rattle.napt_records.specs.declared.Fault.TheVariants.Write Outside fault)
+      → Fails oc of ic if old [] (record { which = Outside; fault = fault })
       (record old { to_outside = first })
   first_fails old first fault broken = λ sound other times. (broken sound, grows_if_none ic if old.to_inside)

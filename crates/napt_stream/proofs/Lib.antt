@@ -1,2 +1,3 @@
-mod Outputs
-mod Leaves
+pub mod Breaks
+pub mod Outputs
+pub mod Leaves

@@ -1,8 +1,9 @@
 -- What leaves while a run lasts, and what that does to the outputs.
 use Rattle.std.specs.Prelude.{◌≡◌, ℕ, ◌+◌, ◌-◌, ◌^◌, ◌<◌, List, [], ◌++◌, length, map, filter_map, flat_map, All, false, Option, Some, None, IfSome, Result, Ok, Err}
+use Rattle.std.specs.Borrow.{MutBor}
 use Rattle.napt_wire.specs.declared.Side.{Side}
 use Rattle.napt_wire.specs.declared.Side.TheVariants as sides
-use Rattle.napt_capture.specs.Text.{record_text}
+use Rattle.napt_capture.specs.Text.{file_header, record_text}
 use Rattle.napt_capture.specs.declared.fault.WriteFault.{WriteFault}
 use Rattle.napt_rules.specs.declared.Outcome.{Outcome}
 use Rattle.napt_records.specs.Output.{packet_to, record_at}
@@ -11,10 +12,11 @@ use Rattle.napt_records.specs.Output.{IsTime}
 use Rattle.napt_stream.specs.Outputs.{Grows, Breaks}
 use Rattle.napt_stream.specs.declared.output.Output.{Output}
 use Rattle.napt_stream.specs.declared.leaving.Leaving.{Leaving}
+use Rattle.napt_stream.specs.declared.leaving.OutputFault.{OutputFault}
 use Rattle.napt_records.specs.declared.Fault.{Fault}
 use Rattle.napt_records.specs.declared.Fault.TheVariants.{Write}
 use Rattle.napt_records.specs.declared.Which.{Which}
-use Rattle.napt_records.specs.declared.Which.TheVariants.{Outside, Inside}
+use Rattle.napt_records.specs.declared.Which.TheVariants.{Outside, Inside, Report}
 
 -- an outcome, with the arrival time of its input
 abbrev pub Timed : Type 0
@@ -54,18 +56,34 @@ module _ {W V : Type 0} (outside_contents : W → Option (List ℕ)) (outside_fa
         AreCountsOf outcomes old.counts → AreCountsOf (outcomes ++ map (λ timed. timed.1) all) new.counts
 
   -- an output failed while these left, and the other one has nothing more, or all of them
-  abbrev pub FailsAt : Leaving W V g h → List Timed → Fault → Leaving W V g h → Type 0
-  FailsAt old all (Write Outside fault) new =
+  abbrev pub FailsBy : Leaving W V g h → List Timed → Which → WriteFault → Leaving W V g h → Type 0
+  FailsBy old all Outside fault new =
       Breaks outside_contents outside_failed old.to_outside (texts sides.Outside all) fault new.to_outside
       × GrowsIf inside_contents inside_failed old.to_inside [] new.to_inside
-  FailsAt old all (Write Inside fault) new =
+  FailsBy old all Inside fault new =
       Grows outside_contents outside_failed old.to_outside (texts sides.Outside all) new.to_outside
       × BreaksIf inside_contents inside_failed old.to_inside (texts sides.Inside all) fault new.to_inside
-  FailsAt old all other new = ⊥
+  FailsBy old all Report fault new = ⊥
 
-  abbrev pub Fails : Leaving W V g h → List Timed → Fault → Leaving W V g h → Type 0
+  abbrev pub Fails : Leaving W V g h → List Timed → OutputFault → Leaving W V g h → Type 0
   Fails old all fault new = old.to_outside.is_broken ≡ false → IsSoundIf old.to_inside → AreTimes all →
-      FailsAt old all fault new
+      FailsBy old all fault.which fault.fault new
+
+  -- the headers were written
+  pub record Begins (old new : Leaving W V g h) : Type 0 where
+    pub to_outside : Grows outside_contents outside_failed old.to_outside file_header new.to_outside
+    pub to_inside : GrowsIf inside_contents inside_failed old.to_inside file_header new.to_inside
+    pub counts : new.counts ≡ old.counts
+
+  -- an output failed meanwhile: the one to the inside was not begun before the one to the outside was
+  abbrev pub FailsToBegin : Leaving W V g h → Fault → Leaving W V g h → Type 0
+  FailsToBegin old (Write Outside fault) new =
+      Breaks outside_contents outside_failed old.to_outside file_header fault new.to_outside
+      × (new.to_inside ≡ old.to_inside)
+  FailsToBegin old (Write Inside fault) new =
+      Grows outside_contents outside_failed old.to_outside file_header new.to_outside
+      × BreaksIf inside_contents inside_failed old.to_inside file_header fault new.to_inside
+  FailsToBegin old other new = ⊥
 
 -- all that left is flushed
 abbrev pub IsSettled : {W V : Type 0} → (W → Type 0) → (V → Type 0) → {g h : _} → Leaving W V g h → Type 0
@@ -74,6 +92,18 @@ IsSettled outside_flushed inside_flushed leaving =
     × IfSome leaving.to_inside (λ output. inside_flushed output.device.now)
 
 -- an answer of an output, by its name
-abbrev pub named : Which → Result (Unit {0}) WriteFault → Result (Unit {0}) Fault
+abbrev pub named : Which → Result (Unit {0}) WriteFault → Result (Unit {0}) OutputFault
 named which (Ok done) = Ok done
-named which (Err fault) = Err (Write which fault)
+named which (Err fault) = Err (record { which = which; fault = fault })
+
+-- over a device to which nothing is written
+pub record IsOver {W : Type 0} {g : _} (device : MutBor W) (output : Output W g) : Type 0 where
+  pub same : output.device.ghost_name ≡ device.ghost_name
+  pub value : output.device.now ≡ device.now
+  pub written : output.written ≡ 0
+  pub sound : output.is_broken ≡ false
+
+abbrev pub IsOverIf : {V : Type 0} {g : _} → Option (MutBor V) → Option (Output V g) → Type 0
+IsOverIf None None = Unit {0}
+IsOverIf (Some device) (Some output) = IsOver device output
+IsOverIf device output = ⊥

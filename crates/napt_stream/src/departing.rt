@@ -3,20 +3,20 @@ ghost use Rattle.std.specs.Prelude.{◌≡◌, ◌^◌, ◌<◌, length};
 ghost use Rattle.napt_stream.specs.Leaving.{named};
 
 use napt_dispatch::Departures;
-use crate::leaving::Leaving;
+use crate::leaving::{Leaving, OutputFault};
 use crate::puts::{flush_if, put_if};
-use napt_records::{Fault, Which};
+use napt_records::Which;
 use napt_capture::{Sink, WriteFault};
 use napt_rules::Outcome;
 use napt_wire::Packet;
 
 /// What an output answers, by its name.
-fn named(which: Which, answer: Result<(), WriteFault>) -> Result<(), Fault>
+fn named(which: Which, answer: Result<(), WriteFault>) -> Result<(), OutputFault>
     ensures { result ≡ named which answer }
 {
     match answer {
         Ok(()) => Ok(()),
-        Err(fault) => Err(Fault::Write(which, fault)),
+        Err(fault) => Err(OutputFault { which, fault }),
     }
 }
 
@@ -33,7 +33,7 @@ impl<W: Sink, V: Sink> Departures for Leaving<'_, W, V> {
     ghost use Rattle.napt_stream.specs.Leaving.{Takes, Fails, IsSettled};
     ghost use Rattle.napt_stream.specs.LeavingLaws.{takes_none, takes_more};
 
-    type Fault = Fault;
+    type Fault = OutputFault;
 
     ghost takes = { λ x all y. Takes W.contents W.failed V.contents V.failed x all y };
 
@@ -41,7 +41,7 @@ impl<W: Sink, V: Sink> Departures for Leaving<'_, W, V> {
 
     ghost is_settled = { λ x. IsSettled W.is_flushed V.is_flushed x };
 
-    fn leave(&mut self, time: u64, outcome: Outcome) -> Result<(), Fault> {
+    fn leave(&mut self, time: u64, outcome: Outcome) -> Result<(), OutputFault> {
         self.counts.count(&outcome);
         match outcome {
             Outcome::ToOutside(packet) => {
@@ -54,10 +54,13 @@ impl<W: Sink, V: Sink> Departures for Leaving<'_, W, V> {
         }
     }
 
-    fn settle(&mut self) -> Result<(), Fault> {
+    fn settle(&mut self) -> Result<(), OutputFault> {
         match self.to_outside.flush() {
             Ok(()) => named(Which::Inside, flush_if(&mut self.to_inside)),
-            Err(fault) => Err(Fault::Write(Which::Outside, fault)),
+            Err(fault) => Err(OutputFault {
+                which: Which::Outside,
+                fault,
+            }),
         }
     }
 

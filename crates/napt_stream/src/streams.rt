@@ -1,16 +1,20 @@
 //! A run over captures while they come.
-ghost use Rattle.std.specs.Prelude.{◌≡◌, ◌+◌, ◌-◌, ◌^◌, ◌<◌, IfErr, IfSome, OnOk, true, false};
-ghost use Rattle.napt_run.specs.Captures.{failed_readings, failed_writings, tells_shut_gate};
+ghost use Rattle.std.specs.Prelude.{◌≡◌, ◌+◌, ◌-◌, ◌^◌, ◌<◌, IfErr, IfOk, IfSome, MatchResult, OnOk, true, false};
+ghost use Rattle.napt_capture.specs.Capture.{failed_reads};
+ghost use Rattle.napt_capture.specs.Reading.{ReadsFileHeader, RefusesFile, StopsBy};
+ghost use Rattle.napt_run.specs.Captures.{failed_writings, tells_shut_gate};
 ghost use Rattle.napt_run.specs.Devices.{GrowsBy, IfGiven, bytes_in};
-ghost use Rattle.napt_stream.specs.Streams.{Explains, IsOfRun, Reports, Streams};
+ghost use Rattle.napt_stream.specs.Streams.{Explains, HasRead, IsOfRun, IsSettledBy, Reports, Streams};
 
+use crate::header::read_header;
 use crate::leaving::Leaving;
-use napt_capture::{Sink, Source, write_text};
+use crate::passing::pass;
+use crate::reporting::write_report;
+use napt_capture::{Sink, Source};
 use napt_config::Config;
-use napt_dispatch::{Passed, Stopped, run_through};
 use napt_pool::Gate;
-use napt_records::{Counts, Cuts, Fault, MergedStreams, Which, report_of};
-use napt_sequential::RunFault;
+use napt_records::{Fault, MergedStreams, Stream, Which};
+use napt_wire::Side;
 use std::alloc::Global;
 use std::sync::{Arc, Wait};
 use std::thread::Threads;
@@ -68,54 +72,36 @@ pub fn run_streams<
     ensures fault { IfErr result
         (Explains (R.remaining inside.old) (bytes_in Q.remaining outside.entry)) }
     ensures gate { G.is_open ≡ true → IfErr result (λ fault. tells_shut_gate fault ≡ false) }
-    // Where the fault is not of the run, each failed call is the one that is told.
-    ensures inside_readings { (¬ IsOfRun result) → R.failed inside.new
-        ≡ R.failed inside.old + failed_readings Side.Inside result }
-    ensures outside_readings { (¬ IsOfRun result) → GrowsBy Q.failed outside.entry outside.exit
-        (failed_readings Side.Outside result) }
+    // Where the fault is not of the run, each failed call is the one that is told, but that writing may hide a read.
+    ensures readings { (¬ IsOfRun result) → HasRead R.failed Q.failed
+        inside.old inside.new outside.entry outside.exit result }
     ensures outside_writings { (¬ IsOfRun result) → W.failed to_outside.new
         ≡ W.failed to_outside.old + failed_writings Which.Outside result }
     ensures inside_writings { (¬ IsOfRun result) →
         GrowsBy V.failed to_inside.entry to_inside.exit (failed_writings Which.Inside result) }
     ensures report_writings { GrowsBy U.failed report.entry report.exit
         (failed_writings Which.Report result) }
-    ensures outside_flushed { OnOk result (W.is_flushed to_outside.new) }
-    ensures inside_flushed { OnOk result
-        (IfGiven to_inside.entry to_inside.exit (λ _ new. V.is_flushed new)) }
+    ensures outside_flushed { IsSettledBy result → W.is_flushed to_outside.new }
+    ensures inside_flushed { IsSettledBy result →
+        IfGiven to_inside.entry to_inside.exit (λ _ new. V.is_flushed new) }
     ensures report_flushed { OnOk result
         (IfGiven report.entry report.exit (λ _ new. U.is_flushed new)) }
 {
     let mut leaving = Leaving::over(to_outside, to_inside);
     leaving.begin()?;
-    let mut inputs = MergedStreams::open(alloc, inside, outside)?;
-    let passed = run_through(rt, alloc, config, &mut inputs, &mut leaving, gate).map_err(fault_of)?;
+    let records = read_header(alloc, Side::Inside, inside)?;
+    let inside = Stream::new(inside, records);
+    let outside = match outside {
+        Some(source) => {
+            let records = read_header(alloc, Side::Outside, source)?;
+            Some(Stream::new(source, records))
+        }
+        None => None,
+    };
+    let mut inputs = MergedStreams::new(alloc, inside, outside);
+    let passed = pass(rt, alloc, config, &mut inputs, &mut leaving, gate)?;
     match report {
         Some(report) => write_report(alloc, report, &leaving.counts, &passed, inputs.cuts()),
         None => Ok(()),
-    }
-}
-
-/// Writes the report, and flushes it.
-fn write_report<U: Sink>(
-    alloc: Global,
-    output: &mut U,
-    counts: &Counts,
-    passed: &Passed,
-    cuts: Cuts,
-) -> Result<(), Fault> {
-    let Ok(text) = report_of(alloc, counts, &passed.bindings, cuts.inside, cuts.outside) else {
-        return Err(Fault::Run(RunFault::Memory));
-    };
-    match write_text(output, text.as_bytes()) {
-        Ok(()) => Ok(()),
-        Err(fault) => Err(Fault::Write(Which::Report, fault)),
-    }
-}
-
-/// The fault of a run that stopped.
-fn fault_of(stopped: Stopped<Fault, Fault>) -> Fault {
-    match stopped {
-        Stopped::Run(fault) => Fault::Run(fault),
-        Stopped::Arrival(fault) | Stopped::Departure(fault) => fault,
     }
 }

@@ -1,0 +1,39 @@
+//! The report of a run.
+ghost use Rattle.std.specs.Prelude.{◌≡◌, ◌+◌, ◌-◌, ◌^◌, ◌<◌, List, IfErr, OnOk};
+ghost use Rattle.napt_rules.specs.declared.Outcome.{Outcome};
+ghost use Rattle.napt_records.specs.Counts.{AreCountsOf};
+ghost use Rattle.napt_records.specs.Report.{report_of};
+ghost use Rattle.napt_run.specs.Captures.{failed_writings};
+ghost use Rattle.napt_stream.specs.Streams.{GetsReport, IsReportFault};
+
+use napt_capture::{Sink, write_text};
+use napt_dispatch::Passed;
+use napt_records::{Counts, Cuts, Fault, Which, report_of};
+use napt_sequential::RunFault;
+use std::alloc::Global;
+
+/// Writes the report, and flushes it.
+pub(crate) fn write_report<U: Sink>(
+    alloc: Global,
+    output: &mut U,
+    counts: &Counts,
+    passed: &Passed,
+    cuts: Cuts,
+) -> Result<(), Fault>
+    requires { U.failed output.old < 2 ^ 64 - 1 }
+    ensures written { (outcomes : List Outcome) → AreCountsOf outcomes counts.now →
+        GetsReport (report_of cuts.inside cuts.outside outcomes passed.now.bindings.items) result
+        (U.contents output.old) (U.contents output.new) }
+    ensures fault { IfErr result IsReportFault }
+    ensures flushed { OnOk result (U.is_flushed output.new) }
+    ensures count { U.failed output.new ≡ U.failed output.old
+        + failed_writings Which.Report result }
+{
+    let Ok(text) = report_of(alloc, counts, &passed.bindings, cuts.inside, cuts.outside) else {
+        return Err(Fault::Run(RunFault::Memory));
+    };
+    match write_text(output, text.as_bytes()) {
+        Ok(()) => Ok(()),
+        Err(fault) => Err(Fault::Write(Which::Report, fault)),
+    }
+}
