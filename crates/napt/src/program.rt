@@ -1,18 +1,14 @@
 //! What the program does: it reads its words and its configuration, opens the files in a fixed order, and runs over them.
 
-ghost use Rattle.std.specs.Prelude.{◌≡◌, ◌⊎◌, IfErr, OnOk, map, string_bytes};
+ghost use Rattle.std.specs.Prelude.{◌≡◌, IfErr, OnOk, map, string_bytes};
 ghost use Rattle.napt_options.specs.CommandLine.{files_of, line_of_words};
-ghost use Rattle.napt.specs.Program.{IsLineStop, IsRunStop, IsTaken, IsUnderOpenGate};
+ghost use Rattle.napt_program.specs.Command.{IsLineStop, IsRunStop, IsTaken, IsUnderOpenGate};
 
 use napt_options::{LineFault, Options, parse_words};
 use napt_pool::OpenGate;
-use napt_program::{
-    Devices, MEMORY, Stop, Streams, buffered, closed_stream, configuration, open_files,
-};
+use napt_program::{Devices, MEMORY, Opened, Stop, Streams, open, words};
 use napt_run::run_captures;
-use std::env;
 use std::env::Env;
-use std::io::ErrorKind;
 use std::rt::Files;
 use std::sync::{Arc, Wait};
 use std::thread::Threads;
@@ -51,19 +47,7 @@ pub fn serve_words<R: Files + Input + Print + AllocGlobal + Threads + Wait + Cop
     }
 }
 
-/// The words of the command line. One that is no text is not understood.
-fn words<R: Env + AllocGlobal>(rt: &R) -> Result<Vec<String>, Stop>
-    ensures { IfErr result (λ stop. (stop ≡ Stop.Usage) ⊎ (stop ≡ Stop.LineMemory)) }
-{
-    match env::args(rt) {
-        Ok(args) => args.collect(rt.alloc()).map_err(|_| Stop::LineMemory),
-        Err(error) if error.kind() == ErrorKind::OutOfMemory => Err(Stop::LineMemory),
-        Err(_) => Err(Stop::Usage),
-    }
-}
-
-/// Runs over the files of the options, and the standard streams that stand for absent ones. Refuses such a stream, by
-/// its role, where it is closed; then come the configuration, the files, and buffers over them.
+/// Runs over all that the options name.
 fn run<R: Files + Input + Print + AllocGlobal + Threads + Wait + Copy + Send + 'static>(
     rt: &R,
     streams: Streams,
@@ -71,18 +55,15 @@ fn run<R: Files + Input + Print + AllocGlobal + Threads + Wait + Copy + Send + '
 ) -> Result<(), Stop>
     ensures { IfErr result (IsRunStop streams (files_of options.now)) }
 {
-    if let Some(role) = closed_stream(streams, options) {
-        return Err(Stop::File(role));
-    }
     let alloc = rt.alloc();
-    let config = configuration(rt, options.config.as_ref())?;
+    let Opened { config, devices } = open(rt, streams, options)?;
     let Devices {
         mut inside,
         mut outside,
         mut to_outside,
         mut to_inside,
         mut report,
-    } = buffered(alloc, open_files(rt, options)?)?;
+    } = devices;
     let gate = Arc::new(alloc, OpenGate).map_err(|_| MEMORY)?;
     run_captures(
         rt,

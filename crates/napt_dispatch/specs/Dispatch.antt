@@ -39,12 +39,6 @@ IsDispatchFault open_gate faults.Memory = ⊤
 IsDispatchFault open_gate faults.TooMany = ⊥
 IsDispatchFault open_gate (faults.Pool fault) = IsFaultOf (λ w. ⊤) fault × (open_gate ≡ true → is_shut fault ≡ false)
 
--- whether a fault says that the gate was shut
-abbrev pub is_gate_fault : RunFault → Bool
-is_gate_fault faults.Memory = false
-is_gate_fault faults.TooMany = false
-is_gate_fault (faults.Pool fault) = is_shut fault
-
 -- the rows that a worker's translator tells at a time
 abbrev pub rows_after : ℕ → TranslatorState → List Row
 rows_after now state = rows state.rules.timers (max now state.table.at) state.table.list

@@ -5,7 +5,8 @@ ghost use Rattle.napt_config.specs.Rules.{KeepsRules};
 ghost use Rattle.napt_pool.specs.Histories.{after, replies};
 ghost use Rattle.napt_pool.specs.Pools.{starts, accepts, takes, zip_with};
 ghost use Rattle.napt_rules.specs.Sequential as model;
-ghost use Rattle.napt_dispatch.specs.Dispatch.{first_fault, started, rows_after, IsDispatchFault, IsFaultUnder, is_gate_fault};
+ghost use Rattle.napt_dispatch.specs.Dispatch.{first_fault, started, rows_after, IsDispatchFault, IsFaultUnder};
+ghost use Rattle.napt_sequential.specs.Faults.{is_gate_fault};
 ghost use Rattle.napt_dispatch.specs.Passing.{Passes, RunsAll, IsStoppedUnder};
 ghost use Rattle.napt_rules.specs.Prelude.{AreRowsApart};
 

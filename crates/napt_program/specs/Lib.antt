@@ -1,3 +1,4 @@
+pub mod Command
 pub mod Config
 pub mod Devices
 pub mod Files

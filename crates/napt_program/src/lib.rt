@@ -1,6 +1,7 @@
 //! What the program is made of beside its run: why it stops, its configuration, its standard streams and its files.
 #![tactic(auto)]
 
+mod command;
 mod config_file;
 mod devices;
 mod files;
@@ -8,6 +9,7 @@ mod outputs;
 mod stop;
 mod streams;
 
+pub use crate::command::{Opened, open, words};
 pub use crate::config_file::{
     MOST_BYTES, config_from, config_text, configuration, open_config, unread_config,
 };

@@ -10,3 +10,4 @@ pub mod Rests
 pub mod Streams
 pub mod UntilFault
 pub mod Begun
+pub mod Faults

@@ -1,6 +1,6 @@
 -- What a run over captures leaves on its devices. Where the bytes of a reader or a writer are not known, nothing is
 -- claimed of them.
-use Rattle.std.specs.Prelude.{◌≡◌, ℕ, ◌+◌, ◌≤◌, ◌^◌, List, [], length, map, take, Bool, false, IfSome, string_bytes, Option, Some, None, Result, Ok, Err}
+use Rattle.std.specs.Prelude.{◌≡◌, ℕ, ◌+◌, ◌≤◌, ◌^◌, List, [], length, map, take, false, IfSome, string_bytes, Option, Some, None, Result, Ok, Err}
 use Rattle.std.specs.Io.KnownBytes.{Appends}
 use Rattle.napt_wire.specs.declared.Side.{Side}
 use Rattle.napt_wire.specs.declared.Side.TheVariants as sides
@@ -20,7 +20,6 @@ use Rattle.napt_rules.specs.Prelude.{Arrival, ran}
 use Rattle.napt_records.specs.Merge.{IsMerged}
 use Rattle.napt_records.specs.Output.{records_to}
 use Rattle.napt_records.specs.Report.{report_text}
-use Rattle.napt_dispatch.specs.Dispatch.{is_gate_fault}
 
 -- WHAT IS READ
 
@@ -137,12 +136,6 @@ abbrev pub TooManyAreTold : Option (List ℕ) → Option (Option (List ℕ)) →
 TooManyAreTold inside outside result =
     IfKnown inside outside (λ bytes others. (captures : Captures) → AreRead bytes others captures →
     AreTooMany captures → TellsTooMany result)
-
--- whether a fault says that the gate was shut
-abbrev pub tells_shut_gate : Fault → Bool
-tells_shut_gate (Capture side fault) = false
-tells_shut_gate (Run fault) = is_gate_fault fault
-tells_shut_gate (Write which fault) = false
 
 -- how many reads of a side's capture failed, and how many writes of an output
 abbrev pub failed_readings : {T : Type 0} → Side → Result T Fault → ℕ

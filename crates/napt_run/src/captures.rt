@@ -3,8 +3,9 @@ ghost use Rattle.std.specs.Prelude.{◌≡◌, ◌↔◌, ◌+◌, ◌-◌, ◌^
 ghost use Rattle.napt_capture.specs.Text.{IsWritable, text};
 ghost use Rattle.napt_records.specs.Output.{IsTime, records_at};
 ghost use Rattle.napt_run.specs.Devices.{IfGiven, GrowsBy, bytes_in};
-ghost use Rattle.napt_run.specs.Captures.{AreOutputs, AreTooMany, Explains, Gets, IsReadAsOutside, IsReadFrom, IsUnread, IsWriteFaultOf, Receives, TooManyAreTold, failed_readings, failed_writings, no_contents, output_to, share_of, tells_shut_gate};
-ghost use Rattle.napt_dispatch.specs.Dispatch.{is_gate_fault};
+ghost use Rattle.napt_run.specs.Captures.{AreOutputs, AreTooMany, Explains, Gets, IsReadAsOutside, IsReadFrom, IsUnread, IsWriteFaultOf, Receives, TooManyAreTold, failed_readings, failed_writings, no_contents, output_to, share_of};
+ghost use Rattle.napt_sequential.specs.Faults.{is_gate_fault};
+ghost use Rattle.napt_records.specs.Faults.{tells_shut_gate};
 
 use napt_capture::{Capture, Sink, Source, one_answer, read_capture, write_text};
 use napt_config::Config;

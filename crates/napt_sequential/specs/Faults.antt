@@ -1,5 +1,6 @@
 -- Why a run over inputs ends early.
-use Rattle.std.specs.Prelude.{⊤}
+use Rattle.std.specs.Prelude.{⊤, Bool, false}
+use Rattle.napt_pool.specs.Faults.{is_shut}
 use Rattle.napt_sequential.specs.declared.fault.RunFault.{RunFault}
 use Rattle.napt_sequential.specs.declared.fault.RunFault.TheVariants as faults
 
@@ -8,3 +9,9 @@ abbrev pub IsOneThreadFault : RunFault → Type 0
 IsOneThreadFault faults.Memory = ⊤
 IsOneThreadFault faults.TooMany = ⊤
 IsOneThreadFault (faults.Pool fault) = ⊥
+
+-- whether a fault says that the gate was shut
+abbrev pub is_gate_fault : RunFault → Bool
+is_gate_fault faults.Memory = false
+is_gate_fault faults.TooMany = false
+is_gate_fault (faults.Pool fault) = is_shut fault

@@ -2,7 +2,8 @@
 ghost use Rattle.std.specs.Prelude.{◌≡◌, ◌+◌, ◌-◌, ◌^◌, ◌<◌, IfErr, IfOk, IfSome, MatchResult, OnOk, true, false};
 ghost use Rattle.napt_capture.specs.Capture.{failed_reads};
 ghost use Rattle.napt_capture.specs.Reading.{ReadsFileHeader, RefusesFile, StopsBy};
-ghost use Rattle.napt_run.specs.Captures.{failed_writings, tells_shut_gate};
+ghost use Rattle.napt_records.specs.Faults.{tells_shut_gate};
+ghost use Rattle.napt_run.specs.Captures.{failed_writings};
 ghost use Rattle.napt_run.specs.Devices.{GrowsBy, IfGiven, bytes_in};
 ghost use Rattle.napt_stream.specs.Streams.{Explains, HasRead, IsOfRun, IsSettledBy, Reports, Streams};
 

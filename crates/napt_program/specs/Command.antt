@@ -1,12 +1,12 @@
--- What stops the program once its words are read.
+-- What stops a program on its command line: its words, what it opens, and its run.
 use Rattle.std.specs.Prelude.{◌≡◌, ◌||◌, Bool, true, false, not, is_some}
 use Rattle.napt_options.specs.CommandLine.{Files, Line, files, help, mistake}
 use Rattle.napt_options.specs.declared.Role.{Role}
 use Rattle.napt_options.specs.declared.Role.TheVariants as role
-use Rattle.napt_program.specs.declared.Stop.{Stop}
-use Rattle.napt_program.specs.declared.Stop.TheVariants as stop
-use Rattle.napt_program.specs.declared.Streams.{Streams}
-use Rattle.napt_run.specs.Captures.{tells_shut_gate}
+use Rattle.napt_program.specs.declared.stop.Stop.{Stop}
+use Rattle.napt_program.specs.declared.stop.Stop.TheVariants as stop
+use Rattle.napt_program.specs.declared.streams.Streams.{Streams}
+use Rattle.napt_records.specs.Faults.{tells_shut_gate}
 
 -- what may fail as a file: one that is named, and a standard stream that is closed
 abbrev pub can_fail : Streams → Files → Role → Bool
@@ -17,7 +17,7 @@ can_fail streams named role.ToOutside = is_some named.to_outside || not streams.
 can_fail streams named role.ToInside = is_some named.to_inside
 can_fail streams named role.Report = is_some named.report
 
--- what stops a run over these files
+-- what stops a run over these files, under a gate that always opens
 abbrev pub IsRunStop : Streams → Files → Stop → Type 0
 IsRunStop streams named stop.LineMemory = Unit {0}
 IsRunStop streams named (stop.Config fault) = Unit {0}

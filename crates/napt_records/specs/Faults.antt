@@ -1,0 +1,11 @@
+-- Why a run over captures ends early.
+use Rattle.std.specs.Prelude.{Bool, false}
+use Rattle.napt_sequential.specs.Faults.{is_gate_fault}
+use Rattle.napt_records.specs.declared.fault.Fault.{Fault}
+use Rattle.napt_records.specs.declared.fault.Fault.TheVariants.{Capture, Run, Write}
+
+-- whether a fault says that the gate was shut
+abbrev pub tells_shut_gate : Fault → Bool
+tells_shut_gate (Capture side fault) = false
+tells_shut_gate (Run fault) = is_gate_fault fault
+tells_shut_gate (Write which fault) = false
