@@ -1,9 +1,8 @@
-use Rattle.std.proofs.Common.{◌≡◌, ◌∙◌, ℕ, max, List, [], ◌∷◌, ◌++◌, None, Some, inl, refl, sym, ap, subst}
+use Rattle.std.proofs.Common.{◌≡◌, ◌∙◌, ℕ, max, List, [], ◌∷◌, ◌++◌, inl, refl, sym, ap, subst}
 use Rattle.std.proofs.lemmas.Result.{err_from_is_err_and}
 use Rattle.napt_rules.specs.declared.Outcome.{Outcome}
 use Rattle.napt_rules.specs.Prelude.{Arrival, last_clock}
-use Rattle.napt_sequential.proofs.Grown.{clock_more}
-use Rattle.napt_dispatch.proofs.Passing.{reads_none, reads_on, reads_more, reads_halt, reads_over}
+use Rattle.napt_dispatch.proofs.Passing.{clock_on, reads_none, reads_on, reads_more, reads_halt, reads_over}
 use Rattle.napt_dispatch.proofs.dispatcher.Dispatcher.read_all.Goals as goal
 
 pub loop-init : goal.loop-init
@@ -35,9 +34,9 @@ loop-preserved g c =
     let input : Arrival = c.in-Ok-Some.input in
     let ready = c.in_ok-make_ready.ensures.state in
     let clock : c.input.inside.clock ≡ input.clock = ap (λ (a : Arrival). a.clock) c.input.view_is in
-    let now : c.max-clock.result ≡ last_clock 0 (inputs ++ input ∷ []) = c.max-clock.ensures
-    ∙ (ap (λ t. max t c.input.inside.clock) c.loop.invariant.clock ∙ (ap (max (last_clock 0 inputs)) clock
-    ∙ sym (clock_more 0 inputs input))) in
+    let now : c.max-clock.result ≡ last_clock 0 (inputs ++ input ∷ []) =
+    clock_on inputs input c.loop.clock c.max-clock.result c.loop.invariant.clock
+    (c.max-clock.ensures ∙ ap (max c.loop.clock) clock) in
     record {
       inputs = inputs ++ input ∷ [];
       went = went ++ ready.went;
@@ -69,4 +68,16 @@ returns-in-Ok-None g c =
     (c.new.ensures.0 ∙ c.loop.invariant.clock)
 
 pub returns-in-Err : goal.returns-in-Err
-returns-in-Err g c = ?
+returns-in-Err g c =
+    reads_over g.D.Departures.takes g.D.Departures.fails g.met.D.Departures.takes_more c.args.config.now
+    g.A.Arrivals.hands g.A.Arrivals.ends g.D.Departures.is_settled c.args.pool.now c.args.self.now c.args.arrivals.now
+    c.args.departures.now c.loop.pool c.loop.self c.loop.departures c.make_ready.new.pool c.make_ready.new.self
+    c.next-in-loop.new.self c.make_ready.new.departures c.loop.invariant.inputs c.loop.invariant.went c.new-in-Err.result
+    c.loop.invariant.reads c.loop.invariant.took c.in_ok-make_ready.ensures.state
+    (record {
+      last = c.loop.arrivals;
+      handed = c.loop.invariant.handed;
+      ended = subst (λ fault. g.A.Arrivals.ends c.loop.arrivals fault c.next-in-loop.new.self) (sym c.new-in-Err.ensures.1)
+          c.in-Err.ensures;
+    })
+    (c.new-in-Err.ensures.0 ∙ c.loop.invariant.clock)
