@@ -32,10 +32,10 @@ many_read d inputs times =
     let two : length (times_in d.progress) ≡ length (progress_in d.progress) = times_long d.progress in
     sym one ∙ (sym (ap length times) ∙ two)
 
-pub clock_on : (inputs : List Arrival) (input : Arrival) (clock now : ℕ) → clock ≡ last_clock 0 inputs →
-    now ≡ max clock input.clock → now ≡ last_clock 0 (inputs ++ input ∷ [])
-clock_on inputs input clock now was is =
-    is ∙ (ap (λ t. max t input.clock) was ∙ sym (clock_more 0 inputs input))
+pub clock_on : (inputs : List Arrival) (input : Arrival) (clock own now : ℕ) → clock ≡ last_clock 0 inputs →
+    own ≡ input.clock → now ≡ max clock own → now ≡ last_clock 0 (inputs ++ input ∷ [])
+clock_on inputs input clock own now was same is =
+    is ∙ (ap (λ t. max t own) was ∙ (ap (max (last_clock 0 inputs)) same ∙ sym (clock_more 0 inputs input)))
 
 module _ {M G : Type 0} where
   -- nothing was done

@@ -1,4 +1,4 @@
-use Rattle.std.proofs.Common.{◌≡◌, ◌∙◌, ℕ, max, List, [], ◌∷◌, ◌++◌, inl, refl, sym, ap, subst}
+use Rattle.std.proofs.Common.{◌≡◌, ◌∙◌, ℕ, List, [], ◌∷◌, ◌++◌, inl, refl, sym, ap, subst}
 use Rattle.std.proofs.lemmas.Result.{err_from_is_err_and}
 use Rattle.napt_rules.specs.declared.Outcome.{Outcome}
 use Rattle.napt_rules.specs.Prelude.{Arrival, last_clock}
@@ -33,10 +33,9 @@ loop-preserved g c =
     let went : List (ℕ × Outcome) = c.loop.invariant.went in
     let input : Arrival = c.in-Ok-Some.input in
     let ready = c.in_ok-make_ready.ensures.state in
-    let clock : c.input.inside.clock ≡ input.clock = ap (λ (a : Arrival). a.clock) c.input.view_is in
     let now : c.max-clock.result ≡ last_clock 0 (inputs ++ input ∷ []) =
-    clock_on inputs input c.loop.clock c.max-clock.result c.loop.invariant.clock
-    (c.max-clock.ensures ∙ ap (max c.loop.clock) clock) in
+    clock_on inputs input c.loop.clock c.input.inside.clock c.max-clock.result c.loop.invariant.clock
+    (ap (λ (a : Arrival). a.clock) c.input.view_is) c.max-clock.ensures in
     record {
       inputs = inputs ++ input ∷ [];
       went = went ++ ready.went;
