@@ -1,22 +1,35 @@
 -- Runs from arrivals to departures, step by step.
-use Rattle.std.proofs.Common.{◌≡◌, ◌⊎◌, inl, inr, ℕ, ◌+◌, max, Bool, List, [], ◌∷◌, ◌++◌, length, map, Option, Some, None, Result, Ok, Err, refl, sym, ◌∙◌, ap, subst, arith, append-nil, append_assoc, length-append}
+use Rattle.std.proofs.Common.{◌≡◌, ◌⊎◌, inl, inr, ℕ, ◌+◌, ◌<◌, ◌≤◌, max, Bool, List, [], ◌∷◌, ◌++◌, length, map, Option, Some, None, Result, Ok, Err, refl, sym, ◌∙◌, ap, subst, arith, append-nil, append_assoc, length-append}
 use Rattle.std.proofs.lemmas.List.{map-append, length-map}
 use Rattle.napt_config.specs.Rules.{Rules}
 use Rattle.napt_rules.specs.declared.Leg.{Leg}
 use Rattle.napt_rules.specs.declared.Answer.{Answer}
 use Rattle.napt_pool.specs.declared.pool.Pool.{Pool}
-use Rattle.napt_pool.specs.Pools.{starts}
+use Rattle.napt_pool.specs.Pools.{starts, accepts, takes as taken}
 use Rattle.napt_rules.specs.declared.Outcome.{Outcome}
-use Rattle.napt_rules.specs.Prelude.{Arrival, last_clock}
+use Rattle.napt_rules.specs.Prelude.{opening, Arrival, run, last_clock}
 use Rattle.napt_sequential.proofs.Grown.{clock_more}
 use Rattle.napt_dispatch.specs.declared.dispatcher.Dispatcher.{Dispatcher}
-use Rattle.napt_dispatch.specs.Windows.{IsHandedOver, times_in, progress_in}
-use Rattle.napt_dispatch.specs.Standing.{parts_of, state_of, IsSizedFor, Stands, Continues, Keeps, Reaches}
-use Rattle.napt_dispatch.proofs.Windows.{times_long}
+use Rattle.napt_dispatch.specs.declared.dispatcher.offer.Offer.{Offer}
+use Rattle.napt_dispatch.specs.Offers.{with_offer, with_offered}
+use Rattle.napt_dispatch.specs.Queues.{many_in}
+use Rattle.napt_dispatch.specs.Windows.{Window, IsHandedOver, times_in, progress_in, expecting}
+use Rattle.napt_dispatch.specs.Standing.{journal_of, parts_of, state_of, IsSizedFor, Stands, Continues, Keeps, Reaches, Admits, HasRoom, IsDone}
+use Rattle.napt_dispatch.proofs.Queues.{many_none}
+use Rattle.napt_dispatch.proofs.Standing.{expected_keeps}
+use Rattle.napt_dispatch.proofs.Windows.{times_long, expecting_times, expecting_progress}
 use Rattle.napt_dispatch.specs.declared.dispatcher.halted.Halted.{Halted}
 use Rattle.napt_dispatch.specs.declared.dispatcher.halted.Halted.TheVariants as halts
 use Rattle.napt_dispatch.specs.declared.dispatcher.reading.EndOfInputs.{EndOfInputs}
 use Rattle.napt_dispatch.specs.Passing.{Fails, GoesOn, LetsGo, StopsAt, HaltsAt, Serves, Reads, HasCome, ReadsToEnd, ReadsSome, ReadsHalted}
+
+pub many_read : (d : Dispatcher) (inputs : List Arrival) → (parts_of d).journal.times ≡ map (λ i. i.time) inputs →
+    length inputs ≡ length (parts_of d).progress
+many_read d inputs times =
+    let one : length (map (λ (i : Arrival). i.time) inputs) ≡ length inputs =
+    length-map inputs (λ (i : Arrival). i.time) in
+    let two : length (times_in d.progress) ≡ length (progress_in d.progress) = times_long d.progress in
+    sym one ∙ (sym (ap length times) ∙ two)
 
 module _ {M G : Type 0} where
   -- nothing was done
@@ -73,18 +86,46 @@ module _ {M G : Type 0} where
       owes = λ v lt. rw owed (s.owes v lt);
       reaches = λ right.
           let r : Reaches rules done all (state_of pool d) = s.reaches right in
-          record { reached = λ v lt. rw held (r.reached v lt); known = over.known _ r.known };
+          record { reached = λ v lt. rw held (r.reached v lt); known = over.known (run rules all (opening rules)) r.known };
     };
+  }
+
+  -- WHAT IS READ
+
+  -- a place was made for an input, its first leg was held or offered, and answers were taken
+  pub serves_as : (rules : Rules) (now number : ℕ) (input : Arrival) (found : Option Offer)
+      (pool : Pool M G Leg Answer) (d admitted : Dispatcher) (window : Window) (mid_pool : Pool M G Leg Answer)
+      (mid : Dispatcher) (later_pool : Pool M G Leg Answer) (later : Dispatcher) →
+      window ≡ expecting input.time d.progress → number ≡ length (progress_in d.progress) →
+      Admits rules number now input (parts_of (record d { progress = window })) (with_offer found (parts_of admitted)) →
+      (parts_of admitted).journal ≡ journal_of window → starts mid_pool ≡ starts pool →
+      (parts_of mid).journal ≡ (parts_of admitted).journal →
+      Keeps (with_offered found (state_of pool admitted)) (state_of mid_pool mid) →
+      Continues mid_pool mid later_pool later → Serves rules now input pool d later_pool later
+  serves_as rules now number input found pool d admitted window mid_pool mid later_pool later is at admits journal began
+      same keeps goes = record {
+    starts_stay = goes.starts_stay ∙ began;
+    sized = goes.sized;
+    times_are = ap (λ j. j.times) (goes.journal_stays ∙ (same ∙ journal))
+        ∙ (ap times_in is ∙ expecting_times input.time d.progress);
+    left_stays = ap (λ j. j.left) (goes.journal_stays ∙ (same ∙ journal)) ∙ ap (λ (w : Window). w.left) is;
+    served = λ done rest long clock s.
+        let all : List Arrival = (done ++ input ∷ []) ++ rest in
+        let expected = expected_keeps (accepts pool) (taken pool) (parts_of d)
+        (parts_of (record d { progress = window })) refl refl refl
+        (ap progress_in is ∙ expecting_progress input.time d.progress) rules done all s in
+        goes.keeps rules (done ++ input ∷ []) all (keeps rules (done ++ input ∷ []) all
+        (admits (accepts pool) (taken pool) done rest (long ∙ sym at) clock expected));
   }
 
   -- WHAT WAS READ
 
   pub reads_none : (rules : Rules) (pool : Pool M G Leg Answer) (d : Dispatcher) → IsSizedFor pool d →
       d.progress.left ≡ [] → d.progress.under_way ≡ [] → Reads rules pool d [] [] pool d
-  reads_none rules pool d sized left open = record {
+  reads_none rules pool d sized left none = record {
     starts_stay = refl;
     sized = sized;
-    times_are = rw (left, open) refl;
+    times_are = rw (left, none) refl;
     left_is = left;
     served = λ rest s. s;
   }
@@ -101,14 +142,6 @@ module _ {M G : Type 0} where
     left_is = b.left_is ∙ ap (λ l. l ++ ys) a.left_is;
     served = λ rest s. b.keeps rules inputs (inputs ++ rest) (a.served rest s);
   }
-
-  pub many_read : (d : Dispatcher) (inputs : List Arrival) → (parts_of d).journal.times ≡ map (λ i. i.time) inputs →
-      length inputs ≡ length (parts_of d).progress
-  many_read d inputs times =
-      let one : length (map (λ (i : Arrival). i.time) inputs) ≡ length inputs =
-      length-map inputs (λ (i : Arrival). i.time) in
-      let two : length (times_in d.progress) ≡ length (progress_in d.progress) = times_long d.progress in
-      sym one ∙ (sym (ap length times) ∙ two)
 
   -- one input more
   pub reads_more : (rules : Rules) (pool : Pool M G Leg Answer) (d : Dispatcher) (inputs : List Arrival)
@@ -129,6 +162,13 @@ module _ {M G : Type 0} where
         (subst (λ all. Stands rules inputs all (state_of middle_pool middle)) (sym whole)
         (a.served (input ∷ rest) (subst (λ all. Stands rules [] all (state_of pool d)) whole s)));
   }
+
+-- where nothing is held and all outcomes left there is room
+pub room_idle : (d : Dispatcher) → IsDone (parts_of d) → d.progress.under_way ≡ [] → HasRoom d
+room_idle d done none =
+    let held : many_in (parts_of d).held ≡ 0 = many_none (parts_of d).held done.held in
+    let under_way : length d.progress.under_way ≡ 0 = ap length none in
+    record { held = omega arith; under_way = omega arith }
 
 -- OUTCOMES THAT LEAVE
 
@@ -179,6 +219,36 @@ module _ {S F : Type 0} (takes : S → List (ℕ × Outcome) → S → Type 0) (
     goes = goes_then pool d a.went mid_pool mid later_pool later a.goes b;
     took = a.took;
   }
+
+  -- outcomes left, and then answers were taken and legs offered
+  pub lets_turn : {M G : Type 0} (pool : Pool M G Leg Answer) (d : Dispatcher) (before : S)
+      (mid_pool : Pool M G Leg Answer) (mid : Dispatcher) (between : S) (handed : Dispatcher) (after : S)
+      (later_pool : Pool M G Leg Answer) (later : Dispatcher) → LetsGo takes pool d before mid_pool mid between →
+      LetsGo takes mid_pool mid between mid_pool handed after → Continues mid_pool handed later_pool later →
+      LetsGo takes pool d before later_pool later after
+  lets_turn pool d before mid_pool mid between handed after later_pool later a b c =
+      lets_then pool d before mid_pool handed after later_pool later
+      (lets_more pool d before mid_pool mid between mid_pool handed after a b) c
+
+  -- what left was settled
+  module _ {M G : Type 0} (pool : Pool M G Leg Answer) (d : Dispatcher) (before : S) (later_pool : Pool M G Leg Answer)
+      (later : Dispatcher) (between after : S) (a : LetsGo takes pool d before later_pool later between) where
+    pub lets_settle : takes between [] after → LetsGo takes pool d before later_pool later after
+    lets_settle b = lets_more pool d before later_pool later between later_pool later after a (record {
+      went = [];
+      goes = goes_none later_pool later a.goes.sized;
+      took = b;
+    })
+
+    -- or a fault was told
+    pub lets_unsettled : (fault : F) → takes between [] between → fails between [] fault after →
+        StopsAt takes fails pool d before later_pool later after fault
+    lets_unsettled fault none b =
+        lets_stop pool d before later_pool later between later_pool later after fault a (record {
+      went = [];
+      goes = goes_none later_pool later a.goes.sized;
+      failed = record { first = []; others = []; middle = between; went_is = refl; took = none; failed = b };
+    })
 
   -- WHAT WAS READ
 
