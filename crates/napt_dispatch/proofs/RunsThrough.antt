@@ -104,3 +104,18 @@ runs_whole rules list from done left r =
       subst (λ (inputs : List Arrival). done.run ≡ ran rules inputs) (sym whole) r.run_is,
       subst (λ (inputs : List Arrival). done.times.items ≡ map (λ i. i.time) inputs) (sym whole) r.times,
     )
+
+pub dispatched_whole : {A F B M G : Type 0} (rules : Rules) (list : A → List Arrival)
+    (fails : Collected → List (ℕ × Outcome) → B → Collected → Type 0) (is_settled : Collected → Type 0) (from : A)
+    (none : Collected) (pool : Pool M G Leg Answer) (left : A) (some : Collected) (done : Dispatched F B) →
+    EndsWith rules (λ x xs y. list x ≡ xs ++ list y) (λ x end y. list x ≡ []) Collects fails is_settled from none pool left
+    some None done → none.outcomes.items ≡ [] →
+    (length (accepts pool) ≡ length rules.pool → Right rules (accepts pool) (taken pool)) →
+    IsDispatched rules (list from) (accepts pool) some.outcomes.items done.legs.items
+dispatched_whole rules list fails is_settled from none pool left some done e empty right =
+    let outcomes : some.outcomes.items ≡ map outcome_of e.went = e.took.outcomes
+    ∙ ap (λ l. l ++ map outcome_of e.went) empty in
+    subst (λ (inputs : List Arrival). IsDispatched rules inputs (accepts pool) some.outcomes.items done.legs.items)
+    (sym (came_whole list from left e.inputs None e.came))
+    (subst (λ (outs : List Outcome). IsDispatched rules e.inputs (accepts pool) outs done.legs.items) (sym outcomes)
+    (e.right (right e.offered_many)).1)
