@@ -5,8 +5,8 @@ pub mod Hairpin
 pub mod Lists
 pub mod Offering
 pub mod Offers
-pub mod RunsThrough
 pub mod Passing
 pub mod Queues
+pub mod RunsThrough
 pub mod Standing
 pub mod Windows
