@@ -1,6 +1,5 @@
-use Rattle.std.proofs.Common.{[], ◌≡◌, ◌∙◌, rules}
+use Rattle.std.proofs.Common.{[], rules}
 use Rattle.std.proofs.lemmas.Result.{err_from_is_err_and}
-use Rattle.napt_pool.specs.Pools.{starts}
 use Rattle.napt_dispatch.specs.Dispatch.{IsDispatchFault}
 use Rattle.napt_dispatch.proofs.Passing.{goes_none, lets_more, lets_halt, lets_turn}
 use Rattle.napt_dispatch.proofs.dispatcher.Dispatcher.finish.Goals as goal
@@ -37,6 +36,6 @@ returns-then-is_done-clause-state g c = elim c.match-check_left.branch [
   | in-Err w ↦ rw w.result-is (
     c.loop.invariant.goes.starts_stay,
     let fault : IsDispatchFault g.G.Gate.is_open w.from.result = search rules in
-    fault,
+        fault,
   )
 ]
