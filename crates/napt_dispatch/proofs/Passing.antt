@@ -1,5 +1,5 @@
 -- Runs from arrivals to departures, step by step.
-use Rattle.std.proofs.Common.{◌≡◌, ◌⊎◌, inl, inr, ℕ, ◌+◌, ◌<◌, ◌≤◌, max, Bool, List, [], ◌∷◌, ◌++◌, length, map, Option, Some, None, Result, Ok, Err, refl, sym, ◌∙◌, ap, subst, arith, append-nil, append_assoc, length-append}
+use Rattle.std.proofs.Common.{◌≡◌, ℕ, max, Bool, List, [], ◌∷◌, ◌++◌, length, map, Option, refl, sym, ◌∙◌, ap, subst, arith, append-nil, append_assoc}
 use Rattle.std.proofs.lemmas.List.{map-append, length-map}
 use Rattle.napt_config.specs.Rules.{Rules}
 use Rattle.napt_rules.specs.declared.Leg.{Leg}
@@ -8,6 +8,7 @@ use Rattle.napt_pool.specs.declared.pool.Pool.{Pool}
 use Rattle.napt_pool.specs.Pools.{starts, accepts, takes as taken}
 use Rattle.napt_rules.specs.declared.Outcome.{Outcome}
 use Rattle.napt_rules.specs.Prelude.{opening, Arrival, run, last_clock}
+use Rattle.napt_sequential.specs.Inputs.{Came}
 use Rattle.napt_sequential.proofs.Grown.{clock_more}
 use Rattle.napt_dispatch.specs.declared.dispatcher.Dispatcher.{Dispatcher}
 use Rattle.napt_dispatch.specs.declared.dispatcher.offer.Offer.{Offer}
@@ -21,7 +22,7 @@ use Rattle.napt_dispatch.proofs.Windows.{times_long, expecting_times, expecting_
 use Rattle.napt_dispatch.specs.declared.dispatcher.halted.Halted.{Halted}
 use Rattle.napt_dispatch.specs.declared.dispatcher.halted.Halted.TheVariants as halts
 use Rattle.napt_dispatch.specs.declared.dispatcher.reading.EndOfInputs.{EndOfInputs}
-use Rattle.napt_dispatch.specs.Passing.{Fails, GoesOn, LetsGo, StopsAt, HaltsAt, Serves, Reads, HasCome, ReadsToEnd, ReadsSome, ReadsHalted}
+use Rattle.napt_dispatch.specs.Passing.{Fails, GoesOn, LetsGo, StopsAt, HaltsAt, Serves, Reads, HasCome, ReadsToEnd, ReadsHalted}
 
 pub many_read : (d : Dispatcher) (inputs : List Arrival) → (parts_of d).journal.times ≡ map (λ i. i.time) inputs →
     length inputs ≡ length (parts_of d).progress
@@ -30,6 +31,11 @@ many_read d inputs times =
     length-map inputs (λ (i : Arrival). i.time) in
     let two : length (times_in d.progress) ≡ length (progress_in d.progress) = times_long d.progress in
     sym one ∙ (sym (ap length times) ∙ two)
+
+pub clock_on : (inputs : List Arrival) (input : Arrival) (clock own now : ℕ) → clock ≡ last_clock 0 inputs →
+    own ≡ input.clock → now ≡ max clock own → now ≡ last_clock 0 (inputs ++ input ∷ [])
+clock_on inputs input clock own now was same is =
+    is ∙ (ap (λ t. max t own) was ∙ (ap (max (last_clock 0 inputs)) same ∙ sym (clock_more 0 inputs input)))
 
 module _ {M G : Type 0} where
   -- nothing was done
@@ -104,19 +110,19 @@ module _ {M G : Type 0} where
       Continues mid_pool mid later_pool later → Serves rules now input pool d later_pool later
   serves_as rules now number input found pool d admitted window mid_pool mid later_pool later is at admits journal began
       same keeps goes = record {
-    starts_stay = goes.starts_stay ∙ began;
-    sized = goes.sized;
-    times_are = ap (λ j. j.times) (goes.journal_stays ∙ (same ∙ journal))
-        ∙ (ap times_in is ∙ expecting_times input.time d.progress);
-    left_stays = ap (λ j. j.left) (goes.journal_stays ∙ (same ∙ journal)) ∙ ap (λ (w : Window). w.left) is;
-    served = λ done rest long clock s.
-        let all : List Arrival = (done ++ input ∷ []) ++ rest in
-        let expected = expected_keeps (accepts pool) (taken pool) (parts_of d)
-        (parts_of (record d { progress = window })) refl refl refl
-        (ap progress_in is ∙ expecting_progress input.time d.progress) rules done all s in
-        goes.keeps rules (done ++ input ∷ []) all (keeps rules (done ++ input ∷ []) all
-        (admits (accepts pool) (taken pool) done rest (long ∙ sym at) clock expected));
-  }
+        starts_stay = goes.starts_stay ∙ began;
+        sized = goes.sized;
+        times_are = ap (λ j. j.times) (goes.journal_stays ∙ (same ∙ journal))
+            ∙ (ap times_in is ∙ expecting_times input.time d.progress);
+        left_stays = ap (λ j. j.left) (goes.journal_stays ∙ (same ∙ journal)) ∙ ap (λ (w : Window). w.left) is;
+        served = λ done rest long clock s.
+            let all : List Arrival = (done ++ input ∷ []) ++ rest in
+            let expected = expected_keeps (accepts pool) (taken pool) (parts_of d)
+            (parts_of (record d { progress = window })) refl refl refl
+            (ap progress_in is ∙ expecting_progress input.time d.progress) rules done all s in
+            goes.keeps rules (done ++ input ∷ []) all (keeps rules (done ++ input ∷ []) all
+            (admits (accepts pool) (taken pool) done rest (long ∙ sym at) clock expected));
+      }
 
   -- WHAT WAS READ
 
@@ -245,10 +251,10 @@ module _ {S F : Type 0} (takes : S → List (ℕ × Outcome) → S → Type 0) (
         StopsAt takes fails pool d before later_pool later after fault
     lets_unsettled fault none b =
         lets_stop pool d before later_pool later between later_pool later after fault a (record {
-      went = [];
-      goes = goes_none later_pool later a.goes.sized;
-      failed = record { first = []; others = []; middle = between; went_is = refl; took = none; failed = b };
-    })
+          went = [];
+          goes = goes_none later_pool later a.goes.sized;
+          failed = record { first = []; others = []; middle = between; went_is = refl; took = none; failed = b };
+        })
 
   -- WHAT WAS READ
 
@@ -269,15 +275,23 @@ module _ {S F : Type 0} (takes : S → List (ℕ × Outcome) → S → Type 0) (
     }
     reads_halt open_gate inputs went (halts.Run fault) reads took come b = (b.0 ∙ reads.starts_stay, b.1)
 
+    -- the end was told, or a fault
+    pub reads_over : (inputs : List Arrival) (went : List (ℕ × Outcome)) (end : EndOfInputs B) →
+        Reads rules pool d inputs went mid_pool mid → takes before went between →
+        LetsGo takes mid_pool mid between later_pool later after → Came hands ends from inputs end.fault left →
+        end.clock ≡ last_clock 0 inputs →
+        ReadsToEnd rules hands ends takes fails is_settled pool d from before later_pool later left after end
+    reads_over inputs went end reads took b came clock = record {
+      inputs = inputs;
+      went = went ++ b.went;
+      came = came;
+      clock = clock;
+      reads = reads_on rules pool d inputs went b.went mid_pool mid later_pool later reads b.goes;
+      took = more before between after went b.went took b.took;
+    }
+
     pub reads_end : (end : EndOfInputs B) →
         ReadsToEnd rules hands ends takes fails is_settled pool d from before mid_pool mid left between end →
         LetsGo takes mid_pool mid between later_pool later after →
         ReadsToEnd rules hands ends takes fails is_settled pool d from before later_pool later left after end
-    reads_end end a b = record {
-      inputs = a.inputs;
-      went = a.went ++ b.went;
-      came = a.came;
-      clock = a.clock;
-      reads = reads_on rules pool d a.inputs a.went b.went mid_pool mid later_pool later a.reads b.goes;
-      took = more before between after a.went b.went a.took b.took;
-    }
+    reads_end end a b = reads_over a.inputs a.went end a.reads a.took b a.came a.clock

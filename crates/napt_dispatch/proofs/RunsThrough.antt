@@ -1,5 +1,5 @@
 -- What a run passes on, by what dispatching came to and the answers that the workers were right to give.
-use Rattle.std.proofs.Common.{◌≡◌, ℕ, List, [], ◌∷◌, ◌++◌, length, map, Option, Some, None, Result, Ok, Err, refl, sym, ◌∙◌, ap, subst}
+use Rattle.std.proofs.Common.{◌≡◌, ℕ, List, [], ◌++◌, length, map, Option, None, refl, sym, ◌∙◌, ap, subst}
 use Rattle.napt_config.specs.Rules.{Rules}
 use Rattle.napt_rules.specs.declared.Row.{Row}
 use Rattle.napt_rules.specs.declared.Leg.{Leg}
@@ -55,6 +55,7 @@ module _ {A F S B M G : Type 0} (rules : Rules) (hands : A → List Arrival → 
         legs = passed.legs.items;
       } in r ≡ ran rules e.inputs) →
       PassesWell rules hands ends takes fails is_settled from before left after passed
+  unfolding passes_to
   passes_well done passed e is = record {
     whole = passes_to None done e;
     bindings = ap (λ (r : Ran). r.bindings) is;
@@ -86,15 +87,34 @@ module _ (rules : Rules) (inputs : List Arrival) (none some : Collected)
       ∙ (ap (λ l. l ++ map time_in (timed inputs (ran rules inputs).outcomes)) empty
       ∙ timed_times inputs (ran rules inputs).outcomes (ran_long rules inputs))
 
+  pub collected_run : (bindings : List Row) (legs : List ℕ) → none.outcomes.items ≡ [] →
+      bindings ≡ (ran rules inputs).bindings → legs ≡ (ran rules inputs).legs →
+      (let r : Ran = record { outcomes = some.outcomes.items; bindings = bindings; legs = legs } in r ≡ ran rules inputs)
+  collected_run bindings legs empty shown counted = rw (collected_outcomes empty, shown, counted) refl
+
 -- WHERE THE INPUTS COME OFF A LIST
 
 -- the run is that over the whole list
 pub runs_whole : {A F : Type 0} (rules : Rules) (list : A → List Arrival) (from : A) (done : TimedRun) (left : A) →
-    RunsAll rules {F = F} (λ x xs y. list x ≡ xs ++ list y) (λ x end y. list x ≡ []) from done left →
+    RunsAll {F = F} rules (λ x xs y. list x ≡ xs ++ list y) (λ x end y. list x ≡ []) from done left →
     (done.run ≡ ran rules (list from)) × (done.times.items ≡ map (λ i. i.time) (list from))
 runs_whole rules list from done left r =
-    let whole : list from ≡ r.inputs = came_whole list from left r.inputs None r.came in
-    (
+    let whole : list from ≡ r.inputs = came_whole list from left r.inputs None r.came in (
       subst (λ (inputs : List Arrival). done.run ≡ ran rules inputs) (sym whole) r.run_is,
       subst (λ (inputs : List Arrival). done.times.items ≡ map (λ i. i.time) inputs) (sym whole) r.times,
     )
+
+pub dispatched_whole : {A F B M G : Type 0} (rules : Rules) (list : A → List Arrival)
+    (fails : Collected → List (ℕ × Outcome) → B → Collected → Type 0) (is_settled : Collected → Type 0) (from : A)
+    (none : Collected) (pool : Pool M G Leg Answer) (left : A) (some : Collected) (done : Dispatched F B) →
+    EndsWith rules (λ x xs y. list x ≡ xs ++ list y) (λ x end y. list x ≡ []) Collects fails is_settled from none pool left
+    some None done → none.outcomes.items ≡ [] →
+    (length (accepts pool) ≡ length rules.pool → Right rules (accepts pool) (taken pool)) →
+    IsDispatched rules (list from) (accepts pool) some.outcomes.items done.legs.items
+dispatched_whole rules list fails is_settled from none pool left some done e empty right =
+    let outcomes : some.outcomes.items ≡ map outcome_of e.went = e.took.outcomes
+    ∙ ap (λ l. l ++ map outcome_of e.went) empty in
+    subst (λ (inputs : List Arrival). IsDispatched rules inputs (accepts pool) some.outcomes.items done.legs.items)
+    (sym (came_whole list from left e.inputs None e.came))
+    (subst (λ (outs : List Outcome). IsDispatched rules e.inputs (accepts pool) outs done.legs.items) (sym outcomes)
+    (e.right (right e.offered_many)).1)

@@ -1,4 +1,4 @@
-use Rattle.std.proofs.Common.{◌≡◌, List, [], length, refl, ap}
+use Rattle.std.proofs.Common.{List, [], length, refl, ap}
 use Rattle.napt_config.specs.Rules.{Rules}
 use Rattle.napt_rules.specs.Prelude.{Arrival}
 use Rattle.napt_dispatch.specs.Standing.{state_of, Stands}
@@ -36,4 +36,4 @@ returns-in-Err-Departure-clause-ends g c =
     ends_early rules g.A.Arrivals.hands g.A.Arrivals.ends g.D.Departures.takes g.D.Departures.fails
     g.D.Departures.is_settled c.args.pool.now c.in_ok-dispatcher.dispatcher c.args.arrivals.now c.args.departures.now
     c.pass_all.new.pool c.pass_all.new.self c.pass_all.new.arrivals c.pass_all.new.departures begins
-    c.in-Err-Departure.fault c.in-Err-Departure.ensures
+    c.in-Err-Departure.fault (rw c.in-Err-Departure.field-0-is at c.in-Err-Departure.ensures)

@@ -1,10 +1,10 @@
-use Rattle.std.proofs.Common.{◌≡◌, ◌∙◌, length, map, None, Some, refl}
+use Rattle.std.proofs.Common.{◌≡◌, ◌∙◌, length, map, None, Some, refl, subst}
 use Rattle.std.proofs.lemmas.Result.{IfOk-at_ok}
 use Rattle.napt_config.specs.Rules.{Rules}
 use Rattle.napt_pool.specs.Pools.{starts, accepts, takes}
 use Rattle.napt_dispatch.specs.Collecting.{outcome_of}
 use Rattle.napt_dispatch.specs.Dispatch.{started, Right}
-use Rattle.napt_dispatch.specs.Passing.{EndsWith, EndsEarly}
+use Rattle.napt_dispatch.specs.Passing.{EndsWith, EndsEarly, EndsBy}
 use Rattle.napt_dispatch.specs.contracts.worker.WorkerMachine.TheImpl.{ghosts}
 use Rattle.napt_dispatch.proofs.Closed.{rows_shown, workers_shown}
 use Rattle.napt_dispatch.proofs.Ended.{right_front}
@@ -18,7 +18,11 @@ returns-in-Ok-clause-passes g c =
     let e : EndsWith rules g.A.Arrivals.hands g.A.Arrivals.ends g.D.Departures.takes g.D.Departures.fails
     g.D.Departures.is_settled c.args.arrivals.now c.args.departures.now pool c.dispatch_to-dispatched.new.arrivals
     c.dispatch_to-dispatched.new.departures None c.in_ok-dispatched.dispatched =
-    rw c.in-Whole.is at (IfOk-at_ok _ c.in_ok-dispatched.ensures.given c.dispatch_to-dispatched.ensures.ends) in
+    subst (λ ending. EndsBy rules g.A.Arrivals.hands g.A.Arrivals.ends g.D.Departures.takes g.D.Departures.fails
+    g.D.Departures.is_settled c.args.arrivals.now c.args.departures.now pool c.dispatch_to-dispatched.new.arrivals
+    c.dispatch_to-dispatched.new.departures
+    c.in_ok-dispatched.dispatched ending) c.in-Whole.is
+    (IfOk-at_ok _ c.in_ok-dispatched.ensures.given c.dispatch_to-dispatched.ensures.ends) in
     let began : starts pool ≡ started rules (length rules.pool) =
     c.dispatch_to-dispatched.ensures.starts ∙ c.in_ok-pool.ensures.started in
     let right : Right rules (accepts pool) (takes pool) =
@@ -41,7 +45,11 @@ returns-in-Arrival-clause-passes g c =
     let e : EndsWith rules g.A.Arrivals.hands g.A.Arrivals.ends g.D.Departures.takes g.D.Departures.fails
     g.D.Departures.is_settled c.args.arrivals.now c.args.departures.now pool c.dispatch_to-dispatched.new.arrivals
     c.dispatch_to-dispatched.new.departures (Some c.in-Arrival.fault) c.in_ok-dispatched.dispatched =
-    rw c.in-Arrival.is at (IfOk-at_ok _ c.in_ok-dispatched.ensures.given c.dispatch_to-dispatched.ensures.ends) in
+    subst (λ ending. EndsBy rules g.A.Arrivals.hands g.A.Arrivals.ends g.D.Departures.takes g.D.Departures.fails
+    g.D.Departures.is_settled c.args.arrivals.now c.args.departures.now pool c.dispatch_to-dispatched.new.arrivals
+    c.dispatch_to-dispatched.new.departures
+    c.in_ok-dispatched.dispatched ending) c.in-Arrival.is
+    (IfOk-at_ok _ c.in_ok-dispatched.ensures.given c.dispatch_to-dispatched.ensures.ends) in
     let began : starts pool ≡ started rules (length rules.pool) =
     c.dispatch_to-dispatched.ensures.starts ∙ c.in_ok-pool.ensures.started in
     let right : Right rules (accepts pool) (takes pool) =
@@ -59,7 +67,11 @@ returns-clause-passes g c =
     let e : EndsEarly rules g.A.Arrivals.hands g.A.Arrivals.ends g.D.Departures.takes g.D.Departures.fails
     g.D.Departures.is_settled c.args.arrivals.now c.args.departures.now pool c.dispatch_to-dispatched.new.arrivals
     c.dispatch_to-dispatched.new.departures c.in-Departure.fault =
-    rw c.in-Departure.is at (IfOk-at_ok _ c.in_ok-dispatched.ensures.given c.dispatch_to-dispatched.ensures.ends) in
+    subst (λ ending. EndsBy rules g.A.Arrivals.hands g.A.Arrivals.ends g.D.Departures.takes g.D.Departures.fails
+    g.D.Departures.is_settled c.args.arrivals.now c.args.departures.now pool c.dispatch_to-dispatched.new.arrivals
+    c.dispatch_to-dispatched.new.departures
+    c.in_ok-dispatched.dispatched ending) c.in-Departure.is
+    (IfOk-at_ok _ c.in_ok-dispatched.ensures.given c.dispatch_to-dispatched.ensures.ends) in
     let began : starts pool ≡ started rules (length rules.pool) =
     c.dispatch_to-dispatched.ensures.starts ∙ c.in_ok-pool.ensures.started in
     let right : Right rules (accepts pool) (takes pool) =
