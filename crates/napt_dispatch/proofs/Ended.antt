@@ -114,6 +114,8 @@ module _ (g : Ghosts TranslatorState Leg Answer) (stepped_is : (s : TranslatorSt
       ap length is in
       let right = right_since rules starts offered (zip_with (replies g) starts offered) began many refl w lt in
       let joined : of_worker taken w ++ of_worker rests w ≡ of_worker (zip_with (replies g) starts offered) w =
-      sym (zip_joined taken rests w (omega (arith, lt, many, all, same))) ∙ ap (λ l. of_worker l w) is in
-      (of_worker rests w ++ right.0, sym (append_assoc (of_worker taken w) (of_worker rests w) right.0)
-      ∙ (ap (λ l. l ++ right.0) joined ∙ right.1))
+      sym (zip_joined taken rests w (omega (arith, lt, many, all, same))) ∙ ap (λ l. of_worker l w) is in (
+        of_worker rests w ++ right.0,
+        sym (append_assoc (of_worker taken w) (of_worker rests w) right.0)
+            ∙ (ap (λ l. l ++ right.0) joined ∙ right.1),
+      )

@@ -69,8 +69,7 @@ module _ {A F S B M G : Type 0} (rules : Rules) (hands : A → List Arrival → 
             (λ v lt. all_taken rules inputs inputs now stands r.done v (rw stands.offered_many at lt));
         right = λ right.
             let both = dispatched rules inputs now later.progress stands r.done refl reads.times_are
-            r.none_under_way right in
-            (
+            r.none_under_way right in (
               sym reads.left_is ∙ both.0,
               subst (λ legs. IsDispatched rules inputs (accepts later_pool) (map outcome_of r.to_end.went) legs)
                   (sym legs)

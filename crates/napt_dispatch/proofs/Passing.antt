@@ -104,19 +104,19 @@ module _ {M G : Type 0} where
       Continues mid_pool mid later_pool later → Serves rules now input pool d later_pool later
   serves_as rules now number input found pool d admitted window mid_pool mid later_pool later is at admits journal began
       same keeps goes = record {
-    starts_stay = goes.starts_stay ∙ began;
-    sized = goes.sized;
-    times_are = ap (λ j. j.times) (goes.journal_stays ∙ (same ∙ journal))
-        ∙ (ap times_in is ∙ expecting_times input.time d.progress);
-    left_stays = ap (λ j. j.left) (goes.journal_stays ∙ (same ∙ journal)) ∙ ap (λ (w : Window). w.left) is;
-    served = λ done rest long clock s.
-        let all : List Arrival = (done ++ input ∷ []) ++ rest in
-        let expected = expected_keeps (accepts pool) (taken pool) (parts_of d)
-        (parts_of (record d { progress = window })) refl refl refl
-        (ap progress_in is ∙ expecting_progress input.time d.progress) rules done all s in
-        goes.keeps rules (done ++ input ∷ []) all (keeps rules (done ++ input ∷ []) all
-        (admits (accepts pool) (taken pool) done rest (long ∙ sym at) clock expected));
-  }
+        starts_stay = goes.starts_stay ∙ began;
+        sized = goes.sized;
+        times_are = ap (λ j. j.times) (goes.journal_stays ∙ (same ∙ journal))
+            ∙ (ap times_in is ∙ expecting_times input.time d.progress);
+        left_stays = ap (λ j. j.left) (goes.journal_stays ∙ (same ∙ journal)) ∙ ap (λ (w : Window). w.left) is;
+        served = λ done rest long clock s.
+            let all : List Arrival = (done ++ input ∷ []) ++ rest in
+            let expected = expected_keeps (accepts pool) (taken pool) (parts_of d)
+            (parts_of (record d { progress = window })) refl refl refl
+            (ap progress_in is ∙ expecting_progress input.time d.progress) rules done all s in
+            goes.keeps rules (done ++ input ∷ []) all (keeps rules (done ++ input ∷ []) all
+            (admits (accepts pool) (taken pool) done rest (long ∙ sym at) clock expected));
+      }
 
   -- WHAT WAS READ
 
@@ -245,10 +245,10 @@ module _ {S F : Type 0} (takes : S → List (ℕ × Outcome) → S → Type 0) (
         StopsAt takes fails pool d before later_pool later after fault
     lets_unsettled fault none b =
         lets_stop pool d before later_pool later between later_pool later after fault a (record {
-      went = [];
-      goes = goes_none later_pool later a.goes.sized;
-      failed = record { first = []; others = []; middle = between; went_is = refl; took = none; failed = b };
-    })
+          went = [];
+          goes = goes_none later_pool later a.goes.sized;
+          failed = record { first = []; others = []; middle = between; went_is = refl; took = none; failed = b };
+        })
 
   -- WHAT WAS READ
 

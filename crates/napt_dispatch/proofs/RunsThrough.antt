@@ -99,8 +99,7 @@ pub runs_whole : {A F : Type 0} (rules : Rules) (list : A → List Arrival) (fro
     RunsAll {F = F} rules (λ x xs y. list x ≡ xs ++ list y) (λ x end y. list x ≡ []) from done left →
     (done.run ≡ ran rules (list from)) × (done.times.items ≡ map (λ i. i.time) (list from))
 runs_whole rules list from done left r =
-    let whole : list from ≡ r.inputs = came_whole list from left r.inputs None r.came in
-    (
+    let whole : list from ≡ r.inputs = came_whole list from left r.inputs None r.came in (
       subst (λ (inputs : List Arrival). done.run ≡ ran rules inputs) (sym whole) r.run_is,
       subst (λ (inputs : List Arrival). done.times.items ≡ map (λ i. i.time) inputs) (sym whole) r.times,
     )

@@ -476,11 +476,13 @@ pub next_keeps_as : (w number : ℕ) (state : DispatchState) (held : List (List 
     Popped w (Place number) state.parts.held held → (leg : Leg) (window later : Window) →
     IsSecond number window later (seconds.Known leg) → state.parts.progress ≡ progress_in window →
     state.parts.journal ≡ journal_of window →
-    Keeps state (with_first w leg (record state { parts = record state.parts {
-      held = held;
-      progress = progress_in later;
-      journal = journal_of later;
-    } }))
+    Keeps state (with_first w leg (record state {
+      parts = record state.parts {
+        held = held;
+        progress = progress_in later;
+        journal = journal_of later;
+      };
+    }))
 next_keeps_as w number state held within p leg window later is before journal = λ rules done all s.
     let known : slice_get state.parts.progress number ≡ Some (Onward leg.now leg.packet) =
     ap (λ ps. slice_get ps number) before ∙ is.1 in
@@ -776,10 +778,12 @@ dispatched rules inputs state window s idle progress times none right =
     map_at (λ address. legs_at address course.acts) state.offered rules.pool s.offered_many reached in
     let run_long : length course.outcomes ≡ length inputs = outcomes_long rules 0 0 inputs (opening rules) in
     let left : window.left ≡ timed inputs course.outcomes =
-    left_whole course window inputs times (λ i p h. r.known i p (ap (λ ps. slice_get ps i) progress ∙ h)) run_long none in
-    (left, record {
-      legs = legs;
-      outcomes_are = ap (map outcome_of) left ∙ timed_outcomes inputs course.outcomes run_long;
-      numbers_are = s.counts_are
-          ∙ (ap (map length) legs ∙ map-map length (λ (address : ℕ). legs_at address course.acts) rules.pool);
-    })
+    left_whole course window inputs times (λ i p h. r.known i p (ap (λ ps. slice_get ps i) progress ∙ h)) run_long none in (
+      left,
+      record {
+        legs = legs;
+        outcomes_are = ap (map outcome_of) left ∙ timed_outcomes inputs course.outcomes run_long;
+        numbers_are = s.counts_are
+            ∙ (ap (map length) legs ∙ map-map length (λ (address : ℕ). legs_at address course.acts) rules.pool);
+      },
+    )

@@ -183,8 +183,12 @@ pub unread_unknown : (left : List (ℕ × Outcome)) (items : List OpenInput) (nu
 unread_unknown left items number le =
     let long : length (map (λ (o : OpenInput). let p : ℕ × Progress = (o.time, o.progress) in p) items)
     ≡ length items = length-map items (λ (o : OpenInput). let p : ℕ × Progress = (o.time, o.progress) in p) in
-    past_unknown (progress_in (window_of left items)) number (omega (arith, le, long,
-    length_all (window_of left items)))
+    past_unknown (progress_in (window_of left items)) number (omega (
+      arith,
+      le,
+      long,
+      length_all (window_of left items),
+    ))
 
 -- STEPS
 

@@ -37,6 +37,6 @@ returns-then-is_done-clause-state g c = elim c.match-check_left.branch [
   | in-Err w ↦ rw w.result-is (
     c.loop.invariant.goes.starts_stay,
     let fault : IsDispatchFault g.G.Gate.is_open w.from.result = search rules in
-    fault,
+        fault,
   )
 ]
