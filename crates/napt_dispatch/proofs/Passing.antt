@@ -8,6 +8,7 @@ use Rattle.napt_pool.specs.declared.pool.Pool.{Pool}
 use Rattle.napt_pool.specs.Pools.{starts, accepts, takes as taken}
 use Rattle.napt_rules.specs.declared.Outcome.{Outcome}
 use Rattle.napt_rules.specs.Prelude.{opening, Arrival, run, last_clock}
+use Rattle.napt_sequential.specs.Inputs.{Came}
 use Rattle.napt_sequential.proofs.Grown.{clock_more}
 use Rattle.napt_dispatch.specs.declared.dispatcher.Dispatcher.{Dispatcher}
 use Rattle.napt_dispatch.specs.declared.dispatcher.offer.Offer.{Offer}
@@ -30,6 +31,11 @@ many_read d inputs times =
     length-map inputs (λ (i : Arrival). i.time) in
     let two : length (times_in d.progress) ≡ length (progress_in d.progress) = times_long d.progress in
     sym one ∙ (sym (ap length times) ∙ two)
+
+pub clock_on : (inputs : List Arrival) (input : Arrival) (clock own now : ℕ) → clock ≡ last_clock 0 inputs →
+    own ≡ input.clock → now ≡ max clock own → now ≡ last_clock 0 (inputs ++ input ∷ [])
+clock_on inputs input clock own now was same is =
+    is ∙ (ap (λ t. max t own) was ∙ (ap (max (last_clock 0 inputs)) same ∙ sym (clock_more 0 inputs input)))
 
 module _ {M G : Type 0} where
   -- nothing was done
@@ -269,15 +275,23 @@ module _ {S F : Type 0} (takes : S → List (ℕ × Outcome) → S → Type 0) (
     }
     reads_halt open_gate inputs went (halts.Run fault) reads took come b = (b.0 ∙ reads.starts_stay, b.1)
 
+    -- the end was told, or a fault
+    pub reads_over : (inputs : List Arrival) (went : List (ℕ × Outcome)) (end : EndOfInputs B) →
+        Reads rules pool d inputs went mid_pool mid → takes before went between →
+        LetsGo takes mid_pool mid between later_pool later after → Came hands ends from inputs end.fault left →
+        end.clock ≡ last_clock 0 inputs →
+        ReadsToEnd rules hands ends takes fails is_settled pool d from before later_pool later left after end
+    reads_over inputs went end reads took b came clock = record {
+      inputs = inputs;
+      went = went ++ b.went;
+      came = came;
+      clock = clock;
+      reads = reads_on rules pool d inputs went b.went mid_pool mid later_pool later reads b.goes;
+      took = more before between after went b.went took b.took;
+    }
+
     pub reads_end : (end : EndOfInputs B) →
         ReadsToEnd rules hands ends takes fails is_settled pool d from before mid_pool mid left between end →
         LetsGo takes mid_pool mid between later_pool later after →
         ReadsToEnd rules hands ends takes fails is_settled pool d from before later_pool later left after end
-    reads_end end a b = record {
-      inputs = a.inputs;
-      went = a.went ++ b.went;
-      came = a.came;
-      clock = a.clock;
-      reads = reads_on rules pool d a.inputs a.went b.went mid_pool mid later_pool later a.reads b.goes;
-      took = more before between after a.went b.went a.took b.took;
-    }
+    reads_end end a b = reads_over a.inputs a.went end a.reads a.took b a.came a.clock

@@ -250,6 +250,11 @@ Admits rules number now input parts later =
           later;
     })
 
+-- whether answers were taken: fewer are owed than before, or as many
+abbrev pub HasTaken : Parts → Parts → Bool → Type 0
+HasTaken parts later true = many_in later.owed < many_in parts.owed
+HasTaken parts later false = many_in later.owed ≡ many_in parts.owed
+
 -- OFFERS
 
 -- the ring of worker w has no room for a leg more, until an answer is taken
