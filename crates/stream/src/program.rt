@@ -82,7 +82,7 @@ fn run<
         mut report,
     } = buffered(alloc, open_files(rt, options)?)?;
     let mut inside = Counted::over(inside, progress);
-    let mut outside = outside.map(|device| Counted::over(device, progress));
+    let mut outside = Counted::over_given(outside, progress);
     let gate = Arc::new(alloc, OpenGate).map_err(|_| MEMORY)?;
     let answer = run_streams(
         rt,
