@@ -1,4 +1,5 @@
 //! A device whose packets are counted.
+ghost use Rattle.std.specs.Prelude.{◌≡◌, option_map};
 
 use crate::progress::Progress;
 use napt_capture::{DeviceFault, Source};
@@ -95,11 +96,26 @@ pub struct Counted<'p, S, R> {
 
 impl<'p, S, R> Counted<'p, S, R> {
     /// Over a device of which nothing was read.
-    pub fn over(device: S, progress: &'p Progress<'p, R>) -> Counted<'p, S, R> {
+    pub fn over(device: S, progress: &'p Progress<'p, R>) -> Counted<'p, S, R>
+        ensures { result.device ≡ device }
+    {
         Counted {
             device,
             tally: Tally::BEGIN,
             progress,
+        }
+    }
+
+    /// The same, where there is a device.
+    pub fn over_given(
+        device: Option<S>,
+        progress: &'p Progress<'p, R>,
+    ) -> Option<Counted<'p, S, R>>
+        ensures { option_map (λ counted. counted.device) result ≡ device }
+    {
+        match device {
+            Some(device) => Some(Counted::over(device, progress)),
+            None => None,
         }
     }
 }

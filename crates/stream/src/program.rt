@@ -1,4 +1,8 @@
-//! What the program does: it reads its words and its configuration, opens the files in a fixed order, and runs over them.
+//! What the program does: it reads its words and its configuration, opens the files in a fixed order, and runs over
+//! them.
+
+ghost use Rattle.std.specs.Prelude.{IfErr};
+ghost use Rattle.stream.specs.Program.{IsUnderOpenGate};
 
 use crate::counted::Counted;
 use crate::manual::MANUAL;
@@ -22,7 +26,7 @@ use std::time::Clock;
 ///
 /// Fails, before any capture is opened, where the words are not understood, where memory runs out for them, where a
 /// standard stream that stands for a file is closed, or where the configuration is refused; else where a file cannot
-/// be opened or created, or the run fails.
+/// be opened or created, or the run fails. A shut gate is never told.
 pub fn serve<
     R: Env
         + Files
@@ -40,7 +44,9 @@ pub fn serve<
     rt: &R,
     streams: Streams,
     is_told: bool,
-) -> Result<(), Stop> {
+) -> Result<(), Stop>
+    ensures { IfErr result IsUnderOpenGate }
+{
     match parse_words_of(rt.alloc(), MANUAL, words(rt)?) {
         Ok(options) => run(rt, streams, &options, &Progress::of(rt, is_told)),
         Err(LineFault::Help(text)) => rt.print(text).map_err(|_| Stop::Help),
@@ -50,7 +56,9 @@ pub fn serve<
 }
 
 /// The words of the command line. One that is no text is not understood.
-fn words<R: Env + AllocGlobal>(rt: &R) -> Result<Vec<String>, Stop> {
+fn words<R: Env + AllocGlobal>(rt: &R) -> Result<Vec<String>, Stop>
+    ensures { IfErr result IsUnderOpenGate }
+{
     match env::args(rt) {
         Ok(args) => args.collect(rt.alloc()).map_err(|_| Stop::LineMemory),
         Err(error) if error.kind() == ErrorKind::OutOfMemory => Err(Stop::LineMemory),
@@ -68,7 +76,9 @@ fn run<
     streams: Streams,
     options: &Options,
     progress: &Progress<'_, R>,
-) -> Result<(), Stop> {
+) -> Result<(), Stop>
+    ensures { IfErr result IsUnderOpenGate }
+{
     if let Some(role) = closed_stream(streams, options) {
         return Err(Stop::File(role));
     }
@@ -82,7 +92,7 @@ fn run<
         mut report,
     } = buffered(alloc, open_files(rt, options)?)?;
     let mut inside = Counted::over(inside, progress);
-    let mut outside = outside.map(|device| Counted::over(device, progress));
+    let mut outside = Counted::over_given(outside, progress);
     let gate = Arc::new(alloc, OpenGate).map_err(|_| MEMORY)?;
     let answer = run_streams(
         rt,
