@@ -1,6 +1,6 @@
 //! The flows of one binding.
 //!
-//! No call walks over more than a few of them.
+//! No call walks over more than a few of them, but to drop those that ended and to give up their slots.
 
 ghost use Rattle.std.specs.Prelude.{◌≡◌, ◌==◌, ◌≤◌, ℕ, Bool, true, filter, OnOk, OnErr, IfOk, [], ◌∷◌};
 ghost use Rattle.std.specs.List.{list_any};

@@ -1,4 +1,4 @@
-//! Many flows, which no call walks over.
+//! Many flows, which no call walks over but to drop those that ended and to give up their slots.
 
 ghost use Rattle.std.specs.Prelude.{◌≡◌, ◌==◌, ◌≤◌, ◌<◌, ◌++◌, ℕ, Bool, true, false, None, Some, [], ◌∷◌, length, filter, slice_set, OnOk, OnErr, IfOk, IfSome};
 ghost use Rattle.std.specs.List.{list_any};
