@@ -109,8 +109,8 @@ module _ {X : Type 0} where
   pub one_more : (slots : List (Option X)) (y : X) → length (somes (slots ++ Some y ∷ [])) ≡ length (somes slots) + 1
   one_more slots y = ap (λ (l : List X). length l) (somes_pushed slots y) ∙ length_push (somes slots) y
 
-  pub as_many_set : (slots : List (Option X)) (i : ℕ) (x y : X) → Stands slots i x → length (somes (set slots i (Some y)))
-      ≡ length (somes slots)
+  pub as_many_set : (slots : List (Option X)) (i : ℕ) (x y : X) → Stands slots i x →
+      length (somes (set slots i (Some y))) ≡ length (somes slots)
   as_many_set [] i x y h = cc
   as_many_set (None ∷ slots) zero x y h = cc
   as_many_set (None ∷ slots) (suc i) x y h = as_many_set slots i x y h

@@ -25,8 +25,8 @@ filter_true p all [] = refl
 filter_true p all (x ∷ xs) = ap (λ v. cond v (x ∷ filter p xs) (filter p xs)) (all x) ∙ ap (λ (l : List _). x ∷ l)
     (filter_true p all xs)
 
-pub standing : (timers : Timers) (now : ℕ) (protocol : Protocol) (flows : List Flow) → live_flows timers now protocol flows
-    ≡ filter (is_standing timers now protocol) flows
+pub standing : (timers : Timers) (now : ℕ) (protocol : Protocol) (flows : List Flow) →
+    live_flows timers now protocol flows ≡ filter (is_standing timers now protocol) flows
 standing timers now Icmp flows = sym (filter_true (is_standing timers now Icmp) (λ f. refl) flows)
 standing timers now Udp flows = sym (filter_true (is_standing timers now Udp) (λ f. refl) flows)
 standing timers now Tcp flows = refl

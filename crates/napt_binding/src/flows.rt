@@ -1,6 +1,6 @@
 //! The flows of one binding.
 //!
-//! Amortized, a call looks at only a few of them.
+//! No call looks at more than a few of them, except to drop dead ones and to give up their slots.
 
 ghost use Rattle.std.specs.Prelude.{◌≡◌, ◌==◌, ◌≤◌, ℕ, Bool, true, filter, OnOk, OnErr, IfOk, [], ◌∷◌};
 ghost use Rattle.std.specs.List.{list_any};

@@ -66,13 +66,10 @@ pub(super) fn count_standing(flows: &[Flow], timers: Timers, sent: Sent) -> usiz
     requires { AreTimers timers }
     ensures { result ≡ length (packets.standing_at timers sent flows.now) }
 {
-    let mut many = 0;
-    for flow in flows {
-        if is_standing(flow, timers, sent.now, sent.protocol) {
-            many += 1;
-        }
-    }
-    many
+    flows
+        .iter()
+        .filter(|flow| is_standing(flow, timers, sent.now, sent.protocol))
+        .count()
 }
 
 /// Removes the dead ones of these TCP flows.

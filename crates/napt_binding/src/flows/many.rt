@@ -1,4 +1,4 @@
-//! Many flows, found through maps.
+//! Many flows, found through maps; all are walked only to drop dead ones and to give up their slots.
 
 ghost use Rattle.std.specs.Prelude.{◌≡◌, ◌==◌, ◌≤◌, ◌<◌, ◌++◌, ℕ, Bool, true, false, None, Some, [], ◌∷◌, length, filter, slice_set, OnOk, OnErr, IfOk, IfSome};
 ghost use Rattle.std.specs.List.{list_any};

@@ -1,6 +1,6 @@
-use Rattle.std.proofs.Common.{◌≤◌, ◌∙◌, List, length, ap, sym, arith}
-use Rattle.std.specs.Prelude.{filter}
-use Rattle.std.proofs.lemmas.List.{take_all}
+use Rattle.std.proofs.Common.{◌∙◌, List, length, ap, sym, rules, tests}
+use Rattle.std.proofs.lemmas.Iterator.{YieldsList-from_slice}
+use Rattle.std.proofs.lemmas.Iterator.Consumers.{count_from_yields_List, YieldsList-from_filter}
 use Rattle.napt_rules.specs.declared.Flow.{Flow}
 use Rattle.napt_binding.specs.Standing.{is_standing}
 use Rattle.napt_binding.proofs.Few.{all_standing}
@@ -8,10 +8,8 @@ use Rattle.napt_binding.proofs.flows.few.count_standing.Goals as goal
 
 pub returns : goal.returns
 returns c =
-    let flows : List Flow = c.args.flows.now in
     let sent = c.args.sent in
-    let end : length flows ≤ c.loop-flow.flow-index = omega (arith, c.loop-flow-test.false) in
-    c.loop-flow.invariant.0
-    ∙ (ap (λ (l : List Flow). length (filter (is_standing c.args.timers sent.now sent.protocol) l))
-    (take_all c.loop-flow.flow-index flows end)
-    ∙ sym (ap (λ (l : List Flow). length l) (all_standing c.args.timers sent flows)))
+    count_from_yields_List c.filter.result c.count.result c.count.ensures.ran
+    (YieldsList-from_filter _ (is_standing c.args.timers sent.now sent.protocol)
+    (YieldsList-from_slice c.args.flows.now (cc)) c.filter.ensures.closure (λ x b q k. search (rules, tests)))
+    ∙ sym (ap (λ (l : List Flow). length l) (all_standing c.args.timers sent c.args.flows.now))
