@@ -1,21 +1,18 @@
 //! What the program does: it reads its words and its configuration, opens the files in a fixed order, and runs over
 //! them.
 
-ghost use Rattle.std.specs.Prelude.{IfErr};
-ghost use Rattle.stream.specs.Program.{IsUnderOpenGate};
+ghost use Rattle.std.specs.Prelude.{◌≡◌, IfErr, OnOk, map, string_bytes};
+ghost use Rattle.napt_options.specs.CommandLine.{files_of, line_of_words};
+ghost use Rattle.napt_program.specs.Command.{IsLineStop, IsRunStop, IsTaken, IsUnderOpenGate};
 
 use crate::counted::Counted;
 use crate::manual::MANUAL;
 use crate::progress::Progress;
 use napt_options::{LineFault, Options, parse_words_of};
 use napt_pool::OpenGate;
-use napt_program::{
-    Devices, MEMORY, Stop, Streams, buffered, closed_stream, configuration, open_files,
-};
+use napt_program::{Devices, MEMORY, Opened, Stop, Streams, open, words};
 use napt_stream::run_streams;
-use std::env;
 use std::env::Env;
-use std::io::ErrorKind;
 use std::rt::Files;
 use std::sync::{Arc, Wait};
 use std::thread::Threads;
@@ -47,7 +44,24 @@ pub fn serve<
 ) -> Result<(), Stop>
     ensures { IfErr result IsUnderOpenGate }
 {
-    match parse_words_of(rt.alloc(), MANUAL, words(rt)?) {
+    serve_words(rt, streams, words(rt)?, is_told)
+}
+
+/// The same for these words, the program's name first: where it ends well they are understood, and it stops only by
+/// what they name.
+pub fn serve_words<
+    R: Files + Input + Print + Eprint + Clock + AllocGlobal + Threads + Wait + Copy + Send + 'static,
+>(
+    rt: &R,
+    streams: Streams,
+    words: Vec<String>,
+    is_told: bool,
+) -> Result<(), Stop>
+    ensures taken { OnOk result (IsTaken (line_of_words (map string_bytes words.items))) }
+    ensures stop { IfErr result
+        (IsLineStop streams (line_of_words (map string_bytes words.items))) }
+{
+    match parse_words_of(rt.alloc(), MANUAL, words) {
         Ok(options) => run(rt, streams, &options, &Progress::of(rt, is_told)),
         Err(LineFault::Help(text)) => rt.print(text).map_err(|_| Stop::Help),
         Err(LineFault::Usage) => Err(Stop::Usage),
@@ -55,20 +69,7 @@ pub fn serve<
     }
 }
 
-/// The words of the command line. One that is no text is not understood.
-fn words<R: Env + AllocGlobal>(rt: &R) -> Result<Vec<String>, Stop>
-    ensures { IfErr result IsUnderOpenGate }
-{
-    match env::args(rt) {
-        Ok(args) => args.collect(rt.alloc()).map_err(|_| Stop::LineMemory),
-        Err(error) if error.kind() == ErrorKind::OutOfMemory => Err(Stop::LineMemory),
-        Err(_) => Err(Stop::Usage),
-    }
-}
-
-/// Runs over the files of the options, and the standard streams that stand for absent ones, and tells how far it is, if
-/// somebody waits. Refuses such a stream, by its role, where it is closed; then come the configuration, the files, and
-/// buffers over them.
+/// Runs over all that the options name, and tells how far it is, if somebody waits.
 fn run<
     R: Files + Input + Print + Eprint + Clock + AllocGlobal + Threads + Wait + Copy + Send + 'static,
 >(
@@ -77,20 +78,17 @@ fn run<
     options: &Options,
     progress: &Progress<'_, R>,
 ) -> Result<(), Stop>
-    ensures { IfErr result IsUnderOpenGate }
+    ensures { IfErr result (IsRunStop streams (files_of options.now)) }
 {
-    if let Some(role) = closed_stream(streams, options) {
-        return Err(Stop::File(role));
-    }
     let alloc = rt.alloc();
-    let config = configuration(rt, options.config.as_ref())?;
+    let Opened { config, devices } = open(rt, streams, options)?;
     let Devices {
         inside,
         outside,
         mut to_outside,
         mut to_inside,
         mut report,
-    } = buffered(alloc, open_files(rt, options)?)?;
+    } = devices;
     let mut inside = Counted::over(inside, progress);
     let mut outside = Counted::over_given(outside, progress);
     let gate = Arc::new(alloc, OpenGate).map_err(|_| MEMORY)?;
