@@ -37,11 +37,7 @@ pub fn serve<
         + Copy
         + Send
         + 'static,
->(
-    rt: &R,
-    streams: Streams,
-    is_told: bool,
-) -> Result<(), Stop>
+>(rt: &R, streams: Streams, is_told: bool) -> Result<(), Stop>
     ensures { IfErr result IsUnderOpenGate }
 {
     serve_words(rt, streams, words(rt)?, is_told)
@@ -50,13 +46,18 @@ pub fn serve<
 /// The same for these words, the program's name first: where it ends well they are understood, and it stops only by
 /// what they name.
 pub fn serve_words<
-    R: Files + Input + Print + Eprint + Clock + AllocGlobal + Threads + Wait + Copy + Send + 'static,
->(
-    rt: &R,
-    streams: Streams,
-    words: Vec<String>,
-    is_told: bool,
-) -> Result<(), Stop>
+    R: Files
+        + Input
+        + Print
+        + Eprint
+        + Clock
+        + AllocGlobal
+        + Threads
+        + Wait
+        + Copy
+        + Send
+        + 'static,
+>(rt: &R, streams: Streams, words: Vec<String>, is_told: bool) -> Result<(), Stop>
     ensures taken { OnOk result (IsTaken (line_of_words (map string_bytes words.items))) }
     ensures stop { IfErr result
         (IsLineStop streams (line_of_words (map string_bytes words.items))) }
@@ -71,13 +72,18 @@ pub fn serve_words<
 
 /// Runs over all that the options name, and tells how far it is, if somebody waits.
 fn run<
-    R: Files + Input + Print + Eprint + Clock + AllocGlobal + Threads + Wait + Copy + Send + 'static,
->(
-    rt: &R,
-    streams: Streams,
-    options: &Options,
-    progress: &Progress<'_, R>,
-) -> Result<(), Stop>
+    R: Files
+        + Input
+        + Print
+        + Eprint
+        + Clock
+        + AllocGlobal
+        + Threads
+        + Wait
+        + Copy
+        + Send
+        + 'static,
+>(rt: &R, streams: Streams, options: &Options, progress: &Progress<'_, R>) -> Result<(), Stop>
     ensures { IfErr result (IsRunStop streams (files_of options.now)) }
 {
     let alloc = rt.alloc();
