@@ -1,6 +1,5 @@
 -- What a run from arrivals to departures comes to.
-use Rattle.std.proofs.Common.{◌≡◌, ◌⊎◌, inl, inr, ℕ, ◌+◌, ◌<◌, ◌^◌, Bool, List, [], ◌∷◌, ◌++◌, length, map, replicate, Option, Some, None, MatchOption, refl, sym, ◌∙◌, ap, subst, arith, append-nil}
-use Rattle.std.proofs.lemmas.List.{length-map}
+use Rattle.std.proofs.Common.{◌≡◌, ℕ, List, [], ◌++◌, length, map, replicate, Option, Some, None, MatchOption, refl, sym, ◌∙◌, ap, subst, arith, append-nil}
 use Rattle.napt_config.specs.Rules.{Rules}
 use Rattle.napt_rules.specs.Prelude.{opening, Arrival, run}
 use Rattle.napt_rules.specs.declared.Leg.{Leg}
@@ -15,7 +14,7 @@ use Rattle.napt_dispatch.specs.declared.dispatcher.Ending.{Ending}
 use Rattle.napt_dispatch.specs.declared.dispatcher.Ending.TheVariants as endings
 use Rattle.napt_dispatch.specs.declared.dispatcher.reading.EndOfInputs.{EndOfInputs}
 use Rattle.napt_dispatch.specs.Collecting.{outcome_of}
-use Rattle.napt_dispatch.specs.Dispatch.{of_worker, IsDispatched, Right}
+use Rattle.napt_dispatch.specs.Dispatch.{IsDispatched}
 use Rattle.napt_dispatch.specs.Standing.{DispatchState, parts_of, state_of, IsSized, IsDone, Stands}
 use Rattle.napt_dispatch.specs.Passing.{timed, Reads, ReadsAll, ReadsSome, EndsWith, EndsEarly, EndsBy}
 use Rattle.napt_dispatch.proofs.Ended.{same_lengths}

@@ -1,5 +1,5 @@
 -- What is true of a worker after legs were offered and answers taken.
-use Rattle.std.proofs.Common.{◌≡◌, ◌≢◌, ◌⊎◌, ◌||◌, ℕ, zero, suc, ◌+◌, ◌<◌, Bool, true, false, List, [], ◌∷◌, length, refl, sym, ◌∙◌, ap, subst, arith, inl, inr}
+use Rattle.std.proofs.Common.{◌≡◌, ◌≢◌, ◌||◌, ℕ, zero, suc, ◌+◌, ◌<◌, Bool, true, false, List, [], ◌∷◌, length, refl, sym, ◌∙◌, ap, subst, arith, inl, inr}
 use Rattle.std.specs.Prelude.{nat_le, slice_get, slice_set, MatchBool}
 use Rattle.std.proofs.lemmas.List.{set-set, set-get_or}
 use Rattle.napt_rules.specs.declared.Leg.{Leg}
@@ -14,7 +14,7 @@ use Rattle.napt_dispatch.specs.declared.dispatcher.progress.Progress.{Progress}
 use Rattle.napt_dispatch.specs.declared.dispatcher.progress.Progress.TheVariants.{Awaited}
 use Rattle.napt_dispatch.specs.declared.dispatcher.second.Second.TheVariants as seconds
 use Rattle.napt_dispatch.specs.Dispatch.{of_worker}
-use Rattle.napt_dispatch.specs.Queues.{pushed, put_first, Popped, many_in}
+use Rattle.napt_dispatch.specs.Queues.{put_first, Popped, many_in}
 use Rattle.napt_dispatch.specs.Windows.{Window, progress_in, is_unknown}
 use Rattle.napt_dispatch.specs.Standing.{Parts, DispatchState, parts_of, state_of, Keeps, with_held, with_first, IsSecond, Forgets, TakesFirst, first_waits, Offers, PutsBack, waits, HasTaken, IsRingFull, HasOffered, OffersOnlyTo}
 use Rattle.napt_dispatch.proofs.Lists.{push_other}

@@ -1,5 +1,5 @@
 -- Runs from arrivals to departures, step by step.
-use Rattle.std.proofs.Common.{◌≡◌, ◌⊎◌, inl, inr, ℕ, ◌+◌, ◌<◌, ◌≤◌, max, Bool, List, [], ◌∷◌, ◌++◌, length, map, Option, Some, None, Result, Ok, Err, refl, sym, ◌∙◌, ap, subst, arith, append-nil, append_assoc, length-append}
+use Rattle.std.proofs.Common.{◌≡◌, ℕ, max, Bool, List, [], ◌∷◌, ◌++◌, length, map, Option, refl, sym, ◌∙◌, ap, subst, arith, append-nil, append_assoc}
 use Rattle.std.proofs.lemmas.List.{map-append, length-map}
 use Rattle.napt_config.specs.Rules.{Rules}
 use Rattle.napt_rules.specs.declared.Leg.{Leg}
@@ -22,7 +22,7 @@ use Rattle.napt_dispatch.proofs.Windows.{times_long, expecting_times, expecting_
 use Rattle.napt_dispatch.specs.declared.dispatcher.halted.Halted.{Halted}
 use Rattle.napt_dispatch.specs.declared.dispatcher.halted.Halted.TheVariants as halts
 use Rattle.napt_dispatch.specs.declared.dispatcher.reading.EndOfInputs.{EndOfInputs}
-use Rattle.napt_dispatch.specs.Passing.{Fails, GoesOn, LetsGo, StopsAt, HaltsAt, Serves, Reads, HasCome, ReadsToEnd, ReadsSome, ReadsHalted}
+use Rattle.napt_dispatch.specs.Passing.{Fails, GoesOn, LetsGo, StopsAt, HaltsAt, Serves, Reads, HasCome, ReadsToEnd, ReadsHalted}
 
 pub many_read : (d : Dispatcher) (inputs : List Arrival) → (parts_of d).journal.times ≡ map (λ i. i.time) inputs →
     length inputs ≡ length (parts_of d).progress

@@ -1,10 +1,9 @@
 -- What is known of the inputs that were read.
-use Rattle.std.proofs.Common.{◌≡◌, ◌≢◌, ◌⊎◌, inl, inr, ℕ, zero, suc, ◌+◌, ◌<◌, ◌≤◌, Bool, true, false, List, [], ◌∷◌, ◌++◌, length, map, set, get_or, Option, Some, None, refl, sym, ◌∙◌, ap, subst, arith, append-nil, append_assoc, length-append}
+use Rattle.std.proofs.Common.{◌≡◌, ◌⊎◌, inl, inr, ℕ, zero, suc, ◌+◌, ◌<◌, ◌≤◌, true, List, [], ◌∷◌, ◌++◌, length, map, set, get_or, Some, refl, sym, ◌∙◌, ap, subst, arith, append-nil, append_assoc, length-append}
 use Rattle.std.specs.Prelude.{slice_get, slice_set}
 use Rattle.std.proofs.lemmas.List.{map-set, map-append, get_or-map, length-map}
 use Rattle.std.proofs.lemmas.Simd.{map-map}
 use Rattle.napt_pool.proofs.Lists.{map-kept}
-use Rattle.napt_pool.specs.Pools.{zip_with}
 use Rattle.napt_rules.specs.declared.Outcome.{Outcome}
 use Rattle.napt_rules.specs.Prelude.{Arrival, Course}
 use Rattle.napt_sequential.specs.Dispatching.{IsFront}
@@ -16,7 +15,7 @@ use Rattle.napt_dispatch.specs.declared.dispatcher.second.Second.TheVariants as 
 use Rattle.napt_dispatch.specs.Collecting.{outcome_of}
 use Rattle.napt_dispatch.specs.Standing.{IsSecond, IsSecondOf}
 use Rattle.napt_dispatch.specs.Passing.{timed}
-use Rattle.napt_dispatch.specs.Windows.{Window, time_in, ended_in, known_in, progress_in, times_in, has_ended, outcome_in, is_unknown, expecting, IsWritten, Leaves, IsKnown, AllKnown, IsHandedOver}
+use Rattle.napt_dispatch.specs.Windows.{Window, time_in, ended_in, known_in, progress_in, times_in, outcome_in, is_unknown, expecting, IsWritten, Leaves, IsKnown, AllKnown, IsHandedOver}
 
 -- LISTS
 

@@ -1,4 +1,4 @@
-use Rattle.std.proofs.Common.{◌≡◌, List, [], length, refl, ap}
+use Rattle.std.proofs.Common.{List, [], length, refl, ap}
 use Rattle.napt_config.specs.Rules.{Rules}
 use Rattle.napt_rules.specs.Prelude.{Arrival}
 use Rattle.napt_dispatch.specs.Standing.{state_of, Stands}

@@ -1,6 +1,5 @@
-use Rattle.std.proofs.Common.{[], ◌≡◌, ◌∙◌, rules}
+use Rattle.std.proofs.Common.{[], rules}
 use Rattle.std.proofs.lemmas.Result.{err_from_is_err_and}
-use Rattle.napt_pool.specs.Pools.{starts}
 use Rattle.napt_dispatch.specs.Dispatch.{IsDispatchFault}
 use Rattle.napt_dispatch.proofs.Passing.{goes_none, lets_more, lets_halt, lets_turn}
 use Rattle.napt_dispatch.proofs.dispatcher.Dispatcher.finish.Goals as goal

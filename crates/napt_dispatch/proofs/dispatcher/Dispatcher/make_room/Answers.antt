@@ -1,4 +1,4 @@
-use Rattle.std.proofs.Common.{[], ◌≡◌}
+use Rattle.std.proofs.Common.{[]}
 use Rattle.std.proofs.lemmas.Result.{err_from_is_err_and}
 use Rattle.napt_dispatch.proofs.Passing.{goes_none, lets_more, lets_halt, lets_turn}
 use Rattle.napt_dispatch.proofs.dispatcher.Dispatcher.make_room.Goals as goal
