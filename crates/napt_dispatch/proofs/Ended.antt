@@ -108,7 +108,8 @@ module _ (g : Ghosts TranslatorState Leg Answer) (stepped_is : (s : TranslatorSt
   right_front rules starts offered taken rests began many is = λ w lt.
       let long : length starts ≡ length offered = ap length began ∙ (length_started rules (length rules.pool)
       ∙ sym many) in
-      let all : length (zip_with (replies g) starts offered) ≡ length offered = zip_long (replies g) starts offered long in
+      let all : length (zip_with (replies g) starts offered) ≡ length offered = zip_long
+          (replies g) starts offered long in
       let same : length (zip_with (λ t rest. t ++ rest) taken rests) ≡ length (zip_with (replies g) starts offered) =
       ap length is in
       let right = right_since rules starts offered (zip_with (replies g) starts offered) began many refl w lt in

@@ -95,7 +95,8 @@ left_behind records (Some left) header bytes rest split good ahead number (inl q
   told = tt;
 }
 left_behind records (Some left) header bytes rest split good ahead number (inr q) =
-    absurd (not_refused records.spelling bytes header left q.header q.behind q.fault split good q.whole q.refused q.short)
+    absurd (not_refused records.spelling bytes header left q.header q.behind q.fault split good q.whole q.refused
+    q.short)
 
 module _ {R : Type 0} {G : Ghosts R} (remaining : R → Option (List ℕ)) where
   begun_has : (stream : Stream R G) (bytes : List ℕ) (rest : Rest) → IsBegun remaining stream (Some bytes) →

@@ -147,7 +147,8 @@ module _ {R Q : Type 0} {G : Ghosts R} {H : Ghosts Q} (inside : R → Option (Li
       } in
       let clock : new.clock ≡ max sides.clock first.entry.time =
       first.clock_is ∙ ap (λ n. max n first.entry.time) (sym has.clock) in
-      let taken = takes_more ins outs new.inside_first.items new.outside_first.items a.more b.more first.side first.entry
+      let taken = takes_more ins outs new.inside_first.items new.outside_first.items a.more b.more first.side
+      first.entry
       first.taken (no_more ins a.more sides.inside a.is looked) (no_more outs b.more sides.outside b.is other_looked) in
       let whole : Takes sides.inside.records sides.outside.records (Some (first.side, first.entry))
       (new.inside_first.items ++ a.more) (new.outside_first.items ++ b.more) =
@@ -229,7 +230,8 @@ module _ {R Q : Type 0} {G : Ghosts R} {H : Ghosts Q} (inside : R → Option (Li
               λ sides has. ends_cut inside mid.inside mid.inside_first.items sides.inside (looked.inside_told none)
               ((looked.keeps sides has).inside_has) ∙ ap (λ s. Ok (cut_of s)) (sym ins);
           outside_cut =
-              λ sides has. ends_cut_if outside mid.outside mid.outside_first.items sides.outside (looked.outside_told other)
+              λ sides has. ends_cut_if outside mid.outside mid.outside_first.items sides.outside
+              (looked.outside_told other)
               ((looked.keeps sides has).outside_has) ∙ ap (λ s. Ok (cut_if s)) (sym outs);
         },
   )
@@ -286,10 +288,12 @@ module _ {R Q : Type 0} {G : Ghosts R} {H : Ghosts Q} (inside : R → Option (Li
       → TakesAny mid.inside_first.items mid.outside_first.items mid.clock taken new.inside_first.items
       new.outside_first.items new.clock
       → new.inside ≡ mid.inside → new.outside ≡ mid.outside
-      → Hands (HandsOut inside outside in_failed out_failed) (EndsWith inside outside in_failed out_failed) old (Ok taken)
+      → Hands (HandsOut inside outside in_failed out_failed) (EndsWith inside outside in_failed out_failed) old
+      (Ok taken)
       new
   Hands-any old mid new None same looks taken ins outs = EndsWith-none old mid new same looks taken ins outs
-  Hands-any old mid new (Some input) same looks taken ins outs = HandsOut-one old mid new input same looks taken ins outs
+  Hands-any old mid new (Some input) same looks taken ins outs = HandsOut-one old mid new input same looks taken ins
+      outs
 
 module _ {Q : Type 0} {H : Ghosts Q} (failed : Q → ℕ) where
   pub CountsIf-none : (o : Option (Stream Q H)) → CountsIf failed o 0 o

@@ -90,12 +90,14 @@ IsKnown-end records left cut firsts rest p fault (none, end) =
     let told = p.told in
     let never : Ok cut ≡ Err fault = sym told.1 ∙ end in cc
 
-pub IsKnown-some : (records : Records) (left : Option (List ℕ)) (cut : Option Bool) (firsts : List Entry) (rest : Rest) →
+pub IsKnown-some : (records : Records) (left : Option (List ℕ)) (cut : Option Bool) (firsts : List Entry)
+    (rest : Rest) →
     (firsts ≡ [] → ⊥) → HasRest records left cut firsts rest → IsKnown rest
 IsKnown-some records left cut [] rest some p = absurd (some refl)
 IsKnown-some records left cut (first ∷ firsts) rest some p = IsKnown-first records left cut first firsts rest p
 
-pub IsKnown-told : (records : Records) (left : Option (List ℕ)) (cut : Option Bool) (firsts : List Entry) (rest : Rest) →
+pub IsKnown-told : (records : Records) (left : Option (List ℕ)) (cut : Option Bool) (firsts : List Entry)
+    (rest : Rest) →
     (cut ≡ None → ⊥) → HasRest records left cut firsts rest → IsKnown rest
 IsKnown-told records left None firsts rest some p = absurd (some refl)
 IsKnown-told records left (Some cut) firsts rest some p = IsKnown-end records left cut firsts rest p
@@ -136,7 +138,8 @@ pub some_of : {X : Type 0} (xs : List X) (n : ℕ) (is_empty : Bool) → is_empt
 some_of xs n is_empty is told same none = eqb-false n 0 (sym is ∙ told) (sym same ∙ ap length none)
 
 -- a side was looked at
-pub IsLooked-some : (records : Records) (left : Option (List ℕ)) (cut : Option Bool) (firsts : List Entry) (rest : Rest) →
+pub IsLooked-some : (records : Records) (left : Option (List ℕ)) (cut : Option Bool) (firsts : List Entry)
+    (rest : Rest) →
     (firsts ≡ [] → ⊥) → HasRest records left cut firsts rest → IsLooked firsts rest
 IsLooked-some records left cut firsts rest some p = record {
   known = IsKnown-some records left cut firsts rest some p;
@@ -150,7 +153,8 @@ IsLooked-end records left cut firsts rest p = record {
   shown = λ none. let told = p.told in p.records_are ∙ ap (λ l. l ++ p.more) none ∙ told.0;
 }
 
-pub IsLooked-told : (records : Records) (left : Option (List ℕ)) (cut : Option Bool) (firsts : List Entry) (rest : Rest) →
+pub IsLooked-told : (records : Records) (left : Option (List ℕ)) (cut : Option Bool) (firsts : List Entry)
+    (rest : Rest) →
     (cut ≡ None → ⊥) → HasRest records left cut firsts rest → IsLooked firsts rest
 IsLooked-told records left None firsts rest some p = absurd (some refl)
 IsLooked-told records left (Some cut) firsts rest some p = IsLooked-end records left cut firsts rest p

@@ -1,5 +1,5 @@
--- What makes a run over two captures one: of two lists of records there is one merged list, and of two captures that may
--- have a fault one that comes before it.
+-- What makes a run over two captures one: of two lists of records there is one merged list, and of two captures that
+-- may have a fault one that comes before it.
 use Rattle.std.specs.Prelude.{◌≡◌, List, Some, None, Err}
 use Rattle.napt_wire.specs.declared.Side.{Side}
 use Rattle.napt_wire.specs.declared.Side.TheVariants.{Inside, Outside}

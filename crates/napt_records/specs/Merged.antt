@@ -83,18 +83,20 @@ AreWritable both = All IsWritable both.inside_first.items × All IsWritable both
 abbrev pub AreLive : {R Q : Type 0} {G : Ghosts R} {H : Ghosts Q} → MergedStreams R Q G H → Type 0
 AreLive both = (IsLive both.inside × IsLiveIf both.outside) × AreWritable both
 
-abbrev pub AreSame : {R Q : Type 0} {G : Ghosts R} {H : Ghosts Q} → MergedStreams R Q G H → MergedStreams R Q G H → Type 0
+abbrev pub AreSame : {R Q : Type 0} {G : Ghosts R} {H : Ghosts Q} → MergedStreams R Q G H → MergedStreams R Q G H →
+    Type 0
 AreSame old new = IsSame old.inside new.inside × IsSameIf old.outside new.outside
 
 -- so much is left of both
-pub record Has {R Q : Type 0} {G : Ghosts R} {H : Ghosts Q} (inside : R → Option (List ℕ)) (outside : Q → Option (List ℕ))
-    (both : MergedStreams R Q G H) (sides : Sides) : Type 0 where
+pub record Has {R Q : Type 0} {G : Ghosts R} {H : Ghosts Q} (inside : R → Option (List ℕ))
+    (outside : Q → Option (List ℕ)) (both : MergedStreams R Q G H) (sides : Sides) : Type 0 where
   pub clock : sides.clock ≡ both.clock
   pub inside_has : StreamHas inside both.inside both.inside_first.items sides.inside
   pub outside_has : StreamHasIf outside both.outside both.outside_first.items sides.outside
 
 -- both were looked at: what is left stays, and what is next is known
-pub record Looks {R Q : Type 0} {G : Ghosts R} {H : Ghosts Q} (inside : R → Option (List ℕ)) (outside : Q → Option (List ℕ))
+pub record Looks {R Q : Type 0} {G : Ghosts R} {H : Ghosts Q} (inside : R → Option (List ℕ))
+    (outside : Q → Option (List ℕ))
     (in_failed : R → ℕ) (out_failed : Q → ℕ) (old new : MergedStreams R Q G H) : Type 0 where
   pub live : AreLive new
   pub inside_count : NoneFailed in_failed old.inside new.inside
@@ -112,7 +114,8 @@ failed_by Outside Outside fault = let answer : Result (Unit {0}) CaptureFault = 
 failed_by side other fault = 0
 
 -- a fault was met at what is next
-pub record Meets {R Q : Type 0} {G : Ghosts R} {H : Ghosts Q} (inside : R → Option (List ℕ)) (outside : Q → Option (List ℕ))
+pub record Meets {R Q : Type 0} {G : Ghosts R} {H : Ghosts Q} (inside : R → Option (List ℕ))
+    (outside : Q → Option (List ℕ))
     (in_failed : R → ℕ) (out_failed : Q → ℕ) (old : MergedStreams R Q G H) (fault : SideFault)
     (new : MergedStreams R Q G H) : Type 0 where
   pub inside_count : Counts in_failed old.inside (failed_by Inside fault.side fault.fault) new.inside
@@ -127,8 +130,8 @@ LooksOrMeets inside outside in_failed out_failed old (Err fault) new =
     Meets inside outside in_failed out_failed old fault new
 
 -- of the records that were read, the next one was taken, and became an input
-pub record TakesFirst (ins outs : List Entry) (clock : ℕ) (input : Arrival) (ins_left outs_left : List Entry) (now : ℕ) :
-    Type 0 where
+pub record TakesFirst (ins outs : List Entry) (clock : ℕ) (input : Arrival) (ins_left outs_left : List Entry)
+    (now : ℕ) : Type 0 where
   pub side : Side
   pub entry : Entry
   pub taken : Takes ins outs (Some (side, entry)) ins_left outs_left
@@ -142,7 +145,8 @@ TakesAny ins outs clock (Some input) ins_left outs_left now = TakesFirst ins out
 
 -- WHAT IS HANDED OUT
 
-pub record Goes {R Q : Type 0} {G : Ghosts R} {H : Ghosts Q} (inside : R → Option (List ℕ)) (outside : Q → Option (List ℕ))
+pub record Goes {R Q : Type 0} {G : Ghosts R} {H : Ghosts Q} (inside : R → Option (List ℕ))
+    (outside : Q → Option (List ℕ))
     (in_failed : R → ℕ) (out_failed : Q → ℕ) (old : MergedStreams R Q G H) (inputs : List Arrival)
     (new : MergedStreams R Q G H) : Type 0 where
   pub live : AreLive new
@@ -159,7 +163,8 @@ HandsOut inside outside in_failed out_failed old inputs new =
     AreSame old new × (AreLive old → Goes inside outside in_failed out_failed old inputs new)
 
 -- the end was told: nothing is left
-pub record Finishes {R Q : Type 0} {G : Ghosts R} {H : Ghosts Q} (inside : R → Option (List ℕ)) (outside : Q → Option (List ℕ))
+pub record Finishes {R Q : Type 0} {G : Ghosts R} {H : Ghosts Q} (inside : R → Option (List ℕ))
+    (outside : Q → Option (List ℕ))
     (in_failed : R → ℕ) (out_failed : Q → ℕ) (old new : MergedStreams R Q G H) : Type 0 where
   pub inside_count : NoneFailed in_failed old.inside new.inside
   pub outside_count : NoneFailedIf out_failed old.outside new.outside

@@ -10,7 +10,8 @@ use Rattle.napt_records.specs.Streams.{Rest}
 
 -- a reader with this text left, that read these records and did not hand them on, and told this end or none, has so
 -- much left
-pub record HasRest (records : Records) (left : Option (List ℕ)) (cut : Option Bool) (firsts : List Entry) (rest : Rest) :
+pub record HasRest (records : Records) (left : Option (List ℕ)) (cut : Option Bool) (firsts : List Entry)
+    (rest : Rest) :
     Type 0 where
   pub text : List ℕ
   pub left_is : left ≡ Some text

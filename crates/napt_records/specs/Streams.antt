@@ -24,8 +24,8 @@ IsAtFault rest fault = (rest.records ≡ []) × (rest.end ≡ Err fault)
 abbrev pub IsKnown : Rest → Type 0
 IsKnown rest = (fault : CaptureFault) → ¬ IsAtFault rest fault
 
--- a side was looked at, of which these records were read and not handed out: what is next is known, and is one of these,
--- if it is a record
+-- a side was looked at, of which these records were read and not handed out: what is next is known, and is one of
+-- these, if it is a record
 pub record IsLooked (firsts : List Entry) (rest : Rest) : Type 0 where
   pub known : IsKnown rest
   pub shown : firsts ≡ [] → rest.records ≡ []
@@ -63,4 +63,5 @@ Stops sides (Some (Outside, fault)) = IsKnown sides.inside × IsAtFault sides.ou
 -- What merging hands out of two captures, and why it ends.
 abbrev pub IsMergedUntil : Rest → Rest → List Arrival → Option (Side × CaptureFault) → Type 0
 IsMergedUntil inside outside inputs stop =
-    (last : Sides) × TakesInputs (record { clock = 0; inside = inside; outside = outside }) inputs last × Stops last stop
+    (last : Sides) × TakesInputs (record { clock = 0; inside = inside; outside = outside }) inputs last × Stops last
+    stop

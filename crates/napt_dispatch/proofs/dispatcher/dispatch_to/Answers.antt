@@ -15,7 +15,8 @@ pub returns-in-Ok-clause-ends : goal.returns-in-Ok-clause-ends
 returns-in-Ok-clause-ends g c =
     let rules : Rules = c.args.config.now in
     let first = c.in_ok-dispatcher.ensures in
-    let begins : (inputs : List Arrival) → Stands rules [] inputs (state_of c.args.pool.now c.in_ok-dispatcher.dispatcher)
+    let begins : (inputs : List Arrival) → Stands rules [] inputs (state_of c.args.pool.now
+        c.in_ok-dispatcher.dispatcher)
     = begun rules c.args.pool.now c.in_ok-dispatcher.dispatcher _ (ap length c.pool-count.ensures.addresses) first.sized
     first.counts first.idle first.left first.under_way c.requires.unoffered c.requires.untaken in
     ends_by rules g.A.Arrivals.hands g.A.Arrivals.ends g.D.Departures.takes g.D.Departures.fails
@@ -30,7 +31,8 @@ pub returns-in-Err-Departure-clause-ends : goal.returns-in-Err-Departure-clause-
 returns-in-Err-Departure-clause-ends g c =
     let rules : Rules = c.args.config.now in
     let first = c.in_ok-dispatcher.ensures in
-    let begins : (inputs : List Arrival) → Stands rules [] inputs (state_of c.args.pool.now c.in_ok-dispatcher.dispatcher)
+    let begins : (inputs : List Arrival) → Stands rules [] inputs (state_of c.args.pool.now
+        c.in_ok-dispatcher.dispatcher)
     = begun rules c.args.pool.now c.in_ok-dispatcher.dispatcher _ (ap length c.pool-count.ensures.addresses) first.sized
     first.counts first.idle first.left first.under_way c.requires.unoffered c.requires.untaken in
     ends_early rules g.A.Arrivals.hands g.A.Arrivals.ends g.D.Departures.takes g.D.Departures.fails

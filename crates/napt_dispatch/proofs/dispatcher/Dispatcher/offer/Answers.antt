@@ -24,5 +24,6 @@ returns-in-Ok-clause-went g c =
       capacity_stays = c.in-Ok.ensures.capacity;
       ring_stays = c.in_ok-count_offer-in-Ok.ensures.ring;
       parts_are = offered_parts_are c.args.w c.args.leg (parts_of c.args.self.now) (parts_of c.count_offer.new.self)
-          (parts_of later) c.in_ok-count_offer-in-Ok.ensures.counted refl c.in_ok-push_back-in-Ok.ensures.ok refl refl refl;
+          (parts_of later) c.in_ok-count_offer-in-Ok.ensures.counted refl c.in_ok-push_back-in-Ok.ensures.ok refl
+              refl refl;
     }

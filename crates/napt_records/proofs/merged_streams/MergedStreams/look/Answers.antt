@@ -20,7 +20,8 @@ returns-in-Ok-clause-looks g c live =
     (omega (arith, c.in_default.ensures.count live.0.0))
     (NoneFailedIf-counts g.Q.Source.failed c.args.self.now.outside c.look_outside.new.outside
     (c.in-Ok.ensures.count live.0.1))
-    refl c.in_default.ensures.told c.in-Ok.ensures.told (c.in_default.ensures.rest live.0.0) (c.in-Ok.ensures.rest live.0.1)
+    refl c.in_default.ensures.told c.in-Ok.ensures.told (c.in_default.ensures.rest live.0.0)
+    (c.in-Ok.ensures.rest live.0.1)
 
 pub returns-in-Err-look_outside-clause-looks : goal.returns-in-Err-look_outside-clause-looks
 returns-in-Err-look_outside-clause-looks g c live = record {

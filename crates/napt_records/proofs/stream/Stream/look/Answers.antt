@@ -47,7 +47,8 @@ returns-in_ok-push_back-in-Whole-clause-rest g c live rest has =
     let told = rw c.in-Whole.is at c.in_ok-record.ensures.next live in
     let number = rw c.in-Whole.is at c.in_ok-record.ensures.number live in
     let begun = rw (none, cut) at has in
-    let now = HasRest-whole _ c.next.new.records _ _ c.in-Whole.record rest told number c.in_ok-record.ensures.spelling begun in
+    let now = HasRest-whole _ c.next.new.records _ _ c.in-Whole.record rest told number
+    c.in_ok-record.ensures.spelling begun in
     rw (cut, c.in_ok-push_back-in-Whole.ensures.items, none) (now, IsLooked-first _ _ _ c.in-Whole.record rest now)
 
 pub returns-in-End-clause-rest : goal.returns-in-End-clause-rest
@@ -59,10 +60,12 @@ returns-in-End-clause-rest g c live rest has =
     let told = rw c.in-End.is at c.in_ok-record.ensures.next live in
     let number = rw c.in-End.is at c.in_ok-record.ensures.number live in
     let begun = rw (none, cut) at has in
-    let now = HasRest-end _ c.next.new.records _ _ c.in-End.cut rest told number c.in_ok-record.ensures.spelling begun in
+    let now = HasRest-end _ c.next.new.records _ _ c.in-End.cut rest told number c.in_ok-record.ensures.spelling
+    begun in
     rw none (now, IsLooked-end _ _ c.in-End.cut [] rest now)
 
 pub returns-in_ok-push_back-in-Whole-clause-writable : goal.returns-in_ok-push_back-in-Whole-clause-writable
 returns-in_ok-push_back-in-Whole-clause-writable g c all =
     rw c.in_ok-push_back-in-Whole.ensures.items
-    (All-push IsWritable c.args.firsts.now.items c.in-Whole.record all (rw c.in-Whole.is at c.in_ok-record.ensures.writable))
+    (All-push IsWritable c.args.firsts.now.items c.in-Whole.record all (rw c.in-Whole.is at
+    c.in_ok-record.ensures.writable))
