@@ -49,7 +49,8 @@ module _ {M G : Type 0} where
   }
 
   pub goes_more : (pool : Pool M G Leg Answer) (d : Dispatcher) (xs ys : List (ℕ × Outcome))
-      (middle_pool : Pool M G Leg Answer) (middle : Dispatcher) (later_pool : Pool M G Leg Answer) (later : Dispatcher) →
+      (middle_pool : Pool M G Leg Answer) (middle : Dispatcher) (later_pool : Pool M G Leg Answer)
+      (later : Dispatcher) →
       GoesOn pool d xs middle_pool middle → GoesOn middle_pool middle ys later_pool later →
       GoesOn pool d (xs ++ ys) later_pool later
   goes_more pool d xs ys middle_pool middle later_pool later a b = record {
@@ -62,7 +63,8 @@ module _ {M G : Type 0} where
 
   -- answers were taken and legs offered, and nothing left
   pub goes_then : (pool : Pool M G Leg Answer) (d : Dispatcher) (xs : List (ℕ × Outcome))
-      (middle_pool : Pool M G Leg Answer) (middle : Dispatcher) (later_pool : Pool M G Leg Answer) (later : Dispatcher) →
+      (middle_pool : Pool M G Leg Answer) (middle : Dispatcher) (later_pool : Pool M G Leg Answer)
+      (later : Dispatcher) →
       GoesOn pool d xs middle_pool middle → Continues middle_pool middle later_pool later →
       GoesOn pool d xs later_pool later
   goes_then pool d xs middle_pool middle later_pool later a b = record {
@@ -92,7 +94,10 @@ module _ {M G : Type 0} where
       owes = λ v lt. rw owed (s.owes v lt);
       reaches = λ right.
           let r : Reaches rules done all (state_of pool d) = s.reaches right in
-          record { reached = λ v lt. rw held (r.reached v lt); known = over.known (run rules all (opening rules)) r.known };
+          record {
+            reached = λ v lt. rw held (r.reached v lt);
+            known = over.known (run rules all (opening rules)) r.known;
+          };
     };
   }
 
@@ -264,7 +269,8 @@ module _ {S F : Type 0} (takes : S → List (ℕ × Outcome) → S → Type 0) (
       (later : Dispatcher) (left : A) (after : S) where
     pub reads_halt : (open_gate : Bool) (inputs : List Arrival) (went : List (ℕ × Outcome)) (e : Halted F) →
         Reads rules pool d inputs went mid_pool mid → takes before went between →
-        HasCome hands ends from inputs left → HaltsAt open_gate takes fails mid_pool mid between later_pool later after e →
+        HasCome hands ends from inputs left →
+        HaltsAt open_gate takes fails mid_pool mid between later_pool later after e →
         ReadsHalted rules hands ends takes fails is_settled pool d from before later_pool later left after open_gate e
     reads_halt open_gate inputs went (halts.Departure fault) reads took come b = record {
       inputs = inputs;

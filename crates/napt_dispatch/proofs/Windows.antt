@@ -168,8 +168,8 @@ length_of : {X : Type 0} {m n : ℕ} (xs ys : List X) → length xs ≡ m → le
 length_of xs ys one two = omega (arith, one, two, length-append xs ys)
 
 pub length_all : (window : Window) → length (progress_in window) ≡ length window.left + length window.under_way
-length_all window = length_of (map ended_in window.left) (map known_in window.under_way) (length-map window.left ended_in)
-    (length-map window.under_way known_in)
+length_all window = length_of (map ended_in window.left) (map known_in window.under_way)
+    (length-map window.left ended_in) (length-map window.under_way known_in)
 
 pub times_long : (window : Window) → length (times_in window) ≡ length (progress_in window)
 times_long window =
@@ -249,8 +249,8 @@ over_more xs ys window middle later a b = record {
 
 -- THE END
 
-get_left : (left : List (ℕ × Outcome)) (ps : List Progress) (i : ℕ) (pair : ℕ × Outcome) → slice_get left i ≡ Some pair →
-    slice_get (map ended_in left ++ ps) i ≡ Some (ended_in pair)
+get_left : (left : List (ℕ × Outcome)) (ps : List Progress) (i : ℕ) (pair : ℕ × Outcome) →
+    slice_get left i ≡ Some pair → slice_get (map ended_in left ++ ps) i ≡ Some (ended_in pair)
 get_left [] ps i pair h = cc
 get_left (x ∷ left) ps zero pair h = cc
 get_left (x ∷ left) ps (suc i) pair h = get_left left ps i pair h
@@ -300,7 +300,8 @@ left_whole course window inputs times known long none =
     sym (append-nil (map time_in window.left)) ∙ (ap (λ xs. map time_in window.left ++ map time_in xs) (sym none)
     ∙ times) in
     let one : length (map time_in window.left) ≡ length window.left = length-map window.left time_in in
-    let two : length (map (λ (i : Arrival). i.time) inputs) ≡ length inputs = length-map inputs (λ (i : Arrival). i.time) in
+    let two : length (map (λ (i : Arrival). i.time) inputs) ≡ length inputs =
+    length-map inputs (λ (i : Arrival). i.time) in
     let same : length (map time_in window.left) ≡ length (map (λ (i : Arrival). i.time) inputs) = ap length all in
     no_more window.left front.0 (timed inputs course.outcomes) front.1
     (omega (arith, one, two, same, length_timed inputs course.outcomes long))

@@ -234,8 +234,8 @@ IsStoppedUnder open_gate (stops.Arrival fault) = ⊤
 IsStoppedUnder open_gate (stops.Departure fault) = ⊤
 
 -- all inputs came, and the run over them is the sequential one
-pub record RunsAll {A F : Type 0} (rules : Rules) (hands : A → List Arrival → A → Type 0) (ends : A → Option F → A → Type 0)
-    (from : A) (done : TimedRun) (left : A) : Type 0 where
+pub record RunsAll {A F : Type 0} (rules : Rules) (hands : A → List Arrival → A → Type 0)
+    (ends : A → Option F → A → Type 0) (from : A) (done : TimedRun) (left : A) : Type 0 where
   pub inputs : List Arrival
   pub came : Came hands ends from inputs None left
   pub run_is : done.run ≡ ran rules inputs

@@ -199,7 +199,8 @@ impl Dispatcher {
         requires count { length (starts pool.old) ≡ length config.now.pool }
         requires sized { IsSizedFor pool.old self.old }
         requires room { HasRoom self.old }
-        ensures serves { OnOk result (Serves config.now now input pool.old self.old pool.new self.new) }
+        ensures serves { OnOk result (Serves config.now now input pool.old self.old
+            pool.new self.new) }
         ensures fault { IfErr result (λ fault. (starts pool.new ≡ starts pool.old)
             × IsDispatchFault G.is_open fault) }
     {

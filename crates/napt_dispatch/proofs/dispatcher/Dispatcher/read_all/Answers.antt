@@ -71,12 +71,13 @@ returns-in-Err g c =
     reads_over g.D.Departures.takes g.D.Departures.fails g.met.D.Departures.takes_more c.args.config.now
     g.A.Arrivals.hands g.A.Arrivals.ends g.D.Departures.is_settled c.args.pool.now c.args.self.now c.args.arrivals.now
     c.args.departures.now c.loop.pool c.loop.self c.loop.departures c.make_ready.new.pool c.make_ready.new.self
-    c.next-in-loop.new.self c.make_ready.new.departures c.loop.invariant.inputs c.loop.invariant.went c.new-in-Err.result
+    c.next-in-loop.new.self c.make_ready.new.departures c.loop.invariant.inputs c.loop.invariant.went
+    c.new-in-Err.result
     c.loop.invariant.reads c.loop.invariant.took c.in_ok-make_ready.ensures.state
     (record {
       last = c.loop.arrivals;
       handed = c.loop.invariant.handed;
-      ended = subst (λ fault. g.A.Arrivals.ends c.loop.arrivals fault c.next-in-loop.new.self) (sym c.new-in-Err.ensures.1)
-          c.in-Err.ensures;
+      ended = subst (λ fault. g.A.Arrivals.ends c.loop.arrivals fault c.next-in-loop.new.self)
+          (sym c.new-in-Err.ensures.1) c.in-Err.ensures;
     })
     (c.new-in-Err.ensures.0 ∙ c.loop.invariant.clock)
