@@ -82,7 +82,11 @@ impl Tally {
 
     /// The length that the last four bytes tell.
     fn captured(self) -> u32 {
-        if self.is_big { self.word.swap_bytes() } else { self.word }
+        if self.is_big {
+            self.word.swap_bytes()
+        } else {
+            self.word
+        }
     }
 }
 
@@ -107,10 +111,7 @@ impl<'p, S, R> Counted<'p, S, R> {
     }
 
     /// The same, where there is a device.
-    pub fn over_given(
-        device: Option<S>,
-        progress: &'p Progress<'p, R>,
-    ) -> Option<Counted<'p, S, R>>
+    pub fn over_given(device: Option<S>, progress: &'p Progress<'p, R>) -> Option<Counted<'p, S, R>>
         ensures { option_map (λ counted. counted.device) result ≡ device }
     {
         match device {

@@ -40,11 +40,7 @@ pub fn serve<
         + Copy
         + Send
         + 'static,
->(
-    rt: &R,
-    streams: Streams,
-    is_told: bool,
-) -> Result<(), Stop>
+>(rt: &R, streams: Streams, is_told: bool) -> Result<(), Stop>
     ensures { IfErr result IsUnderOpenGate }
 {
     match parse_words_of(rt.alloc(), MANUAL, words(rt)?) {
@@ -70,13 +66,18 @@ fn words<R: Env + AllocGlobal>(rt: &R) -> Result<Vec<String>, Stop>
 /// somebody waits. Refuses such a stream, by its role, where it is closed; then come the configuration, the files, and
 /// buffers over them.
 fn run<
-    R: Files + Input + Print + Eprint + Clock + AllocGlobal + Threads + Wait + Copy + Send + 'static,
->(
-    rt: &R,
-    streams: Streams,
-    options: &Options,
-    progress: &Progress<'_, R>,
-) -> Result<(), Stop>
+    R: Files
+        + Input
+        + Print
+        + Eprint
+        + Clock
+        + AllocGlobal
+        + Threads
+        + Wait
+        + Copy
+        + Send
+        + 'static,
+>(rt: &R, streams: Streams, options: &Options, progress: &Progress<'_, R>) -> Result<(), Stop>
     ensures { IfErr result IsUnderOpenGate }
 {
     if let Some(role) = closed_stream(streams, options) {

@@ -89,7 +89,9 @@ impl<'r, R: Eprint + Clock> Progress<'r, R> {
         };
         let Mark { packets, millis } = now;
         let (seconds, rate) = (millis / 1_000, now.rate_since(Mark::BEGIN));
-        let _ = eprintln!(self.rt; "\rstream: {packets} packets in {seconds} s, {rate} a second    ");
+        let _ = eprintln!(self.rt;
+            "\rstream: {packets} packets in {seconds} s, {rate} a second    "
+        );
     }
 
     /// How far the run is now; none where nobody is told, or the clock does not tell.
