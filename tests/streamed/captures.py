@@ -1,7 +1,9 @@
 """Captures by their bytes, and how two are merged."""
 import struct
 
-SPELLINGS = {b"\xd4\xc3\xb2\xa1": ("<", 1000), b"\xa1\xb2\xc3\xd4": (">", 1000), b"\x4d\x3c\xb2\xa1": ("<", 1), b"\xa1\xb2\x3c\x4d": (">", 1)}
+# the order of bytes and the unit of fractions, in ns, by the first four bytes
+SPELLINGS = {b"\xd4\xc3\xb2\xa1": ("<", 1000), b"\xa1\xb2\xc3\xd4": (">", 1000),
+             b"\x4d\x3c\xb2\xa1": ("<", 1), b"\xa1\xb2\x3c\x4d": (">", 1)}
 OF_HEADERS = ("no-header", "bad-magic", "bad-version", "bad-link")
 HEADER = struct.pack("<IHHIIII", 0xA1B23C4D, 2, 4, 0, 0, 262144, 101)
 SECOND = 10**9

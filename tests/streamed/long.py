@@ -54,7 +54,8 @@ def peak_of(program, room, packets):
     with open(report, encoding="ascii") as lines:
         told = lines.read().split("\n")
     bindings = sum(line.startswith("udp ") for line in told)
-    want((told[0], told[1], bindings) == (f"packets {packets}", f"to outside {packets}", BINDINGS), f"{packets} packets: {told[:2]}, {bindings} bindings")
+    found = told[0], told[1], bindings
+    want(found == (f"packets {packets}", f"to outside {packets}", BINDINGS), f"{packets} packets: {found}")
     return peak
 
 

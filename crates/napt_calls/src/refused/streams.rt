@@ -81,8 +81,14 @@ fn streamed<R: Threads + Wait + Copy + Send + 'static>(
         rt,
         alloc,
         config,
-        &mut Faulty::new(Watched::new(INSIDE.as_slice()), refusal.plan(Device::Inside)),
-        Some(&mut Faulty::new(Watched::new(OUTSIDE.as_slice()), refusal.plan(Device::Outside))),
+        &mut Faulty::new(
+            Watched::new(INSIDE.as_slice()),
+            refusal.plan(Device::Inside),
+        ),
+        Some(&mut Faulty::new(
+            Watched::new(OUTSIDE.as_slice()),
+            refusal.plan(Device::Outside),
+        )),
         &mut to_outside,
         Some(&mut to_inside),
         Some(&mut report),
