@@ -89,12 +89,7 @@ impl Objects {
     }
 
     /// Adds the members that tell what became of a packet, with a comma before them.
-    fn add_fate(
-        &mut self,
-        alloc: Global,
-        text: &mut String,
-        fate: Fate,
-    ) -> Result<(), AllocError> {
+    fn add_fate(&mut self, alloc: Global, text: &mut String, fate: Fate) -> Result<(), AllocError> {
         if let Some(known) = self.known.iter().find(|known| known.fate == fate) {
             return text.push_str(&known.members);
         }
