@@ -116,20 +116,23 @@ fn ends_alike(first: &Outcome, second: &Outcome) -> bool {
 
 impl<'a> Difference<'a> {
     fn is_chosen(self, alloc: Global, choice: Choice) -> Result<bool, AllocError> {
-        let is_dropped = matches!(self.first, Outcome::Dropped(_))
-            || matches!(self.second, Outcome::Dropped(_));
-        if choice.only.is_some_and(|only| only != self.number) || (choice.dropped && !is_dropped) {
+        let is_numbered = choice.only.is_none_or(|only| only == self.number);
+        if !is_numbered || (choice.dropped && !self.is_dropped()) {
             return Ok(false);
         }
-        let input = self.input;
-        match choice.host {
-            None => Ok(true),
-            Some(host) => Ok(
-                leaves_with(self.first, host)
-                    || leaves_with(self.second, host)
-                    || host.is_end_of_arrival(alloc, input.side, &input.bytes)?,
-            ),
+        let Some(host) = choice.host else {
+            return Ok(true);
+        };
+        if leaves_with(self.first, host) || leaves_with(self.second, host) {
+            return Ok(true);
         }
+        let input = self.input;
+        host.is_end_of_arrival(alloc, input.side, &input.bytes)
+    }
+
+    /// Whether it is dropped under either configuration.
+    fn is_dropped(self) -> bool {
+        matches!(self.first, Outcome::Dropped(_)) || matches!(self.second, Outcome::Dropped(_))
     }
 
     /// The line of the packet, with what becomes of it under the first and under the second configuration.

@@ -4,7 +4,7 @@ use napt_account::Log;
 use std::alloc::{AllocError, Global};
 
 /// What happened, to the entry or by the shortage at a place of the log.
-#[derive(Clone, Copy, Debug, PartialEq, Eq)]
+#[derive(Clone, Copy)]
 pub enum Event {
     /// A binding has ended.
     Ended(usize),
@@ -15,7 +15,7 @@ pub enum Event {
 }
 
 /// What happened at a time, in ns.
-#[derive(Clone, Copy, Debug, PartialEq, Eq)]
+#[derive(Clone, Copy)]
 pub struct Change {
     pub at: u64,
     pub event: Event,
@@ -54,8 +54,10 @@ fn add_ends(changes: &mut Vec<Change>, log: &Log, last: u64) -> Result<(), Alloc
 
 /// An end that has come by a time.
 pub fn ended_by(end: Option<u128>, last: u64) -> Option<u64> {
-    let end = u64::try_from(end?).ok()?;
-    (end <= last).then_some(end)
+    match end {
+        Some(end) if end <= u128::from(last) => Some(end as u64),
+        _ => None,
+    }
 }
 
 fn add_makings(changes: &mut Vec<Change>, log: &Log) -> Result<(), AllocError> {

@@ -12,7 +12,7 @@ pub struct Ended {
 }
 
 /// A binding has ended: when, in ns, and the place of its entry in the log.
-#[derive(Clone, Copy, Debug, PartialEq, Eq)]
+#[derive(Clone, Copy)]
 pub struct End {
     pub at: u64,
     pub place: usize,

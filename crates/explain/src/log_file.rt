@@ -68,6 +68,14 @@ struct Record {
     last_time: Option<String>,
 }
 
+/// The fields of a record that are texts in every event.
+#[derive(Drop)]
+struct Texts {
+    time: Option<String>,
+    host: String,
+    external: String,
+}
+
 /// What the records of a log are made of.
 #[derive(Clone, Copy)]
 struct Source<'a> {
@@ -194,18 +202,16 @@ impl<'a> Source<'a> {
         };
         let binding = entry.binding;
         let last = last_use(entry);
-        let last_time = match last {
-            Some(last) => date_text(alloc, last)?,
-            None => None,
-        };
+        let last_time = last_text(alloc, last)?;
+        let texts = Texts::of(alloc, at, binding.inside.address, binding.external.address)?;
         Ok(Some(Record {
             at,
-            time: date_text(alloc, at)?,
+            time: texts.time,
             event,
             protocol: protocol_number(binding.protocol),
-            host: address_text(alloc, binding.inside.address)?,
+            host: texts.host,
             number: Some(binding.inside.number),
-            external: address_text(alloc, binding.external.address)?,
+            external: texts.external,
             external_number: Some(binding.external.number),
             quota: None,
             binding: Some((place as u64).saturating_add(1)),
@@ -223,14 +229,16 @@ impl<'a> Source<'a> {
             return Ok(None);
         };
         let (event, quota) = shortage_kind(shortage);
+        let external = self.config.pair(shortage.host);
+        let texts = Texts::of(alloc, shortage.at, shortage.host, external)?;
         Ok(Some(Record {
             at: shortage.at,
-            time: date_text(alloc, shortage.at)?,
+            time: texts.time,
             event,
             protocol: protocol_number(shortage.protocol),
-            host: address_text(alloc, shortage.host)?,
+            host: texts.host,
             number: None,
-            external: address_text(alloc, self.config.pair(shortage.host))?,
+            external: texts.external,
             external_number: None,
             quota,
             binding: None,
@@ -240,6 +248,20 @@ impl<'a> Source<'a> {
             last: None,
             last_time: None,
         }))
+    }
+}
+
+impl Texts {
+    /// Those of a time in ns, of the address of a host and of its external address.
+    fn of(alloc: Global, at: u64, host: u32, external: u32) -> Result<Texts, AllocError> {
+        let time = date_text(alloc, at)?;
+        let host = address_text(alloc, host)?;
+        let external = address_text(alloc, external)?;
+        Ok(Texts {
+            time,
+            host,
+            external,
+        })
     }
 }
 
@@ -262,6 +284,14 @@ fn protocol_number(protocol: Protocol) -> u8 {
         Protocol::Icmp => 1,
         Protocol::Tcp => 6,
         Protocol::Udp => 17,
+    }
+}
+
+/// The date of a last use, where there is one.
+fn last_text(alloc: Global, last: Option<u64>) -> Result<Option<String>, AllocError> {
+    match last {
+        Some(last) => date_text(alloc, last),
+        None => Ok(None),
     }
 }
 

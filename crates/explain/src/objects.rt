@@ -69,13 +69,14 @@ impl Objects {
         text: &mut String,
         line: Line<'_>,
     ) -> Result<(), AllocError> {
+        let input = line.input;
         text.push_str("{\"number\":")?;
         add_number(text, line.number)?;
         text.push_str(",\"time\":")?;
-        add_number(text, line.input.time)?;
+        add_number(text, input.time)?;
         self.add_fate(alloc, text, Fate::of(line))?;
         text.push_str(",\"before\":")?;
-        match arrival(alloc, line.input.side, &line.input.bytes)? {
+        match arrival(alloc, input.side, &input.bytes)? {
             Some(packet) => add_packet(text, &packet)?,
             None => text.push_str("null")?,
         }
@@ -88,12 +89,7 @@ impl Objects {
     }
 
     /// Adds the members that tell what became of a packet, with a comma before them.
-    fn add_fate(
-        &mut self,
-        alloc: Global,
-        text: &mut String,
-        fate: Fate,
-    ) -> Result<(), AllocError> {
+    fn add_fate(&mut self, alloc: Global, text: &mut String, fate: Fate) -> Result<(), AllocError> {
         if let Some(known) = self.known.iter().find(|known| known.fate == fate) {
             return text.push_str(&known.members);
         }
@@ -106,8 +102,9 @@ impl Objects {
 
 impl Fate {
     fn of(line: Line<'_>) -> Fate {
+        let input = line.input;
         Fate {
-            side: line.input.side,
+            side: input.side,
             left: match line.outcome {
                 Outcome::ToOutside(_) => Ok(Side::Outside),
                 Outcome::ToInside(_) => Ok(Side::Inside),
@@ -121,12 +118,8 @@ impl Fate {
     fn members(self, alloc: Global) -> Result<String, AllocError> {
         let members = Members {
             side: side_name(self.side),
-            outcome: match self.left {
-                Ok(Side::Outside) => "to-outside",
-                Ok(Side::Inside) => "to-inside",
-                Err(_) => "dropped",
-            },
-            cause: self.left.err().map(cause_name),
+            outcome: self.outcome(),
+            cause: self.cause(),
             binding: self.binding(),
             hairpin: self.side == Side::Inside && self.left == Ok(Side::Inside),
         };
@@ -136,6 +129,21 @@ impl Fate {
         let mut text = String::from_str(alloc, ",")?;
         text.push_str(object.trim_matches(['{', '}']))?;
         Ok(text)
+    }
+
+    fn outcome(self) -> &'static str {
+        match self.left {
+            Ok(Side::Outside) => "to-outside",
+            Ok(Side::Inside) => "to-inside",
+            Err(_) => "dropped",
+        }
+    }
+
+    fn cause(self) -> Option<&'static str> {
+        match self.left {
+            Ok(_) => None,
+            Err(cause) => Some(cause_name(cause)),
+        }
     }
 
     /// What a packet that went through did to the binding that it used first; an ICMP error did nothing to it.

@@ -38,7 +38,7 @@ pub struct Sizes {
 }
 
 /// How many there are now, the most that there were at once, and when there first were so many, in ns.
-#[derive(Clone, Copy, Debug, PartialEq, Eq)]
+#[derive(Clone, Copy)]
 pub struct Level {
     now: u64,
     pub most: u64,

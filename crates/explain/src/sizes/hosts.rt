@@ -6,7 +6,7 @@ use std::alloc::{AllocError, Global};
 use std::collections::BTreeMap;
 
 /// An inside host.
-#[derive(Clone, Copy, Debug, PartialEq, Eq)]
+#[derive(Clone, Copy)]
 pub struct Host {
     pub address: u32,
     /// Its bindings of all protocols.

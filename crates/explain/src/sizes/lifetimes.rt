@@ -7,7 +7,7 @@ pub const SPANS: [u64; 8] = [60, 120, 240, 300, 600, 1800, 3600, 7440];
 const SECOND: u64 = 1_000_000_000;
 
 /// How many bindings lived how long. Redirects do not count.
-#[derive(Clone, Copy, Debug, PartialEq, Eq)]
+#[derive(Clone, Copy)]
 pub struct Lifetimes {
     /// Those of each span.
     pub within: [u64; 8],

@@ -7,7 +7,7 @@ use std::alloc::{AllocError, Global};
 use std::collections::BTreeMap;
 
 /// A class of external numbers, and how many it has (RFC 4787, REQ-3 (a) and REQ-4; RFC 5508, section 3.1).
-#[derive(Clone, Copy, Debug, PartialEq, Eq)]
+#[derive(Clone, Copy)]
 pub struct Class {
     pub name: &'static str,
     pub many: u64,
