@@ -1,3 +1,5 @@
 pub mod Breaks
+pub mod Fronts
+pub mod Behind
 pub mod Outputs
 pub mod Leaves

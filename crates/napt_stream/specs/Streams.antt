@@ -1,13 +1,12 @@
 -- What a run over captures leaves that are read while they come. Where the bytes of a reader or a writer are not known,
 -- nothing is claimed of them.
-use Rattle.std.specs.Prelude.{◌≡◌, ◌⊎◌, ℕ, ◌+◌, ◌≤◌, ◌-◌, ◌^◌, min, List, [], ◌++◌, length, take, Bool, Option, None, Some, Result, Ok, Err}
+use Rattle.std.specs.Prelude.{◌≡◌, ◌⊎◌, ℕ, ◌+◌, ◌≤◌, ◌-◌, ◌^◌, min, List, [], ◌++◌, length, take, Bool, Option, Result, Ok, Err}
 use Rattle.std.specs.Borrow.{MutBor}
 use Rattle.std.specs.Io.KnownBytes.{Appends}
 use Rattle.napt_wire.specs.declared.Side.{Side}
 use Rattle.napt_wire.specs.declared.Side.TheVariants as sides
 use Rattle.napt_capture.specs.Reading.{ReadsFileHeader, RefusesFile, StopsBy}
 use Rattle.napt_capture.specs.Text.{file_header, text}
-use Rattle.napt_capture.specs.declared.device.Source.{Ghosts}
 use Rattle.napt_capture.specs.declared.records.Records.{Records}
 use Rattle.napt_capture.specs.declared.fault.CaptureFault.{CaptureFault}
 use Rattle.napt_capture.specs.declared.fault.CaptureFault.TheVariants.{TooLarge, Read, Memory}
@@ -17,7 +16,6 @@ use Rattle.napt_records.specs.Report.{report_text}
 use Rattle.napt_records.specs.UntilFault.{AreAll, AreFront, AreHeld, AreTaken, Both, rest_of}
 use Rattle.napt_records.specs.declared.Fault.{Fault}
 use Rattle.napt_records.specs.declared.Fault.TheVariants.{Capture, Run, Write}
-use Rattle.napt_records.specs.declared.stream.Stream.{Stream}
 use Rattle.napt_records.specs.declared.Which.{Which}
 use Rattle.napt_records.specs.declared.Which.TheVariants.{Outside, Inside, Report}
 use Rattle.napt_run.specs.Captures.{IfKnown, failed_readings}
@@ -186,13 +184,6 @@ pub record IsBehindHeader {R : Type 0} (remaining : R → Option (List ℕ)) (re
   pub header : ReadsFileHeader records.spelling bytes (remaining source)
   pub ahead : records.ahead ≡ []
   pub number : records.number ≡ 1
-
--- the source of a stream that may be there
-abbrev pub IsSourceIf : {Q : Type 0} {H : Ghosts Q} → Option (Stream Q H) → Option (MutBor Q) → Type 0
-IsSourceIf None None = Unit {0}
-IsSourceIf (Some stream) (Some source) =
-    (source.ghost_name ≡ stream.live.source.ghost_name) × (source.now ≡ stream.live.source.now)
-IsSourceIf stream source = ⊥
 
 -- a fault of a side's capture, by its header
 abbrev pub IsHeaderFault : Side → Option (List ℕ) → Option (List ℕ) → Fault → Type 0

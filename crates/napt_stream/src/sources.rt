@@ -6,7 +6,7 @@ ghost use Rattle.napt_run.specs.Captures.{failed_readings};
 ghost use Rattle.napt_run.specs.Devices.{some_bytes};
 ghost use Rattle.napt_stream.specs.Leaving.{IsSettled, IsSoundIf};
 ghost use Rattle.napt_stream.specs.Runs.{RunsTo};
-ghost use Rattle.napt_stream.specs.Streams.{HasReadBoth, HasReadOne, IsBehindHeader, IsHeaderFault, IsOfRun, IsSourceIf};
+ghost use Rattle.napt_stream.specs.Streams.{HasReadBoth, HasReadOne, IsBehindHeader, IsHeaderFault, IsOfRun};
 
 use crate::leaving::Leaving;
 use crate::passing::{Setting, Totals, pass};
@@ -120,7 +120,12 @@ fn run_behind_both<
     let passed = pass(setting, &mut inputs, leaving);
     let (ours, theirs) = inputs.into_streams();
     let _inside = ours.into_source();
-    let _outside = into_source_if(theirs);
+    match theirs {
+        Some(stream) => {
+            let _outside = stream.into_source();
+        }
+        None => {}
+    }
     passed
 }
 
@@ -150,7 +155,12 @@ fn run_behind_inside<
     let passed = pass(setting, &mut inputs, leaving);
     let (ours, none) = inputs.into_streams();
     let _inside = ours.into_source();
-    let _outside = into_source_if(none);
+    match none {
+        Some(stream) => {
+            let _outside = stream.into_source();
+        }
+        None => {}
+    }
     passed
 }
 
@@ -178,16 +188,6 @@ fn alone<'a, R: Source>(alloc: Global, inside: Stream<'a, R>) -> MergedStreams<'
     ensures clock { result.clock ≡ 0 }
 {
     MergedStreams::new(alloc, inside, None)
-}
-
-/// The source of a stream again, if there is one.
-fn into_source_if<'b, Q: Source>(stream: Option<Stream<'b, Q>>) -> Option<&'b mut Q>
-    ensures { IsSourceIf stream.entry result }
-{
-    match stream {
-        Some(stream) => Some(stream.into_source()),
-        None => None,
-    }
 }
 
 /// Reads the header of a side's capture.
