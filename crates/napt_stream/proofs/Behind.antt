@@ -32,11 +32,12 @@ use Rattle.napt_stream.specs.LeavingLaws.{grows_more, grows_if_more, texts-appen
 use Rattle.napt_stream.specs.Outputs.{Breaks, Grows}
 use Rattle.napt_stream.specs.Passed.{PassesAll, PassesOr}
 use Rattle.napt_stream.specs.Runs.{FailsInside, FailsOutside, IfHeld, RunsTo, RunsToFault, RunsWell, Writes, left_of, text_behind}
-use Rattle.napt_stream.specs.Streams.{IsFaultOf}
+use Rattle.napt_stream.specs.Streams.{IsFaultOf, IsOfRun, IsReading}
 use Rattle.napt_stream.specs.declared.leaving.Leaving.{Leaving}
 use Rattle.napt_stream.specs.declared.leaving.OutputFault.{OutputFault}
 use Rattle.napt_stream.specs.declared.output.Output.{Output}
 use Rattle.napt_stream.specs.declared.passing.Totals.{Totals}
+use Rattle.napt_stream.proofs.Begun.{ReadBy, read_somehow, read_to_fault, read_well, told}
 use Rattle.napt_stream.proofs.Breaks.{breaks_if_more, breaks_more, sound_if_more}
 use Rattle.napt_stream.proofs.Fronts.{Front, as_many, front_of, left_long, outcomes_back, times_of}
 
@@ -253,3 +254,23 @@ module _ {R Q W V : Type 0} {G : Ghosts R} {H : Ghosts Q} {g h : _} (open_gate :
   runs_to (Err (Write Inside fault)) p = fails_inside fault (early Inside fault p)
   runs_to (Err (Write Report fault)) p = (early Report fault p).failed
   runs_to (Err (Run fault)) p = p
+
+  -- and how many reads failed
+  pub reads_of : (result : Result Totals Fault) → PassesOr open_gate rules inside outside in_failed out_failed oc of
+      outside_flushed ic if inside_flushed begin old end new result → (¬ IsOfRun result) →
+      (read : Result (Unit {0}) Fault) × IsReading result read × ReadBy inside outside in_failed out_failed begin end live
+      read
+  reads_of (Ok totals) p not_run =
+      (Ok tt, refl, read_well inside outside in_failed out_failed begin end live p.well.whole.inputs p.well.whole.came)
+  reads_of (Err (Capture side fault)) p not_run = (
+    told side fault,
+    refl,
+    read_to_fault inside outside in_failed out_failed begin end live p.inputs (record { side = side; fault = fault })
+        p.came,
+  )
+  reads_of (Err (Write Outside fault)) p not_run =
+      read_somehow inside outside in_failed out_failed begin end live p.inputs p.come
+  reads_of (Err (Write Inside fault)) p not_run =
+      read_somehow inside outside in_failed out_failed begin end live p.inputs p.come
+  reads_of (Err (Write Report fault)) p not_run = absurd (early Report fault p).failed
+  reads_of (Err (Run fault)) p not_run = absurd (not_run tt)

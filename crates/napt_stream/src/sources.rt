@@ -154,13 +154,13 @@ fn run_behind_inside<
     let mut inputs = alone(setting.alloc, Stream::new(inside, records));
     let passed = pass(setting, &mut inputs, leaving);
     let (ours, none) = inputs.into_streams();
-    let _inside = ours.into_source();
     match none {
         Some(stream) => {
             let _outside = stream.into_source();
         }
         None => {}
     }
+    let _inside = ours.into_source();
     passed
 }
 
