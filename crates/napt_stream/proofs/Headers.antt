@@ -100,28 +100,41 @@ module _ {W V : Type 0} {g h : _} (open_gate : Bool) (rules : Rules)
 abbrev pub failed_at : Side → Fault → ℕ
 failed_at side fault = let answer : Result (Unit {0}) Fault = Err fault in failed_readings side answer
 
-pub inside_reads : {T X : Type 0} (fault : Fault) (old new other : ℕ) {known after : Option (List ℕ)} →
+pub inside_reads : (T X : Type 0) (fault : Fault) (old new other : ℕ) (known after : Option (List ℕ)) →
     IsHeaderFault sides.Inside known after fault →
     (let answer : Result X Fault = Err fault in new ≡ old + failed_readings sides.Inside answer) →
     (read : Result (Unit {0}) Fault) × (let told : Result T Fault = Err fault in IsReading told read)
     × (new ≡ old + failed_readings sides.Inside read) × (other ≡ other + failed_readings sides.Outside read)
-inside_reads (Capture sides.Inside fault) old new other is count =
+inside_reads T X (Capture sides.Inside fault) old new other known after is count =
     (Err (Capture sides.Inside fault), refl, count, sym (add-zero other))
-inside_reads (Capture sides.Outside fault) old new other is count =
+inside_reads T X (Capture sides.Outside fault) old new other known after is count =
     (Err (Capture sides.Outside fault), refl, absurd (let no : sides.Outside ≡ sides.Inside = is.0 in cc),
     absurd (let no : sides.Outside ≡ sides.Inside = is.0 in cc))
-inside_reads (Run fault) old new other is count = absurd is
-inside_reads (Write which fault) old new other is count = absurd is
+inside_reads T X (Run fault) old new other known after is count = absurd is
+inside_reads T X (Write which fault) old new other known after is count = absurd is
 
-pub outside_reads : {T X : Type 0} (fault : Fault) (old new other : ℕ) {known after : Option (List ℕ)} →
+pub outside_reads : (T X : Type 0) (fault : Fault) (old new other : ℕ) (known after : Option (List ℕ)) →
     IsHeaderFault sides.Outside known after fault →
     (let answer : Result X Fault = Err fault in new ≡ old + failed_readings sides.Outside answer) →
     (read : Result (Unit {0}) Fault) × (let told : Result T Fault = Err fault in IsReading told read)
     × (other ≡ other + failed_readings sides.Inside read) × (new ≡ old + failed_readings sides.Outside read)
-outside_reads (Capture sides.Outside fault) old new other is count =
+outside_reads T X (Capture sides.Outside fault) old new other known after is count =
     (Err (Capture sides.Outside fault), refl, sym (add-zero other), count)
-outside_reads (Capture sides.Inside fault) old new other is count =
+outside_reads T X (Capture sides.Inside fault) old new other known after is count =
     (Err (Capture sides.Inside fault), refl, absurd (let no : sides.Inside ≡ sides.Outside = is.0 in cc),
     absurd (let no : sides.Inside ≡ sides.Outside = is.0 in cc))
-outside_reads (Run fault) old new other is count = absurd is
-outside_reads (Write which fault) old new other is count = absurd is
+outside_reads T X (Run fault) old new other known after is count = absurd is
+outside_reads T X (Write which fault) old new other known after is count = absurd is
+
+pub one_reads : (T X : Type 0) (fault : Fault) (old new : ℕ) (known after : Option (List ℕ)) →
+    IsHeaderFault sides.Inside known after fault →
+    (let answer : Result X Fault = Err fault in new ≡ old + failed_readings sides.Inside answer) →
+    (read : Result (Unit {0}) Fault) × (let told : Result T Fault = Err fault in IsReading told read)
+    × (new ≡ old + failed_readings sides.Inside read) × (failed_readings sides.Outside read ≡ 0)
+one_reads T X (Capture sides.Inside fault) old new known after is count =
+    (Err (Capture sides.Inside fault), refl, count, refl)
+one_reads T X (Capture sides.Outside fault) old new known after is count =
+    (Err (Capture sides.Outside fault), refl, absurd (let no : sides.Outside ≡ sides.Inside = is.0 in cc),
+    absurd (let no : sides.Outside ≡ sides.Inside = is.0 in cc))
+one_reads T X (Run fault) old new known after is count = absurd is
+one_reads T X (Write which fault) old new known after is count = absurd is
