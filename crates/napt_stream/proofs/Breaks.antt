@@ -1,9 +1,10 @@
 -- A fault behind what was written.
-use Rattle.std.proofs.Common.{◌≡◌, ℕ, ◌+◌, ◌-◌, ◌^◌, ◌≤◌, min, List, [], ◌++◌, length, take, Option, Result, Ok, Err, IfErr, false, sym, ◌∙◌, ap, subst, arith, append-nil, add_assoc, length-append}
+use Rattle.std.proofs.Common.{◌≡◌, ℕ, ◌+◌, ◌-◌, ◌^◌, ◌≤◌, min, List, [], ◌++◌, length, take, Option, Some, None, Result, Ok, Err, IfErr, false, sym, ◌∙◌, ap, subst, arith, append-nil, add_assoc, length-append}
 use Rattle.std.specs.Io.KnownBytes.{Appends}
 use Rattle.std.proofs.KnownBytes.{Appends-trans}
 use Rattle.std.proofs.Math.Seq.{take-append-add}
 use Rattle.napt_capture.specs.declared.fault.WriteFault.{WriteFault}
+use Rattle.napt_stream.specs.Leaving.{BreaksIf, GrowsIf, IsSoundIf}
 use Rattle.napt_stream.specs.Outputs.{Grows, Breaks}
 use Rattle.napt_stream.specs.declared.output.Output.{Output}
 
@@ -22,6 +23,22 @@ module _ {W : Type 0} (contents : W → Option (List ℕ)) (failed : W → ℕ) 
         (Appends-trans _ _ _ first (take two.count second) one.appended two.appended);
     failed_once = two.failed_once ∙ ap (λ (n : ℕ). n + 1) one.kept;
   }
+
+  pub breaks_if_more : (x y z : Option (Output W g)) (first second : List ℕ) (fault : WriteFault) →
+      GrowsIf contents failed x first y → BreaksIf contents failed y second fault z →
+      BreaksIf contents failed x (first ++ second) fault z
+  breaks_if_more None None z first second fault one two = two
+  breaks_if_more None (Some y) z first second fault one two = absurd one
+  breaks_if_more (Some x) None z first second fault one two = absurd one
+  breaks_if_more (Some x) (Some y) None first second fault one two = two
+  breaks_if_more (Some x) (Some y) (Some z) first second fault one two = breaks_more x y z first second fault one two
+
+  pub sound_if_more : (x y : Option (Output W g)) (text : List ℕ) → GrowsIf contents failed x text y → IsSoundIf x →
+      IsSoundIf y
+  sound_if_more None None text grows sound = tt
+  sound_if_more None (Some y) text grows sound = absurd grows
+  sound_if_more (Some x) None text grows sound = tt
+  sound_if_more (Some x) (Some y) text grows sound = grows.sound sound
 
   -- a flush failed behind a text
   pub flush_breaks : (x y z : Output W g) (text : List ℕ) (r : Result (Unit {0}) WriteFault) →

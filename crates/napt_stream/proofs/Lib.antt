@@ -1,3 +1,7 @@
 pub mod Breaks
+pub mod Fronts
+pub mod Behind
+pub mod Begun
+pub mod Headers
 pub mod Outputs
 pub mod Leaves

@@ -1,16 +1,16 @@
 -- What a run between captures that come and captures that leave comes to, by its result.
-use Rattle.std.specs.Prelude.{ℕ, Bool, List, Option, Some, None, Result, Ok, Err}
+use Rattle.std.specs.Prelude.{◌≡◌, ℕ, Bool, List, Option, Some, None, Result, Ok, Err}
 use Rattle.napt_capture.specs.declared.device.Source.{Ghosts}
 use Rattle.napt_config.specs.Rules.{Rules}
 use Rattle.napt_dispatch.specs.Dispatch.{IsFaultUnder}
 use Rattle.napt_dispatch.specs.Passing.{PassesEarly, PassesTo, PassesWell}
-use Rattle.napt_dispatch.specs.declared.workers.Passed.{Passed}
-use Rattle.napt_records.specs.Merged.{EndsWith, HandsOut}
+use Rattle.napt_records.specs.Merged.{EndsWith, HandsOut, cut_if, cut_of}
 use Rattle.napt_records.specs.declared.Fault.{Fault}
 use Rattle.napt_records.specs.declared.Fault.TheVariants.{Capture, Run, Write}
 use Rattle.napt_records.specs.declared.merged_streams.MergedStreams.{MergedStreams}
 use Rattle.napt_stream.specs.Leaving.{Fails, IsSettled, Takes}
 use Rattle.napt_stream.specs.declared.leaving.Leaving.{Leaving}
+use Rattle.napt_stream.specs.declared.passing.Totals.{Totals}
 
 module _ {R Q W V : Type 0} {G : Ghosts R} {H : Ghosts Q} {g h : _} (open_gate : Bool) (rules : Rules)
     (inside : R → Option (List ℕ)) (outside : Q → Option (List ℕ)) (in_failed : R → ℕ) (out_failed : Q → ℕ)
@@ -18,10 +18,17 @@ module _ {R Q W V : Type 0} {G : Ghosts R} {H : Ghosts Q} {g h : _} (open_gate :
     (ic : V → Option (List ℕ)) (if : V → ℕ) (inside_flushed : V → Type 0)
     (from : MergedStreams R Q G H) (before : Leaving W V g h) (left : MergedStreams R Q G H) (after : Leaving W V g h)
   where
-  abbrev pub PassesOr : Result Passed Fault → Type 0
-  PassesOr (Ok passed) = PassesWell rules (HandsOut inside outside in_failed out_failed)
-      (EndsWith inside outside in_failed out_failed) (Takes oc of ic if) (Fails oc of ic if)
-      (IsSettled outside_flushed inside_flushed) from before left after passed
+  -- all went well, and this is what the report tells
+  pub record PassesAll (totals : Totals) : Type 0 where
+    pub well : PassesWell rules (HandsOut inside outside in_failed out_failed)
+        (EndsWith inside outside in_failed out_failed) (Takes oc of ic if) (Fails oc of ic if)
+        (IsSettled outside_flushed inside_flushed) from before left after totals.passed
+    pub counts : totals.counts ≡ after.counts
+    pub cut_inside : totals.cuts.inside ≡ cut_of left.inside
+    pub cut_outside : totals.cuts.outside ≡ cut_if left.outside
+
+  abbrev pub PassesOr : Result Totals Fault → Type 0
+  PassesOr (Ok totals) = PassesAll totals
   PassesOr (Err (Capture side fault)) = PassesTo rules (HandsOut inside outside in_failed out_failed)
       (EndsWith inside outside in_failed out_failed) (Takes oc of ic if) (Fails oc of ic if)
       (IsSettled outside_flushed inside_flushed) from before left after (Some (record { side = side; fault = fault }))

@@ -5,8 +5,9 @@ use Rattle.std.specs.Borrow.{MutBor}
 use Rattle.std.specs.Io.KnownBytes.{Appends}
 use Rattle.napt_wire.specs.declared.Side.{Side}
 use Rattle.napt_wire.specs.declared.Side.TheVariants as sides
-use Rattle.napt_capture.specs.Reading.{RefusesFile, StopsBy}
+use Rattle.napt_capture.specs.Reading.{ReadsFileHeader, RefusesFile, StopsBy}
 use Rattle.napt_capture.specs.Text.{file_header, text}
+use Rattle.napt_capture.specs.declared.records.Records.{Records}
 use Rattle.napt_capture.specs.declared.fault.CaptureFault.{CaptureFault}
 use Rattle.napt_capture.specs.declared.fault.CaptureFault.TheVariants.{TooLarge, Read, Memory}
 use Rattle.napt_config.specs.Rules.{Rules}
@@ -130,7 +131,7 @@ Explains inside outside fault =
     IfKnown inside outside (λ bytes others. (both : Both) → AreHeld bytes others both → ExplainsOf both fault)
 
 -- a fault of the run itself
-abbrev pub IsOfRun : Result (Unit {0}) Fault → Type 0
+abbrev pub IsOfRun : {T : Type 0} → Result T Fault → Type 0
 IsOfRun (Err (Run fault)) = Unit {0}
 IsOfRun other = ⊥
 
@@ -150,14 +151,26 @@ IsOfReading (Err (Capture side fault)) = Unit {0}
 IsOfReading other = ⊥
 
 -- what reading came to: where writing a capture failed, that is not told
-abbrev pub IsReading : Result (Unit {0}) Fault → Result (Unit {0}) Fault → Type 0
+abbrev pub IsReading : {T : Type 0} → Result T Fault → Result (Unit {0}) Fault → Type 0
+IsReading (Ok done) read = read ≡ Ok tt
 IsReading (Err (Write Outside fault)) read = IsOfReading read
 IsReading (Err (Write Inside fault)) read = IsOfReading read
-IsReading result read = read ≡ result
+IsReading (Err fault) read = read ≡ Err fault
 
 -- the failed reads are those of what reading came to
-abbrev pub HasRead : {R Q : Type 0} → (R → ℕ) → (Q → ℕ) → R → R → Option (MutBor Q) → Left Q →
-    Result (Unit {0}) Fault → Type 0
+abbrev pub HasReadOne : {T R : Type 0} → (R → ℕ) → R → R → Result T Fault → Type 0
+HasReadOne failed old new result =
+    (read : Result (Unit {0}) Fault) × IsReading result read
+    × (failed new ≡ failed old + failed_readings sides.Inside read) × (failed_readings sides.Outside read ≡ 0)
+
+abbrev pub HasReadBoth : {T R Q : Type 0} → (R → ℕ) → (Q → ℕ) → R → R → Q → Q → Result T Fault → Type 0
+HasReadBoth inside_failed outside_failed old new other_old other_new result =
+    (read : Result (Unit {0}) Fault) × IsReading result read
+    × (inside_failed new ≡ inside_failed old + failed_readings sides.Inside read)
+    × (outside_failed other_new ≡ outside_failed other_old + failed_readings sides.Outside read)
+
+abbrev pub HasRead : {T R Q : Type 0} → (R → ℕ) → (Q → ℕ) → R → R → Option (MutBor Q) → Left Q → Result T Fault →
+    Type 0
 HasRead inside_failed outside_failed old new given left result =
     (read : Result (Unit {0}) Fault) × IsReading result read
     × (inside_failed new ≡ inside_failed old + failed_readings sides.Inside read)
@@ -165,7 +178,14 @@ HasRead inside_failed outside_failed old new given left result =
 
 -- STEPS
 
--- the header of a side's capture is refused, or could not be read
+-- of a capture of these bytes the header was read, and no more is known of it
+pub record IsBehindHeader {R : Type 0} (remaining : R → Option (List ℕ)) (records : Records) (bytes : Option (List ℕ))
+    (source : R) : Type 0 where
+  pub header : ReadsFileHeader records.spelling bytes (remaining source)
+  pub ahead : records.ahead ≡ []
+  pub number : records.number ≡ 1
+
+-- a fault of a side's capture, by its header
 abbrev pub IsHeaderFault : Side → Option (List ℕ) → Option (List ℕ) → Fault → Type 0
 IsHeaderFault side old new (Capture other fault) = (other ≡ side) × StopsBy fault (RefusesFile fault old new)
 IsHeaderFault side old new other = ⊥

@@ -29,7 +29,7 @@ fn bytes_of(packet: &Packet) -> &[u8]
     bytes
 }
 
-impl<W: Sink, V: Sink> Departures for Leaving<'_, W, V> {
+impl<W: Sink, V: Sink> Departures for Leaving<'_, '_, W, V> {
     ghost use Rattle.napt_stream.specs.Leaving.{Takes, Fails, IsSettled};
     ghost use Rattle.napt_stream.specs.LeavingLaws.{takes_none, takes_more};
 

@@ -7,9 +7,9 @@ use napt_records::{Counts, Fault, Which};
 
 /// The captures that a run writes while it lasts, and the counts of its report.
 #[derive(Drop)]
-pub(crate) struct Leaving<'a, W: Sink, V: Sink> {
+pub(crate) struct Leaving<'a, 'b, W: Sink, V: Sink> {
     pub(crate) to_outside: Output<'a, W>,
-    pub(crate) to_inside: Option<Output<'a, V>>,
+    pub(crate) to_inside: Option<Output<'b, V>>,
     pub(crate) counts: Counts,
 }
 
@@ -20,26 +20,36 @@ pub(crate) struct OutputFault {
     pub(crate) fault: WriteFault,
 }
 
-impl<'a, W: Sink, V: Sink> Leaving<'a, W, V> {
-    ghost use Rattle.std.specs.Prelude.{◌≡◌, ◌-◌, ◌^◌, ◌<◌, [], IfErr, IfSome, OnOk, false};
+impl<'a, 'b, W: Sink, V: Sink> Leaving<'a, 'b, W, V> {
+    ghost use Rattle.std.specs.Prelude.{◌≡◌, ◌-◌, ◌^◌, ◌<◌, [], IfErr, IfSome, None, OnOk, false};
     ghost use Rattle.napt_records.specs.Counts.{AreCountsOf};
     ghost use Rattle.napt_stream.specs.Leaving.{Begins, FailsToBegin, IsOver, IsOverIf, IsSettled, IsSoundIf};
 
-    /// Over devices to which nothing is written.
-    pub(crate) fn over(to_outside: &'a mut W, to_inside: Option<&'a mut V>) -> Leaving<'a, W, V>
-        requires to_outside { W.failed to_outside.old < 2 ^ 64 - 1 }
-        requires to_inside { IfSome to_inside (λ w. V.failed w.now < 2 ^ 64 - 1) }
-        ensures to_outside { IsOver to_outside.entry result.to_outside }
-        ensures to_inside { IsOverIf to_inside.entry result.to_inside }
+    /// Into these outputs, to which nothing is written.
+    pub(crate) fn into(
+        to_outside: Output<'a, W>,
+        to_inside: Option<Output<'b, V>>,
+    ) -> Leaving<'a, 'b, W, V>
+        ensures to_outside { result.to_outside ≡ to_outside.entry }
+        ensures to_inside { result.to_inside ≡ to_inside.entry }
         ensures counts { AreCountsOf [] result.counts }
     {
-        let to_inside = match to_inside {
-            Some(device) => Some(Output::over(device)),
-            None => None,
-        };
         Leaving {
-            to_outside: Output::over(to_outside),
+            to_outside,
             to_inside,
+            counts: Counts::new(),
+        }
+    }
+
+    /// Into this output alone, to which nothing is written.
+    pub(crate) fn alone(to_outside: Output<'a, W>) -> Leaving<'a, 'a, W, V>
+        ensures to_outside { result.to_outside ≡ to_outside.entry }
+        ensures to_inside { result.to_inside ≡ None }
+        ensures counts { AreCountsOf [] result.counts }
+    {
+        Leaving {
+            to_outside,
+            to_inside: None,
             counts: Counts::new(),
         }
     }

@@ -5,12 +5,12 @@
 #![tactic(auto)]
 
 mod departing;
-mod header;
 mod leaving;
 mod output;
 mod passing;
 mod puts;
 mod reporting;
+mod sources;
 mod streams;
 
 pub use streams::run_streams;

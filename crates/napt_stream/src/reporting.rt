@@ -6,9 +6,9 @@ ghost use Rattle.napt_records.specs.Report.{report_of};
 ghost use Rattle.napt_run.specs.Captures.{failed_writings};
 ghost use Rattle.napt_stream.specs.Streams.{GetsReport, IsReportFault};
 
+use crate::passing::Totals;
 use napt_capture::{Sink, write_text};
-use napt_dispatch::Passed;
-use napt_records::{Counts, Cuts, Fault, Which, report_of};
+use napt_records::{Fault, Which, report_of};
 use napt_sequential::RunFault;
 use std::alloc::Global;
 
@@ -16,19 +16,18 @@ use std::alloc::Global;
 pub(crate) fn write_report<U: Sink>(
     alloc: Global,
     output: &mut U,
-    counts: &Counts,
-    passed: &Passed,
-    cuts: Cuts,
+    totals: &Totals,
 ) -> Result<(), Fault>
     requires { U.failed output.old < 2 ^ 64 - 1 }
-    ensures written { (outcomes : List Outcome) → AreCountsOf outcomes counts.now →
-        GetsReport (report_of cuts.inside cuts.outside outcomes passed.now.bindings.items) result
-        (U.contents output.old) (U.contents output.new) }
+    ensures written { (outcomes : List Outcome) → AreCountsOf outcomes totals.now.counts →
+        GetsReport (report_of totals.now.cuts.inside totals.now.cuts.outside outcomes
+        totals.now.passed.bindings.items) result (U.contents output.old) (U.contents output.new) }
     ensures fault { IfErr result IsReportFault }
     ensures flushed { OnOk result (U.is_flushed output.new) }
     ensures count { U.failed output.new ≡ U.failed output.old
         + failed_writings Which.Report result }
 {
+    let Totals { counts, passed, cuts } = totals;
     let Ok(text) = report_of(alloc, counts, &passed.bindings, cuts.inside, cuts.outside) else {
         return Err(Fault::Run(RunFault::Memory));
     };

@@ -1,21 +1,23 @@
 //! A run over captures while they come.
-ghost use Rattle.std.specs.Prelude.{◌≡◌, ◌+◌, ◌-◌, ◌^◌, ◌<◌, IfErr, IfOk, IfSome, MatchResult, OnOk, true, false};
-ghost use Rattle.napt_capture.specs.Capture.{failed_reads};
-ghost use Rattle.napt_capture.specs.Reading.{ReadsFileHeader, RefusesFile, StopsBy};
+ghost use Rattle.std.specs.Prelude.{◌≡◌, ◌+◌, ◌-◌, ◌^◌, ◌<◌, [], IfErr, IfSome, OnOk, true, false};
+ghost use Rattle.napt_capture.specs.Text.{file_header};
+ghost use Rattle.napt_records.specs.Counts.{AreCountsOf};
 ghost use Rattle.napt_records.specs.Faults.{tells_shut_gate};
 ghost use Rattle.napt_run.specs.Captures.{failed_writings};
 ghost use Rattle.napt_run.specs.Devices.{GrowsBy, IfGiven, bytes_in};
+ghost use Rattle.napt_stream.specs.Leaving.{IsSoundIf};
+ghost use Rattle.napt_stream.specs.Runs.{RunsTo};
 ghost use Rattle.napt_stream.specs.Streams.{Explains, HasRead, IsOfRun, IsSettledBy, Reports, Streams};
 
-use crate::header::read_header;
 use crate::leaving::Leaving;
-use crate::passing::pass;
+use crate::output::Output;
+use crate::passing::{Setting, Totals};
 use crate::reporting::write_report;
+use crate::sources::{run_over_both, run_over_inside};
 use napt_capture::{Sink, Source};
 use napt_config::Config;
 use napt_pool::Gate;
-use napt_records::{Fault, MergedStreams, Stream, Which};
-use napt_wire::Side;
+use napt_records::{Fault, Which};
 use std::alloc::Global;
 use std::sync::{Arc, Wait};
 use std::thread::Threads;
@@ -88,21 +90,98 @@ pub fn run_streams<
     ensures report_flushed { OnOk result
         (IfGiven report.entry report.exit (λ _ new. U.is_flushed new)) }
 {
-    let mut leaving = Leaving::over(to_outside, to_inside);
-    leaving.begin()?;
-    let records = read_header(alloc, Side::Inside, inside)?;
-    let inside = Stream::new(inside, records);
-    let outside = match outside {
-        Some(source) => {
-            let records = read_header(alloc, Side::Outside, source)?;
-            Some(Stream::new(source, records))
-        }
-        None => None,
+    let setting = Setting {
+        rt,
+        alloc,
+        config,
+        gate,
     };
-    let mut inputs = MergedStreams::new(alloc, inside, outside);
-    let passed = pass(rt, alloc, config, &mut inputs, &mut leaving, gate)?;
+    let totals = match to_inside {
+        Some(device) => stream_to_both(setting, inside, outside, to_outside, device)?,
+        None => stream_to_outside::<T, R, Q, W, V, G>(setting, inside, outside, to_outside)?,
+    };
     match report {
-        Some(report) => write_report(alloc, report, &leaving.counts, &passed, inputs.cuts()),
+        Some(report) => write_report(alloc, report, &totals),
         None => Ok(()),
+    }
+}
+
+/// Runs over the captures into both outputs, to which nothing is written.
+fn stream_to_both<
+    T: Threads + Wait + Copy + Send + 'static,
+    R: Source,
+    Q: Source,
+    W: Sink,
+    V: Sink,
+    G: Gate + Send + Sync + Drop + 'static,
+>(
+    setting: Setting<'_, T, G>,
+    inside: &mut R,
+    outside: Option<&mut Q>,
+    to_outside: &mut W,
+    to_inside: &mut V,
+) -> Result<Totals, Fault>
+    requires inside { R.failed inside.old < 2 ^ 64 - 1 }
+    requires outside { IfSome outside (λ r. Q.failed r.now < 2 ^ 64 - 1) }
+    requires to_outside { W.failed to_outside.old < 2 ^ 64 - 1 }
+    requires to_inside { V.failed to_inside.old < 2 ^ 64 - 1 }
+{
+    let to_inside = Some(Output::over(to_inside));
+    let mut leaving = Leaving::into(Output::over(to_outside), to_inside);
+    stream(setting, inside, outside, &mut leaving)
+}
+
+/// Runs over the captures into the output to the outside alone, to which nothing is written.
+fn stream_to_outside<
+    T: Threads + Wait + Copy + Send + 'static,
+    R: Source,
+    Q: Source,
+    W: Sink,
+    V: Sink,
+    G: Gate + Send + Sync + Drop + 'static,
+>(
+    setting: Setting<'_, T, G>,
+    inside: &mut R,
+    outside: Option<&mut Q>,
+    to_outside: &mut W,
+) -> Result<Totals, Fault>
+    requires inside { R.failed inside.old < 2 ^ 64 - 1 }
+    requires outside { IfSome outside (λ r. Q.failed r.now < 2 ^ 64 - 1) }
+    requires to_outside { W.failed to_outside.old < 2 ^ 64 - 1 }
+{
+    let mut leaving: Leaving<'_, '_, W, V> = Leaving::alone(Output::over(to_outside));
+    stream(setting, inside, outside, &mut leaving)
+}
+
+/// Runs over the captures, once both outputs have their headers.
+fn stream<
+    T: Threads + Wait + Copy + Send + 'static,
+    R: Source,
+    Q: Source,
+    W: Sink,
+    V: Sink,
+    G: Gate + Send + Sync + Drop + 'static,
+>(
+    setting: Setting<'_, T, G>,
+    inside: &mut R,
+    outside: Option<&mut Q>,
+    leaving: &mut Leaving<'_, '_, W, V>,
+) -> Result<Totals, Fault>
+    requires inside { R.failed inside.old < 2 ^ 64 - 1 }
+    requires outside { IfSome outside (λ r. Q.failed r.now < 2 ^ 64 - 1) }
+    requires sound { leaving.old.to_outside.is_broken ≡ false }
+    requires sound_inside { IsSoundIf leaving.old.to_inside }
+    requires written { leaving.old.to_outside.written ≡ 0 }
+    requires counts { AreCountsOf [] leaving.old.counts }
+    ensures runs { RunsTo G.is_open setting.entry.config.now W.contents W.failed W.is_flushed
+        V.contents V.failed V.is_flushed (R.remaining inside.old)
+        (bytes_in Q.remaining outside.entry) file_header leaving.old leaving.new result }
+    ensures readings { (¬ IsOfRun result) → HasRead R.failed Q.failed
+        inside.old inside.new outside.entry outside.exit result }
+{
+    leaving.begin()?;
+    match outside {
+        Some(outside) => run_over_both(setting, inside, outside, leaving),
+        None => run_over_inside(setting, inside, leaving),
     }
 }
