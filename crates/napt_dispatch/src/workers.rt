@@ -209,7 +209,8 @@ pub fn run_on_pool<
     many: usize,
     gate: Arc<G>,
 ) -> Result<TimedRun, RunFault>
-    ensures run { IfOk result (λ done. RunsAll config.now A.hands A.ends arrivals.old done arrivals.new) }
+    ensures run { IfOk result (λ done. RunsAll config.now A.hands A.ends
+        arrivals.old done arrivals.new) }
     ensures fault { IfErr result (IsFaultUnder G.is_open) }
 {
     let mut collected = Collected::with_capacity(alloc, many)?;

@@ -75,7 +75,7 @@ impl Wanted<'_> {
     fn check<R: Source, Q: Source>(
         &self,
         rt: &impl Abort,
-        mut streams: MergedStreams<'_, '_, R, Q>,
+        streams: &mut MergedStreams<'_, '_, R, Q>,
     ) -> Result<(), Fail> {
         let name = self.name;
         for (i, (side, time, clock, byte)) in self.inputs.iter().enumerate() {
@@ -124,6 +124,17 @@ fn opened_if<'a, R: Source>(
     }
 }
 
+/// Merges, and compares.
+fn check_streams<R: Source, Q: Source>(
+    rt: &impl Abort,
+    mut streams: MergedStreams<'_, '_, R, Q>,
+    wanted: Wanted<'_>,
+) -> Result<(), Fail> {
+    let checked = wanted.check(rt, &mut streams);
+    let (_, _) = streams.into_streams();
+    checked
+}
+
 /// Merges two captures, and compares.
 fn check_sources<R: Source, Q: Source>(
     rt: &(impl Abort + AllocGlobal),
@@ -137,7 +148,7 @@ fn check_sources<R: Source, Q: Source>(
     let alloc = rt.alloc();
     let first = opened(alloc, inside)?;
     let second = opened_if(alloc, outside)?;
-    wanted.check(rt, MergedStreams::new(alloc, first, second))
+    check_streams(rt, MergedStreams::new(alloc, first, second), wanted)
 }
 
 /// Merges what two captures hold, and compares.
@@ -288,7 +299,7 @@ const TWO_RECORDS: Held = Held {
 /// side is asked for more once.
 fn check_asks<R: Source, Q: Source>(
     rt: &impl Abort,
-    mut streams: MergedStreams<'_, '_, R, Q>,
+    streams: &mut MergedStreams<'_, '_, R, Q>,
 ) -> Result<(), Fail> {
     for asks in [true, false, false, true, true] {
         assert_eq!(rt; streams.asks_device(), asks);
@@ -298,6 +309,16 @@ fn check_asks<R: Source, Q: Source>(
     Ok(())
 }
 
+/// The same, of streams that are let go.
+fn check_asks_of<R: Source, Q: Source>(
+    rt: &impl Abort,
+    mut streams: MergedStreams<'_, '_, R, Q>,
+) -> Result<(), Fail> {
+    let checked = check_asks(rt, &mut streams);
+    let (_, _) = streams.into_streams();
+    checked
+}
+
 #[test]
 fn streams_tell_whether_a_device_is_asked(rt: HostRuntime) -> Result<(), Fail> {
     let alloc = rt.alloc();
@@ -305,8 +326,16 @@ fn streams_tell_whether_a_device_is_asked(rt: HostRuntime) -> Result<(), Fail> {
     let mut inside = Watched::new(bytes.as_slice());
     let mut outside = Watched::new(bytes.as_slice());
     let first = opened(alloc, &mut inside)?;
-    let second = opened_if(alloc, Some(&mut outside))?;
-    check_asks(&rt, MergedStreams::new(alloc, first, second))
+    let second = opened(alloc, &mut outside)?;
+    check_asks_of(&rt, MergedStreams::new(alloc, first, Some(second)))
+}
+
+/// The source of the inside again.
+fn source_of<'a, R: Source, Q: Source>(streams: MergedStreams<'a, '_, R, Q>) -> &'a mut R
+    ensures { result.now ≡ streams.entry.inside.live.source.now }
+{
+    let (inside, _) = streams.into_streams();
+    inside.into_source()
 }
 
 /// Only the header is read of it.
@@ -316,13 +345,10 @@ fn streams_give_their_sources_back(rt: HostRuntime) -> Result<(), Fail> {
     let bytes = TWO_RECORDS.bytes(alloc)?;
     let mut source = Watched::new(bytes.as_slice());
     let first = opened(alloc, &mut source)?;
-    let mut none = Watched::new(bytes.as_slice());
-    let second = opened_if(alloc, Some(&mut none))?;
-    let (first, _) = MergedStreams::new(alloc, first, second).into_streams();
-    assert_eq!(rt; first.cut(), None);
+    let none: Option<Stream<'_, Watched<&[u8]>>> = None;
+    let source = source_of(MergedStreams::new(alloc, first, none));
     let mut buffer = [0; 4];
-    let count = first.into_source().read(&mut buffer)?;
-    assert_eq!(rt; count, 4);
-    assert_eq!(rt; buffer, [1, 0, 0, 0]);
+    let count = source.read(&mut buffer)?;
+    assert_eq!(rt; (count, buffer), (4, [1, 0, 0, 0]));
     Ok(())
 }
