@@ -4,5 +4,6 @@ pub mod Behind
 pub mod Begun
 pub mod Headers
 pub mod Headed
+pub mod Devices
 pub mod Outputs
 pub mod Leaves

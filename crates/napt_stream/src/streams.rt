@@ -1,12 +1,12 @@
 //! A run over captures while they come.
-ghost use Rattle.std.specs.Prelude.{◌≡◌, ◌+◌, ◌-◌, ◌^◌, ◌<◌, [], IfErr, IfSome, OnOk, true, false};
+ghost use Rattle.std.specs.Prelude.{◌≡◌, ◌+◌, ◌-◌, ◌^◌, ◌<◌, [], IfErr, IfOk, IfSome, OnOk, true, false};
 ghost use Rattle.napt_capture.specs.Text.{file_header};
 ghost use Rattle.napt_records.specs.Counts.{AreCountsOf};
 ghost use Rattle.napt_run.specs.Captures.{failed_writings, tells_shut_gate};
 ghost use Rattle.napt_run.specs.Devices.{GrowsBy, IfGiven, bytes_in};
 ghost use Rattle.napt_stream.specs.Leaving.{IsSoundIf};
-ghost use Rattle.napt_stream.specs.Runs.{RunsTo};
-ghost use Rattle.napt_stream.specs.Streams.{Explains, HasRead, IsOfRun, IsSettledBy, Reports, Streams};
+ghost use Rattle.napt_stream.specs.Runs.{IsToldOf, RunsTo};
+ghost use Rattle.napt_stream.specs.Streams.{Explains, HasRead, IsOfRun, IsSettledBy, IsStopFault, Reports, Streams, ended};
 
 use crate::leaving::Leaving;
 use crate::output::Output;
@@ -124,10 +124,42 @@ fn stream_to_both<
     requires outside { IfSome outside (λ r. Q.failed r.now < 2 ^ 64 - 1) }
     requires to_outside { W.failed to_outside.old < 2 ^ 64 - 1 }
     requires to_inside { V.failed to_inside.old < 2 ^ 64 - 1 }
+    ensures to_outside { Streams setting.entry.config.now Which.Outside (ended result)
+        (R.remaining inside.old) (bytes_in Q.remaining outside.entry)
+        (W.contents to_outside.old) (W.contents to_outside.new) }
+    ensures to_inside { Streams setting.entry.config.now Which.Inside (ended result)
+        (R.remaining inside.old) (bytes_in Q.remaining outside.entry)
+        (V.contents to_inside.old) (V.contents to_inside.new) }
+    ensures told { IfOk result (IsToldOf setting.entry.config.now
+        (R.remaining inside.old) (bytes_in Q.remaining outside.entry)) }
+    ensures fault { IfErr result
+        (Explains (R.remaining inside.old) (bytes_in Q.remaining outside.entry)) }
+    ensures stop { IfErr result (IsStopFault G.is_open) }
+    ensures readings { (¬ IsOfRun result) → HasRead R.failed Q.failed
+        inside.old inside.new outside.entry outside.exit result }
+    ensures outside_writings { (¬ IsOfRun result) → W.failed to_outside.new
+        ≡ W.failed to_outside.old + failed_writings Which.Outside (ended result) }
+    ensures inside_writings { (¬ IsOfRun result) → V.failed to_inside.new
+        ≡ V.failed to_inside.old + failed_writings Which.Inside (ended result) }
+    ensures outside_flushed { IsSettledBy (ended result) → W.is_flushed to_outside.new }
+    ensures inside_flushed { IsSettledBy (ended result) → V.is_flushed to_inside.new }
 {
     let to_inside = Some(Output::over(to_inside));
     let mut leaving = Leaving::into(Output::over(to_outside), to_inside);
-    stream(setting, inside, outside, &mut leaving)
+    let told = stream(setting, inside, outside, &mut leaving);
+    let Leaving {
+        to_outside: ours,
+        to_inside: theirs,
+        counts: _,
+    } = leaving;
+    match theirs {
+        Some(output) => {
+            let _inside = output.device;
+        }
+        None => {}
+    }
+    let _outside = ours.device;
+    told
 }
 
 /// Runs over the captures into the output to the outside alone, to which nothing is written.
@@ -147,9 +179,36 @@ fn stream_to_outside<
     requires inside { R.failed inside.old < 2 ^ 64 - 1 }
     requires outside { IfSome outside (λ r. Q.failed r.now < 2 ^ 64 - 1) }
     requires to_outside { W.failed to_outside.old < 2 ^ 64 - 1 }
+    ensures to_outside { Streams setting.entry.config.now Which.Outside (ended result)
+        (R.remaining inside.old) (bytes_in Q.remaining outside.entry)
+        (W.contents to_outside.old) (W.contents to_outside.new) }
+    ensures told { IfOk result (IsToldOf setting.entry.config.now
+        (R.remaining inside.old) (bytes_in Q.remaining outside.entry)) }
+    ensures fault { IfErr result
+        (Explains (R.remaining inside.old) (bytes_in Q.remaining outside.entry)) }
+    ensures stop { IfErr result (IsStopFault G.is_open) }
+    ensures readings { (¬ IsOfRun result) → HasRead R.failed Q.failed
+        inside.old inside.new outside.entry outside.exit result }
+    ensures outside_writings { (¬ IsOfRun result) → W.failed to_outside.new
+        ≡ W.failed to_outside.old + failed_writings Which.Outside (ended result) }
+    ensures inside_writings { failed_writings Which.Inside (ended result) ≡ 0 }
+    ensures outside_flushed { IsSettledBy (ended result) → W.is_flushed to_outside.new }
 {
     let mut leaving: Leaving<'_, '_, W, V> = Leaving::alone(Output::over(to_outside));
-    stream(setting, inside, outside, &mut leaving)
+    let told = stream(setting, inside, outside, &mut leaving);
+    let Leaving {
+        to_outside: ours,
+        to_inside: none,
+        counts: _,
+    } = leaving;
+    match none {
+        Some(output) => {
+            let _inside = output.device;
+        }
+        None => {}
+    }
+    let _outside = ours.device;
+    told
 }
 
 /// Runs over the captures, once both outputs have their headers.
