@@ -1,5 +1,5 @@
 -- What a run leaves on the devices of its outputs.
-use Rattle.std.proofs.Common.{◌≡◌, ◌⊎◌, inl, inr, ℕ, ◌+◌, ◌-◌, ◌^◌, ◌≤◌, min, Bool, List, [], ◌++◌, length, take, Option, Some, None, Result, Ok, Err, IfErr, IfOk, false, refl, sym, ◌∙◌, ap, subst, subst₂, arith, add-zero}
+use Rattle.std.proofs.Common.{◌≡◌, ◌⊎◌, inl, inr, ℕ, ◌+◌, ◌-◌, ◌^◌, ◌≤◌, min, Bool, List, [], ◌++◌, length, take, Option, Some, None, Result, Ok, Err, IfErr, IfOk, IfSome, false, refl, sym, ◌∙◌, ap, subst, subst₂, arith, add-zero}
 use Rattle.std.specs.Io.KnownBytes.{Appends}
 use Rattle.napt_wire.specs.declared.Side.{Side}
 use Rattle.napt_wire.specs.declared.Side.TheVariants as sides
@@ -211,3 +211,133 @@ module _ {W V : Type 0} {g h : _} (open_gate : Bool) (rules : Rules)
         one_counted ic if a b _ fault (breaks_at ic if _ _ _ fault a b first last p.broke)
     inside_counted (Err (Write Report fault)) p not_run = absurd p
     inside_counted (Err (Run fault)) p not_run = absurd (not_run tt)
+
+-- WHERE THE DEVICES ARE LEFT
+
+run_or_not : (result : Result Totals Fault) → IsOfRun result ⊎ (¬ IsOfRun result)
+run_or_not (Ok totals) = inr (λ r. r)
+run_or_not (Err (Capture side fault)) = inr (λ r. r)
+run_or_not (Err (Write which fault)) = inr (λ r. r)
+run_or_not (Err (Run fault)) = inl tt
+
+settled_not_run : (result : Result Totals Fault) → IsSettledBy (ended result) → ¬ IsOfRun result
+settled_not_run (Ok totals) settled = λ r. r
+settled_not_run (Err (Capture side fault)) settled = λ r. r
+settled_not_run (Err (Write which fault)) settled = λ r. r
+settled_not_run (Err (Run fault)) settled = absurd settled
+
+run_gets : (rules : Rules) (which : Which) (result : Result Totals Fault) (inside : Option (List ℕ))
+    (outside : Option (Option (List ℕ))) (old new : Option (List ℕ)) → IsOfRun result →
+    Streams rules which (ended result) inside outside old new
+run_gets rules which (Ok totals) inside outside old new run = absurd run
+run_gets rules which (Err (Capture side fault)) inside outside old new run = absurd run
+run_gets rules which (Err (Write other fault)) inside outside old new run = absurd run
+run_gets rules which (Err (Run fault)) inside outside old new run = IfHeld-all inside outside (λ both. tt)
+
+-- what a device got, by its values before and after
+pub record Done {D : Type 0} (rules : Rules) (which : Which) (contents : D → Option (List ℕ)) (failed : D → ℕ)
+    (flushed : D → Type 0) (inside : Option (List ℕ)) (outside : Option (Option (List ℕ)))
+    (result : Result Totals Fault) (old new : D) : Type 0 where
+  pub gets : Streams rules which (ended result) inside outside (contents old) (contents new)
+  pub count : (¬ IsOfRun result) → failed new ≡ failed old + failed_writings which (ended result)
+  pub settled : IsSettledBy (ended result) → flushed new
+
+module _ {W V : Type 0} {g h : _} (open_gate : Bool) (rules : Rules)
+    (oc : W → Option (List ℕ)) (of : W → ℕ) (outside_flushed : W → Type 0)
+    (ic : V → Option (List ℕ)) (if : V → ℕ) (inside_flushed : V → Type 0)
+    (inside : Option (List ℕ)) (outside : Option (Option (List ℕ)))
+    (old new : Leaving W V g h) (result : Result Totals Fault)
+    (to : RunsTo open_gate rules oc of outside_flushed ic if inside_flushed inside outside file_header old new result) where
+  pub outside_done : old.to_outside.written ≡ 0 → (start end : W) → old.to_outside.device.now ≡ start →
+      ((¬ IsOfRun result) → end ≡ new.to_outside.device.now) →
+      Done rules Outside oc of outside_flushed inside outside result start end
+  outside_done none start end from at = record {
+    gets = elim (run_or_not result) [
+      | inl run ↦ run_gets rules Outside result inside outside (oc start) (oc end) run
+      | inr not_run ↦ rw (at not_run, sym from) (outside_gets open_gate rules oc of outside_flushed ic if inside_flushed
+          inside outside old new none result to)
+    ];
+    count = λ not_run. rw (at not_run, sym from) (outside_counted open_gate rules oc of outside_flushed ic if
+        inside_flushed inside outside old new result to not_run).count;
+    settled = λ settled. rw (at (settled_not_run result settled)) (outside_settled open_gate rules oc of outside_flushed
+        ic if inside_flushed inside outside old new result to settled);
+  }
+
+  inside_settled : (b : Output V h) → new.to_inside ≡ Some b → (told : Result Totals Fault) →
+      RunsTo open_gate rules oc of outside_flushed ic if inside_flushed inside outside file_header old new told →
+      IsSettledBy (ended told) → inside_flushed b.device.now
+  inside_settled b last (Ok totals) p settled =
+      subst (λ o. IfSome o (λ it. inside_flushed it.device.now)) last p.wrote.settled.1
+  inside_settled b last (Err (Capture side fault)) p settled =
+      subst (λ o. IfSome o (λ it. inside_flushed it.device.now)) last p.wrote.settled.1
+  inside_settled b last (Err (Write Outside fault)) p settled = absurd settled
+  inside_settled b last (Err (Write Inside fault)) p settled = absurd settled
+  inside_settled b last (Err (Write Report fault)) p settled = absurd p
+  inside_settled b last (Err (Run fault)) p settled = absurd settled
+
+  pub inside_done : (a b : Output V h) → old.to_inside ≡ Some a → new.to_inside ≡ Some b → a.written ≡ 0 →
+      (start end : V) → a.device.now ≡ start → ((¬ IsOfRun result) → end ≡ b.device.now) →
+      Done rules Inside ic if inside_flushed inside outside result start end
+  inside_done a b first last none start end from at = record {
+    gets = elim (run_or_not result) [
+      | inl run ↦ run_gets rules Inside result inside outside (ic start) (ic end) run
+      | inr not_run ↦ rw (at not_run, sym from) (inside_gets open_gate rules oc of outside_flushed ic if inside_flushed
+          inside outside old new a b first last none result to)
+    ];
+    count = λ not_run. rw (at not_run, sym from) (inside_counted open_gate rules oc of outside_flushed ic if
+        inside_flushed inside outside old new a b first last result to not_run).count;
+    settled = λ settled. rw (at (settled_not_run result settled)) (inside_settled b last result to settled);
+  }
+
+  -- an output that was there is there, but after a fault of the run
+  gone : (text : List ℕ) (a : Output V h) → old.to_inside ≡ Some a → new.to_inside ≡ None →
+      GrowsIf ic if old.to_inside text new.to_inside → ⊥
+  gone text a first last p = subst₂ (λ x y. GrowsIf ic if x text y) first last p
+
+  gone_same : (a : Output V h) → old.to_inside ≡ Some a → new.to_inside ≡ None → new.to_inside ≡ old.to_inside → ⊥
+  gone_same a first last same = let no : None ≡ Some a = sym last ∙ same ∙ first in cc
+
+  gone_or : (text : List ℕ) (n m : ℕ) (a : Output V h) → old.to_inside ≡ Some a → new.to_inside ≡ None →
+      GrowsIf ic if old.to_inside text new.to_inside ⊎ ((n ≤ m) × (new.to_inside ≡ old.to_inside)) → ⊥
+  gone_or text n m a first last (inl kept) = gone text a first last kept
+  gone_or text n m a first last (inr (short, same)) = gone_same a first last same
+
+  none_left : (a : Output V h) → old.to_inside ≡ Some a → new.to_inside ≡ None → (told : Result Totals Fault) →
+      RunsTo open_gate rules oc of outside_flushed ic if inside_flushed inside outside file_header old new told →
+      (¬ IsOfRun told) → ⊥
+  none_left a first last (Ok totals) p not_run = gone _ a first last p.wrote.to_inside
+  none_left a first last (Err (Capture side fault)) p not_run = gone _ a first last p.wrote.to_inside
+  none_left a first last (Err (Write Outside fault)) p not_run = gone_or _ _ _ a first last p.kept
+  none_left a first last (Err (Write Inside fault)) p not_run =
+      subst₂ (λ x y. BreaksIf ic if x (text_behind file_header rules sides.Inside p.inputs) fault y) first last p.broke
+  none_left a first last (Err (Write Report fault)) p not_run = p
+  none_left a first last (Err (Run fault)) p not_run = not_run tt
+
+  pub inside_gone : (a : Output V h) → old.to_inside ≡ Some a → new.to_inside ≡ None → (start end : V) →
+      Done rules Inside ic if inside_flushed inside outside result start end
+  inside_gone a first last start end = record {
+    gets = elim (run_or_not result) [
+      | inl run ↦ run_gets rules Inside result inside outside (ic start) (ic end) run
+      | inr not_run ↦ absurd (none_left a first last result to not_run)
+    ];
+    count = λ not_run. absurd (none_left a first last result to not_run);
+    settled = λ settled. absurd (none_left a first last result to (settled_not_run result settled));
+  }
+
+  -- without an output to the inside none fails
+  never : (text : List ℕ) (fault : WriteFault) (o : Option (Output V h)) → BreaksIf ic if None text fault o → ⊥
+  never text fault None p = p
+  never text fault (Some b) p = p
+
+  pub none_fails : old.to_inside ≡ None → (told : Result Totals Fault) →
+      RunsTo open_gate rules oc of outside_flushed ic if inside_flushed inside outside file_header old new told →
+      failed_writings Inside (ended told) ≡ 0
+  none_fails first (Ok totals) p = refl
+  none_fails first (Err (Capture side fault)) p = refl
+  none_fails first (Err (Write Outside fault)) p = refl
+  none_fails first (Err (Write Inside fault)) p =
+      absurd (never (text_behind file_header rules sides.Inside p.inputs) fault new.to_inside
+      (subst (λ x. BreaksIf ic if x (text_behind file_header rules sides.Inside p.inputs) fault new.to_inside) first
+      p.broke))
+  none_fails first (Err (Write Report fault)) p = absurd p
+  none_fails first (Err (Run fault)) p = refl
