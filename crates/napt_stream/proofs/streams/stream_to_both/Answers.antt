@@ -89,6 +89,3 @@ returns-clause-stop g c =
     g.V.Sink.contents g.V.Sink.failed g.V.Sink.is_flushed (g.R.Source.remaining c.args.inside.now)
     (bytes_in g.Q.Source.remaining c.args.outside) c.into-leaving.result c.stream-told.new.leaving
     c.stream-told.result c.stream-told.ensures.runs
-
-pub returns-clause-readings : goal.returns-clause-readings
-returns-clause-readings g c not_run = c.stream-told.ensures.readings not_run
