@@ -1,10 +1,10 @@
 mod AnAnswer
 mod Buffer
 mod NextRecord
-mod OneAnswer
 mod Progress
 mod ReadsBack
 mod StreamIsCapture
+pub mod OneAnswer
 pub mod OneStream
 pub mod Puts
 pub mod Steps

@@ -1,5 +1,5 @@
 -- What is taken of the records that were read is what merging takes of all that is left.
-use Rattle.std.proofs.Common.{◌≡◌, ℕ, ◌+◌, max, Bool, true, false, List, [], ◌∷◌, ◌++◌, Option, None, Some, IsSome, unwrap_or, Result, Ok, Err, refl, sym, ap, ◌∙◌, subst, subst₂, arith}
+use Rattle.std.proofs.Common.{◌≡◌, ℕ, max, Bool, true, false, All, List, [], ◌∷◌, ◌++◌, Option, None, Some, IsSome, unwrap_or, Ok, refl, sym, ap, ◌∙◌, subst, subst₂, arith}
 use Rattle.napt_wire.specs.declared.Side.{Side}
 use Rattle.napt_wire.specs.declared.Side.TheVariants.{Inside, Outside}
 use Rattle.napt_capture.specs.declared.device.Source.{Ghosts}
@@ -8,9 +8,10 @@ use Rattle.napt_capture.specs.declared.fault.CaptureFault.{CaptureFault}
 use Rattle.napt_capture.specs.Contents.{Entry}
 use Rattle.napt_records.specs.declared.stream.Stream.{Stream}
 use Rattle.napt_records.specs.declared.merged_streams.MergedStreams.{MergedStreams}
-use Rattle.napt_records.specs.declared.merged_streams.SideFault.{SideFault}
 use Rattle.napt_capture.specs.Reading.{StopsBy}
 use Rattle.napt_records.proofs.Left.{StopsBy-then}
+use Rattle.napt_records.proofs.Merges.{none_yet, takes_timely}
+use Rattle.napt_records.specs.Output.{IsTimely}
 use Rattle.napt_sequential.specs.Inputs.{Hands}
 use Rattle.napt_rules.specs.Prelude.{Arrival}
 use Rattle.napt_records.specs.Merged.{AreLive, AreSame, CountsIf, EndsWith, HandsOut, Has, IsSame, IsSameIf, IsToldIf, Looks, NoneFailed, NoneFailedIf, StreamHasIf, TakesAny, TakesFirst, cut_if, cut_of}
@@ -111,23 +112,23 @@ no_more firsts more rest is looked none = ap (λ l. l ++ more) (sym none) ∙ sy
 
 cut_told : (records : Records) (left : Option (List ℕ)) (cut : Option Bool) (firsts : List Entry) (rest : Rest) →
     IsSome cut → HasRest records left cut firsts rest → rest.end ≡ Ok (unwrap_or cut false)
-cut_told records left None firsts rest some p = absurd some
+cut_told records left None firsts rest some p = let never : false ≡ true = some in cc
 cut_told records left (Some cut) firsts rest some p = let told = p.told in told.1
+
+module _ {R : Type 0} {G : Ghosts R} (remaining : R → Option (List ℕ)) where
+  ends_cut : (stream : Stream R G) (firsts : List Entry) (rest : Rest) → IsSome stream.cut →
+      StreamHas remaining stream firsts rest → rest.end ≡ Ok (cut_of stream)
+  ends_cut stream firsts rest some p = cut_told _ _ stream.cut firsts rest some p
+
+  ends_cut_if : (stream : Option (Stream R G)) (firsts : List Entry) (rest : Rest) → IsToldIf stream →
+      StreamHasIf remaining stream firsts rest → rest.end ≡ Ok (cut_if stream)
+  ends_cut_if None firsts rest some (is, none) = ap (λ r. r.end) is
+  ends_cut_if (Some stream) firsts rest some p = cut_told _ _ stream.cut firsts rest some p
 
 -- ---- one input
 
 module _ {R Q : Type 0} {G : Ghosts R} {H : Ghosts Q} (inside : R → Option (List ℕ)) (outside : Q → Option (List ℕ))
     (in_failed : R → ℕ) (out_failed : Q → ℕ) where
-
-  ends_cut : (stream : Stream R G) (firsts : List Entry) (rest : Rest) → IsSome stream.cut →
-      StreamHas inside stream firsts rest → rest.end ≡ Ok (cut_of stream)
-  ends_cut stream firsts rest some p = cut_told _ _ stream.cut firsts rest some p
-
-  ends_cut_if : (stream : Option (Stream Q H)) (firsts : List Entry) (rest : Rest) → IsToldIf stream →
-      StreamHasIf outside stream firsts rest → rest.end ≡ Ok (cut_if stream)
-  ends_cut_if None firsts rest some (is, none) = ap (λ r. r.end) is
-  ends_cut_if (Some stream) firsts rest some p = cut_told _ _ stream.cut firsts rest some p
-
   takes_input : (mid new : MergedStreams R Q G H) (input : Arrival) (sides : Sides) → Has inside outside mid sides
       → IsLooked mid.inside_first.items sides.inside → IsLooked mid.outside_first.items sides.outside
       → TakesFirst mid.inside_first.items mid.outside_first.items mid.clock input new.inside_first.items
@@ -193,10 +194,13 @@ module _ {R Q : Type 0} {G : Ghosts R} {H : Ghosts Q} (inside : R → Option (Li
     same_moved old mid new same ins outs,
     λ live.
         let looked = looks live in
+        let kept = takes_timely [] mid.inside_first.items mid.outside_first.items new.inside_first.items
+        new.outside_first.items new.clock first.side first.entry first.taken (none_yet, looked.live.1) in
         record {
-          live = rw (ins, outs) looked.live;
+          live = (rw (ins, outs) looked.live.0, kept.1);
           inside_count = rw ins looked.inside_count;
           outside_count = rw outs looked.outside_count;
+          timely = subst (λ i. All IsTimely (i ∷ [])) (sym first.input_is) kept.0;
           takes =
               λ sides has. takes_input mid new input sides (looked.keeps sides has) (looked.inside_looked sides has)
               (looked.outside_looked sides has) first ins outs;
@@ -222,10 +226,10 @@ module _ {R Q : Type 0} {G : Ghosts R} {H : Ghosts Q} (inside : R → Option (Li
               let b = looked.outside_looked sides has in
               ((a.shown none, b.shown other), (a.known, b.known));
           inside_cut =
-              λ sides has. ends_cut mid.inside mid.inside_first.items sides.inside (looked.inside_told none)
+              λ sides has. ends_cut inside mid.inside mid.inside_first.items sides.inside (looked.inside_told none)
               ((looked.keeps sides has).inside_has) ∙ ap (λ s. Ok (cut_of s)) (sym ins);
           outside_cut =
-              λ sides has. ends_cut_if mid.outside mid.outside_first.items sides.outside (looked.outside_told other)
+              λ sides has. ends_cut_if outside mid.outside mid.outside_first.items sides.outside (looked.outside_told other)
               ((looked.keeps sides has).outside_has) ∙ ap (λ s. Ok (cut_if s)) (sym outs);
         },
   )
@@ -289,7 +293,7 @@ module _ {R Q : Type 0} {G : Ghosts R} {H : Ghosts Q} (inside : R → Option (Li
 
 module _ {Q : Type 0} {H : Ghosts Q} (failed : Q → ℕ) where
   pub CountsIf-none : (o : Option (Stream Q H)) → CountsIf failed o 0 o
-  CountsIf-none None = tt
+  CountsIf-none None = refl
   CountsIf-none (Some stream) = omega arith
 
   pub NoneFailedIf-counts : (a b : Option (Stream Q H)) → CountsIf failed a 0 b → NoneFailedIf failed a b

@@ -1,7 +1,7 @@
 -- What a reader tells is the first of what it has left.
 use Rattle.std.specs.Prelude.{is_some, ◌==◌}
 use Rattle.std.proofs.lemmas.Bool.{eqb-true, eqb-false}
-use Rattle.std.proofs.Common.{◌≡◌, ◌<◌, ℕ, length, arith, true, false, Bool, List, [], ◌∷◌, ◌++◌, Option, None, Some, Result, Ok, Err, refl, sym, ap, ◌∙◌, subst, unwrap_or}
+use Rattle.std.proofs.Common.{◌≡◌, ◌<◌, ℕ, length, arith, true, false, Bool, List, [], ◌∷◌, ◌++◌, Option, None, Some, Result, Ok, Err, refl, sym, ap, ◌∙◌, subst}
 use Rattle.std.specs.Io.KnownBytes.{Consumes, Keeps}
 use Rattle.napt_capture.specs.declared.fault.CaptureFault.{CaptureFault}
 use Rattle.napt_capture.specs.declared.fault.CaptureFault.TheVariants.{NoHeader, BadMagic, BadVersion, BadLink, BadFraction, TooLong, TooLarge, Read, Memory}
@@ -11,7 +11,7 @@ use Rattle.napt_capture.specs.declared.records.Records.{Records}
 use Rattle.napt_capture.specs.Contents.{Entry}
 use Rattle.napt_capture.specs.Capture.{IsStored, Stored, entry_of, stored_text}
 use Rattle.napt_capture.specs.Records.{Tells, TellsEnd, counted}
-use Rattle.napt_capture.specs.Stream.{EndsAs, HasRecords, number_behind}
+use Rattle.napt_capture.specs.Stream.{HasRecords, number_behind}
 use Rattle.napt_capture.proofs.OneStream.{HasRecords-first, HasRecords-last}
 use Rattle.napt_records.specs.Rests.{HasRest}
 use Rattle.napt_records.specs.Streams.{IsAtFault, IsKnown, IsLooked, Rest}

@@ -6,3 +6,4 @@ pub mod Texts
 pub mod Handed
 pub mod Left
 pub mod UntilFault
+pub mod Came

@@ -1,11 +1,13 @@
 -- Nothing is handed out where nothing happens, and what is handed out twice is handed out in a row.
-use Rattle.std.specs.Prelude.{◌≡◌, ℕ, List, [], ◌∷◌, ◌++◌, Option, None, Some}
+use Rattle.std.specs.Prelude.{ℕ, List, [], ◌∷◌, ◌++◌, Option, None, Some}
 use Rattle.std.proofs.Common.{refl, ◌∙◌, subst}
+use Rattle.std.proofs.lemmas.List.Elements.{All-append, All-nil}
 use Rattle.napt_capture.specs.declared.device.Source.{Ghosts}
 use Rattle.napt_records.specs.declared.stream.Stream.{Stream}
 use Rattle.napt_records.specs.declared.merged_streams.MergedStreams.{MergedStreams}
 use Rattle.napt_rules.specs.Prelude.{Arrival}
 use Rattle.napt_records.specs.Merged.{HandsOut, IsSameIf, NoneFailedIf}
+use Rattle.napt_records.specs.Output.{IsTimely}
 use Rattle.napt_records.specs.Streams.{Sides, TakesInputs}
 
 join : (old mid later : Sides) (xs ys : List Arrival) → TakesInputs old xs mid → TakesInputs mid ys later →
@@ -18,7 +20,7 @@ module _ {Q : Type 0} {H : Ghosts Q} where
   same_if None = tt
   same_if (Some stream) = refl
 
-  same_on : (a b c : Option (Stream Q H)) → IsSameIf a b → IsSameIf b c → IsSameIf a c
+  pub same_on : (a b c : Option (Stream Q H)) → IsSameIf a b → IsSameIf b c → IsSameIf a c
   same_on None None None p q = tt
   same_on None None (Some z) p q = absurd q
   same_on None (Some y) c p q = absurd p
@@ -31,7 +33,7 @@ module _ {Q : Type 0} {H : Ghosts Q} (failed : Q → ℕ) where
   counts_if None = tt
   counts_if (Some stream) = refl
 
-  counts_on : (a b c : Option (Stream Q H)) → IsSameIf a b → NoneFailedIf failed a b → NoneFailedIf failed b c →
+  pub counts_on : (a b c : Option (Stream Q H)) → IsSameIf a b → NoneFailedIf failed a b → NoneFailedIf failed b c →
       NoneFailedIf failed a c
   counts_on None b c s p q = tt
   counts_on (Some x) None c s p q = absurd s
@@ -40,7 +42,6 @@ module _ {Q : Type 0} {H : Ghosts Q} (failed : Q → ℕ) where
 
 module _ {R Q : Type 0} {G : Ghosts R} {H : Ghosts Q} (inside : R → Option (List ℕ)) (outside : Q → Option (List ℕ))
     (in_failed : R → ℕ) (out_failed : Q → ℕ) where
-
   pub HandsOut-none : (x : MergedStreams R Q G H) → HandsOut inside outside in_failed out_failed x [] x
   HandsOut-none x = (
     (refl, same_if x.outside),
@@ -48,6 +49,7 @@ module _ {R Q : Type 0} {G : Ghosts R} {H : Ghosts Q} (inside : R → Option (Li
       live = live;
       inside_count = refl;
       outside_count = counts_if out_failed x.outside;
+      timely = All-nil IsTimely;
       takes = λ sides has. (sides, has, refl);
     },
   )
@@ -64,6 +66,7 @@ module _ {R Q : Type 0} {G : Ghosts R} {H : Ghosts Q} (inside : R → Option (Li
           live = b.live;
           inside_count = b.inside_count ∙ a.inside_count;
           outside_count = counts_on out_failed x.outside y.outside z.outside first.0.1 a.outside_count b.outside_count;
+          timely = All-append IsTimely xs ys a.timely b.timely;
           takes =
               λ sides has.
               let (mid, then, one) = a.takes sides has in

@@ -8,3 +8,5 @@ pub mod HandedLaws
 pub mod Merged
 pub mod Rests
 pub mod Streams
+pub mod UntilFault
+pub mod Begun

@@ -1,16 +1,18 @@
 -- What two captures that are read as they come hand out.
-use Rattle.std.specs.Prelude.{◌≡◌, ℕ, ◌+◌, max, Bool, false, List, [], Option, None, Some, IsSome, unwrap_or, Result, Ok, Err}
+use Rattle.std.specs.Prelude.{◌≡◌, ℕ, ◌+◌, max, Bool, false, All, List, [], Option, None, Some, IsSome, unwrap_or, Result, Ok, Err}
 use Rattle.napt_wire.specs.declared.Side.{Side}
 use Rattle.napt_wire.specs.declared.Side.TheVariants.{Inside, Outside}
 use Rattle.napt_capture.specs.declared.device.Source.{Ghosts}
 use Rattle.napt_capture.specs.declared.fault.CaptureFault.{CaptureFault}
 use Rattle.napt_capture.specs.Contents.{Entry}
+use Rattle.napt_capture.specs.Text.{IsWritable}
 use Rattle.napt_capture.specs.Capture.{failed_reads}
 use Rattle.napt_capture.specs.Reading.{StopsBy}
 use Rattle.napt_records.specs.declared.stream.Stream.{Stream}
 use Rattle.napt_records.specs.declared.merged_streams.MergedStreams.{MergedStreams}
 use Rattle.napt_records.specs.declared.merged_streams.SideFault.{SideFault}
 use Rattle.napt_rules.specs.Prelude.{Arrival}
+use Rattle.napt_records.specs.Output.{IsTimely}
 use Rattle.napt_records.specs.Rests.{StreamHas}
 use Rattle.napt_records.specs.Streams.{IsLooked, Rest, Sides, Stops, TakesInputs, no_rest}
 use Rattle.napt_records.specs.Taking.{Takes, input_of}
@@ -46,7 +48,8 @@ IsSameIf old new = ⊥
 
 abbrev pub CountsIf : {R : Type 0} {G : Ghosts R} → (R → ℕ) → Option (Stream R G) → ℕ → Option (Stream R G) → Type 0
 CountsIf failed (Some old) more (Some new) = Counts failed old more new
-CountsIf failed old more new = Unit {0}
+CountsIf failed None more new = more ≡ 0
+CountsIf failed (Some old) more None = ⊥
 
 abbrev pub NoneFailedIf : {R : Type 0} {G : Ghosts R} → (R → ℕ) → Option (Stream R G) → Option (Stream R G) → Type 0
 NoneFailedIf failed (Some old) (Some new) = NoneFailed failed old new
@@ -72,8 +75,13 @@ StreamHasIf remaining (Some stream) firsts rest = StreamHas remaining stream fir
 
 -- BOTH
 
+-- the records that were read and not handed out can be written
+abbrev pub AreWritable : {R Q : Type 0} {G : Ghosts R} {H : Ghosts Q} → MergedStreams R Q G H → Type 0
+AreWritable both = All IsWritable both.inside_first.items × All IsWritable both.outside_first.items
+
+-- and reading did not fail yet
 abbrev pub AreLive : {R Q : Type 0} {G : Ghosts R} {H : Ghosts Q} → MergedStreams R Q G H → Type 0
-AreLive both = IsLive both.inside × IsLiveIf both.outside
+AreLive both = (IsLive both.inside × IsLiveIf both.outside) × AreWritable both
 
 abbrev pub AreSame : {R Q : Type 0} {G : Ghosts R} {H : Ghosts Q} → MergedStreams R Q G H → MergedStreams R Q G H → Type 0
 AreSame old new = IsSame old.inside new.inside × IsSameIf old.outside new.outside
@@ -140,6 +148,7 @@ pub record Goes {R Q : Type 0} {G : Ghosts R} {H : Ghosts Q} (inside : R → Opt
   pub live : AreLive new
   pub inside_count : NoneFailed in_failed old.inside new.inside
   pub outside_count : NoneFailedIf out_failed old.outside new.outside
+  pub timely : All IsTimely inputs
   pub takes : (sides : Sides) → Has inside outside old sides →
       (later : Sides) × Has inside outside new later × TakesInputs sides inputs later
 

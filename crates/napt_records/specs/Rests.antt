@@ -1,13 +1,12 @@
 -- What is left of a capture that is read as it comes.
-use Rattle.std.specs.Prelude.{◌≡◌, ℕ, Bool, List, [], ◌++◌, Option, None, Some, IfSome, Result, Ok, Err}
+use Rattle.std.specs.Prelude.{◌≡◌, ℕ, Bool, List, [], ◌++◌, Option, Some, IfSome, Ok}
 use Rattle.napt_capture.specs.declared.device.Source.{Ghosts}
 use Rattle.napt_capture.specs.declared.records.Records.{Records}
-use Rattle.napt_capture.specs.declared.fault.CaptureFault.{CaptureFault}
 use Rattle.napt_capture.specs.Contents.{Entry}
 use Rattle.napt_capture.specs.Records.{left_of}
 use Rattle.napt_capture.specs.Stream.{HasRecords}
 use Rattle.napt_records.specs.declared.stream.Stream.{Stream}
-use Rattle.napt_records.specs.Streams.{IsAtFault, Rest, no_rest}
+use Rattle.napt_records.specs.Streams.{Rest}
 
 -- a reader with this text left, that read these records and did not hand them on, and told this end or none, has so
 -- much left

@@ -14,8 +14,8 @@ mod report;
 mod stream;
 
 pub use fault::{Fault, Which};
-pub use merge_laws::merge_is_one;
-pub use merged_streams::{MergedStreams, SideFault};
+pub use merge_laws::{merge_is_one, merge_until_fault};
+pub use merged_streams::{Cuts, MergedStreams, SideFault};
 pub use merging::{Merged, merge};
 pub use names::{EndpointText, cause_name, protocol_name};
 pub use output::write_packets;

@@ -1,14 +1,15 @@
 //! The inputs of a run over captures that are read as they come.
-ghost use Rattle.std.specs.Prelude.{◌≡◌, [], OnOk, IfErr};
+ghost use Rattle.std.specs.Prelude.{◌≡◌, [], All, OnOk, IfErr};
 ghost use Rattle.napt_capture.specs.Capture.{failed_reads};
 ghost use Rattle.napt_capture.specs.Reading.{StopsBy};
+ghost use Rattle.napt_capture.specs.Text.{IsWritable};
 ghost use Rattle.napt_records.specs.Streams.{IsAtFault, IsLooked, Rest};
 ghost use Rattle.napt_records.specs.Merged.{CountsIf, IsLiveIf, IsSameIf, IsToldIf, StreamHasIf};
 
-use napt_sequential::{Arrivals, Input};
 use crate::merging::take_next;
 use crate::stream::Stream;
 use napt_capture::{CaptureFault, Record, Source};
+use napt_sequential::{Arrivals, Input};
 use napt_wire::Side;
 use std::alloc::Global;
 use std::collections::VecDeque;
@@ -18,6 +19,13 @@ use std::collections::VecDeque;
 pub struct SideFault {
     pub side: Side,
     pub fault: CaptureFault,
+}
+
+/// Whether each capture ends inside a record. No outside capture is one that doesn't.
+#[derive(Clone, Copy, Debug, PartialEq, Eq)]
+pub struct Cuts {
+    pub inside: bool,
+    pub outside: bool,
 }
 
 /// The records of two captures that are read as they come, which become the inputs of a run. Each is handed out once the
@@ -50,6 +58,8 @@ fn look_outside<Q: Source>(
         ((rest : Rest) → StreamHasIf Q.remaining outside.old firsts.old.items rest →
         IsAtFault rest fault)) }
     ensures told { OnOk result (firsts.new.items ≡ [] → IsToldIf outside.new) }
+    ensures writable { OnOk result (All IsWritable firsts.old.items →
+        All IsWritable firsts.new.items) }
     ensures count { IsLiveIf outside.old →
         CountsIf Q.failed outside.old (failed_reads result) outside.new }
 {
@@ -69,8 +79,8 @@ impl<'a, 'b, R: Source, Q: Source> MergedStreams<'a, 'b, R, Q> {
         inside: Stream<'a, R>,
         outside: Option<Stream<'b, Q>>,
     ) -> MergedStreams<'a, 'b, R, Q>
-        ensures inside { result.inside ≡ inside }
-        ensures outside { result.outside ≡ outside }
+        ensures inside { result.inside ≡ inside.entry }
+        ensures outside { result.outside ≡ outside.entry }
         ensures inside_first { result.inside_first.items ≡ [] }
         ensures outside_first { result.outside_first.items ≡ [] }
         ensures clock { result.clock ≡ 0 }
@@ -85,21 +95,25 @@ impl<'a, 'b, R: Source, Q: Source> MergedStreams<'a, 'b, R, Q> {
         }
     }
 
-    /// Whether the inside capture and the outside one end inside a record, once the end was told.
-    pub fn cuts(&self) -> (bool, bool)
-        ensures { result ≡ (cut_of self.now.inside, cut_if self.now.outside) }
+    /// Whether each capture ends inside a record, once the end was told.
+    pub fn cuts(&self) -> Cuts
+        ensures inside { result.inside ≡ cut_of self.now.inside }
+        ensures outside { result.outside ≡ cut_if self.now.outside }
     {
         let outside = match &self.outside {
             None => false,
             Some(stream) => stream.cut().unwrap_or(false),
         };
-        (self.inside.cut().unwrap_or(false), outside)
+        Cuts {
+            inside: self.inside.cut().unwrap_or(false),
+            outside,
+        }
     }
 
     /// The captures again.
     pub fn into_streams(self) -> (Stream<'a, R>, Option<Stream<'b, Q>>)
-        ensures inside { result.0 ≡ self.inside }
-        ensures outside { result.1 ≡ self.outside }
+        ensures inside { result.0 ≡ self.entry.inside }
+        ensures outside { result.1 ≡ self.entry.outside }
     {
         (self.inside, self.outside)
     }

@@ -59,9 +59,10 @@ impl<'a, R: Source> Live<'a, R> {
 }
 
 impl<'a, R: Source> Stream<'a, R> {
-    ghost use Rattle.std.specs.Prelude.{◌≡◌, ◌+◌, ◌^◌, ◌-◌, ◌<◌, None, false, true, IfOk, IfErr, OnErr, OnOk, IfSome, IsSome, []};
+    ghost use Rattle.std.specs.Prelude.{◌≡◌, ◌+◌, ◌^◌, ◌-◌, ◌<◌, None, All, IfErr, OnOk, IsSome, []};
     ghost use Rattle.napt_capture.specs.Capture.{failed_reads};
     ghost use Rattle.napt_capture.specs.Reading.{StopsBy};
+    ghost use Rattle.napt_capture.specs.Text.{IsWritable};
     ghost use Rattle.napt_records.specs.Streams.{IsAtFault, IsLooked, Rest};
     ghost use Rattle.napt_records.specs.Rests.{StreamHas};
 
@@ -71,6 +72,8 @@ impl<'a, R: Source> Stream<'a, R> {
         ensures name { result.live.source.ghost_name ≡ source.entry.ghost_name }
         ensures value { result.live.source.now ≡ source.old }
         ensures live { result.live.fault ≡ None }
+        ensures records { result.records ≡ records }
+        ensures cut { result.cut ≡ None }
     {
         Stream {
             live: Live {
@@ -94,6 +97,8 @@ impl<'a, R: Source> Stream<'a, R> {
             ((rest : Rest) → StreamHas R.remaining self.old firsts.old.items rest →
             IsAtFault rest fault)) }
         ensures told { OnOk result (firsts.new.items ≡ [] → IsSome self.new.cut) }
+        ensures writable { OnOk result (All IsWritable firsts.old.items →
+            All IsWritable firsts.new.items) }
         ensures count { self.old.live.fault ≡ None →
             R.failed self.new.live.source.now
             ≡ R.failed self.old.live.source.now + failed_reads result }

@@ -20,6 +20,8 @@ mod large;
 #[cfg(test)]
 mod logged;
 #[cfg(test)]
+mod merged_streams;
+#[cfg(test)]
 mod merging;
 #[cfg(test)]
 mod packets;

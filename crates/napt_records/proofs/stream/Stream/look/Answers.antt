@@ -1,8 +1,10 @@
 -- What was told is the first of what is left.
-use Rattle.std.proofs.Common.{deque_len, ◌≡◌, [], ◌∷◌, ◌<◌, length, None, arith, subst}
+use Rattle.std.proofs.Common.{deque_len, ◌≡◌, [], arith}
+use Rattle.std.proofs.lemmas.List.Elements.{All-push}
 use Rattle.std.proofs.lemmas.Result.{err_from_is_err_and}
-use Rattle.napt_records.specs.Rests.{HasRest, StreamHas}
-use Rattle.napt_records.specs.Streams.{IsAtFault, Rest}
+use Rattle.napt_capture.specs.Text.{IsWritable}
+use Rattle.napt_records.specs.Rests.{StreamHas}
+use Rattle.napt_records.specs.Streams.{Rest}
 use Rattle.napt_capture.specs.declared.fault.CaptureFault.{CaptureFault}
 use Rattle.napt_capture.specs.Records.{TellsEnd, left_of}
 use Rattle.std.specs.Prelude.{Err}
@@ -59,3 +61,8 @@ returns-in-End-clause-rest g c live rest has =
     let begun = rw (none, cut) at has in
     let now = HasRest-end _ c.next.new.records _ _ c.in-End.cut rest told number c.in_ok-record.ensures.spelling begun in
     rw none (now, IsLooked-end _ _ c.in-End.cut [] rest now)
+
+pub returns-in_ok-push_back-in-Whole-clause-writable : goal.returns-in_ok-push_back-in-Whole-clause-writable
+returns-in_ok-push_back-in-Whole-clause-writable g c all =
+    rw c.in_ok-push_back-in-Whole.ensures.items
+    (All-push IsWritable c.args.firsts.now.items c.in-Whole.record all (rw c.in-Whole.is at c.in_ok-record.ensures.writable))
