@@ -2,7 +2,7 @@
 use Rattle.std.proofs.Common.{◌≡◌, ◌≢◌, ℕ, zero, suc, ◌+◌, ◌<◌, ◌≤◌, max, Bool, true, false, List, [], ◌∷◌, ◌++◌, length, map, Result, Ok, Err, refl, sym, ◌∙◌, ap, subst, arith}
 use Rattle.std.proofs.lemmas.List.{length-map}
 use Rattle.std.proofs.lemmas.List.Folds.{flat_map-map}
-use Rattle.std.specs.Prelude.{slice_index, slice_index_or, flat_map, IfErr, OnOk}
+use Rattle.std.specs.Prelude.{slice_index, slice_index_or, flat_map, IfOk, IfErr, OnOk}
 use Rattle.napt_config.specs.Rules.{Rules}
 use Rattle.napt_rules.specs.declared.Row.{Row}
 use Rattle.napt_rules.specs.Prelude.{of, opening, Arrival, rows_of, rows, Course, run, last_clock, legs_at, Ran, ran, Kept, kept_after_all}
@@ -130,3 +130,10 @@ both_ended (Ok made) (Ok left) done ended is =
     (ap (λ both. Ok both.0) (sym same), ap (λ both. Ok both.1) (sym same))
 both_ended (Ok made) (Err fault) done ended is = absurd (cc (is))
 both_ended (Err fault) closed done ended is = absurd (cc (is))
+
+-- what holds where the pool was closed without a fault holds where there was none at all
+pub closed_ok : {D C : Type 0} (dispatched : Result D RunFault) (closed : Result C PoolFault) (P : C → Type 0) →
+    IfOk closed P → IfOk (first_fault dispatched closed) (λ both. P both.1)
+closed_ok (Err fault) closed P holds = tt
+closed_ok (Ok made) (Err fault) P holds = tt
+closed_ok (Ok made) (Ok ended) P holds = holds

@@ -1,6 +1,6 @@
 -- What the end of a dispatch tells.
-use Rattle.std.proofs.Common.{◌≡◌, ℕ, zero, suc, ◌+◌, ◌<◌, List, [], ◌∷◌, ◌++◌, length, map, Option, Some, refl, sym, ap, ◌∙◌, arith, append-nil, append_assoc, length-append, inl, inr}
-use Rattle.std.specs.Prelude.{slice_index, slice_index_or, slice_get}
+use Rattle.std.proofs.Common.{◌≡◌, ℕ, zero, suc, ◌+◌, ◌<◌, List, [], ◌∷◌, ◌++◌, length, map, refl, sym, ap, ◌∙◌, arith, append-nil, append_assoc, length-append, inl, inr}
+use Rattle.std.specs.Prelude.{slice_index, slice_index_or}
 use Rattle.std.proofs.lemmas.Bool.{cases_eq}
 use Rattle.std.proofs.Math.ListN.{get_or-append}
 use Rattle.std.proofs.Math.Seq.{get_or-append_seam}
@@ -12,7 +12,6 @@ use Rattle.napt_translate.specs.Translators.{TranslatorState, begun, kept_of, le
 use Rattle.napt_pool.specs.declared.machine.Machine.{Ghosts}
 use Rattle.napt_pool.specs.Histories.{replies}
 use Rattle.napt_pool.specs.Pools.{zip_with}
-use Rattle.napt_rules.specs.declared.Outcome.{Outcome}
 use Rattle.napt_dispatch.specs.Dispatch.{started, of_worker, fresh, Right}
 
 -- LISTS
@@ -114,6 +113,8 @@ module _ (g : Ghosts TranslatorState Leg Answer) (stepped_is : (s : TranslatorSt
       ap length is in
       let right = right_since rules starts offered (zip_with (replies g) starts offered) began many refl w lt in
       let joined : of_worker taken w ++ of_worker rests w ≡ of_worker (zip_with (replies g) starts offered) w =
-      sym (zip_joined taken rests w (omega (arith, lt, many, all, same))) ∙ ap (λ l. of_worker l w) is in
-      (of_worker rests w ++ right.0, sym (append_assoc (of_worker taken w) (of_worker rests w) right.0)
-      ∙ (ap (λ l. l ++ right.0) joined ∙ right.1))
+      sym (zip_joined taken rests w (omega (arith, lt, many, all, same))) ∙ ap (λ l. of_worker l w) is in (
+        of_worker rests w ++ right.0,
+        sym (append_assoc (of_worker taken w) (of_worker rests w) right.0)
+            ∙ (ap (λ l. l ++ right.0) joined ∙ right.1),
+      )

@@ -1,6 +1,5 @@
 -- What a run from arrivals to departures comes to.
-use Rattle.std.proofs.Common.{◌≡◌, ◌⊎◌, inl, inr, ℕ, ◌+◌, ◌<◌, ◌^◌, Bool, List, [], ◌∷◌, ◌++◌, length, map, Option, Some, None, MatchOption, refl, sym, ◌∙◌, ap, subst, arith, append-nil}
-use Rattle.std.proofs.lemmas.List.{length-map}
+use Rattle.std.proofs.Common.{◌≡◌, ℕ, List, [], ◌++◌, length, map, replicate, Option, Some, None, MatchOption, refl, sym, ◌∙◌, ap, subst, arith, append-nil}
 use Rattle.napt_config.specs.Rules.{Rules}
 use Rattle.napt_rules.specs.Prelude.{opening, Arrival, run}
 use Rattle.napt_rules.specs.declared.Leg.{Leg}
@@ -15,13 +14,23 @@ use Rattle.napt_dispatch.specs.declared.dispatcher.Ending.{Ending}
 use Rattle.napt_dispatch.specs.declared.dispatcher.Ending.TheVariants as endings
 use Rattle.napt_dispatch.specs.declared.dispatcher.reading.EndOfInputs.{EndOfInputs}
 use Rattle.napt_dispatch.specs.Collecting.{outcome_of}
-use Rattle.napt_dispatch.specs.Dispatch.{of_worker, IsDispatched, Right}
-use Rattle.napt_dispatch.specs.Standing.{DispatchState, parts_of, state_of, Stands}
+use Rattle.napt_dispatch.specs.Dispatch.{IsDispatched}
+use Rattle.napt_dispatch.specs.Standing.{DispatchState, parts_of, state_of, IsSized, IsDone, Stands}
 use Rattle.napt_dispatch.specs.Passing.{timed, Reads, ReadsAll, ReadsSome, EndsWith, EndsEarly, EndsBy}
 use Rattle.napt_dispatch.proofs.Ended.{same_lengths}
 use Rattle.napt_dispatch.proofs.Passing.{many_read}
 use Rattle.napt_dispatch.proofs.Windows.{length_all}
-use Rattle.napt_dispatch.proofs.Standing.{all_taken, dispatched, left_right}
+use Rattle.napt_dispatch.proofs.Standing.{begin_stands, all_taken, dispatched, left_right}
+
+-- before the first input
+pub begun : {M G : Type 0} (rules : Rules) (pool : Pool M G Leg Answer) (d : Dispatcher) (workers : ℕ) →
+    workers ≡ length rules.pool → IsSized workers (parts_of d) → d.offered.items ≡ replicate workers 0 →
+    IsDone (parts_of d) → d.progress.left ≡ [] → d.progress.under_way ≡ [] →
+    accepts pool ≡ replicate (length rules.pool) [] → taken pool ≡ replicate (length rules.pool) [] →
+    (inputs : List Arrival) → Stands rules [] inputs (state_of pool d)
+begun rules pool d workers many sized counts idle left none unoffered untaken inputs =
+    begin_stands rules inputs (state_of pool d) (rw many at sized) unoffered untaken (rw many at counts) idle
+    (rw (left, none) refl)
 
 module _ {A F S B M G : Type 0} (rules : Rules) (hands : A → List Arrival → A → Type 0)
     (ends : A → Option F → A → Type 0) (takes : S → List (ℕ × Outcome) → S → Type 0)
@@ -59,8 +68,7 @@ module _ {A F S B M G : Type 0} (rules : Rules) (hands : A → List Arrival → 
             (λ v lt. all_taken rules inputs inputs now stands r.done v (rw stands.offered_many at lt));
         right = λ right.
             let both = dispatched rules inputs now later.progress stands r.done refl reads.times_are
-            r.none_under_way right in
-            (
+            r.none_under_way right in (
               sym reads.left_is ∙ both.0,
               subst (λ legs. IsDispatched rules inputs (accepts later_pool) (map outcome_of r.to_end.went) legs)
                   (sym legs)

@@ -7,5 +7,6 @@ pub mod Offering
 pub mod Offers
 pub mod Passing
 pub mod Queues
+pub mod RunsThrough
 pub mod Standing
 pub mod Windows

@@ -1,5 +1,5 @@
--- What is true of a worker after legs were offered.
-use Rattle.std.proofs.Common.{◌≡◌, ◌≢◌, ◌⊎◌, ◌||◌, ℕ, zero, suc, ◌+◌, ◌<◌, Bool, true, false, List, [], ◌∷◌, length, refl, sym, ◌∙◌, ap, subst, arith, inl, inr}
+-- What is true of a worker after legs were offered and answers taken.
+use Rattle.std.proofs.Common.{◌≡◌, ◌≢◌, ◌||◌, ℕ, zero, suc, ◌+◌, ◌<◌, Bool, true, false, List, [], ◌∷◌, length, refl, sym, ◌∙◌, ap, subst, arith, inl, inr}
 use Rattle.std.specs.Prelude.{nat_le, slice_get, slice_set, MatchBool}
 use Rattle.std.proofs.lemmas.List.{set-set, set-get_or}
 use Rattle.napt_rules.specs.declared.Leg.{Leg}
@@ -9,15 +9,16 @@ use Rattle.napt_pool.specs.Pools.{accepts, takes, capacity_of}
 use Rattle.napt_dispatch.specs.declared.dispatcher.Dispatcher.{Dispatcher}
 use Rattle.napt_dispatch.specs.declared.dispatcher.held.Held.{Held}
 use Rattle.napt_dispatch.specs.declared.dispatcher.held.Held.TheVariants.{Ready, Place}
+use Rattle.napt_dispatch.specs.declared.dispatcher.held.Owed.{Owed}
 use Rattle.napt_dispatch.specs.declared.dispatcher.progress.Progress.{Progress}
 use Rattle.napt_dispatch.specs.declared.dispatcher.progress.Progress.TheVariants.{Awaited}
 use Rattle.napt_dispatch.specs.declared.dispatcher.second.Second.TheVariants as seconds
 use Rattle.napt_dispatch.specs.Dispatch.{of_worker}
-use Rattle.napt_dispatch.specs.Queues.{pushed, put_first, Popped}
+use Rattle.napt_dispatch.specs.Queues.{put_first, Popped, many_in}
 use Rattle.napt_dispatch.specs.Windows.{Window, progress_in, is_unknown}
-use Rattle.napt_dispatch.specs.Standing.{Parts, DispatchState, parts_of, state_of, Keeps, with_held, with_first, IsSecond, Forgets, TakesFirst, first_waits, Offers, PutsBack, waits, IsRingFull, HasOffered, OffersOnlyTo}
+use Rattle.napt_dispatch.specs.Standing.{Parts, DispatchState, parts_of, state_of, Keeps, with_held, with_first, IsSecond, Forgets, TakesFirst, first_waits, Offers, PutsBack, waits, HasTaken, IsRingFull, HasOffered, OffersOnlyTo}
 use Rattle.napt_dispatch.proofs.Lists.{push_other}
-use Rattle.napt_dispatch.proofs.Queues.{nothing}
+use Rattle.napt_dispatch.proofs.Queues.{nothing, many_popped}
 use Rattle.napt_dispatch.proofs.Standing.{set_own, held_as}
 
 -- WHAT STANDS FIRST
@@ -241,3 +242,20 @@ module _ {M G : Type 0} where
   next_went true w leg pool d mid later_pool later within t o =
       rw (ap (λ (p : Parts). p.held) o.parts_are) (taken_less w (parts_of d) (parts_of mid) within t)
   next_went false w leg pool d mid later_pool later within t o = full_after w leg pool mid later_pool later o
+
+-- ANSWERS
+
+-- one answer was taken
+pub taken_one : (w : ℕ) (owed : Owed) (parts later : Parts) → w < length parts.owed →
+    Popped w owed parts.owed later.owed → HasTaken parts later true
+taken_one w owed parts later within popped =
+    let less : many_in later.owed + 1 ≡ many_in parts.owed = many_popped parts.owed w within owed later.owed popped in
+    omega arith
+
+-- and more after others
+pub taken_more : (parts mid later : Parts) (any more : Bool) → HasTaken parts mid any → HasTaken mid later more →
+    HasTaken parts later (more || any)
+taken_more parts mid later true true a b = omega arith
+taken_more parts mid later false true a b = omega arith
+taken_more parts mid later true false a b = omega arith
+taken_more parts mid later false false a b = b ∙ a

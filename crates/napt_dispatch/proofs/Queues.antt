@@ -5,7 +5,7 @@ use Rattle.std.proofs.lemmas.List.{map-set, length-map, length_push, get_or-map}
 use Rattle.std.proofs.lemmas.List.Sums.{sum_by-set}
 use Rattle.napt_pool.proofs.Lists.{map-grown, map-kept}
 use Rattle.napt_dispatch.specs.Dispatch.{of_worker}
-use Rattle.napt_dispatch.specs.Queues.{pushed, put_first, Popped, BeginsWith, many_in}
+use Rattle.napt_dispatch.specs.Queues.{pushed, put_first, Popped, many_in}
 
 module _ {Q X : Type 0} (queues : List Q) (f : Q → List X) (w : ℕ) (queue later : Q) (x : X)
     (below : w < length (map f queues)) (at : queue ≡ get_or queues w queue) where

@@ -1,5 +1,5 @@
 -- What stands while a dispatcher hands out the legs of a run.
-use Rattle.std.proofs.Common.{◌≡◌, ◌≢◌, ℕ, zero, suc, ◌+◌, ◌<◌, ◌≤◌, ◌==◌, max, true, false, cond, List, [], ◌∷◌, ◌++◌, length, map, set, replicate, Option, Some, None, Ok, Err, refl, sym, ◌∙◌, ap, subst, arith, inl, inr, ◌⊎◌, append_assoc, append-nil, length-append}
+use Rattle.std.proofs.Common.{◌≡◌, ◌≢◌, ℕ, ◌+◌, ◌<◌, ◌≤◌, ◌==◌, max, true, false, cond, List, [], ◌∷◌, ◌++◌, length, map, replicate, Option, Some, None, Ok, Err, refl, sym, ◌∙◌, ap, subst, arith, inl, inr, append_assoc, append-nil, length-append}
 use Rattle.std.specs.Prelude.{IfSome, MatchOption, flat_map, slice_index, slice_get, slice_set}
 use Rattle.std.proofs.lemmas.Bool.{cases_eq, eq-eqb, ne_eqb}
 use Rattle.std.proofs.lemmas.List.{length-set, set-set, length_push, map-append, get_or-set_same, length-replicate, length-map}
@@ -32,7 +32,7 @@ use Rattle.napt_sequential.specs.Places.{first_act, second_legs, second_of, IsSe
 use Rattle.napt_dispatch.specs.Queues.{pushed, put_first, Popped}
 use Rattle.napt_dispatch.specs.Collecting.{outcome_of}
 use Rattle.napt_dispatch.specs.Passing.{timed}
-use Rattle.napt_dispatch.specs.Windows.{Window, progress_in, times_in, next_leg, IsKnown, AllKnown, IsWritten}
+use Rattle.napt_dispatch.specs.Windows.{Window, progress_in, times_in, next_leg, IsKnown, IsWritten}
 use Rattle.napt_dispatch.specs.Standing.{Journal, journal_of, Parts, DispatchState, IsSized, owed_of, IsOwed, resolved, Reaches, Stands, Keeps, with_held, with_progress, with_first, ended, IsToldBy, Noted, IsSecond, Admits, IsDone}
 use Rattle.napt_dispatch.proofs.Windows.{known_set, known_push, left_front, left_whole, timed_outcomes}
 use Rattle.napt_dispatch.proofs.Lists.{push_own, push_other, count_push, place_within, no_lengths, of_replicate}
@@ -476,11 +476,13 @@ pub next_keeps_as : (w number : ℕ) (state : DispatchState) (held : List (List 
     Popped w (Place number) state.parts.held held → (leg : Leg) (window later : Window) →
     IsSecond number window later (seconds.Known leg) → state.parts.progress ≡ progress_in window →
     state.parts.journal ≡ journal_of window →
-    Keeps state (with_first w leg (record state { parts = record state.parts {
-      held = held;
-      progress = progress_in later;
-      journal = journal_of later;
-    } }))
+    Keeps state (with_first w leg (record state {
+      parts = record state.parts {
+        held = held;
+        progress = progress_in later;
+        journal = journal_of later;
+      };
+    }))
 next_keeps_as w number state held within p leg window later is before journal = λ rules done all s.
     let known : slice_get state.parts.progress number ≡ Some (Onward leg.now leg.packet) =
     ap (λ ps. slice_get ps number) before ∙ is.1 in
@@ -776,10 +778,12 @@ dispatched rules inputs state window s idle progress times none right =
     map_at (λ address. legs_at address course.acts) state.offered rules.pool s.offered_many reached in
     let run_long : length course.outcomes ≡ length inputs = outcomes_long rules 0 0 inputs (opening rules) in
     let left : window.left ≡ timed inputs course.outcomes =
-    left_whole course window inputs times (λ i p h. r.known i p (ap (λ ps. slice_get ps i) progress ∙ h)) run_long none in
-    (left, record {
-      legs = legs;
-      outcomes_are = ap (map outcome_of) left ∙ timed_outcomes inputs course.outcomes run_long;
-      numbers_are = s.counts_are
-          ∙ (ap (map length) legs ∙ map-map length (λ (address : ℕ). legs_at address course.acts) rules.pool);
-    })
+    left_whole course window inputs times (λ i p h. r.known i p (ap (λ ps. slice_get ps i) progress ∙ h)) run_long none in (
+      left,
+      record {
+        legs = legs;
+        outcomes_are = ap (map outcome_of) left ∙ timed_outcomes inputs course.outcomes run_long;
+        numbers_are = s.counts_are
+            ∙ (ap (map length) legs ∙ map-map length (λ (address : ℕ). legs_at address course.acts) rules.pool);
+      },
+    )

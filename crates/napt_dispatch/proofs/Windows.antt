@@ -1,10 +1,9 @@
 -- What is known of the inputs that were read.
-use Rattle.std.proofs.Common.{◌≡◌, ◌≢◌, ◌⊎◌, inl, inr, ℕ, zero, suc, ◌+◌, ◌<◌, ◌≤◌, Bool, true, false, List, [], ◌∷◌, ◌++◌, length, map, set, get_or, Option, Some, None, refl, sym, ◌∙◌, ap, subst, arith, append-nil, append_assoc, length-append}
+use Rattle.std.proofs.Common.{◌≡◌, ◌⊎◌, inl, inr, ℕ, zero, suc, ◌+◌, ◌<◌, ◌≤◌, true, List, [], ◌∷◌, ◌++◌, length, map, set, get_or, Some, refl, sym, ◌∙◌, ap, subst, arith, append-nil, append_assoc, length-append}
 use Rattle.std.specs.Prelude.{slice_get, slice_set}
 use Rattle.std.proofs.lemmas.List.{map-set, map-append, get_or-map, length-map}
 use Rattle.std.proofs.lemmas.Simd.{map-map}
 use Rattle.napt_pool.proofs.Lists.{map-kept}
-use Rattle.napt_pool.specs.Pools.{zip_with}
 use Rattle.napt_rules.specs.declared.Outcome.{Outcome}
 use Rattle.napt_rules.specs.Prelude.{Arrival, Course}
 use Rattle.napt_sequential.specs.Dispatching.{IsFront}
@@ -16,7 +15,7 @@ use Rattle.napt_dispatch.specs.declared.dispatcher.second.Second.TheVariants as 
 use Rattle.napt_dispatch.specs.Collecting.{outcome_of}
 use Rattle.napt_dispatch.specs.Standing.{IsSecond, IsSecondOf}
 use Rattle.napt_dispatch.specs.Passing.{timed}
-use Rattle.napt_dispatch.specs.Windows.{Window, time_in, ended_in, known_in, progress_in, times_in, has_ended, outcome_in, is_unknown, expecting, IsWritten, Leaves, IsKnown, AllKnown, IsHandedOver}
+use Rattle.napt_dispatch.specs.Windows.{Window, time_in, ended_in, known_in, progress_in, times_in, outcome_in, is_unknown, expecting, IsWritten, Leaves, IsKnown, AllKnown, IsHandedOver}
 
 -- LISTS
 
@@ -169,8 +168,8 @@ length_of : {X : Type 0} {m n : ℕ} (xs ys : List X) → length xs ≡ m → le
 length_of xs ys one two = omega (arith, one, two, length-append xs ys)
 
 pub length_all : (window : Window) → length (progress_in window) ≡ length window.left + length window.under_way
-length_all window = length_of (map ended_in window.left) (map known_in window.under_way) (length-map window.left ended_in)
-    (length-map window.under_way known_in)
+length_all window = length_of (map ended_in window.left) (map known_in window.under_way)
+    (length-map window.left ended_in) (length-map window.under_way known_in)
 
 pub times_long : (window : Window) → length (times_in window) ≡ length (progress_in window)
 times_long window =
@@ -183,8 +182,12 @@ pub unread_unknown : (left : List (ℕ × Outcome)) (items : List OpenInput) (nu
 unread_unknown left items number le =
     let long : length (map (λ (o : OpenInput). let p : ℕ × Progress = (o.time, o.progress) in p) items)
     ≡ length items = length-map items (λ (o : OpenInput). let p : ℕ × Progress = (o.time, o.progress) in p) in
-    past_unknown (progress_in (window_of left items)) number (omega (arith, le, long,
-    length_all (window_of left items)))
+    past_unknown (progress_in (window_of left items)) number (omega (
+      arith,
+      le,
+      long,
+      length_all (window_of left items),
+    ))
 
 -- STEPS
 
@@ -246,8 +249,8 @@ over_more xs ys window middle later a b = record {
 
 -- THE END
 
-get_left : (left : List (ℕ × Outcome)) (ps : List Progress) (i : ℕ) (pair : ℕ × Outcome) → slice_get left i ≡ Some pair →
-    slice_get (map ended_in left ++ ps) i ≡ Some (ended_in pair)
+get_left : (left : List (ℕ × Outcome)) (ps : List Progress) (i : ℕ) (pair : ℕ × Outcome) →
+    slice_get left i ≡ Some pair → slice_get (map ended_in left ++ ps) i ≡ Some (ended_in pair)
 get_left [] ps i pair h = cc
 get_left (x ∷ left) ps zero pair h = cc
 get_left (x ∷ left) ps (suc i) pair h = get_left left ps i pair h
@@ -297,7 +300,8 @@ left_whole course window inputs times known long none =
     sym (append-nil (map time_in window.left)) ∙ (ap (λ xs. map time_in window.left ++ map time_in xs) (sym none)
     ∙ times) in
     let one : length (map time_in window.left) ≡ length window.left = length-map window.left time_in in
-    let two : length (map (λ (i : Arrival). i.time) inputs) ≡ length inputs = length-map inputs (λ (i : Arrival). i.time) in
+    let two : length (map (λ (i : Arrival). i.time) inputs) ≡ length inputs =
+    length-map inputs (λ (i : Arrival). i.time) in
     let same : length (map time_in window.left) ≡ length (map (λ (i : Arrival). i.time) inputs) = ap length all in
     no_more window.left front.0 (timed inputs course.outcomes) front.1
     (omega (arith, one, two, same, length_timed inputs course.outcomes long))

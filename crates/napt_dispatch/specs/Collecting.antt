@@ -1,6 +1,6 @@
 -- The outcomes of a run in two lists.
 use Rattle.std.specs.Prelude.{◌≡◌, ℕ, List, [], ◌++◌, map}
-use Rattle.std.proofs.Common.{sym, ◌∙◌, ap, append-nil, append_assoc}
+use Rattle.std.proofs.Common.{sym, append-nil, append_assoc}
 use Rattle.std.proofs.lemmas.List.{map-append}
 use Rattle.napt_rules.specs.declared.Outcome.{Outcome}
 use Rattle.napt_dispatch.specs.declared.collected.Collected.{Collected}

@@ -4,7 +4,7 @@
 -- leg. That the answers are right is a premise until the workers are joined, which then tells it.
 use Rattle.std.specs.Prelude.{◌≡◌, ⊤, ℕ, zero, suc, ◌<◌, max, Bool, true, false, List, [], ◌∷◌, ◌++◌, map, length, slice_index, slice_index_or, Result, Ok, Err}
 use Rattle.napt_config.specs.Rules.{Rules}
-use Rattle.napt_rules.specs.Prelude.{of, opening, Arrival, rows, run, last_clock, legs_at, Kept, kept_replies}
+use Rattle.napt_rules.specs.Prelude.{of, opening, Arrival, rows, run, legs_at, Kept, kept_replies}
 use Rattle.napt_rules.specs.declared.Row.{Row}
 use Rattle.napt_rules.specs.declared.Leg.{Leg}
 use Rattle.napt_rules.specs.declared.Answer.{Answer}

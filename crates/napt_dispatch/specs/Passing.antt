@@ -2,12 +2,10 @@
 use Rattle.std.specs.Prelude.{◌≡◌, ◌⊎◌, ⊤, ℕ, ◌^◌, ◌<◌, max, Bool, List, [], ◌∷◌, ◌++◌, map, length, Option, Some, None, Result, Ok, Err, MatchResult}
 use Rattle.napt_config.specs.Rules.{Rules}
 use Rattle.napt_rules.specs.Prelude.{opening, Arrival, run, last_clock, ran}
-use Rattle.napt_rules.specs.declared.Row.{Row}
 use Rattle.napt_rules.specs.declared.Leg.{Leg}
 use Rattle.napt_rules.specs.declared.Answer.{Answer}
 use Rattle.napt_pool.specs.declared.pool.Pool.{Pool}
 use Rattle.napt_pool.specs.Pools.{starts, accepts, zip_with, takes as taken}
-use Rattle.napt_sequential.specs.declared.fault.RunFault.{RunFault}
 use Rattle.napt_rules.specs.declared.Outcome.{Outcome}
 use Rattle.napt_sequential.specs.Inputs.{Came}
 use Rattle.napt_sequential.specs.Dispatching.{IsFront}
@@ -236,8 +234,8 @@ IsStoppedUnder open_gate (stops.Arrival fault) = ⊤
 IsStoppedUnder open_gate (stops.Departure fault) = ⊤
 
 -- all inputs came, and the run over them is the sequential one
-pub record RunsAll {A F : Type 0} (rules : Rules) (hands : A → List Arrival → A → Type 0) (ends : A → Option F → A → Type 0)
-    (from : A) (done : TimedRun) (left : A) : Type 0 where
+pub record RunsAll {A F : Type 0} (rules : Rules) (hands : A → List Arrival → A → Type 0)
+    (ends : A → Option F → A → Type 0) (from : A) (done : TimedRun) (left : A) : Type 0 where
   pub inputs : List Arrival
   pub came : Came hands ends from inputs None left
   pub run_is : done.run ≡ ran rules inputs

@@ -3,11 +3,11 @@
 -- For each worker: what it was offered, followed by what is held for it, are its legs of the run over the inputs that
 -- were read. A place among what is held stands for a second leg (RFC 4787, REQ-9) that the answer of the first will
 -- tell. That the answers are right is a premise until the workers are joined, which then tells it.
-use Rattle.std.specs.Prelude.{◌≡◌, ◌≢◌, ◌⊎◌, ◌||◌, ℕ, ◌+◌, ◌<◌, ◌≤◌, max, nat_le, Bool, true, false, List, [], ◌∷◌, ◌++◌, map, flat_map, length, slice_index, slice_set, slice_get, Option, Some, None, Result, MatchResult}
+use Rattle.std.specs.Prelude.{◌≡◌, ◌≢◌, ◌⊎◌, ◌||◌, ℕ, ◌+◌, ◌<◌, ◌≤◌, max, nat_le, Bool, true, false, List, [], ◌∷◌, ◌++◌, map, flat_map, length, slice_index, slice_set, slice_get, Some, Result, MatchResult}
 use Rattle.napt_wire.specs.declared.Way.{Way}
 use Rattle.napt_wire.specs.declared.Way.TheVariants.{Outgoing, Incoming}
 use Rattle.napt_config.specs.Rules.{Rules}
-use Rattle.napt_rules.specs.Prelude.{opening, Arrival, Act, Course, run, last_clock, legs_at}
+use Rattle.napt_rules.specs.Prelude.{opening, Arrival, Act, run, last_clock, legs_at}
 use Rattle.napt_rules.specs.declared.Leg.{Leg}
 use Rattle.napt_rules.specs.declared.Answer.{Answer}
 use Rattle.napt_rules.specs.declared.End.{End}
@@ -249,6 +249,11 @@ Admits rules number now input parts later =
       parts =
           later;
     })
+
+-- whether answers were taken: fewer are owed than before, or as many
+abbrev pub HasTaken : Parts → Parts → Bool → Type 0
+HasTaken parts later true = many_in later.owed < many_in parts.owed
+HasTaken parts later false = many_in later.owed ≡ many_in parts.owed
 
 -- OFFERS
 

@@ -8,8 +8,8 @@ use Rattle.napt_rules.specs.declared.Outcome.{Outcome}
 use Rattle.napt_dispatch.specs.declared.dispatcher.progress.Progress.{Progress}
 use Rattle.napt_dispatch.specs.declared.dispatcher.progress.Progress.TheVariants.{Awaited, Onward, EndedOut, EndedIn}
 
--- the outcomes that left, in the order of the inputs, and what is known of the inputs after these; each with the arrival
--- time
+-- the outcomes that left, in the order of the inputs, and what is known of the inputs after these; each with the
+-- arrival time
 pub record Window : Type 0 where
   pub left : List (ℕ × Outcome)
   pub under_way : List (ℕ × Progress)

@@ -142,8 +142,9 @@ pub(crate) fn dispatch_to<R: Wait, G: Gate, A: Arrivals, D: Departures>(
     requires unoffered { accepts pool.old ≡ replicate (length config.now.pool) [] }
     requires untaken { takes pool.old ≡ replicate (length config.now.pool) [] }
     ensures starts { starts pool.new ≡ starts pool.old }
-    ensures ends { IfOk result (λ done. EndsBy config.now A.hands A.ends D.takes D.fails D.is_settled
-        arrivals.old departures.old pool.new arrivals.new departures.new done done.ending) }
+    ensures ends { IfOk result (λ done. EndsBy config.now A.hands A.ends D.takes D.fails
+        D.is_settled arrivals.old departures.old pool.new arrivals.new departures.new done
+        done.ending) }
     ensures fault { IfErr result (IsDispatchFault G.is_open) }
 {
     let count = config.pool().len();

@@ -91,6 +91,9 @@ fn close<R: Threads, G: Gate, D: Drop>(
     ensures given { IfOk result (λ both. dispatched ≡ Ok both.0) }
     ensures machines { IfOk result (λ both. map (λ e. e.machine) both.1.items
         ≡ zip_with (after ⟦<Worker as Machine>⟧) (starts pool) (accepts pool)) }
+    ensures answers { IfOk result (λ both. zip_with (λ t rest. t ++ rest) (takes pool)
+        (map (λ e. e.answers.items) both.1.items) ≡ zip_with (replies ⟦<Worker as Machine>⟧)
+        (starts pool) (accepts pool)) }
     ensures settled { map length (takes pool) ≡ map length (accepts pool) →
         OnOk result (takes pool ≡ zip_with (replies ⟦<Worker as Machine>⟧)
         (starts pool) (accepts pool)) }
@@ -206,7 +209,8 @@ pub fn run_on_pool<
     many: usize,
     gate: Arc<G>,
 ) -> Result<TimedRun, RunFault>
-    ensures run { IfOk result (λ done. RunsAll config.now A.hands A.ends arrivals.old done arrivals.new) }
+    ensures run { IfOk result (λ done. RunsAll config.now A.hands A.ends
+        arrivals.old done arrivals.new) }
     ensures fault { IfErr result (IsFaultUnder G.is_open) }
 {
     let mut collected = Collected::with_capacity(alloc, many)?;

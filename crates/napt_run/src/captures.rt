@@ -59,11 +59,18 @@ fn read_side<R: Source>(alloc: Global, side: Side, source: &mut R) -> Result<Cap
 }
 
 impl Captures {
+    /// How many records there are in both.
+    fn count(&self) -> usize
+        ensures { result ≡ length self.now.inside.records + length self.now.outside.records }
+    {
+        self.inside.records.len() + self.outside.records.len()
+    }
+
     /// Whether there are more records than a run can count.
     fn are_too_many(&self) -> bool
         ensures { (result ≡ true) ↔ AreTooMany self.now }
     {
-        self.inside.records.len() as u64 + self.outside.records.len() as u64 > 4_294_967_295
+        self.count() > 4_294_967_295
     }
 }
 
@@ -86,9 +93,10 @@ fn make_outputs<T: Threads + Wait + Copy + Send + 'static, G: Gate + Send + Sync
     if captures.are_too_many() {
         return Err(RunFault::TooMany);
     }
+    let many = captures.count();
     let Captures { inside, outside } = captures;
     let mut inputs = Merged::new(inside.records, outside.records);
-    let TimedRun { run, times } = run_on_pool(rt, alloc, config, &mut inputs, gate)?;
+    let TimedRun { run, times } = run_on_pool(rt, alloc, config, &mut inputs, many, gate)?;
     let report = report_text(alloc, &run, inside.cut, outside.cut)?;
     Ok(Outputs {
         times,

@@ -16,3 +16,4 @@ pub mod Shown
 pub mod Sound
 pub mod Steps
 pub mod Passed
+pub mod Inputs

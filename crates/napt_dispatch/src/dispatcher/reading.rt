@@ -1,6 +1,6 @@
 //! Reading the inputs in their order.
 
-ghost use Rattle.std.specs.Prelude.{◌≡◌, ◌↔◌, ◌+◌, ◌<◌, ◌≤◌, ◌^◌, ℕ, Bool, true, [], length, slice_set, slice_get, Ok, Err, Some, None, IfOk, IfErr, IfSome, OnOk, MatchOption, MatchResult};
+ghost use Rattle.std.specs.Prelude.{◌≡◌, ◌↔◌, ◌+◌, ◌<◌, ◌≤◌, ◌^◌, ◌/◌, ◌%◌, ◌==◌, cond, ℕ, Bool, true, [], length, slice_set, slice_get, Ok, Err, Some, None, IfOk, IfErr, IfSome, IsSome, OnOk, MatchOption, MatchResult};
 ghost use Rattle.napt_wire.specs.declared.Side.TheVariants.{Inside as InsideSide};
 ghost use Rattle.napt_wire.specs.Fields.{destination};
 ghost use Rattle.napt_wire.specs.Packet.{IsPacket};
@@ -80,6 +80,9 @@ impl Dispatcher {
         requires owed { w < length (parts_of self.old).owed }
         requires to { IfSome to (λ v. v < length (parts_of self.old).held) }
         requires room { many_in (parts_of self.old).held + 2 ≤ 65536 }
+        ensures free { IfOk result (λ found. IsSome found
+            ↔ ((of_worker (parts_of self.old).held w ≡ [])
+            × (length (of_worker (parts_of self.old).owed w) < self.old.ring))) }
         ensures worker { IfOk result (λ found. IfSome found (λ o. o.worker ≡ w)) }
         ensures sized { OnOk result ((count : ℕ) → IsSized count (parts_of self.old) →
             IsSized count (parts_of self.new)) }
@@ -196,7 +199,8 @@ impl Dispatcher {
         requires count { length (starts pool.old) ≡ length config.now.pool }
         requires sized { IsSizedFor pool.old self.old }
         requires room { HasRoom self.old }
-        ensures serves { OnOk result (Serves config.now now input pool.old self.old pool.new self.new) }
+        ensures serves { OnOk result (Serves config.now now input pool.old self.old
+            pool.new self.new) }
         ensures fault { IfErr result (λ fault. (starts pool.new ≡ starts pool.old)
             × IsDispatchFault G.is_open fault) }
     {
@@ -323,7 +327,8 @@ impl<F> EndOfInputs<F> {
 /// The worker whose answers are looked at after the input of a number.
 fn turn_after(number: u64, count: u64) -> Option<u32>
     requires { (0 < count) × (count < 2 ^ 32) }
-    ensures { IfSome result (λ w. w < count) }
+    ensures turn { result ≡ cond (number % 4 == 0) (Some (number / 4 % count)) None }
+    ensures place { IfSome result (λ w. w < count) }
 {
     if number % LOOK_EACH > 0 {
         return None;

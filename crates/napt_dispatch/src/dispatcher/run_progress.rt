@@ -37,9 +37,13 @@ impl Model for RunProgress {
 
     ghost Value = { Window };
 
-    ghost view = { λ all. record { left = all.past.items; under_way = map (λ o. (o.time, o.progress)) all.under_way.items } };
+    ghost view = { λ all. record {
+      left = all.past.items;
+      under_way = map (λ o. (o.time, o.progress)) all.under_way.items;
+    } };
 
-    ghost invariant = { λ all. (all.first ≡ length all.past.items) × ((length all.under_way.items ≤ 131072)
+    ghost invariant = { λ all. (all.first ≡ length all.past.items)
+        × ((length all.under_way.items ≤ 131072)
         × (all.first + length all.under_way.items < 2 ^ 64)) };
 }
 
@@ -97,7 +101,8 @@ impl RunProgress {
     /// Where the input of a number stands, if its outcome has not left.
     fn place_of(&self, number: u64) -> Option<usize>
         ensures { MatchOption result (is_unknown (slice_get (progress_in self.now) number) ≡ true)
-            (λ place. (number ≡ length self.now.left + place) × (place < length self.now.under_way)) }
+            (λ place. (number ≡ length self.now.left + place)
+            × (place < length self.now.under_way)) }
     {
         if number < self.first {
             return None;

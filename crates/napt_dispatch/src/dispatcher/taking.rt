@@ -1,9 +1,9 @@
 //! Taking the answers of the workers, and going on where there are any.
 
-ghost use Rattle.std.specs.Prelude.{◌≡◌, ◌^◌, ◌≤◌, ◌<◌, ℕ, [], length, true, IfSome, OnOk};
+ghost use Rattle.std.specs.Prelude.{◌≡◌, ◌^◌, ◌≤◌, ◌<◌, ℕ, [], length, true, IfOk, IfSome, OnOk};
 ghost use Rattle.napt_pool.specs.Pools.{starts};
 ghost use Rattle.napt_dispatch.specs.Passing.{LetsGoUnlessFault};
-ghost use Rattle.napt_dispatch.specs.Standing.{parts_of, IsSizedFor, ContinuesUnlessFault, HasOffered, HasRoom, IsDone};
+ghost use Rattle.napt_dispatch.specs.Standing.{parts_of, IsSizedFor, ContinuesUnlessFault, HasTaken, HasOffered, HasRoom, IsDone};
 
 use crate::Worker;
 use crate::departures::Departures;
@@ -27,7 +27,8 @@ impl Dispatcher {
     ) -> Result<bool, RunFault>
         requires place { w < length (starts pool.old) }
         requires sized { IsSizedFor pool.old self.old }
-        ensures { ContinuesUnlessFault G.is_open pool.old self.old pool.new self.new result }
+        ensures state { ContinuesUnlessFault G.is_open pool.old self.old pool.new self.new result }
+        ensures told { IfOk result (HasTaken (parts_of self.old) (parts_of self.new)) }
     {
         let Some(answer) = pool.take(rt, alloc, w)? else {
             return Ok(false);
@@ -46,7 +47,8 @@ impl Dispatcher {
     ) -> Result<bool, RunFault>
         requires place { w < length (starts pool.old) }
         requires sized { IsSizedFor pool.old self.old }
-        ensures { ContinuesUnlessFault G.is_open pool.old self.old pool.new self.new result }
+        ensures state { ContinuesUnlessFault G.is_open pool.old self.old pool.new self.new result }
+        ensures told { IfOk result (HasTaken (parts_of self.old) (parts_of self.new)) }
     {
         let many = len_at(&self.owed, w);
         let mut any = false;
@@ -69,12 +71,14 @@ impl Dispatcher {
     ) -> Result<bool, RunFault>
         requires count { count ≤ length (starts pool.old) }
         requires sized { IsSizedFor pool.old self.old }
-        ensures { ContinuesUnlessFault G.is_open pool.old self.old pool.new self.new result }
+        ensures state { ContinuesUnlessFault G.is_open pool.old self.old pool.new self.new result }
+        ensures told { IfOk result (HasTaken (parts_of self.old) (parts_of self.new)) }
     {
         let mut any = false;
         for w in 0..count {
-            let more = self.take_there(rt, alloc, pool, w)?;
-            any = any || more;
+            if self.take_there(rt, alloc, pool, w)? {
+                any = true;
+            }
         }
         Ok(any)
     }
@@ -89,7 +93,8 @@ impl Dispatcher {
     ) -> Result<(), RunFault>
         requires count { count ≤ length (starts pool.old) }
         requires sized { IsSizedFor pool.old self.old }
-        ensures { ContinuesUnlessFault G.is_open pool.old self.old pool.new self.new result }
+        ensures state { ContinuesUnlessFault G.is_open pool.old self.old pool.new self.new result }
+        ensures some { OnOk result (HasTaken (parts_of self.old) (parts_of self.new) true) }
     {
         if are_empty(&self.owed) {
             return Err(RunFault::from(ImpossibleAnswer));

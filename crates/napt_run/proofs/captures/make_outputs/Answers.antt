@@ -4,15 +4,11 @@ use Rattle.std.proofs.lemmas.List.{length-map}
 use Rattle.napt_capture.specs.Text.{IsWritable}
 use Rattle.napt_capture.specs.Contents.{Contents}
 use Rattle.napt_rules.specs.Prelude.{Arrival}
+use Rattle.napt_dispatch.proofs.RunsThrough.{runs_whole}
 use Rattle.napt_records.specs.Output.{IsTime, IsTimely}
 use Rattle.napt_records.proofs.Sends.{times_timely}
 use Rattle.napt_run.proofs.TooMany.{merged_few}
 use Rattle.napt_run.proofs.captures.make_outputs.Goals as goal
-
-pub run_on_pool-requires-clause-few : goal.run_on_pool-requires-clause-few
-run_on_pool-requires-clause-few g c κs within =
-    merged_few _ _ _ (rw (← c.inside.view_is, ← c.outside.view_is) c.new-inputs.ensures.merged)
-    (λ many. true≢false (sym (c.are_too_many.ensures.1 many) ∙ c.if-are_too_many.false))
 
 pub returns-clause-few : goal.returns-clause-few
 returns-clause-few g c =
@@ -20,8 +16,10 @@ returns-clause-few g c =
     merged_few _ _ _ (rw (← c.inside.view_is, ← c.outside.view_is) c.new-inputs.ensures.merged)
     (λ many. true≢false (sym (c.are_too_many.ensures.1 many) ∙ c.if-are_too_many.false)) in
     let time : Arrival → ℕ = λ input. input.time in
+    let times : c.in_ok-run.field-0.times.items ≡ map time c.new-inputs.result = (runs_whole c.args.config.now
+    (λ merged. merged) c.new-inputs.result c.in_ok-run.field-0 c.run_on_pool.new.arrivals c.in_ok-run.ensures.run).1 in
     let long : length c.in_ok-run.field-0.times.items ≡ length c.new-inputs.result =
-    ap length c.in_ok-run.ensures.times ∙ length-map c.new-inputs.result time in
+    ap length times ∙ length-map c.new-inputs.result time in
     subst (λ (n : ℕ). n < 2 ^ 32) (sym long) few
 
 pub returns-clause-timely : goal.returns-clause-timely
@@ -29,4 +27,7 @@ returns-clause-timely g c =
     let timely : All IsTimely c.new-inputs.result = c.new-inputs.ensures.timely
     (subst (λ (capture : Contents). All IsWritable capture.records) (sym c.inside.view_is) c.requires.inside)
     (subst (λ (capture : Contents). All IsWritable capture.records) (sym c.outside.view_is) c.requires.outside) in
-    subst (All IsTime) (sym c.in_ok-run.ensures.times) (times_timely c.new-inputs.result timely)
+    let time : Arrival → ℕ = λ input. input.time in
+    let times : c.in_ok-run.field-0.times.items ≡ map time c.new-inputs.result = (runs_whole c.args.config.now
+    (λ merged. merged) c.new-inputs.result c.in_ok-run.field-0 c.run_on_pool.new.arrivals c.in_ok-run.ensures.run).1 in
+    subst (All IsTime) (sym times) (times_timely c.new-inputs.result timely)

@@ -1,20 +1,15 @@
-use Rattle.std.proofs.Common.{◌≡◌, ℕ, ◌+◌, ◌<◌, ◌^◌, length, Some, refl, sym, ◌∙◌, ap, subst, arith, get_or, length-append}
+use Rattle.std.proofs.Common.{◌≡◌, ℕ, ◌+◌, ◌<◌, ◌^◌, length, Some, refl, sym, ◌∙◌, ap, arith, get_or, length-append}
 use Rattle.std.specs.List.{slice_get}
 use Rattle.std.proofs.lemmas.Option.{slice_get-get_or, slice_get_within}
 use Rattle.napt_wire.specs.declared.Way.TheVariants.{Incoming}
 use Rattle.napt_wire.specs.Fields.{destination}
 use Rattle.napt_config.specs.Rules.{Rules}
-use Rattle.napt_rules.specs.declared.End.{End}
 use Rattle.napt_rules.specs.declared.End.TheVariants.{ToOutside, ToInside, Onward, Dropped}
 use Rattle.napt_rules.specs.declared.Leg.{Leg}
 use Rattle.napt_rules.specs.Prelude.{act, outcome_of}
 use Rattle.napt_rules.specs.declared.Outcome.TheVariants as outcomes
 use Rattle.napt_sequential.specs.CountedTranslators.{RunState, AreCountedTranslators, state_after}
-use Rattle.napt_sequential.specs.declared.passage.Passage.{Passage}
-use Rattle.napt_sequential.specs.declared.passage.Seen.{Seen}
-use Rattle.napt_sequential.specs.declared.passage.Went.{Went}
-use Rattle.napt_sequential.specs.declared.passage.Went.TheVariants as ways
-use Rattle.napt_sequential.specs.Traces.{seen_of, went_by, passage_at}
+use Rattle.napt_sequential.specs.Traces.{went_by}
 use Rattle.napt_sequential.proofs.Steps.{stands_at, onward_place}
 use Rattle.napt_sequential.proofs.Passed.{passage_of_end, steps_once, steps_twice}
 use Rattle.napt_sequential.proofs.run.follow.Goals as goal

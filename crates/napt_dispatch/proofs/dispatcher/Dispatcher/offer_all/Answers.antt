@@ -1,6 +1,5 @@
-use Rattle.std.proofs.Common.{ℕ, ◌<◌, inl, inr, arith, rules}
+use Rattle.std.proofs.Common.{inl, inr, arith, rules}
 use Rattle.std.proofs.lemmas.Bool.{cases_eq}
-use Rattle.napt_dispatch.specs.Standing.{HasOffered}
 use Rattle.napt_dispatch.proofs.Offering.{offered_still}
 use Rattle.napt_dispatch.proofs.dispatcher.Dispatcher.offer_all.Goals as goal
 

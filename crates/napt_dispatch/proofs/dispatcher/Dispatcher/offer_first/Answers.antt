@@ -1,5 +1,4 @@
-use Rattle.std.proofs.Common.{◌<◌, length, sym, ◌∙◌, inl, arith}
-use Rattle.napt_dispatch.specs.Standing.{parts_of, waits}
+use Rattle.std.proofs.Common.{sym, ◌∙◌, inl}
 use Rattle.napt_dispatch.proofs.Offering.{only_none}
 use Rattle.napt_dispatch.proofs.dispatcher.Dispatcher.offer_first.Goals as goal
 

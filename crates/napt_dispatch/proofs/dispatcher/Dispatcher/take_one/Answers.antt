@@ -2,11 +2,12 @@ use Rattle.std.proofs.Common.{◌≡◌, ◌<◌, length, arith, rules}
 use Rattle.napt_pool.specs.Pools.{takes}
 use Rattle.napt_dispatch.specs.Queues.{pushed}
 use Rattle.napt_dispatch.specs.Standing.{parts_of, state_of}
+use Rattle.napt_dispatch.proofs.Offering.{taken_one}
 use Rattle.napt_dispatch.proofs.Standing.{answered_keeps}
 use Rattle.napt_dispatch.proofs.dispatcher.Dispatcher.take_one.Goals as goal
 
-pub returns : goal.returns
-returns g c =
+pub returns-clause-state : goal.returns-clause-state
+returns-clause-state g c =
     let within : c.args.w < length (parts_of c.args.self.now).owed =
     omega (arith, c.requires.sized.owed, c.requires.place) in
     let took : takes c.take.new.self ≡ pushed c.args.w c.in-Some.answer (takes c.args.pool.now) =
@@ -18,3 +19,10 @@ returns g c =
       keeps = answered_keeps c.args.w c.in-Some.answer (state_of c.args.pool.now c.args.self.now)
           (state_of c.take.new.self c.note.new.self) within c.in_ok-answer.ensures.accepts took c.in_ok-note.ensures;
     }
+
+pub returns-clause-told : goal.returns-clause-told
+returns-clause-told g c =
+    let within : c.args.w < length (parts_of c.args.self.now).owed =
+    omega (arith, c.requires.sized.owed, c.requires.place) in
+    taken_one c.args.w c.in_ok-note.ensures.owed (parts_of c.args.self.now) (parts_of c.note.new.self) within
+    c.in_ok-note.ensures.popped

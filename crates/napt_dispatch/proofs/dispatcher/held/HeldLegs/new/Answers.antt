@@ -1,4 +1,4 @@
-use Rattle.std.proofs.Common.{◌≡◌, ◌≤◌, sym, arith}
+use Rattle.std.proofs.Common.{sym, arith}
 use Rattle.napt_dispatch.proofs.Queues.{many_none}
 use Rattle.napt_dispatch.proofs.dispatcher.held.HeldLegs.new.Goals as goal
 

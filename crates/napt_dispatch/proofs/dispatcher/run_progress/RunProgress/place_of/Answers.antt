@@ -12,5 +12,11 @@ pub returns-else-place-len : goal.returns-else-place-len
 returns-else-place-len c =
     rw (← c.self.view_is)
     (unread_unknown c.self.inside.past.items c.self.inside.under_way.items c.args.number
-    (omega (arith, c.self.invariant.0, c.self.inside.under_way.ok.0, c.len.ensures, c.if-place-len.false,
-    c.if-number-self.false)))
+    (omega (
+      arith,
+      c.self.invariant.0,
+      c.self.inside.under_way.ok.0,
+      c.len.ensures,
+      c.if-place-len.false,
+      c.if-number-self.false,
+    )))

@@ -1,0 +1,120 @@
+-- What a run passes on, by what dispatching came to and the answers that the workers were right to give.
+use Rattle.std.proofs.Common.{◌≡◌, ℕ, List, [], ◌++◌, length, map, Option, None, refl, sym, ◌∙◌, ap, subst}
+use Rattle.napt_config.specs.Rules.{Rules}
+use Rattle.napt_rules.specs.declared.Row.{Row}
+use Rattle.napt_rules.specs.declared.Leg.{Leg}
+use Rattle.napt_rules.specs.declared.Answer.{Answer}
+use Rattle.napt_rules.specs.declared.Outcome.{Outcome}
+use Rattle.napt_rules.specs.Prelude.{opening, Arrival, run, Ran, ran}
+use Rattle.napt_pool.specs.declared.pool.Pool.{Pool}
+use Rattle.napt_pool.specs.Pools.{accepts, takes as taken}
+use Rattle.napt_sequential.specs.Dispatching.{IsFront}
+use Rattle.napt_sequential.proofs.Inputs.{came_whole}
+use Rattle.napt_sequential.proofs.Shown.{ran_long}
+use Rattle.napt_dispatch.specs.declared.collected.Collected.{Collected}
+use Rattle.napt_dispatch.specs.declared.dispatcher.Dispatched.{Dispatched}
+use Rattle.napt_dispatch.specs.declared.workers.Passed.{Passed}
+use Rattle.napt_dispatch.specs.declared.workers.TimedRun.{TimedRun}
+use Rattle.napt_dispatch.specs.Collecting.{outcome_of, Collects}
+use Rattle.napt_dispatch.specs.Dispatch.{IsDispatched, Right}
+use Rattle.napt_dispatch.specs.Windows.{time_in}
+use Rattle.napt_dispatch.specs.Passing.{timed, EndsWith, EndsEarly, PassesTo, PassesWell, PassesEarly, RunsAll}
+use Rattle.napt_dispatch.proofs.Windows.{timed_outcomes, timed_times}
+
+-- the outcomes of a run are those of its course
+ran_outcomes : (rules : Rules) (inputs : List Arrival) →
+    (run rules inputs (opening rules)).outcomes ≡ (ran rules inputs).outcomes
+unfolding ran
+ran_outcomes rules inputs = refl
+
+timed_ran : (rules : Rules) (inputs : List Arrival) →
+    timed inputs (run rules inputs (opening rules)).outcomes ≡ timed inputs (ran rules inputs).outcomes
+timed_ran rules inputs = ap (timed inputs) (ran_outcomes rules inputs)
+
+module _ {A F S B M G : Type 0} (rules : Rules) (hands : A → List Arrival → A → Type 0)
+    (ends : A → Option F → A → Type 0) (takes : S → List (ℕ × Outcome) → S → Type 0)
+    (fails : S → List (ℕ × Outcome) → B → S → Type 0) (is_settled : S → Type 0) (from : A) (before : S)
+    (pool : Pool M G Leg Answer) (left : A) (after : S) (right : Right rules (accepts pool) (taken pool)) where
+  pub passes_to : (end : Option F) (done : Dispatched F B) →
+      EndsWith rules hands ends takes fails is_settled from before pool left after end done →
+      PassesTo rules hands ends takes fails is_settled from before left after end
+  passes_to end done e = record {
+    inputs = e.inputs;
+    came = e.came;
+    took = subst (λ (pairs : List (ℕ × Outcome)). takes before pairs after)
+        ((e.right right).0 ∙ timed_ran rules e.inputs) e.took;
+    settled = e.settled;
+    few = e.few;
+  }
+
+  pub passes_well : (done : Dispatched F B) (passed : Passed)
+      (e : EndsWith rules hands ends takes fails is_settled from before pool left after None done) →
+      (let r : Ran = record {
+        outcomes = map outcome_of e.went;
+        bindings = passed.bindings.items;
+        legs = passed.legs.items;
+      } in r ≡ ran rules e.inputs) →
+      PassesWell rules hands ends takes fails is_settled from before left after passed
+  unfolding passes_to
+  passes_well done passed e is = record {
+    whole = passes_to None done e;
+    bindings = ap (λ (r : Ran). r.bindings) is;
+    legs = ap (λ (r : Ran). r.legs) is;
+  }
+
+  pub passes_early : (fault : B) →
+      EndsEarly rules hands ends takes fails is_settled from before pool left after fault →
+      PassesEarly rules hands ends takes fails is_settled from before left after fault
+  passes_early fault e = record {
+    inputs = e.inputs;
+    went = e.went;
+    come = e.come;
+    front = subst (λ (pairs : List (ℕ × Outcome)). IsFront e.went pairs) (timed_ran rules e.inputs) (e.right right);
+    failed = e.failed;
+  }
+
+-- WHAT WAS COLLECTED
+
+module _ (rules : Rules) (inputs : List Arrival) (none some : Collected)
+    (took : Collects none (timed inputs (ran rules inputs).outcomes) some) where
+  pub collected_outcomes : none.outcomes.items ≡ [] → some.outcomes.items ≡ (ran rules inputs).outcomes
+  collected_outcomes empty = took.outcomes
+      ∙ (ap (λ l. l ++ map outcome_of (timed inputs (ran rules inputs).outcomes)) empty
+      ∙ timed_outcomes inputs (ran rules inputs).outcomes (ran_long rules inputs))
+
+  pub collected_times : none.times.items ≡ [] → some.times.items ≡ map (λ i. i.time) inputs
+  collected_times empty = took.times
+      ∙ (ap (λ l. l ++ map time_in (timed inputs (ran rules inputs).outcomes)) empty
+      ∙ timed_times inputs (ran rules inputs).outcomes (ran_long rules inputs))
+
+  pub collected_run : (bindings : List Row) (legs : List ℕ) → none.outcomes.items ≡ [] →
+      bindings ≡ (ran rules inputs).bindings → legs ≡ (ran rules inputs).legs →
+      (let r : Ran = record { outcomes = some.outcomes.items; bindings = bindings; legs = legs } in r ≡ ran rules inputs)
+  collected_run bindings legs empty shown counted = rw (collected_outcomes empty, shown, counted) refl
+
+-- WHERE THE INPUTS COME OFF A LIST
+
+-- the run is that over the whole list
+pub runs_whole : {A F : Type 0} (rules : Rules) (list : A → List Arrival) (from : A) (done : TimedRun) (left : A) →
+    RunsAll {F = F} rules (λ x xs y. list x ≡ xs ++ list y) (λ x end y. list x ≡ []) from done left →
+    (done.run ≡ ran rules (list from)) × (done.times.items ≡ map (λ i. i.time) (list from))
+runs_whole rules list from done left r =
+    let whole : list from ≡ r.inputs = came_whole list from left r.inputs None r.came in (
+      subst (λ (inputs : List Arrival). done.run ≡ ran rules inputs) (sym whole) r.run_is,
+      subst (λ (inputs : List Arrival). done.times.items ≡ map (λ i. i.time) inputs) (sym whole) r.times,
+    )
+
+pub dispatched_whole : {A F B M G : Type 0} (rules : Rules) (list : A → List Arrival)
+    (fails : Collected → List (ℕ × Outcome) → B → Collected → Type 0) (is_settled : Collected → Type 0) (from : A)
+    (none : Collected) (pool : Pool M G Leg Answer) (left : A) (some : Collected) (done : Dispatched F B) →
+    EndsWith rules (λ x xs y. list x ≡ xs ++ list y) (λ x end y. list x ≡ []) Collects fails is_settled from none pool left
+    some None done → none.outcomes.items ≡ [] →
+    (length (accepts pool) ≡ length rules.pool → Right rules (accepts pool) (taken pool)) →
+    IsDispatched rules (list from) (accepts pool) some.outcomes.items done.legs.items
+dispatched_whole rules list fails is_settled from none pool left some done e empty right =
+    let outcomes : some.outcomes.items ≡ map outcome_of e.went = e.took.outcomes
+    ∙ ap (λ l. l ++ map outcome_of e.went) empty in
+    subst (λ (inputs : List Arrival). IsDispatched rules inputs (accepts pool) some.outcomes.items done.legs.items)
+    (sym (came_whole list from left e.inputs None e.came))
+    (subst (λ (outs : List Outcome). IsDispatched rules e.inputs (accepts pool) outs done.legs.items) (sym outcomes)
+    (e.right (right e.offered_many)).1)

@@ -1,0 +1,22 @@
+use Rattle.std.proofs.Common.{◌≡◌, ◌∙◌, length, refl, subst}
+use Rattle.std.specs.Prelude.{⊤}
+use Rattle.napt_config.specs.Rules.{Rules}
+use Rattle.napt_pool.specs.Pools.{starts, accepts, takes}
+use Rattle.napt_dispatch.specs.Dispatch.{started, IsDispatched}
+use Rattle.napt_dispatch.specs.contracts.worker.WorkerMachine.TheImpl.{ghosts}
+use Rattle.napt_dispatch.proofs.Ended.{right_since}
+use Rattle.napt_dispatch.proofs.RunsThrough.{dispatched_whole}
+use Rattle.napt_dispatch.proofs.dispatcher.dispatch.Goals as goal
+
+pub returns-in-Whole-clause-run : goal.returns-in-Whole-clause-run
+returns-in-Whole-clause-run g c = λ replied.
+    let rules : Rules = c.args.config.now in
+    let pool = c.dispatch_to.new.pool in
+    let began : starts pool ≡ started rules (length rules.pool) = c.dispatch_to.ensures.starts ∙ c.requires.started in
+    subst (λ inputs. IsDispatched rules inputs (accepts pool) c.dispatch_to.new.departures.outcomes.items
+    c.in_ok-done.done.legs.items) c.in_ok-inputs.ensures
+    (dispatched_whole rules (λ queue. queue.items) (λ before pairs fault after. ⊤) (λ collected. ⊤)
+    c.in_ok-inputs.inputs c.in_ok-collected.collected pool c.dispatch_to.new.arrivals c.dispatch_to.new.departures _
+    (rw c.in-Whole.is at c.in_ok-done.ensures.ends) c.in_ok-collected.ensures.outcomes
+    (λ many. right_since ghosts (λ s leg. refl) (λ s leg. refl) rules (starts pool) (accepts pool) (takes pool) began
+    many replied))
