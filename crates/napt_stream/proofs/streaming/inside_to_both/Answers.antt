@@ -1,27 +1,27 @@
-use Rattle.std.proofs.Common.{◌≡◌, Some, refl, sym, ◌∙◌, ap}
-use Rattle.napt_run.specs.Devices.{bytes_in}
+use Rattle.std.proofs.Common.{◌≡◌, None, Some, refl, sym, ◌∙◌, ap}
+
 use Rattle.napt_records.specs.declared.Which.TheVariants.{Outside, Inside}
 use Rattle.napt_stream.proofs.Devices.{Done, explains, inside_counted, inside_done, inside_gone, outside_counted, outside_done, stops, tells}
-use Rattle.napt_stream.proofs.streams.stream_to_both.Given.{Over}
-use Rattle.napt_stream.proofs.streams.stream_to_both.Goals as goal
-use Rattle.napt_stream.proofs.streams.stream_to_both.Goals.{After-to_outside-1, in-Some, in-None}
+use Rattle.napt_stream.proofs.streaming.inside_to_both.Given.{Over}
+use Rattle.napt_stream.proofs.streaming.inside_to_both.Goals as goal
+use Rattle.napt_stream.proofs.streaming.inside_to_both.Goals.{After-to_outside-1, in-Some, in-None}
 
 outside_is : (g : Over) (c : After-to_outside-1 g) →
     Done c.args.setting.config.now Outside g.W.Sink.contents g.W.Sink.failed g.W.Sink.is_flushed
-    (g.R.Source.remaining c.args.inside.now) (bytes_in g.Q.Source.remaining c.args.outside) c.stream-told.result
+    (g.R.Source.remaining c.args.inside.now) (Some None) c.stream_inside-told.result
     c.args.to_outside.now c.to_outside-1.given.0
 outside_is g c =
     outside_done g.G.Gate.is_open c.args.setting.config.now g.W.Sink.contents g.W.Sink.failed g.W.Sink.is_flushed
     g.V.Sink.contents g.V.Sink.failed g.V.Sink.is_flushed (g.R.Source.remaining c.args.inside.now)
-    (bytes_in g.Q.Source.remaining c.args.outside) c.into-leaving.result c.stream-told.new.leaving c.stream-told.result
-    c.stream-told.ensures.runs (ap (λ o. o.written) c.into-leaving.ensures.to_outside ∙ c.over-2.ensures.written) _ _
+    (Some None) c.into-leaving.result c.stream_inside-told.new.leaving c.stream_inside-told.result
+    c.stream_inside-told.ensures.runs (ap (λ o. o.written) c.into-leaving.ensures.to_outside ∙ c.over-2.ensures.written) _ _
     (ap (λ o. o.device.now) c.into-leaving.ensures.to_outside ∙ c.over-2.ensures.device)
     (λ not_run. c.to_outside-1.given.1 (sym c.over-2.ensures.same_reference
     ∙ ap (λ o. o.device.ghost_name) (sym c.into-leaving.ensures.to_outside)
     ∙ sym (outside_counted g.G.Gate.is_open c.args.setting.config.now g.W.Sink.contents g.W.Sink.failed
     g.W.Sink.is_flushed g.V.Sink.contents g.V.Sink.failed g.V.Sink.is_flushed (g.R.Source.remaining c.args.inside.now)
-    (bytes_in g.Q.Source.remaining c.args.outside) c.into-leaving.result c.stream-told.new.leaving c.stream-told.result
-    c.stream-told.ensures.runs not_run).same))
+    (Some None) c.into-leaving.result c.stream_inside-told.new.leaving c.stream_inside-told.result
+    c.stream_inside-told.ensures.runs not_run).same))
 
 pub returns-clause-to_outside : goal.returns-clause-to_outside
 returns-clause-to_outside g c = (outside_is g c).gets
@@ -31,27 +31,27 @@ first_is g c = c.into-leaving.ensures.to_inside
 
 inside_is : (g : Over) (c : After-to_outside-1 g) →
     Done c.args.setting.config.now Inside g.V.Sink.contents g.V.Sink.failed g.V.Sink.is_flushed
-    (g.R.Source.remaining c.args.inside.now) (bytes_in g.Q.Source.remaining c.args.outside) c.stream-told.result
+    (g.R.Source.remaining c.args.inside.now) (Some None) c.stream_inside-told.result
     c.args.to_inside.now c.match-theirs.to_inside
 inside_is g c =
     elim c.match-theirs.branch [
       | in-Some w ↦
           inside_done g.G.Gate.is_open c.args.setting.config.now g.W.Sink.contents g.W.Sink.failed g.W.Sink.is_flushed
           g.V.Sink.contents g.V.Sink.failed g.V.Sink.is_flushed (g.R.Source.remaining c.args.inside.now)
-          (bytes_in g.Q.Source.remaining c.args.outside) c.into-leaving.result c.stream-told.new.leaving
-          c.stream-told.result c.stream-told.ensures.runs c.over.result w.in-Some.output (first_is g c) w.in-Some.is
+          (Some None) c.into-leaving.result c.stream_inside-told.new.leaving
+          c.stream_inside-told.result c.stream_inside-told.ensures.runs c.over.result w.in-Some.output (first_is g c) w.in-Some.is
           c.over.ensures.written _ _ c.over.ensures.device
           (λ not_run. w.to_inside-is ∙ w.to_inside-1.given.1 (sym c.over.ensures.same_reference
           ∙ sym (inside_counted g.G.Gate.is_open c.args.setting.config.now g.W.Sink.contents g.W.Sink.failed
           g.W.Sink.is_flushed g.V.Sink.contents g.V.Sink.failed g.V.Sink.is_flushed
-          (g.R.Source.remaining c.args.inside.now) (bytes_in g.Q.Source.remaining c.args.outside) c.into-leaving.result
-          c.stream-told.new.leaving c.over.result w.in-Some.output (first_is g c) w.in-Some.is c.stream-told.result
-          c.stream-told.ensures.runs not_run).same))
+          (g.R.Source.remaining c.args.inside.now) (Some None) c.into-leaving.result
+          c.stream_inside-told.new.leaving c.over.result w.in-Some.output (first_is g c) w.in-Some.is c.stream_inside-told.result
+          c.stream_inside-told.ensures.runs not_run).same))
       | in-None w ↦
           inside_gone g.G.Gate.is_open c.args.setting.config.now g.W.Sink.contents g.W.Sink.failed g.W.Sink.is_flushed
           g.V.Sink.contents g.V.Sink.failed g.V.Sink.is_flushed (g.R.Source.remaining c.args.inside.now)
-          (bytes_in g.Q.Source.remaining c.args.outside) c.into-leaving.result c.stream-told.new.leaving
-          c.stream-told.result c.stream-told.ensures.runs c.over.result (first_is g c) w.in-None.is _ _
+          (Some None) c.into-leaving.result c.stream_inside-told.new.leaving
+          c.stream_inside-told.result c.stream_inside-told.ensures.runs c.over.result (first_is g c) w.in-None.is _ _
     ]
 
 pub returns-clause-to_inside : goal.returns-clause-to_inside
@@ -73,19 +73,22 @@ pub returns-clause-told : goal.returns-clause-told
 returns-clause-told g c =
     tells g.G.Gate.is_open c.args.setting.config.now g.W.Sink.contents g.W.Sink.failed g.W.Sink.is_flushed
     g.V.Sink.contents g.V.Sink.failed g.V.Sink.is_flushed (g.R.Source.remaining c.args.inside.now)
-    (bytes_in g.Q.Source.remaining c.args.outside) c.into-leaving.result c.stream-told.new.leaving
-    c.stream-told.result c.stream-told.ensures.runs
+    (Some None) c.into-leaving.result c.stream_inside-told.new.leaving
+    c.stream_inside-told.result c.stream_inside-told.ensures.runs
 
 pub returns-clause-fault : goal.returns-clause-fault
 returns-clause-fault g c =
     explains g.G.Gate.is_open c.args.setting.config.now g.W.Sink.contents g.W.Sink.failed g.W.Sink.is_flushed
     g.V.Sink.contents g.V.Sink.failed g.V.Sink.is_flushed (g.R.Source.remaining c.args.inside.now)
-    (bytes_in g.Q.Source.remaining c.args.outside) c.into-leaving.result c.stream-told.new.leaving
-    c.stream-told.result c.stream-told.ensures.runs
+    (Some None) c.into-leaving.result c.stream_inside-told.new.leaving
+    c.stream_inside-told.result c.stream_inside-told.ensures.runs
 
 pub returns-clause-stop : goal.returns-clause-stop
 returns-clause-stop g c =
     stops g.G.Gate.is_open c.args.setting.config.now g.W.Sink.contents g.W.Sink.failed g.W.Sink.is_flushed
     g.V.Sink.contents g.V.Sink.failed g.V.Sink.is_flushed (g.R.Source.remaining c.args.inside.now)
-    (bytes_in g.Q.Source.remaining c.args.outside) c.into-leaving.result c.stream-told.new.leaving
-    c.stream-told.result c.stream-told.ensures.runs
+    (Some None) c.into-leaving.result c.stream_inside-told.new.leaving
+    c.stream_inside-told.result c.stream_inside-told.ensures.runs
+
+pub returns-clause-readings : goal.returns-clause-readings
+returns-clause-readings g c not_run = c.stream_inside-told.ensures.readings not_run
