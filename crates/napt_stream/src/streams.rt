@@ -89,16 +89,17 @@ pub fn run_streams<
         config,
         gate,
     };
-    let totals = match (outside, to_inside) {
-        (Some(source), Some(device)) => {
-            both_to_both(setting, inside, source, to_outside, device)?
-        }
-        (Some(source), None) => {
-            both_to_outside::<T, R, Q, W, V, G>(setting, inside, source, to_outside)?
-        }
-        (None, Some(device)) => inside_to_both(setting, inside, to_outside, device)?,
-        (None, None) => inside_to_outside::<T, R, W, V, G>(setting, inside, to_outside)?,
+    let told = match outside {
+        Some(source) => match to_inside {
+            Some(device) => both_to_both(setting, inside, source, to_outside, device),
+            None => both_to_outside::<T, R, Q, W, V, G>(setting, inside, source, to_outside),
+        },
+        None => match to_inside {
+            Some(device) => inside_to_both(setting, inside, to_outside, device),
+            None => inside_to_outside::<T, R, W, V, G>(setting, inside, to_outside),
+        },
     };
+    let totals = told?;
     match report {
         Some(report) => write_report(alloc, report, &totals),
         None => Ok(()),
