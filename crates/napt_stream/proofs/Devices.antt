@@ -120,17 +120,31 @@ module _ {W V : Type 0} {g h : _} (open_gate : Bool) (rules : Rules)
   pub outside_gets : old.to_outside.written ≡ 0 → (result : Result Totals Fault) → To result →
       Streams rules Outside (ended result) inside outside (oc old.to_outside.device.now) (oc new.to_outside.device.now)
   outside_gets none (Ok totals) p =
-      IfHeld-map inside outside (λ both all. (p.inputs, totals.cuts.inside, totals.cuts.outside, all,
-      grown_text rules sides.Outside p.inputs _ _ p.wrote.to_outside.appended)) p.all
+      IfHeld-map inside outside (λ both all. (
+        p.inputs,
+        totals.cuts.inside,
+        totals.cuts.outside,
+        all,
+        grown_text rules sides.Outside p.inputs _ _ p.wrote.to_outside.appended,
+      )) p.all
   outside_gets none (Err (Capture side fault)) p =
-      IfHeld-map inside outside (λ both taken. (p.inputs, taken,
-      grown_text rules sides.Outside p.inputs _ _ p.wrote.to_outside.appended)) p.taken
+      IfHeld-map inside outside (λ both taken. (
+        p.inputs,
+        taken,
+        grown_text rules sides.Outside p.inputs _ _ p.wrote.to_outside.appended,
+      )) p.taken
   outside_gets none (Err (Write Outside fault)) p =
-      IfHeld-map inside outside (λ both front. (p.inputs, front,
-      broken_text oc of rules sides.Outside p.inputs old.to_outside new.to_outside fault none p.broke)) p.front_of_all
+      IfHeld-map inside outside (λ both front. (
+        p.inputs,
+        front,
+        broken_text oc of rules sides.Outside p.inputs old.to_outside new.to_outside fault none p.broke,
+      )) p.front_of_all
   outside_gets none (Err (Write Inside fault)) p =
-      IfHeld-map inside outside (λ both front. (p.inputs, front,
-      grown_text rules sides.Outside p.inputs _ _ p.wrote.appended)) p.front_of_all
+      IfHeld-map inside outside (λ both front. (
+        p.inputs,
+        front,
+        grown_text rules sides.Outside p.inputs _ _ p.wrote.appended,
+      )) p.front_of_all
   outside_gets none (Err (Write Report fault)) p = absurd p
   outside_gets none (Err (Run fault)) p = IfHeld-all inside outside (λ both. tt)
 
@@ -162,8 +176,12 @@ module _ {W V : Type 0} {g h : _} (open_gate : Bool) (rules : Rules)
         IfHeld inside outside (λ both. HasText rules Inside both (ic a.device.now) (ic b.device.now)
         ⊎ IsUnbegun fault.written (ic a.device.now) (ic b.device.now))
     unbegun fault p (inl kept) =
-        IfHeld-map inside outside (λ both front. inl (p.before, front, grown_text rules sides.Inside p.before _ _
-        (grows_at ic if _ _ _ a b first last kept).appended)) p.front_before
+        IfHeld-map inside outside (λ both front. inl (
+          p.before,
+          front,
+          grown_text rules sides.Inside p.before _ _
+              (grows_at ic if _ _ _ a b first last kept).appended,
+        )) p.front_before
     unbegun fault p (inr (short, same)) =
         let is : Some b ≡ Some a = sym last ∙ same ∙ first in
         let one : b ≡ a = cc in
@@ -172,17 +190,28 @@ module _ {W V : Type 0} {g h : _} (open_gate : Bool) (rules : Rules)
     pub inside_gets : a.written ≡ 0 → (result : Result Totals Fault) → To result →
         Streams rules Inside (ended result) inside outside (ic a.device.now) (ic b.device.now)
     inside_gets none (Ok totals) p =
-        IfHeld-map inside outside (λ both all. (p.inputs, totals.cuts.inside, totals.cuts.outside, all,
-        grown_text rules sides.Inside p.inputs _ _ (grows_at ic if _ _ _ a b first last p.wrote.to_inside).appended))
+        IfHeld-map inside outside (λ both all. (
+          p.inputs,
+          totals.cuts.inside,
+          totals.cuts.outside,
+          all,
+          grown_text rules sides.Inside p.inputs _ _ (grows_at ic if _ _ _ a b first last p.wrote.to_inside).appended,
+        ))
         p.all
     inside_gets none (Err (Capture side fault)) p =
-        IfHeld-map inside outside (λ both taken. (p.inputs, taken,
-        grown_text rules sides.Inside p.inputs _ _ (grows_at ic if _ _ _ a b first last p.wrote.to_inside).appended))
+        IfHeld-map inside outside (λ both taken. (
+          p.inputs,
+          taken,
+          grown_text rules sides.Inside p.inputs _ _ (grows_at ic if _ _ _ a b first last p.wrote.to_inside).appended,
+        ))
         p.taken
     inside_gets none (Err (Write Outside fault)) p = unbegun fault p p.kept
     inside_gets none (Err (Write Inside fault)) p =
-        IfHeld-map inside outside (λ both front. (p.inputs, front,
-        broken_text ic if rules sides.Inside p.inputs a b fault none (breaks_at ic if _ _ _ fault a b first last p.broke)))
+        IfHeld-map inside outside (λ both front. (
+          p.inputs,
+          front,
+          broken_text ic if rules sides.Inside p.inputs a b fault none (breaks_at ic if _ _ _ fault a b first last p.broke),
+        ))
         p.front_of_all
     inside_gets none (Err (Write Report fault)) p = absurd p
     inside_gets none (Err (Run fault)) p = IfHeld-all inside outside (λ both. tt)

@@ -186,11 +186,7 @@ pub(crate) fn inside_to_outside<
     W: Sink,
     V: Sink,
     G: Gate + Send + Sync + Drop + 'static,
->(
-    setting: Setting<'_, T, G>,
-    inside: &mut R,
-    to_outside: &mut W,
-) -> Result<Totals, Fault>
+>(setting: Setting<'_, T, G>, inside: &mut R, to_outside: &mut W) -> Result<Totals, Fault>
     requires inside { R.failed inside.old < 2 ^ 64 - 1 }
     requires to_outside { W.failed to_outside.old < 2 ^ 64 - 1 }
     ensures to_outside { Streams setting.entry.config.now Which.Outside (ended result)
