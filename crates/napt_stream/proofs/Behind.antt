@@ -87,7 +87,6 @@ module _ {R Q W V : Type 0} {G : Ghosts R} {H : Ghosts Q} {g h : _} (open_gate :
     (begun : (b : List ℕ) (o : Option (List ℕ)) → bytes ≡ Some b → others ≡ Some o → AreBegun inside outside begin b o)
     (sound : old.to_outside.is_broken ≡ false) (sound_inside : IsSoundIf old.to_inside)
     (counts : AreCountsOf [] old.counts) where
-
   abbrev Hands : MergedStreams R Q G H → List Arrival → MergedStreams R Q G H → Type 0
   Hands from inputs to = HandsOut inside outside in_failed out_failed from inputs to
 

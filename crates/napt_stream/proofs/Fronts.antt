@@ -90,9 +90,11 @@ left_front rules xs ys =
     let whole : (ran rules (xs ++ ys)).outcomes ≡ (ran rules xs).outcomes ++ later =
     outcomes_of rules (xs ++ ys)
     ∙ ap (λ c. c.outcomes) (run_append rules 0 0 xs ys (opening rules) (length xs) (omega arith))
-    ∙ ap (λ (l : List Outcome). l ++ later) (sym (outcomes_of rules xs)) in
-    (timed ys later, ap (timed (xs ++ ys)) whole
-    ∙ timed_append xs ys (ran rules xs).outcomes later (as_many rules xs))
+    ∙ ap (λ (l : List Outcome). l ++ later) (sym (outcomes_of rules xs)) in (
+      timed ys later,
+      ap (timed (xs ++ ys)) whole
+          ∙ timed_append xs ys (ran rules xs).outcomes later (as_many rules xs),
+    )
 
 same_front : {X : Type 0} (a b x y : List X) → length a ≡ length b → a ++ x ≡ b ++ y → a ≡ b
 same_front a b x y n e = sym (take-append_seam a x) ∙ ap (take (length a)) e ∙ ap (λ k. take k (b ++ y)) n

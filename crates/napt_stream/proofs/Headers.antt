@@ -107,9 +107,12 @@ pub inside_reads : (T X : Type 0) (fault : Fault) (old new other : ℕ) (known a
     × (new ≡ old + failed_readings sides.Inside read) × (other ≡ other + failed_readings sides.Outside read)
 inside_reads T X (Capture sides.Inside fault) old new other known after is count =
     (Err (Capture sides.Inside fault), refl, count, sym (add-zero other))
-inside_reads T X (Capture sides.Outside fault) old new other known after is count =
-    (Err (Capture sides.Outside fault), refl, absurd (let no : sides.Outside ≡ sides.Inside = is.0 in cc),
-    absurd (let no : sides.Outside ≡ sides.Inside = is.0 in cc))
+inside_reads T X (Capture sides.Outside fault) old new other known after is count = (
+  Err (Capture sides.Outside fault),
+  refl,
+  absurd (let no : sides.Outside ≡ sides.Inside = is.0 in cc),
+  absurd (let no : sides.Outside ≡ sides.Inside = is.0 in cc),
+)
 inside_reads T X (Run fault) old new other known after is count = absurd is
 inside_reads T X (Write which fault) old new other known after is count = absurd is
 
@@ -120,9 +123,12 @@ pub outside_reads : (T X : Type 0) (fault : Fault) (old new other : ℕ) (known 
     × (other ≡ other + failed_readings sides.Inside read) × (new ≡ old + failed_readings sides.Outside read)
 outside_reads T X (Capture sides.Outside fault) old new other known after is count =
     (Err (Capture sides.Outside fault), refl, sym (add-zero other), count)
-outside_reads T X (Capture sides.Inside fault) old new other known after is count =
-    (Err (Capture sides.Inside fault), refl, absurd (let no : sides.Inside ≡ sides.Outside = is.0 in cc),
-    absurd (let no : sides.Inside ≡ sides.Outside = is.0 in cc))
+outside_reads T X (Capture sides.Inside fault) old new other known after is count = (
+  Err (Capture sides.Inside fault),
+  refl,
+  absurd (let no : sides.Inside ≡ sides.Outside = is.0 in cc),
+  absurd (let no : sides.Inside ≡ sides.Outside = is.0 in cc),
+)
 outside_reads T X (Run fault) old new other known after is count = absurd is
 outside_reads T X (Write which fault) old new other known after is count = absurd is
 
@@ -133,8 +139,11 @@ pub one_reads : (T X : Type 0) (fault : Fault) (old new : ℕ) (known after : Op
     × (new ≡ old + failed_readings sides.Inside read) × (failed_readings sides.Outside read ≡ 0)
 one_reads T X (Capture sides.Inside fault) old new known after is count =
     (Err (Capture sides.Inside fault), refl, count, refl)
-one_reads T X (Capture sides.Outside fault) old new known after is count =
-    (Err (Capture sides.Outside fault), refl, absurd (let no : sides.Outside ≡ sides.Inside = is.0 in cc),
-    absurd (let no : sides.Outside ≡ sides.Inside = is.0 in cc))
+one_reads T X (Capture sides.Outside fault) old new known after is count = (
+  Err (Capture sides.Outside fault),
+  refl,
+  absurd (let no : sides.Outside ≡ sides.Inside = is.0 in cc),
+  absurd (let no : sides.Outside ≡ sides.Inside = is.0 in cc),
+)
 one_reads T X (Run fault) old new known after is count = absurd is
 one_reads T X (Write which fault) old new known after is count = absurd is

@@ -113,12 +113,15 @@ module _ {W V : Type 0} (oc : W → Option (List ℕ)) (of : W → ℕ) (ic : V 
       let new : Leaving W V g h = record old { to_outside = first; to_inside = second } in
       let P : Result (Unit {0}) OutputFault → Type 0 = λ a. MatchResult a (λ _. Takes oc of ic if old [] new
       × IsSettled wf vf new) (λ fault. Fails oc of ic if old [] fault new) in
-      subst P (sym is) (record {
-        to_outside = λ times. one;
-        to_inside = λ times. two;
-        counts = λ outcomes few are. subst (λ (l : List Outcome). AreCountsOf l old.counts) (sym (append-nil outcomes))
-            are;
-      }, (flushed, flushed_too))
+      subst P (sym is) (
+        record {
+          to_outside = λ times. one;
+          to_inside = λ times. two;
+          counts = λ outcomes few are. subst (λ (l : List Outcome). AreCountsOf l old.counts) (sym (append-nil outcomes))
+              are;
+        },
+        (flushed, flushed_too),
+      )
   settles wf vf old first second (Err fault) answer is one flushed two flushed_too broken =
       let new : Leaving W V g h = record old { to_outside = first; to_inside = second } in
       let P : Result (Unit {0}) OutputFault → Type 0 = λ a. MatchResult a (λ _. Takes oc of ic if old [] new

@@ -3,5 +3,7 @@ pub mod Fronts
 pub mod Behind
 pub mod Begun
 pub mod Headers
+pub mod Headed
+pub mod Devices
 pub mod Outputs
 pub mod Leaves

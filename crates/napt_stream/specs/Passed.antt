@@ -18,21 +18,21 @@ module _ {R Q W V : Type 0} {G : Ghosts R} {H : Ghosts Q} {g h : _} (open_gate :
     (ic : V → Option (List ℕ)) (if : V → ℕ) (inside_flushed : V → Type 0)
     (from : MergedStreams R Q G H) (before : Leaving W V g h) (left : MergedStreams R Q G H) (after : Leaving W V g h)
   where
-  -- all went well, and this is what the report tells
-  pub record PassesAll (totals : Totals) : Type 0 where
-    pub well : PassesWell rules (HandsOut inside outside in_failed out_failed)
-        (EndsWith inside outside in_failed out_failed) (Takes oc of ic if) (Fails oc of ic if)
-        (IsSettled outside_flushed inside_flushed) from before left after totals.passed
-    pub counts : totals.counts ≡ after.counts
-    pub cut_inside : totals.cuts.inside ≡ cut_of left.inside
-    pub cut_outside : totals.cuts.outside ≡ cut_if left.outside
+    -- all went well, and this is what the report tells
+    pub record PassesAll (totals : Totals) : Type 0 where
+      pub well : PassesWell rules (HandsOut inside outside in_failed out_failed)
+          (EndsWith inside outside in_failed out_failed) (Takes oc of ic if) (Fails oc of ic if)
+          (IsSettled outside_flushed inside_flushed) from before left after totals.passed
+      pub counts : totals.counts ≡ after.counts
+      pub cut_inside : totals.cuts.inside ≡ cut_of left.inside
+      pub cut_outside : totals.cuts.outside ≡ cut_if left.outside
 
-  abbrev pub PassesOr : Result Totals Fault → Type 0
-  PassesOr (Ok totals) = PassesAll totals
-  PassesOr (Err (Capture side fault)) = PassesTo rules (HandsOut inside outside in_failed out_failed)
-      (EndsWith inside outside in_failed out_failed) (Takes oc of ic if) (Fails oc of ic if)
-      (IsSettled outside_flushed inside_flushed) from before left after (Some (record { side = side; fault = fault }))
-  PassesOr (Err (Write which fault)) = PassesEarly rules (HandsOut inside outside in_failed out_failed)
-      (EndsWith inside outside in_failed out_failed) (Takes oc of ic if) (Fails oc of ic if)
-      (IsSettled outside_flushed inside_flushed) from before left after (record { which = which; fault = fault })
-  PassesOr (Err (Run fault)) = IsFaultUnder open_gate fault
+    abbrev pub PassesOr : Result Totals Fault → Type 0
+    PassesOr (Ok totals) = PassesAll totals
+    PassesOr (Err (Capture side fault)) = PassesTo rules (HandsOut inside outside in_failed out_failed)
+        (EndsWith inside outside in_failed out_failed) (Takes oc of ic if) (Fails oc of ic if)
+        (IsSettled outside_flushed inside_flushed) from before left after (Some (record { side = side; fault = fault }))
+    PassesOr (Err (Write which fault)) = PassesEarly rules (HandsOut inside outside in_failed out_failed)
+        (EndsWith inside outside in_failed out_failed) (Takes oc of ic if) (Fails oc of ic if)
+        (IsSettled outside_flushed inside_flushed) from before left after (record { which = which; fault = fault })
+    PassesOr (Err (Run fault)) = IsFaultUnder open_gate fault

@@ -83,3 +83,11 @@ module _ {W V : Type 0} {g h : _} (open_gate : Bool) (rules : Rules)
   RunsTo (Err (Write Inside fault)) = FailsInside fault
   RunsTo (Err (Write Report fault)) = ⊥
   RunsTo (Err (Run fault)) = IsFaultUnder open_gate fault
+
+-- what the report tells of all inputs
+pub record IsToldOf (rules : Rules) (inside : Option (List ℕ)) (outside : Option (Option (List ℕ))) (totals : Totals) :
+    Type 0 where
+  pub inputs : List Arrival
+  pub all : IfHeld inside outside (λ both. AreAll both totals.cuts.inside totals.cuts.outside inputs)
+  pub counts : AreCountsOf (ran rules inputs).outcomes totals.counts
+  pub bindings : totals.passed.bindings.items ≡ (ran rules inputs).bindings

@@ -11,6 +11,7 @@ use Rattle.napt_capture.specs.declared.records.Records.{Records}
 use Rattle.napt_capture.specs.declared.fault.CaptureFault.{CaptureFault}
 use Rattle.napt_capture.specs.declared.fault.CaptureFault.TheVariants.{TooLarge, Read, Memory}
 use Rattle.napt_config.specs.Rules.{Rules}
+use Rattle.napt_dispatch.specs.Dispatch.{IsFaultUnder}
 use Rattle.napt_records.specs.Output.{records_to}
 use Rattle.napt_records.specs.Report.{report_text}
 use Rattle.napt_records.specs.UntilFault.{AreAll, AreFront, AreHeld, AreTaken, Both, rest_of}
@@ -142,6 +143,11 @@ IsSettledBy (Err (Capture side fault)) = Unit {0}
 IsSettledBy (Err (Write Report fault)) = Unit {0}
 IsSettledBy other = ⊥
 
+-- a result, but for what it gives
+abbrev pub ended : {T : Type 0} → Result T Fault → Result (Unit {0}) Fault
+ended (Ok given) = Ok tt
+ended (Err fault) = Err fault
+
 -- FAILED READS
 
 -- reading ended well, or by a fault
@@ -189,6 +195,14 @@ pub record IsBehindHeader {R : Type 0} (remaining : R → Option (List ℕ)) (re
 abbrev pub IsHeaderFault : Side → Option (List ℕ) → Option (List ℕ) → Fault → Type 0
 IsHeaderFault side old new (Capture other fault) = (other ≡ side) × StopsBy fault (RefusesFile fault old new)
 IsHeaderFault side old new other = ⊥
+
+-- a fault before the report, under a gate that promises yes or one that does not
+abbrev pub IsStopFault : Bool → Fault → Type 0
+IsStopFault open_gate (Capture side fault) = Unit {0}
+IsStopFault open_gate (Write Outside fault) = Unit {0}
+IsStopFault open_gate (Write Inside fault) = Unit {0}
+IsStopFault open_gate (Write Report fault) = ⊥
+IsStopFault open_gate (Run fault) = IsFaultUnder open_gate fault
 
 -- a report could not be made, or not be written
 abbrev pub IsReportFault : Fault → Type 0

@@ -2,11 +2,11 @@
 ghost use Rattle.std.specs.Prelude.{◌≡◌, ◌^◌, ◌<◌, length};
 ghost use Rattle.napt_stream.specs.Leaving.{named};
 
-use napt_dispatch::Departures;
 use crate::leaving::{Leaving, OutputFault};
 use crate::puts::{flush_if, put_if};
-use napt_records::Which;
 use napt_capture::{Sink, WriteFault};
+use napt_dispatch::Departures;
+use napt_records::Which;
 use napt_rules::Outcome;
 use napt_wire::Packet;
 
@@ -48,7 +48,10 @@ impl<W: Sink, V: Sink> Departures for Leaving<'_, '_, W, V> {
                 named(Which::Outside, self.to_outside.put(time, bytes_of(&packet)))
             }
             Outcome::ToInside(packet) => {
-                named(Which::Inside, put_if(&mut self.to_inside, time, bytes_of(&packet)))
+                named(
+                    Which::Inside,
+                    put_if(&mut self.to_inside, time, bytes_of(&packet)),
+                )
             }
             Outcome::Dropped(_) => Ok(()),
         }

@@ -11,6 +11,7 @@ mod passing;
 mod puts;
 mod reporting;
 mod sources;
+mod streaming;
 mod streams;
 
 pub use streams::run_streams;

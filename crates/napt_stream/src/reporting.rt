@@ -27,7 +27,11 @@ pub(crate) fn write_report<U: Sink>(
     ensures count { U.failed output.new ≡ U.failed output.old
         + failed_writings Which.Report result }
 {
-    let Totals { counts, passed, cuts } = totals;
+    let Totals {
+        counts,
+        passed,
+        cuts,
+    } = totals;
     let Ok(text) = report_of(alloc, counts, &passed.bindings, cuts.inside, cuts.outside) else {
         return Err(Fault::Run(RunFault::Memory));
     };

@@ -1,19 +1,13 @@
 //! A run over captures while they come.
-ghost use Rattle.std.specs.Prelude.{◌≡◌, ◌+◌, ◌-◌, ◌^◌, ◌<◌, [], IfErr, IfSome, OnOk, true, false};
-ghost use Rattle.napt_capture.specs.Text.{file_header};
-ghost use Rattle.napt_records.specs.Counts.{AreCountsOf};
+ghost use Rattle.std.specs.Prelude.{◌≡◌, ◌+◌, ◌-◌, ◌^◌, ◌<◌, IfErr, IfSome, OnOk, true, false};
 ghost use Rattle.napt_records.specs.Faults.{tells_shut_gate};
 ghost use Rattle.napt_run.specs.Captures.{failed_writings};
 ghost use Rattle.napt_run.specs.Devices.{GrowsBy, IfGiven, bytes_in};
-ghost use Rattle.napt_stream.specs.Leaving.{IsSoundIf};
-ghost use Rattle.napt_stream.specs.Runs.{RunsTo};
 ghost use Rattle.napt_stream.specs.Streams.{Explains, HasRead, IsOfRun, IsSettledBy, Reports, Streams};
 
-use crate::leaving::Leaving;
-use crate::output::Output;
-use crate::passing::{Setting, Totals};
+use crate::passing::Setting;
 use crate::reporting::write_report;
-use crate::sources::{run_over_both, run_over_inside};
+use crate::streaming::{both_to_both, both_to_outside, inside_to_both, inside_to_outside};
 use napt_capture::{Sink, Source};
 use napt_config::Config;
 use napt_pool::Gate;
@@ -96,92 +90,19 @@ pub fn run_streams<
         config,
         gate,
     };
-    let totals = match to_inside {
-        Some(device) => stream_to_both(setting, inside, outside, to_outside, device)?,
-        None => stream_to_outside::<T, R, Q, W, V, G>(setting, inside, outside, to_outside)?,
+    let told = match outside {
+        Some(source) => match to_inside {
+            Some(device) => both_to_both(setting, inside, source, to_outside, device),
+            None => both_to_outside::<T, R, Q, W, V, G>(setting, inside, source, to_outside),
+        },
+        None => match to_inside {
+            Some(device) => inside_to_both(setting, inside, to_outside, device),
+            None => inside_to_outside::<T, R, W, V, G>(setting, inside, to_outside),
+        },
     };
+    let totals = told?;
     match report {
         Some(report) => write_report(alloc, report, &totals),
         None => Ok(()),
-    }
-}
-
-/// Runs over the captures into both outputs, to which nothing is written.
-fn stream_to_both<
-    T: Threads + Wait + Copy + Send + 'static,
-    R: Source,
-    Q: Source,
-    W: Sink,
-    V: Sink,
-    G: Gate + Send + Sync + Drop + 'static,
->(
-    setting: Setting<'_, T, G>,
-    inside: &mut R,
-    outside: Option<&mut Q>,
-    to_outside: &mut W,
-    to_inside: &mut V,
-) -> Result<Totals, Fault>
-    requires inside { R.failed inside.old < 2 ^ 64 - 1 }
-    requires outside { IfSome outside (λ r. Q.failed r.now < 2 ^ 64 - 1) }
-    requires to_outside { W.failed to_outside.old < 2 ^ 64 - 1 }
-    requires to_inside { V.failed to_inside.old < 2 ^ 64 - 1 }
-{
-    let to_inside = Some(Output::over(to_inside));
-    let mut leaving = Leaving::into(Output::over(to_outside), to_inside);
-    stream(setting, inside, outside, &mut leaving)
-}
-
-/// Runs over the captures into the output to the outside alone, to which nothing is written.
-fn stream_to_outside<
-    T: Threads + Wait + Copy + Send + 'static,
-    R: Source,
-    Q: Source,
-    W: Sink,
-    V: Sink,
-    G: Gate + Send + Sync + Drop + 'static,
->(
-    setting: Setting<'_, T, G>,
-    inside: &mut R,
-    outside: Option<&mut Q>,
-    to_outside: &mut W,
-) -> Result<Totals, Fault>
-    requires inside { R.failed inside.old < 2 ^ 64 - 1 }
-    requires outside { IfSome outside (λ r. Q.failed r.now < 2 ^ 64 - 1) }
-    requires to_outside { W.failed to_outside.old < 2 ^ 64 - 1 }
-{
-    let mut leaving: Leaving<'_, '_, W, V> = Leaving::alone(Output::over(to_outside));
-    stream(setting, inside, outside, &mut leaving)
-}
-
-/// Runs over the captures, once both outputs have their headers.
-fn stream<
-    T: Threads + Wait + Copy + Send + 'static,
-    R: Source,
-    Q: Source,
-    W: Sink,
-    V: Sink,
-    G: Gate + Send + Sync + Drop + 'static,
->(
-    setting: Setting<'_, T, G>,
-    inside: &mut R,
-    outside: Option<&mut Q>,
-    leaving: &mut Leaving<'_, '_, W, V>,
-) -> Result<Totals, Fault>
-    requires inside { R.failed inside.old < 2 ^ 64 - 1 }
-    requires outside { IfSome outside (λ r. Q.failed r.now < 2 ^ 64 - 1) }
-    requires sound { leaving.old.to_outside.is_broken ≡ false }
-    requires sound_inside { IsSoundIf leaving.old.to_inside }
-    requires written { leaving.old.to_outside.written ≡ 0 }
-    requires counts { AreCountsOf [] leaving.old.counts }
-    ensures runs { RunsTo G.is_open setting.entry.config.now W.contents W.failed W.is_flushed
-        V.contents V.failed V.is_flushed (R.remaining inside.old)
-        (bytes_in Q.remaining outside.entry) file_header leaving.old leaving.new result }
-    ensures readings { (¬ IsOfRun result) → HasRead R.failed Q.failed
-        inside.old inside.new outside.entry outside.exit result }
-{
-    leaving.begin()?;
-    match outside {
-        Some(outside) => run_over_both(setting, inside, outside, leaving),
-        None => run_over_inside(setting, inside, leaving),
     }
 }

@@ -58,17 +58,16 @@ returns-in-Some-clause-readings g c not_run =
     let theirs = subst₂ (λ a b. IsSameIf a b) c.both-inputs.ensures.outside
     (sym c.into_streams-ours.ensures.outside ∙ c.in-Some.is) by.same.1 in
     let their_count = subst₂ (λ a b. CountsIf g.Q.Source.failed a (failed_readings sides.Outside read) b)
-    c.both-inputs.ensures.outside (sym c.into_streams-ours.ensures.outside ∙ c.in-Some.is) by.outside_count in
-    (
+    c.both-inputs.ensures.outside (sym c.into_streams-ours.ensures.outside ∙ c.in-Some.is) by.outside_count in (
       read,
       is,
       ap g.R.Source.failed (c.inside-1.given.1 (sym c.new.ensures.name
-      ∙ ap (λ s. s.live.source.ghost_name) (sym c.both-inputs.ensures.inside) ∙ sym by.same.0
-      ∙ ap (λ s. s.live.source.ghost_name) (sym c.into_streams-ours.ensures.inside) ∙ sym c.into_source-inside.ensures.name)
-      ∙ c.into_source-inside.ensures.value ∙ ap (λ s. s.live.source.now) c.into_streams-ours.ensures.inside)
-      ∙ by.inside_count ∙ ap (λ v. g.R.Source.failed v + failed_readings sides.Inside read)
-      (ap (λ s. s.live.source.now) c.both-inputs.ensures.inside ∙ c.new.ensures.value),
+          ∙ ap (λ s. s.live.source.ghost_name) (sym c.both-inputs.ensures.inside) ∙ sym by.same.0
+          ∙ ap (λ s. s.live.source.ghost_name) (sym c.into_streams-ours.ensures.inside) ∙ sym c.into_source-inside.ensures.name)
+          ∙ c.into_source-inside.ensures.value ∙ ap (λ s. s.live.source.now) c.into_streams-ours.ensures.inside)
+          ∙ by.inside_count ∙ ap (λ v. g.R.Source.failed v + failed_readings sides.Inside read)
+          (ap (λ s. s.live.source.now) c.both-inputs.ensures.inside ∙ c.new.ensures.value),
       ap g.Q.Source.failed (c.outside-1.given.1 (sym c.new-theirs.ensures.name ∙ sym theirs
-      ∙ sym c.into_source-outside.ensures.name) ∙ c.into_source-outside.ensures.value)
-      ∙ their_count ∙ ap (λ v. g.Q.Source.failed v + failed_readings sides.Outside read) c.new-theirs.ensures.value,
+          ∙ sym c.into_source-outside.ensures.name) ∙ c.into_source-outside.ensures.value)
+          ∙ their_count ∙ ap (λ v. g.Q.Source.failed v + failed_readings sides.Outside read) c.new-theirs.ensures.value,
     )

@@ -45,8 +45,7 @@ returns-in_err-theirs-clause-readings g c not_run =
 
 pub returns-clause-readings : goal.returns-clause-readings
 returns-clause-readings g c not_run =
-    let (read, is, ours, theirs) = c.run_behind_both.ensures.readings not_run in
-    (
+    let (read, is, ours, theirs) = c.run_behind_both.ensures.readings not_run in (
       read,
       is,
       ours ∙ ap (λ n. n + failed_readings sides.Inside read)

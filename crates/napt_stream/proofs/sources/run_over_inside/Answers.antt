@@ -27,8 +27,7 @@ returns-clause-runs g c =
 
 pub returns-clause-readings : goal.returns-clause-readings
 returns-clause-readings g c not_run =
-    let (read, is, ours, none) = c.run_behind_inside.ensures.readings not_run in
-    (
+    let (read, is, ours, none) = c.run_behind_inside.ensures.readings not_run in (
       read,
       is,
       ours ∙ ap (λ n. n + failed_readings sides.Inside read)
