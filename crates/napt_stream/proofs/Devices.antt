@@ -26,13 +26,13 @@ use Rattle.napt_stream.specs.declared.passing.Totals.{Totals}
 use Rattle.napt_stream.proofs.Behind.{IfHeld-by}
 use Rattle.napt_stream.proofs.Fronts.{capture_is}
 
-IfHeld-map : {P Q : Both → Type 0} (inside : Option (List ℕ)) (outside : Option (Option (List ℕ))) →
+pub IfHeld-map : {P Q : Both → Type 0} (inside : Option (List ℕ)) (outside : Option (Option (List ℕ))) →
     ((both : Both) → P both → Q both) → IfHeld inside outside P → IfHeld inside outside Q
 IfHeld-map None outside more p = tt
 IfHeld-map (Some bytes) None more p = tt
 IfHeld-map (Some bytes) (Some others) more p = λ both held. more both (p both held)
 
-IfHeld-all : {P : Both → Type 0} (inside : Option (List ℕ)) (outside : Option (Option (List ℕ))) →
+pub IfHeld-all : {P : Both → Type 0} (inside : Option (List ℕ)) (outside : Option (Option (List ℕ))) →
     ((both : Both) → P both) → IfHeld inside outside P
 IfHeld-all inside outside all = IfHeld-by inside outside (λ b o both is same held. all both)
 
