@@ -1,25 +1,23 @@
 -- What a run leaves on the devices of its outputs.
-use Rattle.std.proofs.Common.{◌≡◌, ◌⊎◌, inl, inr, ℕ, ◌+◌, ◌-◌, ◌^◌, ◌≤◌, min, Bool, List, [], ◌++◌, length, take, Option, Some, None, Result, Ok, Err, IfErr, IfOk, IfSome, false, refl, sym, ◌∙◌, ap, subst, subst₂, arith, add-zero}
+use Rattle.std.proofs.Common.{◌≡◌, ◌⊎◌, inl, inr, ℕ, ◌+◌, ◌-◌, ◌^◌, ◌≤◌, min, Bool, List, length, take, Option, Some, None, Result, Ok, Err, IfErr, IfOk, IfSome, refl, sym, ◌∙◌, ap, subst, subst₂, arith, add-zero}
 use Rattle.std.specs.Io.KnownBytes.{Appends}
 use Rattle.napt_wire.specs.declared.Side.{Side}
 use Rattle.napt_wire.specs.declared.Side.TheVariants as sides
 use Rattle.napt_capture.specs.Text.{file_header}
 use Rattle.napt_capture.specs.declared.fault.WriteFault.{WriteFault}
 use Rattle.napt_config.specs.Rules.{Rules}
-use Rattle.napt_dispatch.specs.Dispatch.{IsFaultUnder}
-use Rattle.napt_records.specs.UntilFault.{AreFront, Both}
+use Rattle.napt_records.specs.UntilFault.{Both}
 use Rattle.napt_records.specs.declared.Fault.{Fault}
 use Rattle.napt_records.specs.declared.Fault.TheVariants.{Capture, Run, Write}
 use Rattle.napt_records.specs.declared.Which.{Which}
 use Rattle.napt_records.specs.declared.Which.TheVariants.{Outside, Inside, Report}
 use Rattle.napt_rules.specs.Prelude.{Arrival}
 use Rattle.napt_run.specs.Captures.{failed_writings}
-use Rattle.napt_sequential.specs.declared.fault.RunFault.{RunFault}
 use Rattle.napt_sequential.specs.declared.fault.RunFault.TheVariants as faults
 use Rattle.napt_stream.specs.Leaving.{BreaksIf, GrowsIf}
 use Rattle.napt_stream.specs.Outputs.{Breaks, Grows}
 use Rattle.napt_stream.specs.Runs.{FailsOutside, IfHeld, IsToldOf, RunsTo, text_behind}
-use Rattle.napt_stream.specs.Streams.{Explains, GetsOf, HasAll, HasFront, HasText, HasWritten, IsOfRun, IsSettledBy, IsStopFault, IsUnbegun, Streams, capture_text, ended}
+use Rattle.napt_stream.specs.Streams.{Explains, HasText, IsOfRun, IsSettledBy, IsStopFault, IsUnbegun, Streams, capture_text, ended}
 use Rattle.napt_stream.specs.declared.leaving.Leaving.{Leaving}
 use Rattle.napt_stream.specs.declared.output.Output.{Output}
 use Rattle.napt_stream.specs.declared.passing.Totals.{Totals}

@@ -1,23 +1,18 @@
 -- What a whole run is told to come to, once its report is written or nobody wants one.
-use Rattle.std.proofs.Common.{◌≡◌, ℕ, ◌+◌, Bool, true, false, List, ◌++◌, length, take, Option, Some, None, Result, Ok, Err, IfErr, IfOk, OnOk, refl, sym, ◌∙◌, ap, subst}
-use Rattle.napt_wire.specs.declared.Side.{Side}
+use Rattle.std.proofs.Common.{◌≡◌, ℕ, Bool, true, false, List, Option, Result, Ok, Err, IfErr, IfOk, OnOk, refl, sym, ◌∙◌, ap, subst}
 use Rattle.napt_wire.specs.declared.Side.TheVariants as sides
 use Rattle.napt_config.specs.Rules.{Rules}
-use Rattle.napt_dispatch.specs.Dispatch.{IsFaultUnder, is_gate_fault}
 use Rattle.napt_records.specs.Counts.{AreCountsOf}
 use Rattle.napt_records.specs.Report.{report_of, report_text}
-use Rattle.napt_records.specs.UntilFault.{AreAll, Both}
 use Rattle.napt_records.specs.declared.Fault.{Fault}
 use Rattle.napt_records.specs.declared.Fault.TheVariants.{Capture, Run, Write}
-use Rattle.napt_records.specs.declared.Which.{Which}
 use Rattle.napt_records.specs.declared.Which.TheVariants.{Outside, Inside, Report}
 use Rattle.napt_rules.specs.Prelude.{Arrival, ran}
 use Rattle.napt_rules.specs.declared.Outcome.{Outcome}
 use Rattle.napt_run.specs.Captures.{failed_readings, failed_writings, tells_shut_gate}
-use Rattle.napt_sequential.specs.declared.fault.RunFault.{RunFault}
 use Rattle.napt_sequential.specs.declared.fault.RunFault.TheVariants as faults
 use Rattle.napt_stream.specs.Runs.{IfHeld, IsToldOf}
-use Rattle.napt_stream.specs.Streams.{Explains, GetsReport, HasReadBoth, HasReadOne, IsOfRun, IsReading, IsReportFault, IsSettledBy, IsStopFault, Reports, ReportsAll, Streams, ended}
+use Rattle.napt_stream.specs.Streams.{Explains, GetsReport, IsOfRun, IsReading, IsReportFault, IsSettledBy, IsStopFault, Reports, ReportsAll, Streams, ended}
 use Rattle.napt_stream.specs.declared.passing.Totals.{Totals}
 use Rattle.napt_stream.proofs.Devices.{IfHeld-all, IfHeld-map}
 
@@ -160,9 +155,14 @@ all_reported : (rules : Rules) (inside : Option (List ℕ)) (outside : Option (O
     (totals : Totals) (result : Result (Unit {0}) Fault) → IsToldOf rules inside outside totals →
     Written totals result old new → IfHeld inside outside (λ both. ReportsAll rules result both old new)
 all_reported rules inside outside old new totals result told written =
-    IfHeld-map inside outside (λ both all. (told.inputs, totals.cuts.inside, totals.cuts.outside, all,
-    subst (λ t. GetsReport t result old new) (text_told rules totals told.inputs told.bindings)
-    (written (ran rules told.inputs).outcomes told.counts))) told.all
+    IfHeld-map inside outside (λ both all. (
+      told.inputs,
+      totals.cuts.inside,
+      totals.cuts.outside,
+      all,
+      subst (λ t. GetsReport t result old new) (text_told rules totals told.inputs told.bindings)
+          (written (ran rules told.inputs).outcomes told.counts),
+    )) told.all
 
 nothing_reported : (rules : Rules) (inside : Option (List ℕ)) (outside : Option (Option (List ℕ)))
     (old new : Option (List ℕ)) (fault : Fault) → IsStopFault false fault → new ≡ old →
@@ -186,3 +186,41 @@ report_ends rules inside outside old new = at_end (λ told result. IfOk told (Is
     (λ totals told stop same written. IfHeld-all inside outside (λ both. written (ran rules told.inputs).outcomes
     told.counts))
     (λ fault told stop same written. nothing_reported rules inside outside old new fault stop same)
+
+-- WHERE NOBODY WANTS A REPORT
+
+closed_fault : (open_gate : Bool) (fault : Fault) → IsStopFault open_gate fault → IsStopFault false fault
+closed_fault open_gate (Capture side fault) p = tt
+closed_fault open_gate (Write Outside fault) p = tt
+closed_fault open_gate (Write Inside fault) p = tt
+closed_fault open_gate (Write Report fault) p = p
+closed_fault open_gate (Run faults.Memory) p = tt
+closed_fault open_gate (Run faults.TooMany) p = p
+closed_fault open_gate (Run (faults.Pool fault)) p = λ never. absurd (let no : false ≡ true = never in cc)
+
+pub closed : (open_gate : Bool) (told : Result Totals Fault) → IfErr told (IsStopFault open_gate) →
+    IfErr told (IsStopFault false)
+closed open_gate (Ok totals) p = tt
+closed open_gate (Err fault) p = closed_fault open_gate fault p
+
+pub same_contents : {U : Type 0} (contents : U → Option (List ℕ)) (old new : U) (told : Result Totals Fault) →
+    IfErr told (λ _. new ≡ old) → IfErr told (λ _. contents new ≡ contents old)
+same_contents contents old new (Ok totals) p = tt
+same_contents contents old new (Err fault) p = ap contents p
+
+none_written : (fault : Fault) → IsStopFault false fault →
+    (let r : Result (Unit {0}) Fault = Err fault in failed_writings Report r ≡ 0)
+none_written (Capture side fault) p = refl
+none_written (Write Outside fault) p = refl
+none_written (Write Inside fault) p = refl
+none_written (Write Report fault) p = absurd p
+none_written (Run fault) p = refl
+
+pub unreported_written : (told : Result Totals Fault) (result : Result (Unit {0}) Fault) → result ≡ ended told →
+    IfErr told (IsStopFault false) → failed_writings Report result ≡ 0
+unreported_written (Ok totals) result is p = ap (failed_writings Report) is
+unreported_written (Err fault) result is p = ap (failed_writings Report) is ∙ none_written fault p
+
+pub none_flushed : (result : Result (Unit {0}) Fault) → OnOk result (Unit {0})
+none_flushed (Ok done) = tt
+none_flushed (Err fault) = tt

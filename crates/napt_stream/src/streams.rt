@@ -92,24 +92,24 @@ pub fn run_streams<
     match report {
         Some(report) => match outside {
             Some(source) => match to_inside {
-                Some(device) => reported(
+                Some(device) => return reported(
                     alloc,
                     both_to_both(setting, inside, source, to_outside, device),
                     report,
                 ),
-                None => reported(
+                None => return reported(
                     alloc,
                     both_to_outside::<T, R, Q, W, V, G>(setting, inside, source, to_outside),
                     report,
                 ),
             },
             None => match to_inside {
-                Some(device) => reported(
+                Some(device) => return reported(
                     alloc,
                     inside_to_both(setting, inside, to_outside, device),
                     report,
                 ),
-                None => reported(
+                None => return reported(
                     alloc,
                     inside_to_outside::<T, R, W, V, G>(setting, inside, to_outside),
                     report,
@@ -119,15 +119,17 @@ pub fn run_streams<
         None => match outside {
             Some(source) => match to_inside {
                 Some(device) => {
-                    unreported(both_to_both(setting, inside, source, to_outside, device))
+                    return unreported(both_to_both(setting, inside, source, to_outside, device));
                 }
-                None => unreported(both_to_outside::<T, R, Q, W, V, G>(
+                None => return unreported(both_to_outside::<T, R, Q, W, V, G>(
                     setting, inside, source, to_outside,
                 )),
             },
             None => match to_inside {
-                Some(device) => unreported(inside_to_both(setting, inside, to_outside, device)),
-                None => unreported(inside_to_outside::<T, R, W, V, G>(
+                Some(device) => return unreported(inside_to_both(
+                    setting, inside, to_outside, device,
+                )),
+                None => return unreported(inside_to_outside::<T, R, W, V, G>(
                     setting, inside, to_outside,
                 )),
             },
