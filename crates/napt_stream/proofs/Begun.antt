@@ -1,5 +1,5 @@
 -- Streams of captures whose headers were read, and how many reads failed behind them.
-use Rattle.std.proofs.Common.{◌≡◌, ◌⊎◌, inl, inr, ℕ, ◌+◌, Bool, List, [], All, Option, Some, None, Result, Ok, Err, refl, sym, ◌∙◌, ap, subst, add-zero}
+use Rattle.std.proofs.Common.{◌≡◌, ◌⊎◌, inl, inr, ℕ, ◌+◌, List, [], All, Option, Some, None, Result, Ok, Err, refl, sym, ◌∙◌, ap, subst, add-zero}
 use Rattle.std.specs.Option.{option_map}
 use Rattle.std.proofs.lemmas.List.Elements.{All-nil}
 use Rattle.napt_wire.specs.declared.Side.{Side}
@@ -12,10 +12,10 @@ use Rattle.napt_capture.specs.Capture.{failed_reads}
 use Rattle.napt_capture.specs.Contents.{Contents}
 use Rattle.napt_capture.specs.Reading.{ReadsFileHeader}
 use Rattle.napt_capture.specs.Text.{IsWritable}
-use Rattle.napt_records.specs.Begun.{AreBegun, IsBegun, IsBegunIf}
-use Rattle.napt_records.specs.Merged.{AreLive, AreSame, Counts, CountsIf, EndsWith, HandsOut, IsLiveIf, IsSameIf, NoneFailed, NoneFailedIf, failed_by}
+use Rattle.napt_records.specs.Begun.{IsBegun, IsBegunIf}
+use Rattle.napt_records.specs.Merged.{AreLive, AreSame, Counts, CountsIf, EndsWith, HandsOut, IsLiveIf, IsSameIf, NoneFailedIf, failed_by}
 use Rattle.napt_records.specs.declared.Fault.{Fault}
-use Rattle.napt_records.specs.declared.Fault.TheVariants.{Capture, Run, Write}
+use Rattle.napt_records.specs.declared.Fault.TheVariants.{Capture}
 use Rattle.napt_records.specs.declared.merged_streams.MergedStreams.{MergedStreams}
 use Rattle.napt_records.specs.declared.merged_streams.SideFault.{SideFault}
 use Rattle.napt_records.specs.declared.stream.Stream.{Stream}

@@ -1,6 +1,5 @@
 -- From what passed between captures that were begun and outputs to what the run did.
-use Rattle.std.proofs.Common.{◌≡◌, ◌⊎◌, inl, inr, ℕ, ◌+◌, ◌-◌, ◌^◌, ◌<◌, ◌≤◌, Bool, false, List, [], ◌∷◌, ◌++◌, length, map, All, Option, Some, None, Result, Ok, Err, refl, sym, ◌∙◌, ap, subst, arith, append-nil, append_assoc}
-use Rattle.std.specs.Option.{option_map}
+use Rattle.std.proofs.Common.{◌≡◌, inl, inr, ℕ, ◌^◌, ◌<◌, Bool, false, List, [], ◌++◌, length, map, Option, Some, None, Result, Ok, Err, refl, sym, ◌∙◌, ap, subst, arith, append-nil, append_assoc}
 use Rattle.napt_wire.specs.declared.Side.{Side}
 use Rattle.napt_wire.specs.declared.Side.TheVariants as sides
 use Rattle.napt_capture.specs.declared.device.Source.{Ghosts}
@@ -9,12 +8,12 @@ use Rattle.napt_capture.specs.declared.fault.CaptureFault.TheVariants.{NoHeader,
 use Rattle.napt_capture.specs.declared.fault.WriteFault.{WriteFault}
 use Rattle.napt_capture.specs.Reading.{StopsBy}
 use Rattle.napt_config.specs.Rules.{Rules}
-use Rattle.napt_dispatch.specs.Passing.{HasCome, PassesEarly, PassesTo, PassesWell, Fails as FailedWhile}
+use Rattle.napt_dispatch.specs.Passing.{HasCome, PassesEarly, PassesTo}
 use Rattle.napt_records.specs.Begun.{AreBegun}
 use Rattle.napt_records.specs.Counts.{AreCountsOf}
 use Rattle.napt_records.specs.Merge.{IsMerged}
-use Rattle.napt_records.specs.Merged.{AreLive, EndsWith, HandsOut, cut_if, cut_of}
-use Rattle.napt_records.specs.UntilFault.{AreAll, AreFront, AreHeld, AreTaken, Both, Holds, HoldsIf, rest_of}
+use Rattle.napt_records.specs.Merged.{AreLive, EndsWith, HandsOut}
+use Rattle.napt_records.specs.UntilFault.{AreFront, AreHeld, Both, rest_of}
 use Rattle.napt_records.specs.declared.Fault.{Fault}
 use Rattle.napt_records.specs.declared.Fault.TheVariants.{Capture, Run, Write}
 use Rattle.napt_records.specs.declared.Which.{Which}
@@ -24,22 +23,17 @@ use Rattle.napt_records.specs.declared.merged_streams.SideFault.{SideFault}
 use Rattle.napt_records.proofs.Came.{came_ending, came_fault, came_whole, handed_front, handed_timely, never_too_large}
 use Rattle.napt_rules.specs.Prelude.{Arrival, ran}
 use Rattle.napt_rules.specs.declared.Outcome.{Outcome}
-use Rattle.napt_run.specs.Captures.{IfKnown}
-use Rattle.napt_sequential.specs.Dispatching.{IsFront}
-use Rattle.napt_sequential.specs.Inputs.{Came}
 use Rattle.napt_stream.specs.Leaving.{AreTimes, BreaksIf, Fails, FailsBy, GrowsIf, IsSettled, IsSoundIf, Takes, Timed, texts}
 use Rattle.napt_stream.specs.LeavingLaws.{grows_more, grows_if_more, texts-append, times_first, times_second}
 use Rattle.napt_stream.specs.Outputs.{Breaks, Grows}
 use Rattle.napt_stream.specs.Passed.{PassesAll, PassesOr}
-use Rattle.napt_stream.specs.Runs.{FailsInside, FailsOutside, IfHeld, RunsTo, RunsToFault, RunsWell, Writes, left_of, text_behind}
+use Rattle.napt_stream.specs.Runs.{FailsInside, FailsOutside, IfHeld, RunsTo, RunsToFault, RunsWell, Writes, left_of}
 use Rattle.napt_stream.specs.Streams.{IsFaultOf, IsOfRun, IsReading}
 use Rattle.napt_stream.specs.declared.leaving.Leaving.{Leaving}
-use Rattle.napt_stream.specs.declared.leaving.OutputFault.{OutputFault}
-use Rattle.napt_stream.specs.declared.output.Output.{Output}
 use Rattle.napt_stream.specs.declared.passing.Totals.{Totals}
 use Rattle.napt_stream.proofs.Begun.{ReadBy, read_somehow, read_to_fault, read_well, told}
 use Rattle.napt_stream.proofs.Breaks.{breaks_if_more, breaks_more, sound_if_more}
-use Rattle.napt_stream.proofs.Fronts.{Front, as_many, front_of, left_long, outcomes_back, times_of}
+use Rattle.napt_stream.proofs.Fronts.{as_many, front_of, outcomes_back, times_of}
 
 -- WHAT IS KNOWN OF THE CAPTURES
 

@@ -1,38 +1,36 @@
 -- What a run leaves on the devices of its outputs.
-use Rattle.std.proofs.Common.{◌≡◌, ◌⊎◌, inl, inr, ℕ, ◌+◌, ◌-◌, ◌^◌, ◌≤◌, min, Bool, List, [], ◌++◌, length, take, Option, Some, None, Result, Ok, Err, IfErr, IfOk, IfSome, false, refl, sym, ◌∙◌, ap, subst, subst₂, arith, add-zero}
+use Rattle.std.proofs.Common.{◌≡◌, ◌⊎◌, inl, inr, ℕ, ◌+◌, ◌-◌, ◌^◌, ◌≤◌, min, Bool, List, length, take, Option, Some, None, Result, Ok, Err, IfErr, IfOk, IfSome, refl, sym, ◌∙◌, ap, subst, subst₂, arith, add-zero}
 use Rattle.std.specs.Io.KnownBytes.{Appends}
 use Rattle.napt_wire.specs.declared.Side.{Side}
 use Rattle.napt_wire.specs.declared.Side.TheVariants as sides
 use Rattle.napt_capture.specs.Text.{file_header}
 use Rattle.napt_capture.specs.declared.fault.WriteFault.{WriteFault}
 use Rattle.napt_config.specs.Rules.{Rules}
-use Rattle.napt_dispatch.specs.Dispatch.{IsFaultUnder}
-use Rattle.napt_records.specs.UntilFault.{AreFront, Both}
+use Rattle.napt_records.specs.UntilFault.{Both}
 use Rattle.napt_records.specs.declared.Fault.{Fault}
 use Rattle.napt_records.specs.declared.Fault.TheVariants.{Capture, Run, Write}
 use Rattle.napt_records.specs.declared.Which.{Which}
 use Rattle.napt_records.specs.declared.Which.TheVariants.{Outside, Inside, Report}
 use Rattle.napt_rules.specs.Prelude.{Arrival}
 use Rattle.napt_run.specs.Captures.{failed_writings}
-use Rattle.napt_sequential.specs.declared.fault.RunFault.{RunFault}
 use Rattle.napt_sequential.specs.declared.fault.RunFault.TheVariants as faults
 use Rattle.napt_stream.specs.Leaving.{BreaksIf, GrowsIf}
 use Rattle.napt_stream.specs.Outputs.{Breaks, Grows}
 use Rattle.napt_stream.specs.Runs.{FailsOutside, IfHeld, IsToldOf, RunsTo, text_behind}
-use Rattle.napt_stream.specs.Streams.{Explains, GetsOf, HasAll, HasFront, HasText, HasWritten, IsOfRun, IsSettledBy, IsStopFault, IsUnbegun, Streams, capture_text, ended}
+use Rattle.napt_stream.specs.Streams.{Explains, HasText, IsOfRun, IsSettledBy, IsStopFault, IsUnbegun, Streams, capture_text, ended}
 use Rattle.napt_stream.specs.declared.leaving.Leaving.{Leaving}
 use Rattle.napt_stream.specs.declared.output.Output.{Output}
 use Rattle.napt_stream.specs.declared.passing.Totals.{Totals}
 use Rattle.napt_stream.proofs.Behind.{IfHeld-by}
 use Rattle.napt_stream.proofs.Fronts.{capture_is}
 
-IfHeld-map : {P Q : Both → Type 0} (inside : Option (List ℕ)) (outside : Option (Option (List ℕ))) →
+pub IfHeld-map : {P Q : Both → Type 0} (inside : Option (List ℕ)) (outside : Option (Option (List ℕ))) →
     ((both : Both) → P both → Q both) → IfHeld inside outside P → IfHeld inside outside Q
 IfHeld-map None outside more p = tt
 IfHeld-map (Some bytes) None more p = tt
 IfHeld-map (Some bytes) (Some others) more p = λ both held. more both (p both held)
 
-IfHeld-all : {P : Both → Type 0} (inside : Option (List ℕ)) (outside : Option (Option (List ℕ))) →
+pub IfHeld-all : {P : Both → Type 0} (inside : Option (List ℕ)) (outside : Option (Option (List ℕ))) →
     ((both : Both) → P both) → IfHeld inside outside P
 IfHeld-all inside outside all = IfHeld-by inside outside (λ b o both is same held. all both)
 

@@ -1,12 +1,10 @@
 -- A run behind the headers is one of whole captures.
-use Rattle.std.proofs.Common.{◌≡◌, ◌⊎◌, inl, inr, ℕ, ◌+◌, ◌-◌, ◌^◌, ◌≤◌, min, Bool, List, [], ◌++◌, length, Option, Some, None, Result, Ok, Err, refl, sym, ◌∙◌, ap, subst, arith, append-nil}
-use Rattle.napt_wire.specs.declared.Side.{Side}
+use Rattle.std.proofs.Common.{◌≡◌, ◌⊎◌, inl, inr, ℕ, ◌≤◌, Bool, List, [], Option, Result, Ok, Err, sym, subst, arith, append-nil}
 use Rattle.napt_wire.specs.declared.Side.TheVariants as sides
 use Rattle.napt_capture.specs.Text.{file_header}
-use Rattle.napt_capture.specs.declared.fault.CaptureFault.{CaptureFault}
 use Rattle.napt_capture.specs.declared.fault.WriteFault.{WriteFault}
 use Rattle.napt_config.specs.Rules.{Rules}
-use Rattle.napt_records.specs.UntilFault.{AreFront, Both}
+use Rattle.napt_records.specs.UntilFault.{AreFront}
 use Rattle.napt_records.specs.declared.Fault.{Fault}
 use Rattle.napt_records.specs.declared.Fault.TheVariants.{Capture, Run, Write}
 use Rattle.napt_records.specs.declared.Which.TheVariants.{Outside, Inside, Report}
@@ -15,10 +13,9 @@ use Rattle.napt_rules.specs.Prelude.{Arrival}
 use Rattle.napt_stream.specs.Leaving.{Begins, BreaksIf, FailsToBegin, GrowsIf}
 use Rattle.napt_stream.specs.LeavingLaws.{grows_if_more, grows_more}
 use Rattle.napt_stream.specs.Outputs.{Breaks, Grows}
-use Rattle.napt_stream.specs.Runs.{FailsInside, FailsOutside, IfHeld, RunsTo, RunsToFault, RunsWell, Writes, text_behind}
+use Rattle.napt_stream.specs.Runs.{FailsOutside, IfHeld, RunsTo, Writes, text_behind}
 use Rattle.napt_stream.specs.Streams.{IsReading}
 use Rattle.napt_stream.specs.declared.leaving.Leaving.{Leaving}
-use Rattle.napt_stream.specs.declared.output.Output.{Output}
 use Rattle.napt_stream.specs.declared.passing.Totals.{Totals}
 use Rattle.napt_stream.proofs.Behind.{IfHeld-by}
 use Rattle.napt_stream.proofs.Breaks.{breaks_if_more, breaks_more}

@@ -1,5 +1,5 @@
 -- A header of a capture that is refused, or could not be read.
-use Rattle.std.proofs.Common.{◌≡◌, ◌⊎◌, ℕ, ◌+◌, Bool, List, [], ◌++◌, Option, Some, None, Result, Ok, Err, refl, sym, ◌∙◌, ap, subst, add-zero}
+use Rattle.std.proofs.Common.{◌≡◌, ℕ, ◌+◌, Bool, List, [], Option, Some, None, Result, Err, refl, sym, ap, subst, add-zero}
 use Rattle.std.specs.Option.{option_map}
 use Rattle.napt_wire.specs.declared.Side.{Side}
 use Rattle.napt_wire.specs.declared.Side.TheVariants as sides
@@ -7,7 +7,7 @@ use Rattle.napt_capture.specs.declared.fault.CaptureFault.{CaptureFault}
 use Rattle.napt_capture.specs.declared.fault.CaptureFault.TheVariants.{NoHeader, BadMagic, BadVersion, BadLink, BadFraction, TooLong, TooLarge, Read, Memory}
 use Rattle.napt_capture.specs.Reading.{RefusesFile, StopsBy}
 use Rattle.napt_config.specs.Rules.{Rules}
-use Rattle.napt_records.specs.UntilFault.{AreBefore, AreHeld, AreTaken, Both, Holds, HoldsIf, rest_of}
+use Rattle.napt_records.specs.UntilFault.{AreBefore, AreHeld, AreTaken, Both, Holds, rest_of}
 use Rattle.napt_records.specs.declared.Fault.{Fault}
 use Rattle.napt_records.specs.declared.Fault.TheVariants.{Capture, Run, Write}
 use Rattle.napt_records.proofs.Came.{none_front, refused_before, refused_rest}
@@ -16,11 +16,9 @@ use Rattle.napt_run.specs.Devices.{some_bytes}
 use Rattle.napt_stream.specs.Leaving.{IsSettled}
 use Rattle.napt_stream.specs.LeavingLaws.{grows_if_none, grows_none}
 use Rattle.napt_stream.specs.Runs.{RunsTo, RunsToFault}
-use Rattle.napt_stream.specs.Streams.{HasReadBoth, HasReadOne, IsFaultOf, IsHeaderFault, IsReading}
+use Rattle.napt_stream.specs.Streams.{IsFaultOf, IsHeaderFault, IsReading}
 use Rattle.napt_stream.specs.declared.leaving.Leaving.{Leaving}
-use Rattle.napt_stream.specs.declared.passing.Totals.{Totals}
 use Rattle.napt_stream.proofs.Behind.{IfHeld-by}
-use Rattle.napt_stream.proofs.Begun.{none_is}
 
 refused_taken : (side : Side) (fault : CaptureFault) (both : Both) (bytes : List ℕ) (new : Option (List ℕ)) →
     RefusesFile fault (Some bytes) new → Holds bytes (rest_of side both) →

@@ -1,5 +1,5 @@
 -- What leaving and settling do to the outputs.
-use Rattle.std.proofs.Common.{◌≡◌, ℕ, ◌+◌, ◌-◌, ◌^◌, ◌<◌, List, [], ◌∷◌, ◌++◌, length, Option, Some, None, Result, Ok, Err, IfErr, OnOk, false, sym, subst, arith, append-nil, length-append}
+use Rattle.std.proofs.Common.{◌≡◌, ℕ, ◌-◌, ◌^◌, ◌<◌, List, [], ◌∷◌, ◌++◌, length, Option, Result, Ok, Err, IfErr, OnOk, false, sym, subst, arith, append-nil, length-append}
 use Rattle.std.specs.Prelude.{MatchResult, IfSome}
 use Rattle.std.proofs.lemmas.List.Elements.{All-head}
 use Rattle.napt_capture.specs.Text.{entry_of_packet, record_text}

@@ -5,5 +5,6 @@ pub mod Begun
 pub mod Headers
 pub mod Headed
 pub mod Devices
+pub mod Endings
 pub mod Outputs
 pub mod Leaves

@@ -1,5 +1,5 @@
 -- What leaves while a run lasts, and what that does to the outputs.
-use Rattle.std.specs.Prelude.{◌≡◌, ℕ, ◌+◌, ◌-◌, ◌^◌, ◌<◌, List, [], ◌++◌, length, map, filter_map, flat_map, All, false, Option, Some, None, IfSome, Result, Ok, Err}
+use Rattle.std.specs.Prelude.{◌≡◌, ℕ, ◌^◌, ◌<◌, List, [], ◌++◌, length, map, filter_map, flat_map, All, false, Option, Some, None, IfSome, Result, Ok, Err}
 use Rattle.std.specs.Borrow.{MutBor}
 use Rattle.napt_wire.specs.declared.Side.{Side}
 use Rattle.napt_wire.specs.declared.Side.TheVariants as sides

@@ -1,5 +1,5 @@
 -- What a call of an output does.
-use Rattle.std.specs.Prelude.{◌≡◌, ℕ, ◌+◌, ◌-◌, ◌*◌, ◌^◌, ◌≤◌, ◌<◌, min, List, length, take, false, Option}
+use Rattle.std.specs.Prelude.{◌≡◌, ℕ, ◌+◌, ◌-◌, ◌^◌, ◌≤◌, min, List, length, take, false, Option}
 use Rattle.std.specs.Io.KnownBytes.{Appends}
 use Rattle.napt_capture.specs.declared.fault.WriteFault.{WriteFault}
 use Rattle.napt_stream.specs.declared.output.Output.{Output}

@@ -6,7 +6,7 @@ ghost use Rattle.napt_run.specs.Devices.{GrowsBy, IfGiven, bytes_in};
 ghost use Rattle.napt_stream.specs.Streams.{Explains, HasRead, IsOfRun, IsSettledBy, Reports, Streams};
 
 use crate::passing::Setting;
-use crate::reporting::write_report;
+use crate::reporting::{reported, unreported};
 use crate::streaming::{both_to_both, both_to_outside, inside_to_both, inside_to_outside};
 use napt_capture::{Sink, Source};
 use napt_config::Config;
@@ -90,19 +90,50 @@ pub fn run_streams<
         config,
         gate,
     };
-    let told = match outside {
-        Some(source) => match to_inside {
-            Some(device) => both_to_both(setting, inside, source, to_outside, device),
-            None => both_to_outside::<T, R, Q, W, V, G>(setting, inside, source, to_outside),
-        },
-        None => match to_inside {
-            Some(device) => inside_to_both(setting, inside, to_outside, device),
-            None => inside_to_outside::<T, R, W, V, G>(setting, inside, to_outside),
-        },
-    };
-    let totals = told?;
     match report {
-        Some(report) => write_report(alloc, report, &totals),
-        None => Ok(()),
+        Some(report) => match outside {
+            Some(source) => match to_inside {
+                Some(device) => return reported(
+                    alloc,
+                    both_to_both(setting, inside, source, to_outside, device),
+                    report,
+                ),
+                None => return reported(
+                    alloc,
+                    both_to_outside::<T, R, Q, W, V, G>(setting, inside, source, to_outside),
+                    report,
+                ),
+            },
+            None => match to_inside {
+                Some(device) => return reported(
+                    alloc,
+                    inside_to_both(setting, inside, to_outside, device),
+                    report,
+                ),
+                None => return reported(
+                    alloc,
+                    inside_to_outside::<T, R, W, V, G>(setting, inside, to_outside),
+                    report,
+                ),
+            },
+        },
+        None => match outside {
+            Some(source) => match to_inside {
+                Some(device) => {
+                    return unreported(both_to_both(setting, inside, source, to_outside, device));
+                }
+                None => return unreported(both_to_outside::<T, R, Q, W, V, G>(
+                    setting, inside, source, to_outside,
+                )),
+            },
+            None => match to_inside {
+                Some(device) => return unreported(inside_to_both(
+                    setting, inside, to_outside, device,
+                )),
+                None => return unreported(inside_to_outside::<T, R, W, V, G>(
+                    setting, inside, to_outside,
+                )),
+            },
+        },
     }
 }

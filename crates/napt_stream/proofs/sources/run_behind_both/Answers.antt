@@ -1,4 +1,4 @@
-use Rattle.std.proofs.Common.{◌≡◌, ℕ, ◌+◌, List, Option, None, Some, refl, sym, ◌∙◌, ap, subst, subst₂}
+use Rattle.std.proofs.Common.{◌≡◌, ℕ, ◌+◌, List, Option, None, Some, sym, ◌∙◌, ap, subst, subst₂}
 use Rattle.std.specs.Option.{option_map}
 use Rattle.napt_records.specs.Begun.{AreBegun, IsBegun, IsBegunIf}
 use Rattle.napt_records.specs.Merged.{AreLive, CountsIf, IsLiveIf, IsSameIf}

@@ -1,4 +1,4 @@
-use Rattle.std.proofs.Common.{◌≡◌, ℕ, ◌+◌, List, Option, None, Some, refl, sym, ◌∙◌, ap, subst}
+use Rattle.std.proofs.Common.{◌≡◌, ℕ, ◌+◌, List, Option, None, Some, sym, ◌∙◌, ap, subst}
 use Rattle.napt_wire.specs.declared.Side.TheVariants as sides
 use Rattle.napt_records.specs.Begun.{AreBegun, IsBegun}
 use Rattle.napt_records.specs.Merged.{AreLive, CountsIf, IsLiveIf}

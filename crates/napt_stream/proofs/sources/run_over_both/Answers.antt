@@ -1,4 +1,4 @@
-use Rattle.std.proofs.Common.{◌≡◌, ℕ, ◌+◌, Option, Err, refl, sym, ◌∙◌, ap, add-zero}
+use Rattle.std.proofs.Common.{◌+◌, ◌∙◌, ap, add-zero}
 use Rattle.std.proofs.lemmas.Result.{err_from_is_err_and}
 use Rattle.std.specs.Option.{option_map}
 use Rattle.napt_wire.specs.declared.Side.TheVariants as sides

@@ -1,4 +1,4 @@
-use Rattle.std.proofs.Common.{◌≡◌, ℕ, ◌+◌, Option, None, Some, Err, refl, sym, ◌∙◌, ap, add-zero}
+use Rattle.std.proofs.Common.{◌+◌, None, Some, ◌∙◌, ap, add-zero}
 use Rattle.std.proofs.lemmas.Result.{err_from_is_err_and}
 use Rattle.napt_wire.specs.declared.Side.TheVariants as sides
 use Rattle.napt_capture.specs.declared.records.Records.{Records}

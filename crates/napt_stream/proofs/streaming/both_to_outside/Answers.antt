@@ -1,7 +1,7 @@
-use Rattle.std.proofs.Common.{◌≡◌, None, Some, refl, sym, ◌∙◌, ap}
+use Rattle.std.proofs.Common.{sym, ◌∙◌, ap}
 use Rattle.std.specs.Option.{option_map}
 use Rattle.napt_run.specs.Devices.{some_bytes}
-use Rattle.napt_records.specs.declared.Which.TheVariants.{Outside, Inside}
+use Rattle.napt_records.specs.declared.Which.TheVariants.{Outside}
 use Rattle.napt_stream.proofs.Devices.{Done, explains, none_fails, outside_counted, outside_done, stops, tells}
 use Rattle.napt_stream.proofs.streaming.both_to_outside.Given.{Over}
 use Rattle.napt_stream.proofs.streaming.both_to_outside.Goals as goal

@@ -1,4 +1,4 @@
-use Rattle.std.proofs.Common.{◌≡◌, None, Some, refl, sym, ◌∙◌, ap}
+use Rattle.std.proofs.Common.{◌≡◌, None, Some, sym, ◌∙◌, ap}
 use Rattle.napt_records.specs.declared.Which.TheVariants.{Outside, Inside}
 use Rattle.napt_stream.proofs.Devices.{Done, explains, inside_counted, inside_done, inside_gone, outside_counted, outside_done, stops, tells}
 use Rattle.napt_stream.proofs.streaming.inside_to_both.Given.{Over}

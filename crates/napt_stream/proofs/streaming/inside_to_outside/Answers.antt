@@ -1,5 +1,5 @@
-use Rattle.std.proofs.Common.{◌≡◌, None, Some, refl, sym, ◌∙◌, ap}
-use Rattle.napt_records.specs.declared.Which.TheVariants.{Outside, Inside}
+use Rattle.std.proofs.Common.{None, Some, sym, ◌∙◌, ap}
+use Rattle.napt_records.specs.declared.Which.TheVariants.{Outside}
 use Rattle.napt_stream.proofs.Devices.{Done, explains, none_fails, outside_counted, outside_done, stops, tells}
 use Rattle.napt_stream.proofs.streaming.inside_to_outside.Given.{Over}
 use Rattle.napt_stream.proofs.streaming.inside_to_outside.Goals as goal

@@ -1,4 +1,4 @@
-use Rattle.std.proofs.Common.{◌≡◌, ℕ, None, Some, Ok, refl, sym, add-zero}
+use Rattle.std.proofs.Common.{Ok, sym, add-zero}
 use Rattle.std.proofs.lemmas.Result.{err_from_is_err_and}
 use Rattle.std.specs.Option.{option_map}
 use Rattle.napt_run.specs.Devices.{some_bytes}

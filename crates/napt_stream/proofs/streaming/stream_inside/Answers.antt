@@ -1,7 +1,5 @@
-use Rattle.std.proofs.Common.{◌≡◌, ℕ, None, Some, Ok, refl, sym, add-zero}
+use Rattle.std.proofs.Common.{None, Some, Ok, refl, sym, add-zero}
 use Rattle.std.proofs.lemmas.Result.{err_from_is_err_and}
-use Rattle.std.specs.Option.{option_map}
-use Rattle.napt_run.specs.Devices.{some_bytes}
 use Rattle.napt_stream.specs.declared.passing.Totals.{Totals}
 use Rattle.napt_stream.proofs.Headed.{headed, none_read, unheaded}
 use Rattle.napt_stream.proofs.streaming.stream_inside.Goals as goal

@@ -1,11 +1,3 @@
-use Rattle.std.proofs.Common.{arith, sym, subst, ◌≡◌, List, ℕ, rules}
-use Rattle.std.specs.Prelude.{OnOk, IfErr, MatchResult, false}
-use Rattle.napt_wire.specs.Packet.{IsPacket}
-use Rattle.napt_wire.proofs.Carried.{length-packet}
-use Rattle.napt_capture.specs.Text.{entry_of_packet, record_text}
-use Rattle.napt_records.specs.Output.{IsTime}
-use Rattle.napt_stream.specs.Outputs.{Grows, Breaks}
-use Rattle.napt_stream.specs.Leaving.{GrowsIf, BreaksIf, IsSoundIf}
 use Rattle.napt_stream.proofs.Leaves.{leaves_outside, leaves_inside}
 use Rattle.napt_stream.proofs.departing.LeavingDepartures.leave.Goals as goal
 
