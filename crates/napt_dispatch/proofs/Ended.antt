@@ -109,7 +109,7 @@ module _ (g : Ghosts TranslatorState Leg Answer) (stepped_is : (s : TranslatorSt
       let long : length starts ≡ length offered = ap length began ∙ (length_started rules (length rules.pool)
       ∙ sym many) in
       let all : length (zip_with (replies g) starts offered) ≡ length offered = zip_long
-          (replies g) starts offered long in
+      (replies g) starts offered long in
       let same : length (zip_with (λ t rest. t ++ rest) taken rests) ≡ length (zip_with (replies g) starts offered) =
       ap length is in
       let right = right_since rules starts offered (zip_with (replies g) starts offered) began many refl w lt in

@@ -97,7 +97,7 @@ pub ends_by : {A F S B M G : Type 0} (rules : Rules) (hands : A → List Arrival
     (ends : A → Option F → A → Type 0) (takes : S → List (ℕ × Outcome) → S → Type 0)
     (fails : S → List (ℕ × Outcome) → B → S → Type 0) (is_settled : S → Type 0) (from : A) (before : S)
     (pool : Pool M G Leg Answer) (left : A) (after : S) (done : Dispatched F B) (fault : Option F)
-        (ending : Ending F B) →
+    (ending : Ending F B) →
     MatchOption fault (ending ≡ endings.Whole) (λ f. ending ≡ endings.Arrival f) →
     EndsWith rules hands ends takes fails is_settled from before pool left after fault done →
     EndsBy rules hands ends takes fails is_settled from before pool left after done ending

@@ -90,7 +90,7 @@ module _ (rules : Rules) (inputs : List Arrival) (none some : Collected)
   pub collected_run : (bindings : List Row) (legs : List ℕ) → none.outcomes.items ≡ [] →
       bindings ≡ (ran rules inputs).bindings → legs ≡ (ran rules inputs).legs →
       (let r : Ran = record { outcomes = some.outcomes.items; bindings = bindings; legs = legs } in r ≡ ran rules
-          inputs)
+      inputs)
   collected_run bindings legs empty shown counted = rw (collected_outcomes empty, shown, counted) refl
 
 -- WHERE THE INPUTS COME OFF A LIST
@@ -109,7 +109,7 @@ pub dispatched_whole : {A F B M G : Type 0} (rules : Rules) (list : A → List A
     (fails : Collected → List (ℕ × Outcome) → B → Collected → Type 0) (is_settled : Collected → Type 0) (from : A)
     (none : Collected) (pool : Pool M G Leg Answer) (left : A) (some : Collected) (done : Dispatched F B) →
     EndsWith rules (λ x xs y. list x ≡ xs ++ list y) (λ x end y. list x ≡ []) Collects fails is_settled from none
-        pool left
+    pool left
     some None done → none.outcomes.items ≡ [] →
     (length (accepts pool) ≡ length rules.pool → Right rules (accepts pool) (taken pool)) →
     IsDispatched rules (list from) (accepts pool) some.outcomes.items done.legs.items

@@ -779,7 +779,7 @@ dispatched rules inputs state window s idle progress times none right =
     let run_long : length course.outcomes ≡ length inputs = outcomes_long rules 0 0 inputs (opening rules) in
     let left : window.left ≡ timed inputs course.outcomes =
     left_whole course window inputs times (λ i p h. r.known i p (ap (λ ps. slice_get ps i) progress
-      ∙ h)) run_long none in (
+    ∙ h)) run_long none in (
       left,
       record {
         legs = legs;

@@ -9,7 +9,8 @@ use Rattle.napt_records.specs.declared.Fault.TheVariants.{Capture, Run, Write}
 use Rattle.napt_records.specs.declared.Which.TheVariants.{Outside, Inside, Report}
 use Rattle.napt_rules.specs.Prelude.{Arrival, ran}
 use Rattle.napt_rules.specs.declared.Outcome.{Outcome}
-use Rattle.napt_run.specs.Captures.{failed_readings, failed_writings, tells_shut_gate}
+use Rattle.napt_records.specs.Faults.{tells_shut_gate}
+use Rattle.napt_run.specs.Captures.{failed_readings, failed_writings}
 use Rattle.napt_sequential.specs.declared.fault.RunFault.TheVariants as faults
 use Rattle.napt_stream.specs.Runs.{IfHeld, IsToldOf}
 use Rattle.napt_stream.specs.Streams.{Explains, GetsReport, IsOfRun, IsReading, IsReportFault, IsSettledBy, IsStopFault, Reports, ReportsAll, Streams, ended}

@@ -16,7 +16,7 @@ returns-in-Ok-clause-ends g c =
     let rules : Rules = c.args.config.now in
     let first = c.in_ok-dispatcher.ensures in
     let begins : (inputs : List Arrival) → Stands rules [] inputs (state_of c.args.pool.now
-        c.in_ok-dispatcher.dispatcher)
+    c.in_ok-dispatcher.dispatcher)
     = begun rules c.args.pool.now c.in_ok-dispatcher.dispatcher _ (ap length c.pool-count.ensures.addresses) first.sized
     first.counts first.idle first.left first.under_way c.requires.unoffered c.requires.untaken in
     ends_by rules g.A.Arrivals.hands g.A.Arrivals.ends g.D.Departures.takes g.D.Departures.fails
@@ -32,7 +32,7 @@ returns-in-Err-Departure-clause-ends g c =
     let rules : Rules = c.args.config.now in
     let first = c.in_ok-dispatcher.ensures in
     let begins : (inputs : List Arrival) → Stands rules [] inputs (state_of c.args.pool.now
-        c.in_ok-dispatcher.dispatcher)
+    c.in_ok-dispatcher.dispatcher)
     = begun rules c.args.pool.now c.in_ok-dispatcher.dispatcher _ (ap length c.pool-count.ensures.addresses) first.sized
     first.counts first.idle first.left first.under_way c.requires.unoffered c.requires.untaken in
     ends_early rules g.A.Arrivals.hands g.A.Arrivals.ends g.D.Departures.takes g.D.Departures.fails

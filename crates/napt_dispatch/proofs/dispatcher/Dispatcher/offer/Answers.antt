@@ -25,5 +25,5 @@ returns-in-Ok-clause-went g c =
       ring_stays = c.in_ok-count_offer-in-Ok.ensures.ring;
       parts_are = offered_parts_are c.args.w c.args.leg (parts_of c.args.self.now) (parts_of c.count_offer.new.self)
           (parts_of later) c.in_ok-count_offer-in-Ok.ensures.counted refl c.in_ok-push_back-in-Ok.ensures.ok refl
-              refl refl;
+          refl refl;
     }
