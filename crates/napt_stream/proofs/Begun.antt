@@ -45,7 +45,8 @@ module _ {R : Type 0} {G : Ghosts R} (remaining : R → Option (List ℕ)) where
   }
 
   pub begun_some : (stream : Stream R G) (bytes : Option (List ℕ)) (known : Option (List ℕ)) →
-      option_map some_bytes bytes ≡ Some known → IsBegun remaining stream bytes → IsBegunIf remaining (Some stream) known
+      option_map some_bytes bytes ≡ Some known → IsBegun remaining stream bytes → IsBegunIf remaining
+      (Some stream) known
   begun_some stream None known is begun = let no : None ≡ Some known = is in cc
   begun_some stream (Some bytes) None is begun = let no : Some (Some bytes) ≡ Some None = is in cc
   begun_some stream (Some bytes) (Some known) is begun =
@@ -84,7 +85,8 @@ same_failed Memory = refl
 abbrev pub told : Side → CaptureFault → Result (Unit {0}) Fault
 told side fault = Err (Capture side fault)
 
-same_by : (side other : Side) (fault : CaptureFault) → failed_by side other fault ≡ failed_readings side (told other fault)
+same_by : (side other : Side) (fault : CaptureFault) → failed_by side other fault ≡ failed_readings side
+    (told other fault)
 same_by sides.Inside sides.Inside fault = same_failed fault
 same_by sides.Inside sides.Outside fault = refl
 same_by sides.Outside sides.Inside fault = refl

@@ -49,7 +49,8 @@ pub fault_told : (side : Side) (fault : CaptureFault) (bytes : List ℕ) (others
     AreHeld bytes others both → StopsBy fault ((rest_of side both).end ≡ Err fault) → IsFaultOf side fault both
 fault_told side Read bytes others both held stops = tt
 fault_told side Memory bytes others both held stops = tt
-fault_told sides.Inside TooLarge bytes others both held stops = never_too_large bytes both.inside held.inside_holds stops
+fault_told sides.Inside TooLarge bytes others both held stops = never_too_large bytes both.inside held.inside_holds
+    stops
 fault_told sides.Outside TooLarge bytes (Some theirs) both held stops =
     never_too_large theirs both.outside held.outside_holds stops
 fault_told sides.Outside TooLarge bytes None both held stops =
@@ -87,7 +88,8 @@ module _ {R Q W V : Type 0} {G : Ghosts R} {H : Ghosts Q} {g h : _} (open_gate :
   abbrev Ends : MergedStreams R Q G H → Option SideFault → MergedStreams R Q G H → Type 0
   Ends from fault to = EndsWith inside outside in_failed out_failed from fault to
 
-  times : (inputs : List Arrival) (mid : MergedStreams R Q G H) → Hands begin inputs mid → AreTimes (left_of rules inputs)
+  times : (inputs : List Arrival) (mid : MergedStreams R Q G H) → Hands begin inputs mid → AreTimes
+      (left_of rules inputs)
   times inputs mid handed =
       times_of inputs (ran rules inputs).outcomes
       (handed_timely inside outside in_failed out_failed begin mid inputs live handed)
@@ -205,7 +207,8 @@ module _ {R Q W V : Type 0} {G : Ghosts R} {H : Ghosts Q} {g h : _} (open_gate :
       }
 
   -- the text of both parts
-  text_of_both : (side : Side) (first later : List Timed) (inputs : List Arrival) → first ++ later ≡ left_of rules inputs →
+  text_of_both : (side : Side) (first later : List Timed) (inputs : List Arrival) →
+      first ++ later ≡ left_of rules inputs →
       texts side first ++ texts side later ≡ texts side (left_of rules inputs)
   text_of_both side first later inputs is =
       sym (texts-append side first later) ∙ ap (λ (l : List Timed). texts side l) is
@@ -251,7 +254,8 @@ module _ {R Q W V : Type 0} {G : Ghosts R} {H : Ghosts Q} {g h : _} (open_gate :
   -- and how many reads failed
   pub reads_of : (result : Result Totals Fault) → PassesOr open_gate rules inside outside in_failed out_failed oc of
       outside_flushed ic if inside_flushed begin old end new result → (¬ IsOfRun result) →
-      (read : Result (Unit {0}) Fault) × IsReading result read × ReadBy inside outside in_failed out_failed begin end live
+      (read : Result (Unit {0}) Fault) × IsReading result read × ReadBy inside outside in_failed out_failed begin end
+      live
       read
   reads_of (Ok totals) p not_run =
       (Ok tt, refl, read_well inside outside in_failed out_failed begin end live p.well.whole.inputs p.well.whole.came)

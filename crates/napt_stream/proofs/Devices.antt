@@ -89,7 +89,8 @@ module _ {W V : Type 0} {g h : _} (open_gate : Bool) (rules : Rules)
     (inside : Option (List ℕ)) (outside : Option (Option (List ℕ)))
     (old new : Leaving W V g h) where
   abbrev To : Result Totals Fault → Type 0
-  To result = RunsTo open_gate rules oc of outside_flushed ic if inside_flushed inside outside file_header old new result
+  To result = RunsTo open_gate rules oc of outside_flushed ic if inside_flushed inside outside file_header old new
+      result
 
   -- THE FAULT, AND THE REPORT
 
@@ -208,13 +209,15 @@ module _ {W V : Type 0} {g h : _} (open_gate : Bool) (rules : Rules)
         IfHeld-map inside outside (λ both front. (
           p.inputs,
           front,
-          broken_text ic if rules sides.Inside p.inputs a b fault none (breaks_at ic if _ _ _ fault a b first last p.broke),
+          broken_text ic if rules sides.Inside p.inputs a b fault none (breaks_at ic if _ _ _ fault a b first last
+              p.broke),
         ))
         p.front_of_all
     inside_gets none (Err (Write Report fault)) p = absurd p
     inside_gets none (Err (Run fault)) p = IfHeld-all inside outside (λ both. tt)
 
-    kept_counted : (fault : WriteFault) (p : FailsOutside open_gate rules oc of outside_flushed ic if inside_flushed inside
+    kept_counted : (fault : WriteFault) (p : FailsOutside open_gate rules oc of outside_flushed ic if inside_flushed
+        inside
         outside file_header old new fault) →
         GrowsIf ic if old.to_inside (text_behind file_header rules sides.Inside p.before) new.to_inside
         ⊎ ((fault.written ≤ length file_header) × (new.to_inside ≡ old.to_inside)) → Counted if a b 0
@@ -274,7 +277,8 @@ module _ {W V : Type 0} {g h : _} (open_gate : Bool) (rules : Rules)
     (ic : V → Option (List ℕ)) (if : V → ℕ) (inside_flushed : V → Type 0)
     (inside : Option (List ℕ)) (outside : Option (Option (List ℕ)))
     (old new : Leaving W V g h) (result : Result Totals Fault)
-    (to : RunsTo open_gate rules oc of outside_flushed ic if inside_flushed inside outside file_header old new result) where
+    (to : RunsTo open_gate rules oc of outside_flushed ic if inside_flushed inside outside file_header old new
+    result) where
   pub outside_done : old.to_outside.written ≡ 0 → (start end : W) → old.to_outside.device.now ≡ start →
       ((¬ IsOfRun result) → end ≡ new.to_outside.device.now) →
       Done rules Outside oc of outside_flushed inside outside result start end

@@ -22,7 +22,8 @@ pub record Ends (told : Result Totals Fault) (result : Result (Unit {0}) Fault) 
   pub fault : IfErr told (λ fault. result ≡ Err fault)
   pub report : OnOk told (IfErr result IsReportFault)
 
-pub ends_unreported : (told : Result Totals Fault) (result : Result (Unit {0}) Fault) → result ≡ ended told → Ends told result
+pub ends_unreported : (told : Result Totals Fault) (result : Result (Unit {0}) Fault) → result ≡ ended told →
+    Ends told result
 ends_unreported (Ok totals) result is =
     record { fault = tt; report = subst (λ r. IfErr r IsReportFault) (sym is) tt }
 ends_unreported (Err fault) result is = record { fault = is; report = tt }
@@ -45,9 +46,11 @@ module _ (P : Result Totals Fault → Result (Unit {0}) Fault → Type 0)
   pub at_end : (told : Result Totals Fault) (result : Result (Unit {0}) Fault) → Ends told result → P told result
   at_end (Ok totals) (Ok done) ends = well totals
   at_end (Ok totals) (Err fault) ends = at_report totals fault ends.report
-  at_end (Err fault) result ends = subst (λ (r : Result (Unit {0}) Fault). P (Err fault) r) (sym ends.fault) (stopped fault)
+  at_end (Err fault) result ends = subst (λ (r : Result (Unit {0}) Fault). P (Err fault) r) (sym ends.fault)
+      (stopped fault)
 
-module _ (rules : Rules) (inside : Option (List ℕ)) (outside : Option (Option (List ℕ))) (old new : Option (List ℕ)) where
+module _ (rules : Rules) (inside : Option (List ℕ)) (outside : Option (Option (List ℕ))) (old new : Option
+    (List ℕ)) where
   pub outside_ends : (told : Result Totals Fault) (result : Result (Unit {0}) Fault) → Ends told result →
       Streams rules Outside (ended told) inside outside old new → Streams rules Outside result inside outside old new
   outside_ends = at_end (λ told result. Streams rules Outside (ended told) inside outside old new →
@@ -67,7 +70,8 @@ explains_ends inside outside = at_end (λ told result. IfErr told (Explains insi
     IfErr result (Explains inside outside)) (λ totals p. tt) (λ totals fault p. IfHeld-all inside outside (λ both. tt))
     (λ totals p. IfHeld-all inside outside (λ both. tt)) (λ fault p. p)
 
-gate_of : (open_gate : Bool) (fault : Fault) → open_gate ≡ true → IsStopFault open_gate fault → tells_shut_gate fault ≡ false
+gate_of : (open_gate : Bool) (fault : Fault) → open_gate ≡ true → IsStopFault open_gate fault →
+    tells_shut_gate fault ≡ false
 gate_of open_gate (Capture side fault) is p = refl
 gate_of open_gate (Write which fault) is p = refl
 gate_of open_gate (Run faults.Memory) is p = refl
@@ -94,12 +98,14 @@ not_run = at_end (λ told result. (¬ IsOfRun result) → ¬ IsOfRun told) (λ t
 pub outside_written : (told : Result Totals Fault) (result : Result (Unit {0}) Fault) → Ends told result →
     (¬ IsOfRun result) → failed_writings Outside (ended told) ≡ failed_writings Outside result
 outside_written = at_end (λ told result. (¬ IsOfRun result) → failed_writings Outside (ended told)
-    ≡ failed_writings Outside result) (λ totals no. refl) (λ totals fault no. refl) (λ totals no. refl) (λ fault no. refl)
+    ≡ failed_writings Outside result) (λ totals no. refl) (λ totals fault no. refl) (λ totals no. refl)
+    (λ fault no. refl)
 
 pub inside_written : (told : Result Totals Fault) (result : Result (Unit {0}) Fault) → Ends told result →
     (¬ IsOfRun result) → failed_writings Inside (ended told) ≡ failed_writings Inside result
 inside_written = at_end (λ told result. (¬ IsOfRun result) → failed_writings Inside (ended told)
-    ≡ failed_writings Inside result) (λ totals no. refl) (λ totals fault no. refl) (λ totals no. refl) (λ fault no. refl)
+    ≡ failed_writings Inside result) (λ totals no. refl) (λ totals fault no. refl) (λ totals no. refl)
+    (λ fault no. refl)
 
 pub settled_ends : (told : Result Totals Fault) (result : Result (Unit {0}) Fault) → Ends told result →
     IsSettledBy result → IsSettledBy (ended told)
@@ -152,7 +158,8 @@ unfolding report_text
 text_told rules totals inputs is =
     ap (λ b. report_of totals.cuts.inside totals.cuts.outside (ran rules inputs).outcomes b) is
 
-all_reported : (rules : Rules) (inside : Option (List ℕ)) (outside : Option (Option (List ℕ))) (old new : Option (List ℕ))
+all_reported : (rules : Rules) (inside : Option (List ℕ)) (outside : Option (Option (List ℕ))) (old new : Option
+    (List ℕ))
     (totals : Totals) (result : Result (Unit {0}) Fault) → IsToldOf rules inside outside totals →
     Written totals result old new → IfHeld inside outside (λ both. ReportsAll rules result both old new)
 all_reported rules inside outside old new totals result told written =
@@ -182,7 +189,8 @@ report_ends rules inside outside old new = at_end (λ told result. IfOk told (Is
     IfErr told (IsStopFault false) → IfErr told (λ _. new ≡ old) → IfOk told (λ totals. Written totals result old new) →
     Reports rules result inside outside old new)
     (λ totals told stop same written. all_reported rules inside outside old new totals (Ok tt) told written)
-    (λ totals fault told stop same written. all_reported rules inside outside old new totals (Err (Write Report fault)) told
+    (λ totals fault told stop same written. all_reported rules inside outside old new totals (Err
+    (Write Report fault)) told
     written)
     (λ totals told stop same written. IfHeld-all inside outside (λ both. written (ran rules told.inputs).outcomes
     told.counts))

@@ -21,14 +21,16 @@ use Rattle.napt_stream.specs.Streams.{capture_text}
 -- TEXTS
 
 records_same : (side : Side) (inputs : List Arrival) (outcomes : List Outcome) →
-    filter_map (λ (t : Timed). record_at t.0 (packet_to side t.1)) (timed inputs outcomes) ≡ records_to side inputs outcomes
+    filter_map (λ (t : Timed). record_at t.0 (packet_to side t.1)) (timed inputs outcomes) ≡ records_to side inputs
+    outcomes
 records_same side [] outcomes = refl
 records_same side (input ∷ inputs) [] = refl
 records_same side (input ∷ inputs) (outcome ∷ outcomes) =
     ap (λ (l : List Entry). cons_option (record_at input.time (packet_to side outcome)) l)
     (records_same side inputs outcomes)
 
-pub capture_is : (rules : Rules) (side : Side) (inputs : List Arrival) → file_header ++ texts side (left_of rules inputs)
+pub capture_is : (rules : Rules) (side : Side) (inputs : List Arrival) → file_header ++ texts side
+    (left_of rules inputs)
     ≡ capture_text rules side inputs
 unfolding text
 capture_is rules side inputs =
@@ -37,11 +39,13 @@ capture_is rules side inputs =
 
 -- TIMES
 
-pub times_of : (inputs : List Arrival) (outcomes : List Outcome) → All IsTimely inputs → AreTimes (timed inputs outcomes)
+pub times_of : (inputs : List Arrival) (outcomes : List Outcome) → All IsTimely inputs → AreTimes
+    (timed inputs outcomes)
 times_of [] outcomes all = All-nil (λ (t : Timed). IsTime t.0)
 times_of (input ∷ inputs) [] all = All-nil (λ (t : Timed). IsTime t.0)
 times_of (input ∷ inputs) (outcome ∷ outcomes) all =
-    All-cons (λ (t : Timed). IsTime t.0) (input.time, outcome) (timed inputs outcomes) (All-head IsTimely input inputs all)
+    All-cons (λ (t : Timed). IsTime t.0) (input.time, outcome) (timed inputs outcomes)
+    (All-head IsTimely input inputs all)
     (times_of inputs outcomes (All-tail IsTimely input inputs all))
 
 -- OUTCOMES
@@ -83,7 +87,8 @@ timed_append (x ∷ xs) ys [] ps same = absurd (omega (arith, same))
 timed_append (x ∷ xs) ys (o ∷ os) ps same =
     ap (λ (l : List Timed). (x.time, o) ∷ l) (timed_append xs ys os ps (omega (arith, same)))
 
-left_front : (rules : Rules) (xs ys : List Arrival) → (more : List Timed) × (left_of rules (xs ++ ys) ≡ left_of rules xs ++ more)
+left_front : (rules : Rules) (xs ys : List Arrival) → (more : List Timed) × (left_of rules
+    (xs ++ ys) ≡ left_of rules xs ++ more)
 left_front rules xs ys =
     let later : List Outcome =
     (run_from rules (length xs) (last_clock 0 xs) ys (run rules xs (opening rules)).list).outcomes in

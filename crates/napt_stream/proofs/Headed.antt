@@ -20,7 +20,8 @@ use Rattle.napt_stream.specs.declared.passing.Totals.{Totals}
 use Rattle.napt_stream.proofs.Behind.{IfHeld-by}
 use Rattle.napt_stream.proofs.Breaks.{breaks_if_more, breaks_more}
 
-none_held : (inside : Option (List ℕ)) (outside : Option (Option (List ℕ))) → IfHeld inside outside (λ both. AreFront both [])
+none_held : (inside : Option (List ℕ)) (outside : Option (Option (List ℕ))) → IfHeld inside outside
+    (λ both. AreFront both [])
 none_held inside outside = IfHeld-by inside outside (λ b o both is same held. none_front both)
 
 module _ {W V : Type 0} {g h : _} (open_gate : Bool) (rules : Rules)
@@ -28,7 +29,8 @@ module _ {W V : Type 0} {g h : _} (open_gate : Bool) (rules : Rules)
     (ic : V → Option (List ℕ)) (if : V → ℕ) (inside_flushed : V → Type 0)
     (inside : Option (List ℕ)) (outside : Option (Option (List ℕ))) where
   abbrev To : List ℕ → Leaving W V g h → Leaving W V g h → Result Totals Fault → Type 0
-  To front old new result = RunsTo open_gate rules oc of outside_flushed ic if inside_flushed inside outside front old new
+  To front old new result = RunsTo open_gate rules oc of outside_flushed ic if inside_flushed inside outside front
+      old new
       result
 
   module _ (old mid new : Leaving W V g h) (begins : Begins oc of ic if old mid) where
@@ -101,7 +103,8 @@ module _ {W V : Type 0} {g h : _} (open_gate : Bool) (rules : Rules)
       record {
         inputs = [];
         front_of_all = none_held inside outside;
-        broke = subst (λ (l : List ℕ). Breaks oc of old.to_outside l fault new.to_outside) (sym (append-nil file_header))
+        broke = subst (λ (l : List ℕ). Breaks oc of old.to_outside l fault new.to_outside) (sym
+            (append-nil file_header))
             broke;
         before = [];
         front_before = none_held inside outside;

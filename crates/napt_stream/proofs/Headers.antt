@@ -54,7 +54,8 @@ knows_inside inside outside b o both is same held = (b, is, held.inside_holds)
 pub knows_outside : (inside known : Option (List ℕ)) →
     KnowsSide sides.Outside known inside (option_map some_bytes known)
 knows_outside inside None b o both is same held = absurd (let no : None ≡ Some o = same in cc)
-knows_outside inside (Some bytes) b None both is same held = absurd (let no : Some (Some bytes) ≡ Some None = same in cc)
+knows_outside inside (Some bytes) b None both is same held = absurd (let no : Some
+    (Some bytes) ≡ Some None = same in cc)
 knows_outside inside (Some bytes) b (Some others) both is same held =
     let are : bytes ≡ others = cc in
     (bytes, refl, subst (λ (l : List ℕ). Holds l both.outside) (sym are) held.outside_holds)
@@ -64,7 +65,8 @@ module _ {W V : Type 0} {g h : _} (open_gate : Bool) (rules : Rules)
     (ic : V → Option (List ℕ)) (if : V → ℕ) (inside_flushed : V → Type 0)
     (inside : Option (List ℕ)) (outside : Option (Option (List ℕ)))
     (old : Leaving W V g h) (settled : IsSettled outside_flushed inside_flushed old) where
-  header_fails : (side : Side) (fault : CaptureFault) (known new : Option (List ℕ)) → KnowsSide side known inside outside →
+  header_fails : (side : Side) (fault : CaptureFault) (known new : Option (List ℕ)) →
+      KnowsSide side known inside outside →
       StopsBy fault (RefusesFile fault known new) →
       RunsToFault open_gate rules oc of outside_flushed ic if inside_flushed inside outside [] old old side fault
   header_fails side fault known new knows stops = record {
@@ -84,11 +86,13 @@ module _ {W V : Type 0} {g h : _} (open_gate : Bool) (rules : Rules)
         (subst (λ (k : Option (List ℕ)). StopsBy fault (RefusesFile fault k new)) known_is stops) holds).1);
   }
 
-  pub header_failed : (side : Side) (fault : Fault) (known new : Option (List ℕ)) → KnowsSide side known inside outside →
+  pub header_failed : (side : Side) (fault : Fault) (known new : Option (List ℕ)) →
+      KnowsSide side known inside outside →
       IsHeaderFault side known new fault →
       RunsTo open_gate rules oc of outside_flushed ic if inside_flushed inside outside [] old old (Err fault)
   header_failed side (Capture other fault) known new knows is =
-      subst (λ (s : Side). RunsToFault open_gate rules oc of outside_flushed ic if inside_flushed inside outside [] old old
+      subst (λ (s : Side). RunsToFault open_gate rules oc of outside_flushed ic if inside_flushed inside outside []
+      old old
       s fault) (sym is.0) (header_fails side fault known new knows is.1)
   header_failed side (Run fault) known new knows is = absurd is
   header_failed side (Write which fault) known new knows is = absurd is

@@ -66,7 +66,8 @@ module _ {W V : Type 0} (oc : W → Option (List ℕ)) (of : W → ℕ) (ic : V 
       ))
 
   -- a packet to the inside
-  pub leaves_inside : (time : ℕ) (packet : List ℕ) (old : Leaving W V g h) (output : Option (Output V h)) (counts : Counts)
+  pub leaves_inside : (time : ℕ) (packet : List ℕ) (old : Leaving W V g h) (output : Option (Output V h))
+      (counts : Counts)
       (r : Result (Unit {0}) WriteFault) (answer : Result (Unit {0}) OutputFault) → answer ≡ named Inside r
       → (IsTime time → OnOk r (GrowsIf ic if old.to_inside (record_text (entry_of_packet time packet)) output))
       → (IsTime time → IfErr r (λ fault. IsSoundIf old.to_inside →
@@ -117,7 +118,8 @@ module _ {W V : Type 0} (oc : W → Option (List ℕ)) (of : W → ℕ) (ic : V 
         record {
           to_outside = λ times. one;
           to_inside = λ times. two;
-          counts = λ outcomes few are. subst (λ (l : List Outcome). AreCountsOf l old.counts) (sym (append-nil outcomes))
+          counts = λ outcomes few are. subst (λ (l : List Outcome). AreCountsOf l old.counts) (sym
+              (append-nil outcomes))
               are;
         },
         (flushed, flushed_too),

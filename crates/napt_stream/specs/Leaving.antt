@@ -36,7 +36,8 @@ GrowsIf contents failed None text None = Unit {0}
 GrowsIf contents failed (Some old) text (Some new) = Grows contents failed old text new
 GrowsIf contents failed other text some = ⊥
 
-abbrev pub BreaksIf : {V : Type 0} → (V → Option (List ℕ)) → (V → ℕ) → {g : _} → Option (Output V g) → List ℕ → WriteFault
+abbrev pub BreaksIf : {V : Type 0} → (V → Option (List ℕ)) → (V → ℕ) → {g : _} → Option (Output V g) → List ℕ →
+    WriteFault
     → Option (Output V g) → Type 0
 BreaksIf contents failed (Some old) text fault (Some new) = Breaks contents failed old text fault new
 BreaksIf contents failed other text fault some = ⊥

@@ -5,7 +5,8 @@ use Rattle.napt_capture.specs.declared.fault.WriteFault.{WriteFault}
 use Rattle.napt_stream.specs.declared.output.Output.{Output}
 
 -- this text was written, and no call failed
-pub record Grows {W : Type 0} (contents : W → Option (List ℕ)) (failed : W → ℕ) {g : _} (old : Output W g) (text : List ℕ)
+pub record Grows {W : Type 0} (contents : W → Option (List ℕ)) (failed : W → ℕ) {g : _} (old : Output W g)
+    (text : List ℕ)
     (new : Output W g) : Type 0 where
   pub same : new.device.ghost_name ≡ old.device.ghost_name
   pub sound : old.is_broken ≡ false → new.is_broken ≡ false
@@ -14,7 +15,8 @@ pub record Grows {W : Type 0} (contents : W → Option (List ℕ)) (failed : W �
   pub kept : failed new.device.now ≡ failed old.device.now
 
 -- a front of it was written, and a call failed
-pub record Breaks {W : Type 0} (contents : W → Option (List ℕ)) (failed : W → ℕ) {g : _} (old : Output W g) (text : List ℕ)
+pub record Breaks {W : Type 0} (contents : W → Option (List ℕ)) (failed : W → ℕ) {g : _} (old : Output W g)
+    (text : List ℕ)
     (fault : WriteFault) (new : Output W g) : Type 0 where
   pub same : new.device.ghost_name ≡ old.device.ghost_name
   pub count : ℕ

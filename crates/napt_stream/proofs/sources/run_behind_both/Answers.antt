@@ -63,7 +63,8 @@ returns-in-Some-clause-readings g c not_run =
       is,
       ap g.R.Source.failed (c.inside-1.given.1 (sym c.new.ensures.name
           ∙ ap (λ s. s.live.source.ghost_name) (sym c.both-inputs.ensures.inside) ∙ sym by.same.0
-          ∙ ap (λ s. s.live.source.ghost_name) (sym c.into_streams-ours.ensures.inside) ∙ sym c.into_source-inside.ensures.name)
+          ∙ ap (λ s. s.live.source.ghost_name) (sym c.into_streams-ours.ensures.inside)
+          ∙ sym c.into_source-inside.ensures.name)
           ∙ c.into_source-inside.ensures.value ∙ ap (λ s. s.live.source.now) c.into_streams-ours.ensures.inside)
           ∙ by.inside_count ∙ ap (λ v. g.R.Source.failed v + failed_readings sides.Inside read)
           (ap (λ s. s.live.source.now) c.both-inputs.ensures.inside ∙ c.new.ensures.value),

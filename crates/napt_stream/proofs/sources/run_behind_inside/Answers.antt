@@ -36,7 +36,8 @@ returns-clause-runs g c bytes ours =
     let at = (goal.at.returns-clause-runs g c).After-pass-passed in
     runs_to g.G.Gate.is_open c.args.setting.config.now g.R.Source.remaining g.R.Source.remaining g.R.Source.failed
     g.R.Source.failed g.W.Sink.contents g.W.Sink.failed g.W.Sink.is_flushed g.V.Sink.contents g.V.Sink.failed
-    g.V.Sink.is_flushed c.alone-inputs.result c.args.leaving.now c.pass-passed.new.inputs c.pass-passed.new.leaving bytes
+    g.V.Sink.is_flushed c.alone-inputs.result c.args.leaving.now c.pass-passed.new.inputs c.pass-passed.new.leaving
+    bytes
     (Some None) (live g at) (begun g at bytes ours) c.requires.sound c.requires.sound_inside c.requires.counts
     c.pass-passed.result c.pass-passed.ensures
 
@@ -53,7 +54,8 @@ returns-clause-readings g c not_run =
       is,
       ap g.R.Source.failed (c.inside-1.given.1 (sym c.new.ensures.name
           ∙ ap (λ s. s.live.source.ghost_name) (sym c.alone-inputs.ensures.inside) ∙ sym by.same.0
-          ∙ ap (λ s. s.live.source.ghost_name) (sym c.into_streams-ours.ensures.inside) ∙ sym c.into_source-inside.ensures.name)
+          ∙ ap (λ s. s.live.source.ghost_name) (sym c.into_streams-ours.ensures.inside)
+          ∙ sym c.into_source-inside.ensures.name)
           ∙ c.into_source-inside.ensures.value ∙ ap (λ s. s.live.source.now) c.into_streams-ours.ensures.inside)
           ∙ by.inside_count ∙ ap (λ v. g.R.Source.failed v + failed_readings sides.Inside read)
           (ap (λ s. s.live.source.now) c.alone-inputs.ensures.inside ∙ c.new.ensures.value),

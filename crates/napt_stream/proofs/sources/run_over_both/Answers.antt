@@ -22,7 +22,8 @@ returns-in_err-theirs-clause-runs g c =
     let p = err_from_is_err_and c.from_residual-in_err-theirs.result c.from_residual-in_err-theirs.ensures.1 in
     rw (p.1, p.2) (header_failed g.G.Gate.is_open c.args.setting.config.now g.W.Sink.contents g.W.Sink.failed
     g.W.Sink.is_flushed g.V.Sink.contents g.V.Sink.failed g.V.Sink.is_flushed (g.R.Source.remaining c.args.inside.now)
-    (option_map some_bytes (g.Q.Source.remaining c.args.outside.now)) c.args.leaving.now c.requires.settled sides.Outside
+    (option_map some_bytes (g.Q.Source.remaining c.args.outside.now)) c.args.leaving.now c.requires.settled
+    sides.Outside
     c.in_err-theirs.field-0.0 _ _ (knows_outside _ _) c.in_err-theirs.ensures.fault)
 
 pub returns-clause-runs : goal.returns-clause-runs

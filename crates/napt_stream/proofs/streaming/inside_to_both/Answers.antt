@@ -13,7 +13,8 @@ outside_is g c =
     outside_done g.G.Gate.is_open c.args.setting.config.now g.W.Sink.contents g.W.Sink.failed g.W.Sink.is_flushed
     g.V.Sink.contents g.V.Sink.failed g.V.Sink.is_flushed (g.R.Source.remaining c.args.inside.now)
     (Some None) c.into-leaving.result c.stream_inside-told.new.leaving c.stream_inside-told.result
-    c.stream_inside-told.ensures.runs (ap (λ o. o.written) c.into-leaving.ensures.to_outside ∙ c.over-2.ensures.written) _ _
+    c.stream_inside-told.ensures.runs (ap (λ o. o.written) c.into-leaving.ensures.to_outside
+    ∙ c.over-2.ensures.written) _ _
     (ap (λ o. o.device.now) c.into-leaving.ensures.to_outside ∙ c.over-2.ensures.device)
     (λ not_run. c.to_outside-1.given.1 (sym c.over-2.ensures.same_reference
     ∙ ap (λ o. o.device.ghost_name) (sym c.into-leaving.ensures.to_outside)
@@ -38,13 +39,15 @@ inside_is g c =
           inside_done g.G.Gate.is_open c.args.setting.config.now g.W.Sink.contents g.W.Sink.failed g.W.Sink.is_flushed
           g.V.Sink.contents g.V.Sink.failed g.V.Sink.is_flushed (g.R.Source.remaining c.args.inside.now)
           (Some None) c.into-leaving.result c.stream_inside-told.new.leaving
-          c.stream_inside-told.result c.stream_inside-told.ensures.runs c.over.result w.in-Some.output (first_is g c) w.in-Some.is
+          c.stream_inside-told.result c.stream_inside-told.ensures.runs c.over.result w.in-Some.output
+          (first_is g c) w.in-Some.is
           c.over.ensures.written _ _ c.over.ensures.device
           (λ not_run. w.to_inside-is ∙ w.to_inside-1.given.1 (sym c.over.ensures.same_reference
           ∙ sym (inside_counted g.G.Gate.is_open c.args.setting.config.now g.W.Sink.contents g.W.Sink.failed
           g.W.Sink.is_flushed g.V.Sink.contents g.V.Sink.failed g.V.Sink.is_flushed
           (g.R.Source.remaining c.args.inside.now) (Some None) c.into-leaving.result
-          c.stream_inside-told.new.leaving c.over.result w.in-Some.output (first_is g c) w.in-Some.is c.stream_inside-told.result
+          c.stream_inside-told.new.leaving c.over.result w.in-Some.output
+          (first_is g c) w.in-Some.is c.stream_inside-told.result
           c.stream_inside-told.ensures.runs not_run).same))
       | in-None w ↦
           inside_gone g.G.Gate.is_open c.args.setting.config.now g.W.Sink.contents g.W.Sink.failed g.W.Sink.is_flushed

@@ -13,7 +13,8 @@ outside_is g c =
     outside_done g.G.Gate.is_open c.args.setting.config.now g.W.Sink.contents g.W.Sink.failed g.W.Sink.is_flushed
     g.V.Sink.contents g.V.Sink.failed g.V.Sink.is_flushed (g.R.Source.remaining c.args.inside.now)
     (Some None) c.alone-leaving.result c.stream_inside-told.new.leaving c.stream_inside-told.result
-    c.stream_inside-told.ensures.runs (ap (λ o. o.written) c.alone-leaving.ensures.to_outside ∙ c.over.ensures.written) _ _
+    c.stream_inside-told.ensures.runs (ap (λ o. o.written) c.alone-leaving.ensures.to_outside
+    ∙ c.over.ensures.written) _ _
     (ap (λ o. o.device.now) c.alone-leaving.ensures.to_outside ∙ c.over.ensures.device)
     (λ not_run. c.to_outside-1.given.1 (sym c.over.ensures.same_reference
     ∙ ap (λ o. o.device.ghost_name) (sym c.alone-leaving.ensures.to_outside)
@@ -33,7 +34,8 @@ returns-clause-inside_writings g c =
     none_fails g.G.Gate.is_open c.args.setting.config.now g.W.Sink.contents g.W.Sink.failed g.W.Sink.is_flushed
     g.V.Sink.contents g.V.Sink.failed g.V.Sink.is_flushed (g.R.Source.remaining c.args.inside.now)
     (Some None) c.alone-leaving.result c.stream_inside-told.new.leaving
-    c.stream_inside-told.result c.stream_inside-told.ensures.runs c.alone-leaving.ensures.to_inside c.stream_inside-told.result
+    c.stream_inside-told.result c.stream_inside-told.ensures.runs c.alone-leaving.ensures.to_inside
+    c.stream_inside-told.result
     c.stream_inside-told.ensures.runs
 
 pub returns-clause-outside_flushed : goal.returns-clause-outside_flushed

@@ -18,7 +18,8 @@ returns-in_err-begin-clause-readings g c not_run =
     rw (p.1, p.2) (
       Ok tt,
       none_read g.G.Gate.is_open c.args.setting.config.now g.W.Sink.contents g.W.Sink.failed
-          g.W.Sink.is_flushed g.V.Sink.contents g.V.Sink.failed g.V.Sink.is_flushed (g.R.Source.remaining c.args.inside.now)
+          g.W.Sink.is_flushed g.V.Sink.contents g.V.Sink.failed g.V.Sink.is_flushed
+          (g.R.Source.remaining c.args.inside.now)
           (Some None) Totals c.args.leaving.now c.begin.new.self c.in_err-begin.field-0.0
           (c.in_err-begin.ensures.err c.requires.sound c.requires.sound_inside),
       sym (add-zero (g.R.Source.failed c.args.inside.now)),

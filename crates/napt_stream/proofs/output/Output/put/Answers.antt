@@ -3,4 +3,9 @@ use Rattle.napt_stream.proofs.Outputs.{length-record}
 use Rattle.napt_stream.proofs.output.Output.put.Goals as goal
 
 pub record-requires-clause-room : goal.record-requires-clause-room
-record-requires-clause-room g c = omega (arith, c.requires, c.nothing.ensures, length-record c.min.result c.args.bytes.now)
+record-requires-clause-room g c = omega (
+  arith,
+  c.requires,
+  c.nothing.ensures,
+  length-record c.min.result c.args.bytes.now,
+)
