@@ -28,7 +28,8 @@ use std::thread::Threads;
 /// `Fault::Capture` comes where the capture of that side is refused or reading it failed, once merging needs the record at
 /// fault: all packets before are written and flushed, and no report is. `Fault::Write` comes where writing that output
 /// failed: it has the first `written` bytes of its text, a number that stops at the greatest one, and another one the text
-/// of some of the packets. `Fault::Run` comes with `Memory` where memory is refused, and with `Pool` where a worker could
+/// of some of the packets, of all of them where the report failed; the inside one has nothing where the header of the
+/// outside one failed. A read may have failed before such a write, and is not told. `Fault::Run` comes with `Memory` where memory is refused, and with `Pool` where a worker could
 /// not be started or stopped early; `GateShut` never comes under a gate that promises yes. The workers are closed and
 /// joined before any fault is told.
 pub fn run_streams<
