@@ -18,14 +18,15 @@ pub enum Which {
     Report,
 }
 
-/// Why a run over captures ends early. Nothing is written where the fault is of a capture or of the run.
+/// Why a run over captures ends early. `run_captures` of `napt_run` writes nothing where the fault is of a capture or of
+/// the run; what `run_streams` of `napt_stream` has written by then, it says.
 #[derive(Clone, Copy, Debug, PartialEq, Eq)]
 pub enum Fault {
     /// The capture of this side is refused, or reading it failed.
     Capture(Side, CaptureFault),
     /// The run failed, or memory ran out for what it is given or what it writes.
     Run(RunFault),
-    /// Writing this output failed: those before it are whole, and those after it have nothing.
+    /// Writing this output failed. Of `run_captures`, those before it are whole, and those after it have nothing.
     Write(Which, WriteFault),
 }
 

@@ -25,13 +25,13 @@ use std::thread::Threads;
 /// bytes, every packet that was read before has been answered, written and flushed; merging needs the next record of both
 /// sides, so that one without bytes tells that time has passed. The report is written at the end.
 ///
-/// `Fault::Capture` comes where the capture of that side is refused or reading it failed, once merging needs the record at
-/// fault: all packets before are written and flushed, and no report is. `Fault::Write` comes where writing that output
-/// failed: it has the first `written` bytes of its text, a number that stops at the greatest one, and another one the text
-/// of some of the packets, of all of them where the report failed; the inside one has nothing where the header of the
-/// outside one failed. A read may have failed before such a write, and is not told. `Fault::Run` comes with `Memory` where memory is refused, and with `Pool` where a worker could
-/// not be started or stopped early; `GateShut` never comes under a gate that promises yes. The workers are closed and
-/// joined before any fault is told.
+/// `Fault::Capture` comes where the capture of that side is refused or reading it failed, once merging needs the record
+/// at fault: all packets before are written and flushed, and no report is. `Fault::Write` comes where writing that
+/// output failed: it has the first `written` bytes of its text, a number that stops at the greatest one, and another
+/// one the text of some of the packets, of all of them where the report failed; the inside one has nothing where the
+/// header of the outside one failed. A read may have failed before such a write, and is not told. `Fault::Run` comes
+/// with `Memory` where memory is refused, and with `Pool` where a worker could not be started or stopped early;
+/// `GateShut` never comes under a gate that promises yes. The workers are closed and joined before any fault is told.
 pub fn run_streams<
     T: Threads + Wait + Copy + Send + 'static,
     R: Source,
