@@ -8,3 +8,4 @@ pub mod Devices
 pub mod Endings
 pub mod Outputs
 pub mod Leaves
+pub mod SameAsCaptures

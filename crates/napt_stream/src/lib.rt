@@ -5,6 +5,7 @@
 #![tactic(auto)]
 
 mod departing;
+mod laws;
 mod leaving;
 mod output;
 mod passing;
@@ -14,4 +15,5 @@ mod sources;
 mod streaming;
 mod streams;
 
+pub use laws::streams_write_the_same;
 pub use streams::run_streams;
