@@ -1,5 +1,7 @@
 //! A run while its captures come: with a growth of memory refused, and with each call of each device refused in turn.
 
+ghost use Rattle.std.specs.Prelude.{◌<◌};
+
 use crate::refused::End;
 use crate::refused::left::{Asked, Counts, gate, looked_at};
 use crate::refused::run::{INSIDE, OUTSIDE, configuration, end_of_run};
@@ -64,7 +66,7 @@ struct Streamed {
 }
 
 /// Makes the run, through the gate; none where memory is refused before.
-fn streamed<R: Threads + Wait + Copy + Send + 'static>(
+fn make_run<R: Threads + Wait + Copy + Send + 'static>(
     rt: &R,
     alloc: Global,
     config: &Config,
@@ -123,7 +125,7 @@ pub(crate) fn ended<R: Files + AllocGlobal + Threads + Wait + Copy + Send + 'sta
     let Ok(gate) = gate(alloc, &counts) else {
         return End::Before;
     };
-    let Some(run) = streamed(rt, alloc, &config, NONE, gate) else {
+    let Some(run) = make_run(rt, alloc, &config, NONE, gate) else {
         return End::Before;
     };
     looked_at(rt, &counts, end_of(&run))
@@ -213,7 +215,7 @@ fn tried<R: Files + AllocGlobal + Threads + Wait + Copy + Send + 'static>(
 ) -> Result<Streamed, End> {
     let counts = Counts::shared(alloc).map_err(|_| End::Before)?;
     let gate = gate(alloc, &counts).map_err(|_| End::Before)?;
-    let run = streamed(rt, alloc, config, refusal, gate).ok_or(End::Before)?;
+    let run = make_run(rt, alloc, config, refusal, gate).ok_or(End::Before)?;
     match looked_at(rt, &counts, End::Done) {
         End::Done => Ok(run),
         end => Err(end),
