@@ -198,7 +198,8 @@ struct All {
 
 /// Puts a trace behind the others where they are kept.
 fn keep(traces: &mut Vec<Trace>, trace: Trace, traced: bool) -> Result<(), AllocError>
-    ensures asked { OnOk result (traced ≡ true → traces.new.items ≡ traces.old.items ++ trace ∷ []) }
+    ensures asked { OnOk result (traced ≡ true →
+        traces.new.items ≡ traces.old.items ++ trace ∷ []) }
     ensures unasked { traced ≡ false → traces.new ≡ traces.old }
 {
     if traced {
