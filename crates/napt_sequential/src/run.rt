@@ -1,6 +1,6 @@
 //! The sequential run.
 
-ghost use Rattle.std.specs.Prelude.{◌≡◌, ◌↔◌, ◌+◌, ◌*◌, ◌^◌, ◌<◌, ◌≤◌, ◌++◌, ℕ, true, [], ◌∷◌, length, map, flat_map, AllPairs, IfOk, IfErr, OnOk, Some, Err};
+ghost use Rattle.std.specs.Prelude.{◌≡◌, ◌↔◌, ◌+◌, ◌*◌, ◌^◌, ◌<◌, ◌≤◌, ◌++◌, ℕ, false, true, [], ◌∷◌, length, map, flat_map, AllPairs, IfOk, IfErr, OnOk, Some, Err};
 ghost use Rattle.std.specs.List.{slice_get};
 ghost use Rattle.napt_config.specs.Rules.{Rules, KeepsRules};
 ghost use Rattle.napt_rules.specs.Prelude.{opening, act, AreRowsApart};
@@ -198,7 +198,9 @@ struct All {
 
 /// Puts a trace behind the others where they are kept.
 fn keep(traces: &mut Vec<Trace>, trace: Trace, traced: bool) -> Result<(), AllocError>
-    ensures { OnOk result (traced ≡ true → traces.new.items ≡ traces.old.items ++ trace ∷ []) }
+    ensures asked { OnOk result (traced ≡ true →
+        traces.new.items ≡ traces.old.items ++ trace ∷ []) }
+    ensures unasked { traced ≡ false → traces.new ≡ traces.old }
 {
     if traced {
         traces.push(trace)?;

@@ -53,7 +53,7 @@ loop-input-preserved c =
           c.in_ok-stepped.stepped.outcome before.outcomes follows),
       λ traced. traces_next c.args.config.now inputs n input c.loop-input-test.true (sym c.input-item.is)
           c.len-number.result c.max-last.result number now c.keep.new.traces.items
-          (c.in_ok-keep.ensures traced
+          (c.in_ok-keep.ensures.asked traced
           ∙ (ap (λ (ts : List Trace). ts ++ c.in_ok-stepped.stepped.trace ∷ []) (c.loop-input.invariant.1 traced)
           ∙ ap (λ (x : Trace). traces c.args.config.now (take n inputs) ++ x ∷ []) steps.1)),
     )
