@@ -1,5 +1,5 @@
 -- How the flows of a binding are kept: one as it is, few in a list, many behind maps.
-use Rattle.std.specs.Prelude.{ℕ, ◌≤◌, nat_le, Bool, not, ◌&&◌, List, [], ◌∷◌, length}
+use Rattle.std.specs.Prelude.{ℕ, ◌≤◌, nat_le, Bool, true, false, not, ◌&&◌, List, [], ◌∷◌, length}
 use Rattle.std.specs.List.{list_any}
 use Rattle.napt_config.specs.declared.settings.Timers.{Timers}
 use Rattle.napt_rules.specs.declared.Flow.{Flow}
@@ -26,6 +26,20 @@ flows_of Empty = []
 flows_of (One flow) = flow ∷ []
 flows_of (Few flows) = flows.items
 flows_of (Many many) = somes many.value.slots.slots
+
+-- kept with maps
+abbrev pub has_maps : Kept → Bool
+has_maps Empty = false
+has_maps (One flow) = false
+has_maps (Few flows) = false
+has_maps (Many many) = true
+
+-- a list that is full
+abbrev pub are_full : Timers → Sent → Kept → Bool
+are_full timers sent Empty = false
+are_full timers sent (One flow) = false
+are_full timers sent (Few flows) = is_full timers sent flows.items
+are_full timers sent (Many many) = false
 
 abbrev pub IsKept : Kept → Type 0
 IsKept Empty = Unit {0}

@@ -12,7 +12,7 @@ pub struct Addresses {
 }
 
 impl Addresses {
-    ghost use Rattle.napt_binding.specs.Counts.{count_at, room_of};
+    ghost use Rattle.napt_binding.specs.Counts.{count_at, room_of, IsAbsent};
 
     /// Nothing is counted. It takes no memory.
     pub fn new(alloc: Global) -> Addresses
@@ -69,6 +69,7 @@ impl Addresses {
     pub fn take(&mut self, address: u32)
         ensures counts { (other : ℕ) → count_at self.new other ≡ count_at self.old other
             - cond {A = ℕ} (address == other) 1 0 }
+        ensures gone { count_at self.new address ≡ 0 → IsAbsent self.new address }
         ensures room { room_of self.old ≤ room_of self.new }
     {
         if let Some(count) = self.counts.get_mut(&address) {

@@ -2,9 +2,8 @@
 //!
 //! No call looks at more than a few of them, except to drop dead ones and to give up their slots.
 
-ghost use Rattle.std.specs.Prelude.{◌≡◌, ◌==◌, ◌≤◌, ℕ, Bool, true, filter, OnOk, OnErr, IfOk, [], ◌∷◌};
+ghost use Rattle.std.specs.Prelude.{◌≡◌, ◌==◌, ◌≤◌, ◌||◌, ℕ, Bool, true, false, filter, OnOk, OnErr, IfOk, [], ◌∷◌};
 ghost use Rattle.std.specs.List.{list_any};
-ghost use Rattle.napt_config.specs.Rules.{AreTimers};
 ghost use Rattle.napt_binding.specs.Ends.{last_end};
 ghost use Rattle.napt_rules.specs.Life as life;
 ghost use Rattle.napt_binding.specs.Kept.{flows_of, IsKept};
@@ -19,11 +18,11 @@ mod few;
 mod many;
 mod slots;
 
+use crate::idle_timers::IdleTimers;
 use crate::life::{flow_end, flow_moment, is_live_flow, is_standing};
 use crate::sent::{begun_by, used_by};
 use crate::traffic::{is_flow_of, used};
 use many::Many;
-use napt_config::Timers;
 use napt_rules::{Flow, Sent};
 use napt_wire::{Endpoint, Flags, Protocol, Way};
 use std::alloc::{AllocError, Global};
@@ -61,8 +60,7 @@ impl Model for Flows {
 }
 
 /// Whether so many flows of a binding count that one more is kept with maps.
-fn is_full(flows: &[Flow], timers: Timers, sent: Sent) -> bool
-    requires { AreTimers timers }
+fn is_full(flows: &[Flow], timers: IdleTimers, sent: Sent) -> bool
     ensures { result ≡ storage.is_full timers sent flows.now }
 {
     if flows.len() < FEW {
@@ -73,14 +71,15 @@ fn is_full(flows: &[Flow], timers: Timers, sent: Sent) -> bool
 }
 
 /// One flow, after a packet goes out: still one if it is of the packet's remote, or is dead.
-fn after_one(alloc: Global, timers: Timers, sent: Sent, flow: Flow) -> Result<Kept, AllocError>
-    requires { AreTimers timers }
+fn after_one(alloc: Global, timers: IdleTimers, sent: Sent, flow: Flow) -> Result<Kept, AllocError>
     ensures kept { IfOk result IsKept }
     ensures flows { IfOk result (λ kept. packets.standing_at timers sent (flows_of kept)
         ≡ packets.used_by sent (packets.standing_at timers sent (flow ∷ []))) }
     ensures live { IfOk result (λ kept.
         list_any (life.is_live_flow timers sent.now) (flows_of kept) ≡ true) }
+    ensures maps { IfOk result (λ kept. storage.has_maps kept ≡ false) }
 {
+    timers.keep_limits();
     if !is_standing(&flow, timers, sent.now, sent.protocol) {
         return Ok(Kept::One(begun_by(sent)));
     }
@@ -93,6 +92,47 @@ fn after_one(alloc: Global, timers: Timers, sent: Sent, flow: Flow) -> Result<Ke
     Ok(Kept::Few(flows))
 }
 
+/// Uses the flow of the packet's remote; if none is live, begins one. If memory is refused nothing changes. Few flows
+/// get maps if they are full, and only then.
+fn use_kept(
+    kept: &mut Kept,
+    alloc: Global,
+    timers: IdleTimers,
+    sent: Sent,
+) -> Result<(), AllocError>
+    requires { IsKept kept.old }
+    ensures kept { IsKept kept.new }
+    ensures ok { OnOk result (packets.standing_at timers sent (flows_of kept.new)
+        ≡ packets.used_by sent (packets.standing_at timers sent (flows_of kept.old))) }
+    ensures live { OnOk result
+        (list_any (life.is_live_flow timers sent.now) (flows_of kept.new) ≡ true) }
+    ensures err { OnErr result (flows_of kept.new ≡ flows_of kept.old) }
+    ensures maps { OnOk result (storage.has_maps kept.new
+        ≡ (storage.has_maps kept.old || storage.are_full timers sent kept.old)) }
+{
+    timers.keep_limits();
+    match kept {
+        Kept::Empty => {
+            *kept = Kept::One(begun_by(sent));
+            return Ok(());
+        }
+        Kept::One(flow) => {
+            *kept = after_one(alloc, timers, sent, *flow)?;
+            return Ok(());
+        }
+        Kept::Few(flows) => {
+            if !is_full(flows, timers, sent) {
+                return few::use_flow(flows, timers, sent);
+            }
+            let mut many = Many::of(alloc, flows)?;
+            many.use_flow(alloc, timers, sent)?;
+            *kept = Kept::Many(Box::new(alloc, many)?);
+            return Ok(());
+        }
+        Kept::Many(many) => return many.use_flow(alloc, timers, sent),
+    }
+}
+
 impl Flows {
     /// No flows. It takes no memory.
     pub fn new(_alloc: Global) -> Flows
@@ -102,19 +142,18 @@ impl Flows {
     }
 
     /// The flows of a binding whose first packet goes out. They take no memory of their own.
-    pub fn begun(_alloc: Global, timers: Timers, sent: Sent) -> Result<Flows, AllocError>
-        requires { AreTimers timers }
+    pub fn begun(_alloc: Global, timers: IdleTimers, sent: Sent) -> Result<Flows, AllocError>
         ensures { IfOk result (λ flows. packets.standing_at timers sent flows
             ≡ packets.used_by sent []) }
     {
+        timers.keep_limits();
         Ok(Flows {
             kept: Kept::One(begun_by(sent)),
         })
     }
 
     /// The last moment at which one of these TCP flows is live; one is live now.
-    pub(crate) fn last_moment(&self, timers: Timers, now: u64) -> u64
-        requires timers { AreTimers timers }
+    pub(crate) fn last_moment(&self, timers: IdleTimers, now: u64) -> u64
         requires live { list_any (life.is_live_flow timers now) self.now ≡ true }
         ensures later { now ≤ result }
         ensures lives { (t : ℕ) → t ≤ result → list_any (life.is_live_flow timers t) self.now
@@ -129,8 +168,7 @@ impl Flows {
     }
 
     /// When the last of these TCP flows ends, in ns; 0 if there is none.
-    pub(crate) fn last_end(&self, timers: Timers) -> u128
-        requires { AreTimers timers }
+    pub(crate) fn last_end(&self, timers: IdleTimers) -> u128
         ensures { result ≡ last_end timers self.now }
     {
         match &self.kept {
@@ -142,8 +180,7 @@ impl Flows {
     }
 
     /// Whether one of these TCP flows is live.
-    pub(crate) fn has_live(&self, timers: Timers, now: u64) -> bool
-        requires { AreTimers timers }
+    pub(crate) fn has_live(&self, timers: IdleTimers, now: u64) -> bool
         ensures { result ≡ list_any (life.is_live_flow timers now) self.now }
     {
         match &self.kept {
@@ -155,8 +192,7 @@ impl Flows {
     }
 
     /// Removes the dead ones of these TCP flows.
-    pub(crate) fn keep_live(&mut self, timers: Timers, now: u64)
-        requires { AreTimers timers }
+    pub(crate) fn keep_live(&mut self, timers: IdleTimers, now: u64)
         ensures { self.new ≡ filter (life.is_live_flow timers now) self.old }
     {
         match &mut self.kept {
@@ -199,35 +235,15 @@ impl Flows {
     pub(crate) fn use_flow(
         &mut self,
         alloc: Global,
-        timers: Timers,
+        timers: IdleTimers,
         sent: Sent,
     ) -> Result<(), AllocError>
-        requires { AreTimers timers }
         ensures ok { OnOk result (packets.standing_at timers sent self.new
             ≡ packets.used_by sent (packets.standing_at timers sent self.old)) }
         ensures live { OnOk result (list_any (life.is_live_flow timers sent.now) self.new ≡ true) }
         ensures err { OnErr result (self.new ≡ self.old) }
     {
-        match &mut self.kept {
-            Kept::Empty => {
-                self.kept = Kept::One(begun_by(sent));
-                return Ok(());
-            }
-            Kept::One(flow) => {
-                self.kept = after_one(alloc, timers, sent, *flow)?;
-                return Ok(());
-            }
-            Kept::Few(flows) => {
-                if !is_full(flows, timers, sent) {
-                    return few::use_flow(flows, timers, sent);
-                }
-                let mut many = Many::of(alloc, flows)?;
-                many.use_flow(alloc, timers, sent)?;
-                self.kept = Kept::Many(Box::new(alloc, many)?);
-                return Ok(());
-            }
-            Kept::Many(many) => return many.use_flow(alloc, timers, sent),
-        }
+        use_kept(&mut self.kept, alloc, timers, sent)
     }
 
     /// Marks the remote's flow, if any, as used now by an incoming segment.

@@ -5,6 +5,7 @@
 
 mod addresses;
 mod flows;
+mod idle_timers;
 mod inbound;
 mod life;
 mod sent;
@@ -13,6 +14,7 @@ mod traffic;
 
 pub use addresses::Addresses;
 pub use flows::Flows;
+pub use idle_timers::IdleTimers;
 pub use inbound::inbound_of;
 pub use life::{end_of, is_live, until};
 pub use napt_rules::{Flow, Inbound, Marks, Sent};

@@ -2,15 +2,14 @@
 
 ghost use Rattle.std.specs.Prelude.{◌≡◌, ◌≤◌, ◌<◌, ◌+◌, ◌*◌, ℕ, true, filter};
 ghost use Rattle.std.specs.List.{list_any};
-ghost use Rattle.napt_config.specs.Rules.{AreTimers};
 ghost use Rattle.napt_rules.specs.Life as life;
 ghost use Rattle.napt_binding.specs.Standing.{is_standing};
 ghost use Rattle.napt_binding.specs.Ends.{least_timer, end_after, end_of};
 ghost use Rattle.napt_rules.specs.Marks as marks;
 
 use crate::Binding;
+use crate::idle_timers::IdleTimers;
 use crate::session::idle;
-use napt_config::Timers;
 use napt_rules::Flow;
 use napt_wire::Protocol;
 
@@ -45,32 +44,28 @@ pub(crate) fn end_after(last: u64, seconds: u64) -> u128
 }
 
 /// The first time, in ns, at which a TCP flow is no longer live, if it is not used again.
-pub(crate) fn flow_end(flow: &Flow, timers: Timers) -> u128
-    requires { AreTimers timers }
+pub(crate) fn flow_end(flow: &Flow, timers: IdleTimers) -> u128
     ensures { result ≡ end_after flow.now.last (marks.idle timers flow.now.marks) }
 {
     end_after(flow.last, idle(flow.marks, timers))
 }
 
 /// The last moment at which a TCP flow is live.
-pub(crate) fn flow_moment(flow: &Flow, timers: Timers) -> u64
-    requires { AreTimers timers }
+pub(crate) fn flow_moment(flow: &Flow, timers: IdleTimers) -> u64
     ensures { (t : ℕ) → t ≤ result → life.is_live_flow timers t flow.now ≡ true }
 {
     last_moment(flow.last, idle(flow.marks, timers))
 }
 
 /// Whether a TCP flow is live.
-pub(crate) fn is_live_flow(flow: &Flow, timers: Timers, now: u64) -> bool
-    requires { AreTimers timers }
+pub(crate) fn is_live_flow(flow: &Flow, timers: IdleTimers, now: u64) -> bool
     ensures { result ≡ life.is_live_flow timers now flow.now }
 {
     is_recent(now, flow.last, idle(flow.marks, timers))
 }
 
 /// Whether a flow of the protocol counts: one outside TCP lives as long as its binding.
-pub(crate) fn is_standing(flow: &Flow, timers: Timers, now: u64, protocol: Protocol) -> bool
-    requires { AreTimers timers }
+pub(crate) fn is_standing(flow: &Flow, timers: IdleTimers, now: u64, protocol: Protocol) -> bool
     ensures { result ≡ is_standing timers now protocol flow.now }
 {
     match protocol {
@@ -81,32 +76,30 @@ pub(crate) fn is_standing(flow: &Flow, timers: Timers, now: u64, protocol: Proto
 
 /// Whether the binding is live at `now` (ns): it was used less than its timer ago (RFC 4787, REQ-5 and REQ-6; RFC 5508, REQ-2),
 /// in TCP one of its flows was (RFC 5382, REQ-5). A redirect always is.
-pub fn is_live(binding: &Binding, timers: Timers, now: u64) -> bool
-    requires { AreTimers timers }
+pub fn is_live(binding: &Binding, timers: IdleTimers, now: u64) -> bool
     ensures { result ≡ life.is_live timers now binding.now }
 {
     if binding.fixed {
         return true;
     }
     match binding.protocol {
-        Protocol::Icmp => is_recent(now, binding.last, timers.icmp),
-        Protocol::Udp => is_recent(now, binding.last, timers.udp),
+        Protocol::Icmp => is_recent(now, binding.last, timers.seconds.icmp),
+        Protocol::Udp => is_recent(now, binding.last, timers.seconds.udp),
         Protocol::Tcp => binding.flows.has_live(timers, now),
     }
 }
 
 /// When the binding ends if no packet goes through it: the first time, in ns, at which it is no longer live. `None` for
 /// a redirect, which never ends.
-pub fn end_of(binding: &Binding, timers: Timers) -> Option<u128>
-    requires { AreTimers timers }
+pub fn end_of(binding: &Binding, timers: IdleTimers) -> Option<u128>
     ensures { result ≡ end_of timers binding.now }
 {
     if binding.fixed {
         return None;
     }
     let end = match binding.protocol {
-        Protocol::Icmp => end_after(binding.last, timers.icmp),
-        Protocol::Udp => end_after(binding.last, timers.udp),
+        Protocol::Icmp => end_after(binding.last, timers.seconds.icmp),
+        Protocol::Udp => end_after(binding.last, timers.seconds.udp),
         Protocol::Tcp => binding.flows.last_end(timers),
     };
     Some(end)
@@ -114,8 +107,7 @@ pub fn end_of(binding: &Binding, timers: Timers) -> Option<u128>
 
 /// Until when (ns) a binding that is live now is sure to live, whatever packets come: at least now, and no longer than
 /// a packet now would keep it.
-pub fn until(binding: &Binding, timers: Timers, now: u64) -> u64
-    requires timers { AreTimers timers }
+pub fn until(binding: &Binding, timers: IdleTimers, now: u64) -> u64
     requires live { life.is_live timers now binding.now ≡ true }
     ensures later { now ≤ result }
     ensures near { result < now + least_timer binding.now.protocol timers * life.second }
@@ -126,17 +118,17 @@ pub fn until(binding: &Binding, timers: Timers, now: u64) -> u64
     }
     match binding.protocol {
         Protocol::Icmp => {
-            last_moment(binding.last, timers.icmp)
-                .min(last_moment(now, timers.icmp))
+            last_moment(binding.last, timers.seconds.icmp)
+                .min(last_moment(now, timers.seconds.icmp))
                 .max(now)
         }
         Protocol::Udp => {
-            last_moment(binding.last, timers.udp)
-                .min(last_moment(now, timers.udp))
+            last_moment(binding.last, timers.seconds.udp)
+                .min(last_moment(now, timers.seconds.udp))
                 .max(now)
         }
         Protocol::Tcp => {
-            let least = timers.established.min(timers.transitory);
+            let least = timers.seconds.established.min(timers.seconds.transitory);
             binding
                 .flows
                 .last_moment(timers, now)
@@ -146,8 +138,7 @@ pub fn until(binding: &Binding, timers: Timers, now: u64) -> u64
 }
 
 /// Removes a TCP binding's dead flows.
-pub(crate) fn purge_flows(binding: &mut Binding, timers: Timers, now: u64)
-    requires { AreTimers timers }
+pub(crate) fn purge_flows(binding: &mut Binding, timers: IdleTimers, now: u64)
     ensures { binding.new ≡ life.with_live_flows timers now binding.old }
 {
     if let Protocol::Tcp = binding.protocol {

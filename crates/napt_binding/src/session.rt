@@ -1,9 +1,9 @@
 //! The marks of a TCP flow (RFC 5382, REQ-2 and REQ-5).
 
-ghost use Rattle.std.specs.Prelude.{◌≡◌};
+ghost use Rattle.std.specs.Prelude.{◌≡◌, ◌<◌, ◌≤◌};
 ghost use Rattle.napt_rules.specs.Marks as rules;
 
-use napt_config::Timers;
+use crate::idle_timers::IdleTimers;
 use napt_rules::Marks;
 use napt_wire::{Flags, Way};
 
@@ -30,13 +30,15 @@ pub(crate) fn is_established(marks: Marks) -> bool
 }
 
 /// How long the flow may be idle, in seconds.
-pub(crate) fn idle(marks: Marks, timers: Timers) -> u64
-    ensures { result ≡ rules.idle timers marks }
+pub(crate) fn idle(marks: Marks, timers: IdleTimers) -> u64
+    ensures value { result ≡ rules.idle timers marks }
+    ensures some { 0 < result }
+    ensures few { result ≤ 1_000_000_000 }
 {
     if is_established(marks) {
-        timers.established
+        timers.seconds.established
     } else {
-        timers.transitory
+        timers.seconds.transitory
     }
 }
 

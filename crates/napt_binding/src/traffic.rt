@@ -1,7 +1,6 @@
 //! Packets through one binding.
 
 ghost use Rattle.std.specs.Prelude.{◌≡◌, true, OnOk, OnErr};
-ghost use Rattle.napt_config.specs.Rules.{AreTimers};
 ghost use Rattle.napt_rules.specs.Filtering as filtering;
 ghost use Rattle.napt_rules.specs.Life as life;
 ghost use Rattle.napt_rules.specs.Marks as marks;
@@ -9,9 +8,10 @@ ghost use Rattle.napt_rules.specs.Traffic as traffic;
 ghost use Rattle.napt_binding.specs.Entering.{left_by, entered};
 
 use crate::Binding;
+use crate::idle_timers::IdleTimers;
 use crate::life::purge_flows;
 use crate::session::{NO_MARKS, marked};
-use napt_config::{Filter, Refresh, Timers};
+use napt_config::{Filter, Refresh};
 use napt_rules::{Flow, Inbound, Sent};
 use napt_wire::{Cause, Endpoint, Flags, Protocol, Way};
 use std::alloc::{AllocError, Global};
@@ -69,12 +69,11 @@ fn permits(binding: &Binding, inbound: Inbound, remote: Endpoint) -> bool
 pub fn send(
     binding: &mut Binding,
     alloc: Global,
-    timers: Timers,
+    timers: IdleTimers,
     now: u64,
     remote: Endpoint,
     flags: Flags,
 ) -> Result<(), AllocError>
-    requires { AreTimers timers }
     ensures ok { OnOk result (life.with_live_flows timers now binding.new
         ≡ traffic.sent remote flags now (life.with_live_flows timers now binding.old)) }
     ensures live { OnOk result (life.is_live timers now binding.new ≡ true) }
@@ -124,13 +123,12 @@ fn receive(binding: &mut Binding, inbound: Inbound, now: u64, remote: Endpoint, 
 /// memory.
 pub fn take_in(
     binding: &mut Binding,
-    timers: Timers,
+    timers: IdleTimers,
     inbound: Inbound,
     now: u64,
     remote: Endpoint,
     flags: Flags,
 ) -> Result<Endpoint, Cause>
-    requires { AreTimers timers }
     ensures answer { result ≡ entered inbound remote
         (life.with_live_flows timers now binding.old) }
     ensures left { binding.new ≡ left_by inbound remote flags now

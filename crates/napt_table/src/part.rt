@@ -16,9 +16,8 @@ ghost use Rattle.napt_table.specs.Counts.{are_counted, count_in, HasPlace};
 use crate::TimedRow;
 use crate::host_counts::HostCounts;
 use crate::rows::row_of;
-use napt_binding::{Binding, Flows, end_of, is_live, send, take_in, until};
+use napt_binding::{Binding, Flows, IdleTimers, end_of, is_live, send, take_in, until};
 use napt_collections::Due;
-use napt_config::Timers;
 use napt_numbers::Numbers;
 use napt_rules::{Inbound, Received, Row, Sent};
 use napt_wire::{Cause, Endpoint, Protocol};
@@ -30,7 +29,7 @@ use std::collections::HashMap;
 pub(crate) struct Part {
     /// The external address.
     address: u32,
-    timers: Timers,
+    timers: IdleTimers,
     /// The time of the last outgoing packet without a binding, of any protocol, in ns: what had ended by then is gone.
     at: u64,
     by_number: HashMap<u16, Binding>,
@@ -47,7 +46,6 @@ pub(crate) struct Part {
 impl Part {
     ghost use Rattle.std.specs.Prelude.{All, IfOk};
     ghost use Rattle.std.specs.HashMap.{spare};
-    ghost use Rattle.napt_config.specs.Rules.{AreTimers};
     ghost use Rattle.napt_rules.specs.Prelude.{Binding, is_live};
     ghost use Rattle.napt_numbers.specs.Places.{is_used};
     ghost use Rattle.napt_table.specs.Hosts.{held_for};
@@ -57,11 +55,10 @@ impl Part {
     pub(crate) fn new(
         alloc: Global,
         address: u32,
-        timers: Timers,
+        timers: IdleTimers,
         protocol: Protocol,
         counted: bool,
     ) -> Result<Part, AllocError>
-        requires { AreTimers timers }
         ensures part { IfOk result IsPart }
         ensures due { IfOk result AreDue }
         ensures none { IfOk result (λ part. (n : ℕ) → held part n ≡ None) }
@@ -71,6 +68,7 @@ impl Part {
         ensures protocol { IfOk result (λ part. part.numbers.protocol ≡ protocol) }
         ensures counted { IfOk result (λ part. are_counted part.hosts ≡ counted) }
     {
+        timers.keep_limits();
         Ok(Part {
             address,
             timers,
@@ -85,7 +83,6 @@ impl Part {
 
     /// The inside endpoint of the live binding with the number.
     pub(crate) fn inside_of(&self, now: u64, number: u16) -> Option<Endpoint>
-        requires { AreTimers self.now.timers }
         ensures { result ≡ option_map (λ b. b.inside)
             (seen self.now.timers now (held self.now number)) }
     {
@@ -97,7 +94,6 @@ impl Part {
 
     /// The number of the live binding of the inside endpoint.
     pub(crate) fn number_of(&self, now: u64, inside: Endpoint) -> Option<u16>
-        requires { AreTimers self.now.timers }
         ensures none { number_at self.now inside ≡ None → result ≡ None }
         ensures some { (n : ℕ) → number_at self.now inside ≡ Some n →
             result ≡ option_map (λ b. n) (seen self.now.timers now (held self.now n)) }
@@ -111,10 +107,10 @@ impl Part {
 
     /// The live binding with the number, with its end.
     pub(crate) fn timed(&self, now: u64, number: u16) -> Option<TimedRow>
-        requires { AreTimers self.now.timers }
         ensures { result ≡ option_map (timed self.now.timers)
             (seen self.now.timers now (held self.now number)) }
     {
+        self.timers.keep_limits();
         match self.by_number.get(&number) {
             Some(binding) if is_live(binding, self.timers, now) => Some(TimedRow {
                 row: row_of(binding),
@@ -126,7 +122,6 @@ impl Part {
 
     /// Takes in a packet: the inside endpoint of the live binding with the number, if it lets the remote in.
     pub(crate) fn receive(&mut self, inbound: Inbound, packet: Received) -> Result<Endpoint, Cause>
-        requires { AreTimers self.old.timers }
         ensures one { ChangesOne packet.number self.old self.new }
         ensures absent { seen self.old.timers packet.now (held self.old packet.number) ≡ None →
             (result ≡ Err NoBinding)
@@ -216,9 +211,9 @@ impl Part {
             return;
         }
         if is_live(binding, timers, at) {
-            let end = until(binding, timers, at);
+            let later = until(binding, timers, at);
             let due = &mut self.due;
-            due.put(end, number);
+            due.put(later, number);
         } else {
             self.remove(number);
         }
@@ -329,7 +324,6 @@ impl Part {
     ghost use Rattle.std.specs.Prelude.{List, [], IfOk, OnErr, ok_or};
     ghost use Rattle.napt_wire.specs.declared.Way.TheVariants.{Outgoing as WayOut};
     ghost use Rattle.napt_wire.specs.declared.Cause.TheVariants.{NoPort};
-    ghost use Rattle.napt_config.specs.Rules.{AreTimers};
     ghost use Rattle.napt_rules.specs.Prelude.{Binding, change_first, is_live, live_flows, with_live_flows, is_flow_of, used, with_flow, sent, choice, out_made};
     ghost use Rattle.napt_table.specs.Held.{Shows, redirect_of};
     ghost use Rattle.napt_table.specs.Part.{held, number_at, IsPart, AreDue, HoldsSame, StaysPart, WentOut, HasRoom};
@@ -375,7 +369,6 @@ impl Part {
         alloc: Global,
         packet: Sent,
     ) -> Result<Option<u16>, AllocError>
-        requires { AreTimers self.old.timers }
         ensures went { IfOk result (WentOut packet self.old self.new) }
         ensures refused { OnErr result (HoldsSame self.old self.new) }
     {
@@ -404,7 +397,6 @@ impl Part {
 
     /// Takes the memory for a new binding for the outgoing packet, and begins its flows. What is held does not change.
     pub(crate) fn prepare(&mut self, alloc: Global, packet: Sent) -> Result<Flows, AllocError>
-        requires { AreTimers self.old.timers }
         ensures same { HoldsSame self.old self.new }
         ensures room { OnOk result (HasRoom self.new) }
         ensures flows { IfOk result (λ flows.
@@ -477,12 +469,10 @@ impl Part {
 
 impl Part {
     ghost use Rattle.std.specs.Prelude.{◌++◌};
-    ghost use Rattle.napt_config.specs.Rules.{AreTimers};
     ghost use Rattle.napt_table.specs.Listing.{part_rows, AreRead};
 
     /// Adds the rows of the bindings that are live at `now` (ns), in no order.
     pub(crate) fn push_rows(&self, now: u64, made: &mut Vec<Row>) -> Result<(), AllocError>
-        requires { AreTimers self.now.timers }
         ensures rows { OnOk result (made.new.items ≡ made.old.items ++ part_rows now self.now) }
         ensures read { OnOk result (AreRead now self.now) }
     {

@@ -2,7 +2,6 @@
 
 ghost use Rattle.std.specs.Prelude.{◌≡◌, ◌==◌, ◌≤◌, ℕ, Bool, true, false, length, position, filter, vec_len, vec_capacity, OnOk, OnErr};
 ghost use Rattle.std.specs.List.{list_any};
-ghost use Rattle.napt_config.specs.Rules.{AreTimers};
 ghost use Rattle.napt_rules.specs.Prelude.{change_first};
 ghost use Rattle.napt_rules.specs.Life as life;
 ghost use Rattle.napt_binding.specs.Standing.{standing_flow_of};
@@ -12,17 +11,16 @@ ghost use Rattle.napt_binding.specs.Sent as packets;
 ghost use Rattle.napt_binding.specs.Slots.{AreDistinct};
 ghost use Rattle.napt_rules.specs.Traffic as traffic;
 
+use crate::idle_timers::IdleTimers;
 use crate::life::{flow_end, flow_moment, is_live_flow, is_standing};
 use crate::sent::{begun_by, used_by};
 use crate::traffic::{is_flow_of, used};
-use napt_config::Timers;
 use napt_rules::{Flow, Sent};
 use napt_wire::{Endpoint, Flags, Protocol, Way};
 use std::alloc::AllocError;
 
 /// The last moment at which one of these flows is live; one is live now.
-pub(super) fn last_moment_of(flows: &[Flow], timers: Timers, now: u64) -> u64
-    requires timers { AreTimers timers }
+pub(super) fn last_moment_of(flows: &[Flow], timers: IdleTimers, now: u64) -> u64
     requires live { list_any (life.is_live_flow timers now) flows.now ≡ true }
     ensures later { now ≤ result }
     ensures lives { (t : ℕ) → t ≤ result → list_any (life.is_live_flow timers t) flows.now ≡ true }
@@ -35,8 +33,7 @@ pub(super) fn last_moment_of(flows: &[Flow], timers: Timers, now: u64) -> u64
 }
 
 /// When the last of these flows ends, in ns; 0 if there is none.
-pub(super) fn last_end(flows: &[Flow], timers: Timers) -> u128
-    requires { AreTimers timers }
+pub(super) fn last_end(flows: &[Flow], timers: IdleTimers) -> u128
     ensures { result ≡ last_end timers flows.now }
 {
     let mut last = 0;
@@ -52,8 +49,7 @@ pub(super) fn flow_place(flows: &[Flow], remote: Endpoint) -> Option<usize>
     flows.iter().position(|flow| is_flow_of(flow, remote))
 }
 
-pub(super) fn standing_place(flows: &[Flow], timers: Timers, sent: Sent) -> Option<usize>
-    requires { AreTimers timers }
+pub(super) fn standing_place(flows: &[Flow], timers: IdleTimers, sent: Sent) -> Option<usize>
     ensures { result
         ≡ position (standing_flow_of timers sent.now sent.protocol sent.remote) flows.now }
 {
@@ -62,8 +58,7 @@ pub(super) fn standing_place(flows: &[Flow], timers: Timers, sent: Sent) -> Opti
 }
 
 /// How many flows stand when the packet goes out.
-pub(super) fn count_standing(flows: &[Flow], timers: Timers, sent: Sent) -> usize
-    requires { AreTimers timers }
+pub(super) fn count_standing(flows: &[Flow], timers: IdleTimers, sent: Sent) -> usize
     ensures { result ≡ length (packets.standing_at timers sent flows.now) }
 {
     flows
@@ -73,8 +68,7 @@ pub(super) fn count_standing(flows: &[Flow], timers: Timers, sent: Sent) -> usiz
 }
 
 /// Removes the dead ones of these TCP flows.
-pub(super) fn keep_live(flows: &mut Vec<Flow>, timers: Timers, now: u64)
-    requires { AreTimers timers }
+pub(super) fn keep_live(flows: &mut Vec<Flow>, timers: IdleTimers, now: u64)
     ensures flows { flows.new.items ≡ filter (life.is_live_flow timers now) flows.old.items }
     ensures capacity { vec_capacity flows.new ≡ vec_capacity flows.old }
     ensures bound { vec_len flows.new ≤ vec_len flows.old }
@@ -83,8 +77,7 @@ pub(super) fn keep_live(flows: &mut Vec<Flow>, timers: Timers, now: u64)
 }
 
 /// Removes the dead flows if they are TCP.
-fn keep_standing(flows: &mut Vec<Flow>, timers: Timers, now: u64, protocol: Protocol)
-    requires { AreTimers timers }
+fn keep_standing(flows: &mut Vec<Flow>, timers: IdleTimers, now: u64, protocol: Protocol)
     ensures flows { flows.new.items ≡ life.live_flows timers now protocol flows.old.items }
     ensures capacity { vec_capacity flows.new ≡ vec_capacity flows.old }
     ensures bound { vec_len flows.new ≤ vec_len flows.old }
@@ -95,8 +88,11 @@ fn keep_standing(flows: &mut Vec<Flow>, timers: Timers, now: u64, protocol: Prot
 }
 
 /// Uses the flow of the packet's remote; if none is live, begins one and removes the dead ones.
-pub(super) fn use_flow(flows: &mut Vec<Flow>, timers: Timers, sent: Sent) -> Result<(), AllocError>
-    requires timers { AreTimers timers }
+pub(super) fn use_flow(
+    flows: &mut Vec<Flow>,
+    timers: IdleTimers,
+    sent: Sent,
+) -> Result<(), AllocError>
     requires distinct { AreDistinct flows.old.items }
     requires bound { length flows.old.items ≤ few }
     requires room { is_full timers sent flows.old.items ≡ false }
@@ -108,6 +104,7 @@ pub(super) fn use_flow(flows: &mut Vec<Flow>, timers: Timers, sent: Sent) -> Res
         (list_any (life.is_live_flow timers sent.now) flows.new.items ≡ true) }
     ensures err { OnErr result (flows.new.items ≡ flows.old.items) }
 {
+    timers.keep_limits();
     if let Some(i) = standing_place(flows, timers, sent) {
         flows[i] = used_by(sent, flows[i]);
         return Ok(());

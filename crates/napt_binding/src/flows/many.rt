@@ -2,7 +2,6 @@
 
 ghost use Rattle.std.specs.Prelude.{◌≡◌, ◌==◌, ◌≤◌, ◌<◌, ◌++◌, ℕ, Bool, true, false, None, Some, [], ◌∷◌, length, filter, slice_set, OnOk, OnErr, IfOk, IfSome};
 ghost use Rattle.std.specs.List.{list_any};
-ghost use Rattle.napt_config.specs.Rules.{AreTimers};
 ghost use Rattle.napt_rules.specs.declared.Flow.{Flow};
 ghost use Rattle.napt_rules.specs.Life as life;
 ghost use Rattle.napt_binding.specs.Standing.{standing_flow_of};
@@ -14,10 +13,10 @@ ghost use Rattle.napt_rules.specs.Traffic as traffic;
 
 use super::slots::Slots;
 use crate::addresses::Addresses;
+use crate::idle_timers::IdleTimers;
 use crate::life::is_standing;
 use crate::sent::{begun_by, used_by};
 use crate::traffic::used;
-use napt_config::Timers;
 use napt_rules::{Flow, Sent};
 use napt_wire::{Endpoint, Flags, Protocol, Way};
 use std::alloc::{AllocError, Global};
@@ -115,8 +114,7 @@ impl Many {
     }
 
     /// Removes a dead TCP flow; returns whether there was one.
-    fn drop_dead(&mut self, timers: Timers, now: u64) -> bool
-        requires timers { AreTimers timers }
+    fn drop_dead(&mut self, timers: IdleTimers, now: u64) -> bool
         requires many { IsMany self.old }
         ensures many { IsMany self.new }
         ensures kept { filter (life.is_live_flow timers now) (somes self.new.slots.slots)
@@ -136,8 +134,7 @@ impl Many {
     }
 
     /// Removes the dead TCP flows.
-    pub(super) fn keep_live(&mut self, timers: Timers, now: u64)
-        requires timers { AreTimers timers }
+    pub(super) fn keep_live(&mut self, timers: IdleTimers, now: u64)
         requires many { IsMany self.old }
         ensures many { IsMany self.new }
         ensures flows { somes self.new.slots.slots ≡ filter (life.is_live_flow timers now)
@@ -149,8 +146,7 @@ impl Many {
     }
 
     /// Removes the dead flows if they are TCP.
-    fn keep_standing(&mut self, timers: Timers, now: u64, protocol: Protocol)
-        requires timers { AreTimers timers }
+    fn keep_standing(&mut self, timers: IdleTimers, now: u64, protocol: Protocol)
         requires many { IsMany self.old }
         ensures many { IsMany self.new }
         ensures flows { somes self.new.slots.slots ≡ life.live_flows timers now protocol
@@ -171,16 +167,14 @@ impl Many {
     }
 
     /// Whether one of the TCP flows is live.
-    pub(super) fn has_live(&self, timers: Timers, now: u64) -> bool
-        requires { AreTimers timers }
+    pub(super) fn has_live(&self, timers: IdleTimers, now: u64) -> bool
         ensures { result ≡ list_any (life.is_live_flow timers now) (somes self.now.slots.slots) }
     {
         self.slots.has_live(timers, now)
     }
 
     /// The last moment at which one of these TCP flows is live; one is live now.
-    pub(super) fn last_moment(&self, timers: Timers, now: u64) -> u64
-        requires timers { AreTimers timers }
+    pub(super) fn last_moment(&self, timers: IdleTimers, now: u64) -> u64
         requires live { list_any (life.is_live_flow timers now) (somes self.now.slots.slots)
             ≡ true }
         ensures later { now ≤ result }
@@ -191,8 +185,7 @@ impl Many {
     }
 
     /// When the last of these TCP flows ends, in ns; 0 if there is none.
-    pub(super) fn last_end(&self, timers: Timers) -> u128
-        requires { AreTimers timers }
+    pub(super) fn last_end(&self, timers: IdleTimers) -> u128
         ensures { result ≡ last_end timers (somes self.now.slots.slots) }
     {
         self.slots.last_end(timers)
@@ -280,8 +273,7 @@ impl Many {
     }
 
     /// Uses the flow of the packet's remote, if it counts; returns whether it does.
-    fn use_standing(&mut self, timers: Timers, sent: Sent) -> bool
-        requires timers { AreTimers timers }
+    fn use_standing(&mut self, timers: IdleTimers, sent: Sent) -> bool
         requires many { IsMany self.old }
         ensures many { IsMany self.new }
         ensures used { result ≡ true →
@@ -295,6 +287,7 @@ impl Many {
             list_any (standing_flow_of timers sent.now sent.protocol sent.remote)
             (somes self.old.slots.slots) ≡ false }
     {
+        timers.keep_limits();
         let Some(place) = self.place_of(sent.remote) else {
             return false;
         };
@@ -312,10 +305,9 @@ impl Many {
     pub(super) fn use_flow(
         &mut self,
         alloc: Global,
-        timers: Timers,
+        timers: IdleTimers,
         sent: Sent,
     ) -> Result<(), AllocError>
-        requires timers { AreTimers timers }
         requires many { IsMany self.old }
         ensures many { IsMany self.new }
         ensures ok { OnOk result (packets.standing_at timers sent (somes self.new.slots.slots)
@@ -326,6 +318,7 @@ impl Many {
         ensures grown { length self.old.slots.slots < length self.new.slots.slots →
             length self.new.slots.slots ≤ most_slots (length (somes self.old.slots.slots)) }
     {
+        timers.keep_limits();
         if self.use_standing(timers, sent) {
             return Ok(());
         }

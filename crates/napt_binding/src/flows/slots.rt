@@ -2,17 +2,16 @@
 
 ghost use Rattle.std.specs.Prelude.{◌≡◌, ◌<◌, ◌≤◌, ◌+◌, ◌++◌, ◌^◌, ℕ, [], ◌∷◌, Some, true, false, nat_lt, length, slice_set, filter, OnOk, IfSome, IfNone};
 ghost use Rattle.std.specs.List.{list_any};
-ghost use Rattle.napt_config.specs.Rules.{AreTimers};
 ghost use Rattle.napt_rules.specs.declared.Flow.{Flow};
 ghost use Rattle.napt_rules.specs.Life as life;
 ghost use Rattle.napt_binding.specs.Ends.{last_end};
 ghost use Rattle.napt_binding.specs.Slots as slots;
 ghost use Rattle.napt_binding.specs.Slots.{somes, Stands, is_recent_time};
 
+use crate::idle_timers::IdleTimers;
 use crate::life::{end_after, is_recent, last_moment};
 use crate::session::is_established;
 use napt_collections::Times;
-use napt_config::Timers;
 use napt_rules::Flow;
 use std::alloc::{AllocError, Global};
 use std::marker::Model;
@@ -185,46 +184,42 @@ impl Slots {
     }
 
     /// A place of a dead TCP flow. It takes two looks.
-    pub(crate) fn dead_place(&self, timers: Timers, now: u64) -> Option<usize>
-        requires { AreTimers timers }
+    pub(crate) fn dead_place(&self, timers: IdleTimers, now: u64) -> Option<usize>
         ensures some { IfSome result (λ place. (flow : Flow) × Stands self.now.slots place flow
             × (life.is_live_flow timers now flow ≡ false)) }
         ensures none { IfNone result ((place : ℕ) (flow : Flow) → Stands self.now.slots place flow →
             life.is_live_flow timers now flow ≡ true) }
     {
-        match outlived_place(&self.established, now, timers.established) {
+        match outlived_place(&self.established, now, timers.seconds.established) {
             Some(place) => Some(place),
-            None => outlived_place(&self.others, now, timers.transitory),
+            None => outlived_place(&self.others, now, timers.seconds.transitory),
         }
     }
 
     /// Whether one of the TCP flows is live. It takes two looks.
-    pub(crate) fn has_live(&self, timers: Timers, now: u64) -> bool
-        requires { AreTimers timers }
+    pub(crate) fn has_live(&self, timers: IdleTimers, now: u64) -> bool
         ensures { result ≡ list_any (life.is_live_flow timers now) (somes self.now.slots) }
     {
-        is_some_recent(&self.established, now, timers.established)
-            || is_some_recent(&self.others, now, timers.transitory)
+        is_some_recent(&self.established, now, timers.seconds.established)
+            || is_some_recent(&self.others, now, timers.seconds.transitory)
     }
 
     /// The last moment at which one of these TCP flows is live; one is live now. It takes two looks.
-    pub(crate) fn last_moment(&self, timers: Timers, now: u64) -> u64
-        requires timers { AreTimers timers }
+    pub(crate) fn last_moment(&self, timers: IdleTimers, now: u64) -> u64
         requires live { list_any (life.is_live_flow timers now) (somes self.now.slots) ≡ true }
         ensures later { now ≤ result }
         ensures lives { (t : ℕ) → t ≤ result → list_any (life.is_live_flow timers t)
             (somes self.now.slots) ≡ true }
     {
-        let established = last_moment_of(&self.established, now, timers.established);
-        established.max(last_moment_of(&self.others, now, timers.transitory))
+        let established = last_moment_of(&self.established, now, timers.seconds.established);
+        established.max(last_moment_of(&self.others, now, timers.seconds.transitory))
     }
 
     /// When the last of the TCP flows ends, in ns; 0 if there is none. It takes two looks.
-    pub(crate) fn last_end(&self, timers: Timers) -> u128
-        requires { AreTimers timers }
+    pub(crate) fn last_end(&self, timers: IdleTimers) -> u128
         ensures { result ≡ last_end timers (somes self.now.slots) }
     {
-        let established = end_of_times(&self.established, timers.established);
-        established.max(end_of_times(&self.others, timers.transitory))
+        let established = end_of_times(&self.established, timers.seconds.established);
+        established.max(end_of_times(&self.others, timers.seconds.transitory))
     }
 }

@@ -18,14 +18,14 @@ pub returns-in-Some-clause-ok : goal.returns-in-Some-clause-ok
 returns-in-Some-clause-ok c =
     let sent = c.args.sent in
     rw (c.used_by.ensures, c.index.ensures)
-    (flow_set c.args.timers c.requires.timers sent.now sent.protocol sent.remote sent.flags
+    (flow_set c.args.timers c.keep_limits.ensures sent.now sent.protocol sent.remote sent.flags
     c.args.flows.now.items c.in-Some.i c.index.result.now (cc))
 
 pub returns-in-Some-clause-live : goal.returns-in-Some-clause-live
 returns-in-Some-clause-live c =
     let sent = c.args.sent in
     rw c.used_by.ensures
-    (live_set c.args.timers c.requires.timers sent.now sent.protocol sent.remote sent.flags
+    (live_set c.args.timers c.keep_limits.ensures sent.now sent.protocol sent.remote sent.flags
     c.args.flows.now.items c.in-Some.i c.index.result.now (cc))
 
 pub returns-clause-distinct : goal.returns-clause-distinct
@@ -36,7 +36,7 @@ returns-clause-distinct c =
     any_nowhere (standing_flow_of c.args.timers sent.now sent.protocol sent.remote) old (cc) in
     rw (c.in-Ok.ensures.items, c.keep_standing.ensures.flows, c.in_ok-reserve.ensures.items, c.begun_by.ensures)
     (distinct_pushed (live_flows c.args.timers sent.now sent.protocol old) _
-    (none_left c.args.timers c.requires.timers sent.now sent.protocol sent.remote sent.flags old none)
+    (none_left c.args.timers c.keep_limits.ensures sent.now sent.protocol sent.remote sent.flags old none)
     (distinct_live c.args.timers sent.now sent.protocol old c.requires.distinct))
 
 pub returns-clause-ok : goal.returns-clause-ok
@@ -46,7 +46,7 @@ returns-clause-ok c =
     let none : list_any (standing_flow_of c.args.timers sent.now sent.protocol sent.remote) old ≡ false =
     any_nowhere (standing_flow_of c.args.timers sent.now sent.protocol sent.remote) old (cc) in
     rw (c.in-Ok.ensures.items, c.keep_standing.ensures.flows, c.in_ok-reserve.ensures.items, c.begun_by.ensures)
-    (flow_begun c.args.timers c.requires.timers sent.now sent.protocol sent.remote sent.flags old none)
+    (flow_begun c.args.timers c.keep_limits.ensures sent.now sent.protocol sent.remote sent.flags old none)
 
 pub returns-clause-bound : goal.returns-clause-bound
 returns-clause-bound c =

@@ -16,7 +16,8 @@ returns-in-Some c =
     let b : Binding = c.in-Some.binding.now in
     let held_is : held c.args.self.now c.args.number ≡ Some b = sym c.in-Some.ensures.value in
     let end_is : c.end_of.result ≡ end_of timers (with_live_flows timers c.args.now b) = c.end_of.ensures
-    ∙ sym (end_without_dead timers c.requires c.args.now b (sym c.is_live.ensures ∙ c.if-is_live.true)) in
+    ∙ sym (end_without_dead timers c.keep_limits.ensures c.args.now b
+    (sym c.is_live.ensures ∙ c.if-is_live.true)) in
     ap (λ (r : _). let t : TimedRow = record { row = r; end = c.end_of.result } in Some t) c.row_of.ensures.row
     ∙ (ap (λ (e : _). let t : TimedRow = record { row = row b; end = e } in Some t) end_is
     ∙ (sym (ap (λ v. option_map (timed timers) (cond v (Some (with_live_flows timers c.args.now b)) None))

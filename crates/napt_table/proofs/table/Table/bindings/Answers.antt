@@ -6,9 +6,6 @@ use Rattle.napt_table.proofs.Listed.{made_in_order}
 use Rattle.napt_table.proofs.Orders.{in_order-from_sort}
 use Rattle.napt_table.proofs.table.Table.bindings.Goals as goal
 
-pub rows-requires : goal.rows-requires
-rows-requires c q = (c.self.invariant.parts_are q).is.timers_are
-
 pub returns : goal.returns
 returns c =
     let table = c.self.inside in

@@ -18,7 +18,7 @@ put-requires-clause-absent c =
     ∙ ap (live_flows c.args.timers sent.now sent.protocol)
     (c.in_ok-make_room.ensures.flows ∙ ap somes (c.if-use_standing.ensures.same refl)) in
     let none : list_any (is_flow_of sent.remote) live ≡ false =
-    none_left c.args.timers c.requires.timers sent.now sent.protocol sent.remote sent.flags old
+    none_left c.args.timers c.keep_limits.ensures sent.now sent.protocol sent.remote sent.flags old
     (c.if-use_standing.ensures.none refl) in
     rw c.begun_by.ensures
     (no_place c.keep_standing.new.self sent.remote c.keep_standing.ensures.many
@@ -36,7 +36,7 @@ returns-clause-ok c =
     let is : somes c.put.new.self.slots.slots ≡ live ++ c.begun_by.result ∷ [] =
     put_next _ _ _ live c.begun_by.result c.put.ensures.slots refl kept in
     ap (live_flows c.args.timers sent.now sent.protocol) (is ∙ ap (λ (f : Flow). live ++ f ∷ []) c.begun_by.ensures)
-    ∙ flow_begun c.args.timers c.requires.timers sent.now sent.protocol sent.remote sent.flags old
+    ∙ flow_begun c.args.timers c.keep_limits.ensures sent.now sent.protocol sent.remote sent.flags old
     (c.if-use_standing.ensures.none refl)
 
 pub returns-clause-live : goal.returns-clause-live
@@ -46,5 +46,5 @@ returns-clause-live c =
     let is : somes c.put.new.self.slots.slots ≡ live ++ c.begun_by.result ∷ [] =
     put_next _ _ _ live c.begun_by.result c.put.ensures.slots refl refl in
     ap (list_any (is_live_flow c.args.timers sent.now)) (is ∙ ap (λ (f : Flow). live ++ f ∷ []) c.begun_by.ensures)
-    ∙ live_begun c.args.timers c.requires.timers sent.now sent.protocol sent.remote sent.flags live
+    ∙ live_begun c.args.timers c.keep_limits.ensures sent.now sent.protocol sent.remote sent.flags live
     (record { remote = sent.remote; marks = no_marks; last = sent.now })

@@ -7,13 +7,13 @@ use Rattle.napt_binding.proofs.flows.many.Many.use_standing.Goals as goal
 pub returns-in_default-clause-none : goal.returns-in_default-clause-none
 returns-in_default-clause-none c given =
     let sent = c.args.sent in
-    none_at_all c.args.timers c.requires.timers sent.now sent.protocol sent.remote sent.flags _
+    none_at_all c.args.timers c.keep_limits.ensures sent.now sent.protocol sent.remote sent.flags _
     (not_found c.args.self.now sent.remote c.requires.many (cc))
 
 pub returns-then-not-is_standing-clause-none : goal.returns-then-not-is_standing-clause-none
 returns-then-not-is_standing-clause-none c given =
     let sent = c.args.sent in
-    none_stands c.args.timers c.requires.timers sent.now sent.protocol sent.remote sent.flags
+    none_stands c.args.timers c.keep_limits.ensures sent.now sent.protocol sent.remote sent.flags
     c.args.self.now.slots.slots c.in-Some.place c.in-Some-get.flow c.in-Some-get.ensures.stands (search rules)
     (one c.args.self.now sent.remote c.in-Some.place c.requires.many (cc))
 
@@ -23,7 +23,7 @@ returns-clause-used c given =
     let at : place_at c.args.self.now sent.remote ≡ Some c.in-Some.place = cc in
     let is = c.in-Some-get.ensures.stands in
     rw (c.change.ensures.slots, c.used_by.ensures)
-    (flow_stood c.args.timers c.requires.timers sent.now sent.protocol sent.remote sent.flags
+    (flow_stood c.args.timers c.keep_limits.ensures sent.now sent.protocol sent.remote sent.flags
     c.args.self.now.slots.slots c.in-Some.place c.in-Some-get.flow is (search rules)
     (place_of_is c.args.self.now sent.remote c.in-Some.place c.in-Some-get.flow c.requires.many at is)
     (one c.args.self.now sent.remote c.in-Some.place c.requires.many at))
@@ -32,7 +32,7 @@ pub returns-clause-live : goal.returns-clause-live
 returns-clause-live c given =
     let sent = c.args.sent in
     rw (c.change.ensures.slots, c.used_by.ensures)
-    (live_stood c.args.timers c.requires.timers sent.now sent.protocol sent.remote sent.flags
+    (live_stood c.args.timers c.keep_limits.ensures sent.now sent.protocol sent.remote sent.flags
     c.args.self.now.slots.slots c.in-Some.place c.in-Some-get.flow c.in-Some-get.ensures.stands)
 
 pub change-requires-clause-stands : goal.change-requires-clause-stands

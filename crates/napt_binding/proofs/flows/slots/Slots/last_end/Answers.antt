@@ -9,13 +9,13 @@ use Rattle.napt_binding.proofs.flows.slots.Slots.last_end.Goals as goal
 
 pub returns : goal.returns
 returns c =
-    rw (← c.self.view_is)
+    rw (← c.self.view_is, ← c.timers.view_is)
     (c.max.ensures ∙ max_before c.end_of_times-established.result c.end_of_times.result
-    (λ t. list_any (is_recent_time t c.args.timers.established) c.self.inside.established.times)
-    (λ t. list_any (is_recent_time t c.args.timers.transitory) c.self.inside.others.times)
-    (λ t. list_any (is_live_flow c.args.timers t) (somes c.self.inside.flows.items))
-    (last_end c.args.timers (somes c.self.inside.flows.items))
+    (λ t. list_any (is_recent_time t c.timers.inside.seconds.established) c.self.inside.established.times)
+    (λ t. list_any (is_recent_time t c.timers.inside.seconds.transitory) c.self.inside.others.times)
+    (λ t. list_any (is_live_flow c.timers.inside.seconds t) (somes c.self.inside.flows.items))
+    (last_end c.timers.inside.seconds (somes c.self.inside.flows.items))
     c.end_of_times-established.ensures c.end_of_times.ensures
-    (λ t. live_is c.args.timers t c.self.inside.flows.items c.self.inside.established.times
+    (λ t. live_is c.timers.inside.seconds t c.self.inside.flows.items c.self.inside.established.times
     c.self.inside.others.times c.self.invariant.established_are c.self.invariant.others_are)
-    (λ t. flows_before c.args.timers c.requires t (somes c.self.inside.flows.items)))
+    (λ t. flows_before c.timers.inside.seconds c.timers.invariant t (somes c.self.inside.flows.items)))

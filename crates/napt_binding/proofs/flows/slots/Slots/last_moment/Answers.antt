@@ -1,5 +1,6 @@
 use Rattle.std.proofs.Common.{◌≡◌, ◌∙◌, ap, true, arith}
 use Rattle.std.specs.List.{list_any}
+use Rattle.napt_config.specs.declared.settings.Timers.{Timers}
 use Rattle.napt_rules.specs.Life as life
 use Rattle.napt_binding.specs.Slots.{somes}
 use Rattle.napt_binding.specs.SlotsShown.{Shown}
@@ -9,11 +10,13 @@ use Rattle.napt_binding.proofs.flows.slots.Slots.last_moment.Goals as goal
 pub returns-clause-lives : goal.returns-clause-lives
 returns-clause-lives c t within =
     let m = c.max.ensures in
-    let live : list_any (life.is_live_flow c.args.timers c.args.now) (somes c.self.inside.flows.items) ≡ true =
-    ap (λ (s : Shown). list_any (life.is_live_flow c.args.timers c.args.now) (somes s.slots)) c.self.view_is
-    ∙ c.requires.live in
-    rw (← c.self.view_is)
-    (lives_until c.args.timers c.args.now c.self.inside.flows.items c.self.inside.established.times
+    let live : list_any (life.is_live_flow c.timers.inside.seconds c.args.now) (somes c.self.inside.flows.items)
+    ≡ true =
+    ap (λ (x : Timers). list_any (life.is_live_flow x c.args.now) (somes c.self.inside.flows.items)) c.timers.view_is
+    ∙ (ap (λ (s : Shown). list_any (life.is_live_flow c.args.timers c.args.now) (somes s.slots)) c.self.view_is
+    ∙ c.requires.live) in
+    rw (← c.self.view_is, ← c.timers.view_is)
+    (lives_until c.timers.inside.seconds c.args.now c.self.inside.flows.items c.self.inside.established.times
     c.self.inside.others.times c.last_moment_of-established.result c.last_moment_of.result
     c.self.invariant.established_are c.self.invariant.others_are live c.last_moment_of-established.ensures.lives
     c.last_moment_of.ensures.lives t (λ past. omega arith))
