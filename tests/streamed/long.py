@@ -98,7 +98,7 @@ class Watched:
 
 
 def check_terminal(program, room):
-    """At a terminal a long run tells how many packets came, and a short one nothing."""
+    """At a terminal a long run tells how many packets came and how many bindings there are, and a short one nothing."""
     packet = record(10**9, datagrams(1)[0])
     short = Watched(program, room)
     short.send(HEADER + packet, 1)
@@ -113,6 +113,8 @@ def check_terminal(program, room):
     long.send(packet[:-1], 0)
     status, told = long.end()
     want(status == 0, f"at a terminal: status {status}")
-    want(re.fullmatch(rf"(\rstream: \d+ packets, \d+ a second    )+\rstream: {long.packets} packets in \d+ s, \d+ a second    \r\n", told),
+    line = rf"(\rstream: \d+ packets, \d+ a second, 1 bindings    )+"
+    last = rf"\rstream: {long.packets} packets in \d+ s, \d+ a second, 1 bindings    \r\n"
+    want(re.fullmatch(line + last, told),
          f"after {long.packets} packets a terminal got {told!r}")
     want(os.path.getsize(long.to_outside) == len(HEADER) + long.packets * len(packet), "at a terminal something else is written")

@@ -12,7 +12,7 @@ use Rattle.napt_dispatch.specs.declared.dispatcher.held.Held.TheVariants.{Ready,
 use Rattle.napt_dispatch.specs.declared.dispatcher.held.Owed.{Owed}
 use Rattle.napt_dispatch.specs.declared.dispatcher.progress.Progress.{Progress}
 use Rattle.napt_dispatch.specs.declared.dispatcher.progress.Progress.TheVariants.{Awaited}
-use Rattle.napt_dispatch.specs.declared.dispatcher.second.Second.TheVariants as seconds
+use Rattle.napt_dispatch.specs.declared.dispatcher.progress.Second.TheVariants as seconds
 use Rattle.napt_dispatch.specs.Dispatch.{of_worker}
 use Rattle.napt_dispatch.specs.Queues.{put_first, Popped, many_in}
 use Rattle.napt_dispatch.specs.Windows.{Window, progress_in, is_unknown}

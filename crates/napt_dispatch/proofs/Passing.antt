@@ -11,7 +11,7 @@ use Rattle.napt_rules.specs.Prelude.{opening, Arrival, run, last_clock}
 use Rattle.napt_sequential.specs.Inputs.{Came}
 use Rattle.napt_sequential.proofs.Grown.{clock_more}
 use Rattle.napt_dispatch.specs.declared.dispatcher.Dispatcher.{Dispatcher}
-use Rattle.napt_dispatch.specs.declared.dispatcher.offer.Offer.{Offer}
+use Rattle.napt_dispatch.specs.declared.dispatcher.held.Offer.{Offer}
 use Rattle.napt_dispatch.specs.Offers.{with_offer, with_offered}
 use Rattle.napt_dispatch.specs.Queues.{many_in}
 use Rattle.napt_dispatch.specs.Windows.{Window, IsHandedOver, times_in, progress_in, expecting}

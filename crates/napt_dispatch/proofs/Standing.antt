@@ -25,7 +25,7 @@ use Rattle.napt_dispatch.specs.declared.dispatcher.held.Held.TheVariants.{Ready,
 use Rattle.napt_dispatch.specs.declared.dispatcher.held.Owed.{Owed}
 use Rattle.napt_dispatch.specs.declared.dispatcher.progress.Progress.{Progress}
 use Rattle.napt_dispatch.specs.declared.dispatcher.progress.Progress.TheVariants.{Awaited, Onward, EndedOut, EndedIn}
-use Rattle.napt_dispatch.specs.declared.dispatcher.second.Second.TheVariants as seconds
+use Rattle.napt_dispatch.specs.declared.dispatcher.progress.Second.TheVariants as seconds
 use Rattle.napt_sequential.specs.Dispatching.{IsFront, told, IsTold, IsForetold, OnwardIsForetold}
 use Rattle.napt_dispatch.specs.Dispatch.{of_worker, Right, Distinct, IsDispatched}
 use Rattle.napt_sequential.specs.Places.{first_act, second_legs, second_of, IsSeconded}

@@ -9,9 +9,9 @@ use Rattle.napt_rules.specs.Prelude.{Arrival, Course}
 use Rattle.napt_sequential.specs.Dispatching.{IsFront}
 use Rattle.napt_dispatch.specs.declared.dispatcher.progress.Progress.{Progress}
 use Rattle.napt_dispatch.specs.declared.dispatcher.progress.Progress.TheVariants.{Awaited, Onward, EndedOut, EndedIn}
-use Rattle.napt_dispatch.specs.declared.dispatcher.open_input.OpenInput.{OpenInput}
-use Rattle.napt_dispatch.specs.declared.dispatcher.second.Second.{Second}
-use Rattle.napt_dispatch.specs.declared.dispatcher.second.Second.TheVariants as seconds
+use Rattle.napt_dispatch.specs.declared.dispatcher.progress.OpenInput.{OpenInput}
+use Rattle.napt_dispatch.specs.declared.dispatcher.progress.Second.{Second}
+use Rattle.napt_dispatch.specs.declared.dispatcher.progress.Second.TheVariants as seconds
 use Rattle.napt_dispatch.specs.Collecting.{outcome_of}
 use Rattle.napt_dispatch.specs.Standing.{IsSecond, IsSecondOf}
 use Rattle.napt_dispatch.specs.Passing.{timed}

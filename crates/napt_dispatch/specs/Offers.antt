@@ -1,6 +1,6 @@
 -- What is to be offered at once.
 use Rattle.std.specs.Prelude.{Option, Some, None}
-use Rattle.napt_dispatch.specs.declared.dispatcher.offer.Offer.{Offer}
+use Rattle.napt_dispatch.specs.declared.dispatcher.held.Offer.{Offer}
 use Rattle.napt_dispatch.specs.declared.dispatcher.held.Held.TheVariants.{Ready}
 use Rattle.napt_dispatch.specs.Queues.{put_first}
 use Rattle.napt_dispatch.specs.Standing.{Parts, DispatchState, with_held}

@@ -23,11 +23,11 @@ use Rattle.napt_dispatch.specs.declared.dispatcher.holding.First.TheVariants as 
 use Rattle.napt_dispatch.specs.declared.dispatcher.held.Held.{Held}
 use Rattle.napt_dispatch.specs.declared.dispatcher.held.Held.TheVariants.{Ready, Place}
 use Rattle.napt_dispatch.specs.declared.dispatcher.held.Owed.{Owed}
-use Rattle.napt_dispatch.specs.declared.dispatcher.open_input.OpenInput.{OpenInput}
+use Rattle.napt_dispatch.specs.declared.dispatcher.progress.OpenInput.{OpenInput}
 use Rattle.napt_dispatch.specs.declared.dispatcher.progress.Progress.{Progress}
 use Rattle.napt_dispatch.specs.declared.dispatcher.progress.Progress.TheVariants.{Awaited, Onward, EndedOut, EndedIn}
-use Rattle.napt_dispatch.specs.declared.dispatcher.second.Second.{Second}
-use Rattle.napt_dispatch.specs.declared.dispatcher.second.Second.TheVariants as seconds
+use Rattle.napt_dispatch.specs.declared.dispatcher.progress.Second.{Second}
+use Rattle.napt_dispatch.specs.declared.dispatcher.progress.Second.TheVariants as seconds
 use Rattle.napt_dispatch.specs.Dispatch.{of_worker, IsDispatchFault, Right}
 use Rattle.napt_dispatch.specs.Queues.{pushed, put_first, Popped, many_in}
 use Rattle.napt_dispatch.specs.Windows.{Window, progress_in, times_in, is_unknown, next_leg, AllKnown, IsWritten}

@@ -42,10 +42,10 @@ impl Departures for Collected {
 
     ghost takes_more = { λ x y z xs ys first second. collects_more x y z xs ys first second };
 
-    fn leave(&mut self, time: u64, outcome: Outcome) -> Result<(), AllocError> {
+    fn leave(&mut self, time: u64, outcome: Outcome) -> Result<Option<Vec<u8>>, AllocError> {
         self.times.push(time)?;
         self.outcomes.push(outcome)?;
-        Ok(())
+        Ok(None)
     }
 
     fn settle(&mut self) -> Result<(), AllocError> {

@@ -19,8 +19,9 @@ pub trait Departures {
     // All that was taken is where it belongs.
     ghost is_settled: { Self → Type 0 };
 
-    /// Takes the outcome of the next input, which arrived at a time in ns.
-    fn leave(&mut self, time: u64, outcome: Outcome) -> Result<(), Self::Fault>
+    /// Takes the outcome of the next input, which arrived at a time in ns. Gives back the vector of its packet's bytes, if it
+    /// does not keep them: its room serves an input to come.
+    fn leave(&mut self, time: u64, outcome: Outcome) -> Result<Option<Vec<u8>>, Self::Fault>
         ensures { MatchResult result (λ _. takes self.old ((time, outcome) ∷ []) self.new)
             (λ fault. fails self.old ((time, outcome) ∷ []) fault self.new) };
 

@@ -13,15 +13,12 @@ ghost use Rattle.napt_dispatch.specs.Standing.{parts_of, IsSized, IsDone};
 mod halted;
 mod held;
 mod holding;
-mod impossible_answer;
-mod offer;
 mod offering;
-mod open_input;
 mod progress;
 mod queues;
 mod reading;
 mod run_progress;
-mod second;
+mod spares;
 mod taking;
 
 use crate::Worker;

@@ -47,4 +47,8 @@ impl Machine for Worker {
     fn step(&mut self, alloc: Global, leg: Leg) -> Result<Answer, AllocError> {
         self.translator.translate(alloc, leg)
     }
+
+    fn size(&self) -> u64 {
+        self.translator.size()
+    }
 }

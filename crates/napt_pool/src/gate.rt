@@ -13,6 +13,9 @@ pub trait Gate {
     /// refused, the worker asks again, 1,000,000 times in all for one item, and then stops.
     fn enter(&self, worker: u32, turn: u64) -> bool
         ensures { is_open ≡ true → IsTrue result };
+
+    /// Is told the size of the worker's machine after each of its steps (`Machine::size`), for people who watch a run.
+    fn observe(&self, _worker: u32, _size: u64) {}
 }
 
 /// A gate that always says yes.

@@ -19,4 +19,9 @@ pub trait Machine: Send + Drop {
     fn step(&mut self, alloc: Global, item: Self::Item) -> Result<Self::Answer, AllocError>
         ensures { MatchResult result (λ answer. (answer ≡ reply self.old item)
             × (self.new ≡ stepped self.old item)) (λ _. self.new ≡ self.old) };
+
+    /// How much it holds, for people who watch a run: contracts do not speak of it.
+    fn size(&self) -> u64 {
+        0
+    }
 }

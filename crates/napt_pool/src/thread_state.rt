@@ -109,6 +109,7 @@ impl<M: Machine, G: Gate> ThreadState<M, G> {
         let Ok(answer) = self.machine.step(alloc, item) else {
             return Err(tell(&mut self.answers, Stop::Memory));
         };
+        gate.observe(worker, self.machine.size());
         match self.answers.push(Reply::Done(answer)) {
             Ok(()) => Ok(()),
             Err(_) => Err(Stop::Ring),

@@ -1,5 +1,5 @@
 -- What two captures that are read as they come hand out.
-use Rattle.std.specs.Prelude.{◌≡◌, ℕ, ◌+◌, max, Bool, false, All, List, [], Option, None, Some, IsSome, unwrap_or, Result, Ok, Err}
+use Rattle.std.specs.Prelude.{◌≡◌, ◌⊎◌, ℕ, ◌+◌, max, Bool, false, All, List, [], Option, None, Some, IsSome, unwrap_or, Result, Ok, Err}
 use Rattle.napt_wire.specs.declared.Side.{Side}
 use Rattle.napt_wire.specs.declared.Side.TheVariants.{Inside, Outside}
 use Rattle.napt_capture.specs.declared.device.Source.{Ghosts}
@@ -8,6 +8,7 @@ use Rattle.napt_capture.specs.Contents.{Entry}
 use Rattle.napt_capture.specs.Text.{IsWritable}
 use Rattle.napt_capture.specs.Capture.{failed_reads}
 use Rattle.napt_capture.specs.Reading.{StopsBy}
+use Rattle.napt_capture.specs.Records.{Asks}
 use Rattle.napt_records.specs.declared.stream.Stream.{Stream}
 use Rattle.napt_records.specs.declared.merged_streams.MergedStreams.{MergedStreams}
 use Rattle.napt_records.specs.declared.merged_streams.SideFault.{SideFault}
@@ -72,6 +73,20 @@ abbrev pub StreamHasIf : {R : Type 0} {G : Ghosts R} → (R → Option (List ℕ
     Type 0
 StreamHasIf remaining None firsts rest = (rest ≡ no_rest) × (firsts ≡ [])
 StreamHasIf remaining (Some stream) firsts rest = StreamHas remaining stream firsts rest
+
+-- WHO IS ASKED
+
+-- what is next of a stream is not known, so that its source is asked
+abbrev pub AsksSource : {R : Type 0} {G : Ghosts R} → Stream R G → List Entry → Type 0
+AsksSource stream firsts = ((firsts ≡ []) × (stream.cut ≡ None)) × Asks stream.records
+
+abbrev pub AsksSourceIf : {R : Type 0} {G : Ghosts R} → Option (Stream R G) → List Entry → Type 0
+AsksSourceIf None firsts = ⊥
+AsksSourceIf (Some stream) firsts = AsksSource stream firsts
+
+abbrev pub AsksDevice : {R Q : Type 0} {G : Ghosts R} {H : Ghosts Q} → MergedStreams R Q G H → Type 0
+AsksDevice both = AsksSource both.inside both.inside_first.items
+    ⊎ AsksSourceIf both.outside both.outside_first.items
 
 -- BOTH
 

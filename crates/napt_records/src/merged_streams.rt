@@ -47,6 +47,7 @@ fn look_outside<Q: Source>(
     alloc: Global,
     outside: &mut Option<Stream<'_, Q>>,
     firsts: &mut VecDeque<Record>,
+    spare: &mut Vec<u8>,
 ) -> Result<(), CaptureFault>
     ensures same { IsSameIf outside.old outside.new }
     ensures live { IsLiveIf outside.old → OnOk result (IsLiveIf outside.new) }
@@ -65,7 +66,7 @@ fn look_outside<Q: Source>(
 {
     match outside {
         None => Ok(()),
-        Some(stream) => stream.look(alloc, firsts),
+        Some(stream) => stream.look(alloc, firsts, spare),
     }
 }
 
@@ -118,19 +119,24 @@ impl<'a, 'b, R: Source, Q: Source> MergedStreams<'a, 'b, R, Q> {
         (self.inside, self.outside)
     }
 
-    /// Sees to it that the next record of each side is known.
-    fn look(&mut self) -> Result<(), SideFault>
+    /// Sees to it that the next record of each side is known. The first one read has the room of the spare vector.
+    fn look(&mut self, spare: &mut Vec<u8>) -> Result<(), SideFault>
         ensures same { AreSame self.old self.new }
         ensures looks { AreLive self.old → LooksOrMeets R.remaining Q.remaining R.failed Q.failed
             self.old result self.new }
     {
-        if let Err(fault) = self.inside.look(self.alloc, &mut self.inside_first) {
+        if let Err(fault) = self.inside.look(self.alloc, &mut self.inside_first, spare) {
             return Err(SideFault {
                 side: Side::Inside,
                 fault,
             });
         }
-        match look_outside(self.alloc, &mut self.outside, &mut self.outside_first) {
+        match look_outside(
+            self.alloc,
+            &mut self.outside,
+            &mut self.outside_first,
+            spare,
+        ) {
             Ok(()) => Ok(()),
             Err(fault) => Err(SideFault {
                 side: Side::Outside,
@@ -159,7 +165,7 @@ impl<'a, 'b, R: Source, Q: Source> MergedStreams<'a, 'b, R, Q> {
 }
 
 impl<'a, 'b, R: Source, Q: Source> Arrivals for MergedStreams<'a, 'b, R, Q> {
-    ghost use Rattle.napt_records.specs.Merged.{EndsWith, HandsOut};
+    ghost use Rattle.napt_records.specs.Merged.{AsksDevice, EndsWith, HandsOut};
     ghost use Rattle.napt_records.specs.HandedLaws.{HandsOut-more, HandsOut-none};
 
     type Fault = SideFault;
@@ -169,6 +175,8 @@ impl<'a, 'b, R: Source, Q: Source> Arrivals for MergedStreams<'a, 'b, R, Q> {
 
     ghost ends = { λ old fault new. EndsWith R.remaining Q.remaining R.failed Q.failed
         old fault new };
+
+    ghost asks = { λ both. AsksDevice both };
 
     ghost hands_none = { λ x. HandsOut-none R.remaining Q.remaining R.failed Q.failed x };
 
@@ -185,8 +193,9 @@ impl<'a, 'b, R: Source, Q: Source> Arrivals for MergedStreams<'a, 'b, R, Q> {
         }
     }
 
-    fn next(&mut self) -> Result<Option<Input>, SideFault> {
-        self.look()?;
+    fn next(&mut self, spare: Vec<u8>) -> Result<Option<Input>, SideFault> {
+        let mut spare = spare;
+        self.look(&mut spare)?;
         Ok(self.take())
     }
 }

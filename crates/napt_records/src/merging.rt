@@ -109,6 +109,8 @@ impl Arrivals for Merged {
 
     ghost ends = { λ merged fault later. merged ≡ [] };
 
+    ghost asks = { λ merged. ⊥ };
+
     ghost hands_none = { λ x. refl };
 
     ghost hands_more = { λ x y z xs ys first second. fronts_join x y z xs ys first second };
@@ -117,7 +119,7 @@ impl Arrivals for Merged {
         false
     }
 
-    fn next(&mut self) -> Result<Option<Input>, NoFault> {
+    fn next(&mut self, _spare: Vec<u8>) -> Result<Option<Input>, NoFault> {
         Ok(self.take())
     }
 }

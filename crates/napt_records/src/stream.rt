@@ -4,6 +4,7 @@ ghost use Rattle.std.specs.Prelude.{◌≡◌, ◌^◌, ◌-◌, ◌<◌, None};
 use napt_capture::{CaptureFault, Next, Record, Records, Source};
 use std::alloc::Global;
 use std::collections::VecDeque;
+use std::mem;
 
 /// What a capture is read from, until reading it failed.
 #[derive(Drop)]
@@ -27,7 +28,7 @@ impl<'a, R: Source> Live<'a, R> {
     ghost use Rattle.std.specs.Prelude.{◌≡◌, ◌+◌, ◌^◌, ◌-◌, ◌<◌, None, IfOk, IfErr, Err, OnErr, OnOk};
     ghost use Rattle.napt_capture.specs.Capture.{failed_reads};
     ghost use Rattle.napt_capture.specs.Reading.{IsWritableNext, StopsBy};
-    ghost use Rattle.napt_capture.specs.Records.{Tells, TellsEnd, counted, left_of};
+    ghost use Rattle.napt_capture.specs.Records.{Asks, Tells, TellsEnd, counted, left_of};
 
     /// Reads the next record. After a fault nothing is read, and the fault is told again.
     fn next(&mut self, records: &mut Records, vector: Vec<u8>) -> Result<Next, CaptureFault>
@@ -44,6 +45,7 @@ impl<'a, R: Source> Live<'a, R> {
         ensures writable { IfOk result IsWritableNext }
         ensures count { self.old.fault ≡ None →
             R.failed self.new.source.now ≡ R.failed self.old.source.now + failed_reads result }
+        ensures asks { (¬ Asks records.old) → self.new.source.now ≡ self.old.source.now }
     {
         if let Some(fault) = self.fault {
             return Err(fault);
@@ -59,10 +61,11 @@ impl<'a, R: Source> Live<'a, R> {
 }
 
 impl<'a, R: Source> Stream<'a, R> {
-    ghost use Rattle.std.specs.Prelude.{◌≡◌, ◌+◌, ◌^◌, ◌-◌, ◌<◌, None, All, IfErr, OnOk, IsSome, []};
+    ghost use Rattle.std.specs.Prelude.{◌≡◌, ◌+◌, ◌^◌, ◌-◌, ◌<◌, None, All, IfErr, OnOk, IsSome, [], false};
     ghost use Rattle.napt_capture.specs.Capture.{failed_reads};
     ghost use Rattle.napt_capture.specs.Reading.{StopsBy};
     ghost use Rattle.napt_capture.specs.Text.{IsWritable};
+    ghost use Rattle.napt_records.specs.Merged.{AsksSource};
     ghost use Rattle.napt_records.specs.Streams.{IsAtFault, IsLooked, Rest};
     ghost use Rattle.napt_records.specs.Rests.{StreamHas};
 
@@ -85,8 +88,14 @@ impl<'a, R: Source> Stream<'a, R> {
         }
     }
 
-    /// Reads the next record into the list, where it is empty and the end was not told.
-    pub fn look(&mut self, alloc: Global, firsts: &mut VecDeque<Record>) -> Result<(), CaptureFault>
+    /// Reads the next record into the list, where it is empty and the end was not told. The record has the room of the spare
+    /// vector, in whose place a new one stands then.
+    pub fn look(
+        &mut self,
+        alloc: Global,
+        firsts: &mut VecDeque<Record>,
+        spare: &mut Vec<u8>,
+    ) -> Result<(), CaptureFault>
         ensures name { self.new.live.source.ghost_name ≡ self.old.live.source.ghost_name }
         ensures live { OnOk result (self.new.live.fault ≡ self.old.live.fault) }
         ensures rest { self.old.live.fault ≡ None → OnOk result ((rest : Rest) →
@@ -102,11 +111,15 @@ impl<'a, R: Source> Stream<'a, R> {
         ensures count { self.old.live.fault ≡ None →
             R.failed self.new.live.source.now
             ≡ R.failed self.old.live.source.now + failed_reads result }
+        // If it is known without the source, the source is not asked.
+        ensures asks { (¬ AsksSource self.old firsts.old.items) →
+            self.new.live.source.now ≡ self.old.live.source.now }
     {
         if !firsts.is_empty() || self.cut.is_some() {
             return Ok(());
         }
-        match self.live.next(&mut self.records, Vec::new(alloc))? {
+        let vector = mem::replace(spare, Vec::new(alloc));
+        match self.live.next(&mut self.records, vector)? {
             Next::Whole(record) => firsts.push_back(record)?,
             Next::End(cut) => self.cut = Some(cut),
         }
@@ -114,7 +127,9 @@ impl<'a, R: Source> Stream<'a, R> {
     }
 
     /// Whether `look` asks the source.
-    pub fn asks_device(&self, firsts: &VecDeque<Record>) -> bool {
+    pub fn asks_device(&self, firsts: &VecDeque<Record>) -> bool
+        ensures { result ≡ false → ¬ AsksSource self.now firsts.now.items }
+    {
         firsts.is_empty() && self.cut.is_none() && !self.records.has_whole()
     }
 

@@ -74,12 +74,12 @@ impl Wanted<'_> {
     /// Merges until the end or a fault, and compares. Either is told again.
     fn check<R: Source, Q: Source>(
         &self,
-        rt: &impl Abort,
+        rt: &(impl Abort + AllocGlobal),
         streams: &mut MergedStreams<'_, '_, R, Q>,
     ) -> Result<(), Fail> {
         let name = self.name;
         for (i, (side, time, clock, byte)) in self.inputs.iter().enumerate() {
-            let Some(input) = streams.next()? else {
+            let Some(input) = streams.next(Vec::new(rt.alloc()))? else {
                 return Err(Fail::from(i));
             };
             let stands = input.side == *side
@@ -91,7 +91,7 @@ impl Wanted<'_> {
             );
         }
         for _ in 0..2 {
-            let found = match streams.next() {
+            let found = match streams.next(Vec::new(rt.alloc())) {
                 Ok(Some(_)) => return Err(Fail::from(self.inputs.len())),
                 Ok(None) => Ok(streams.cuts()),
                 Err(fault) => Err(fault),
@@ -126,7 +126,7 @@ fn opened_if<'a, R: Source>(
 
 /// Merges, and compares.
 fn check_streams<R: Source, Q: Source>(
-    rt: &impl Abort,
+    rt: &(impl Abort + AllocGlobal),
     mut streams: MergedStreams<'_, '_, R, Q>,
     wanted: Wanted<'_>,
 ) -> Result<(), Fail> {
@@ -298,12 +298,12 @@ const TWO_RECORDS: Held = Held {
 /// A device is asked only where no whole record of that side was read: two of each side come by one read, and then each
 /// side is asked for more once.
 fn check_asks<R: Source, Q: Source>(
-    rt: &impl Abort,
+    rt: &(impl Abort + AllocGlobal),
     streams: &mut MergedStreams<'_, '_, R, Q>,
 ) -> Result<(), Fail> {
     for asks in [true, false, false, true, true] {
         assert_eq!(rt; streams.asks_device(), asks);
-        streams.next()?;
+        streams.next(Vec::new(rt.alloc()))?;
     }
     assert!(rt; !streams.asks_device());
     Ok(())
@@ -311,7 +311,7 @@ fn check_asks<R: Source, Q: Source>(
 
 /// The same, of streams that are let go.
 fn check_asks_of<R: Source, Q: Source>(
-    rt: &impl Abort,
+    rt: &(impl Abort + AllocGlobal),
     mut streams: MergedStreams<'_, '_, R, Q>,
 ) -> Result<(), Fail> {
     let checked = check_asks(rt, &mut streams);

@@ -1,6 +1,6 @@
 //! What hands a run its inputs.
 
-ghost use Rattle.std.specs.Prelude.{◌≡◌, ◌++◌, [], List, Option};
+ghost use Rattle.std.specs.Prelude.{◌≡◌, ◌++◌, [], List, Option, false};
 ghost use Rattle.napt_rules.specs.Prelude.{Arrival};
 ghost use Rattle.napt_sequential.specs.Inputs.{Hands};
 
@@ -18,11 +18,16 @@ pub trait Arrivals {
     // The end was told, or a fault, and it was left so.
     ghost ends: { Self → Option Self.Fault → Self → Type 0 };
 
-    /// Whether the next call of `next` may have to wait for a device.
-    fn asks_device(&self) -> bool;
+    // The next call of `next` may have to wait for a device.
+    ghost asks: { Self → Type 0 };
 
-    /// The next input, which moves out; none at the end. After the end or a fault a run does not call it again.
-    fn next(&mut self) -> Result<Option<Input>, Self::Fault>
+    /// Whether the next call of `next` may have to wait for a device.
+    fn asks_device(&self) -> bool
+        ensures { result ≡ false → ¬ asks self.now };
+
+    /// The next input, which moves out; none at the end. Its bytes may be put into the room of the spare vector, whose own
+    /// bytes are dropped. After the end or a fault a run does not call it again.
+    fn next(&mut self, spare: Vec<u8>) -> Result<Option<Input>, Self::Fault>
         ensures { Hands hands ends self.old result self.new };
 
     ghost hands_none: { (x : Self) → hands x [] x };
@@ -45,6 +50,8 @@ impl Arrivals for VecDeque<Input> {
 
     ghost ends = { λ queue fault later. queue.items ≡ [] };
 
+    ghost asks = { λ queue. ⊥ };
+
     ghost hands_none = { λ x. refl };
 
     ghost hands_more = { λ x y z xs ys first second. fronts_join x.items y.items z.items xs ys first second };
@@ -53,7 +60,7 @@ impl Arrivals for VecDeque<Input> {
         false
     }
 
-    fn next(&mut self) -> Result<Option<Input>, NoFault> {
+    fn next(&mut self, _spare: Vec<u8>) -> Result<Option<Input>, NoFault> {
         Ok(self.pop_front())
     }
 }

@@ -29,6 +29,42 @@ fn bytes_of(packet: &Packet) -> &[u8]
     bytes
 }
 
+/// The vector of an outcome's packet, which is written.
+fn vector_of(outcome: Outcome) -> Option<Vec<u8>> {
+    match outcome {
+        Outcome::ToOutside(packet) | Outcome::ToInside(packet) => Some(packet.into_bytes()),
+        Outcome::Dropped(_) => None,
+    }
+}
+
+impl<W: Sink, V: Sink> Leaving<'_, '_, W, V> {
+    ghost use Rattle.std.specs.Prelude.{◌∷◌, [], MatchResult};
+    ghost use Rattle.napt_stream.specs.Leaving.{Takes, Fails};
+
+    /// Counts the outcome of an input that arrived at a time, in ns, and writes the record of its packet, if there is one.
+    fn write(&mut self, time: u64, outcome: &Outcome) -> Result<(), OutputFault>
+        ensures { MatchResult result
+            (λ _. Takes W.contents W.failed V.contents V.failed
+            self.old ((time, outcome.now) ∷ []) self.new)
+            (λ fault. Fails W.contents W.failed V.contents V.failed
+            self.old ((time, outcome.now) ∷ []) fault self.new) }
+    {
+        self.counts.count(outcome);
+        match outcome {
+            Outcome::ToOutside(packet) => {
+                named(Which::Outside, self.to_outside.put(time, bytes_of(packet)))
+            }
+            Outcome::ToInside(packet) => {
+                named(
+                    Which::Inside,
+                    put_if(&mut self.to_inside, time, bytes_of(packet)),
+                )
+            }
+            Outcome::Dropped(_) => Ok(()),
+        }
+    }
+}
+
 impl<W: Sink, V: Sink> Departures for Leaving<'_, '_, W, V> {
     ghost use Rattle.napt_stream.specs.Leaving.{Takes, Fails, IsSettled};
     ghost use Rattle.napt_stream.specs.LeavingLaws.{takes_none, takes_more};
@@ -41,19 +77,10 @@ impl<W: Sink, V: Sink> Departures for Leaving<'_, '_, W, V> {
 
     ghost is_settled = { λ x. IsSettled W.is_flushed V.is_flushed x };
 
-    fn leave(&mut self, time: u64, outcome: Outcome) -> Result<(), OutputFault> {
-        self.counts.count(&outcome);
-        match outcome {
-            Outcome::ToOutside(packet) => {
-                named(Which::Outside, self.to_outside.put(time, bytes_of(&packet)))
-            }
-            Outcome::ToInside(packet) => {
-                named(
-                    Which::Inside,
-                    put_if(&mut self.to_inside, time, bytes_of(&packet)),
-                )
-            }
-            Outcome::Dropped(_) => Ok(()),
+    fn leave(&mut self, time: u64, outcome: Outcome) -> Result<Option<Vec<u8>>, OutputFault> {
+        match self.write(time, &outcome) {
+            Ok(()) => Ok(vector_of(outcome)),
+            Err(fault) => Err(fault),
         }
     }
 

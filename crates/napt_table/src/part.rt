@@ -81,6 +81,11 @@ impl Part {
         })
     }
 
+    /// How many bindings it holds.
+    pub(crate) fn size(&self) -> u64 {
+        self.by_number.len() as u64
+    }
+
     /// The inside endpoint of the live binding with the number.
     pub(crate) fn inside_of(&self, now: u64, number: u16) -> Option<Endpoint>
         ensures { result ≡ option_map (λ b. b.inside)

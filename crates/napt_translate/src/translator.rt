@@ -97,6 +97,11 @@ impl Translator {
         Ok(Answer { number, end })
     }
 
+    /// How many bindings it holds (`Table::size`), for people who watch a run.
+    pub fn size(&self) -> u64 {
+        self.table.size()
+    }
+
     /// The live bindings at a time, in ns, sorted by protocol and external number; a time before the last leg's counts
     /// as the last leg's.
     pub fn bindings(&self, alloc: Global, now: u64) -> Result<Vec<Row>, AllocError>

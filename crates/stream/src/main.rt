@@ -5,6 +5,7 @@ mod counted;
 mod manual;
 mod program;
 mod progress;
+mod watched;
 
 ghost use Rattle.std.specs.Prelude.{◌≡◌};
 ghost use Rattle.std.specs.Process.{exit_status};

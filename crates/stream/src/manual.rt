@@ -26,7 +26,7 @@ Where it ends well, each output holds the bytes that napt writes. What differs:
   at the end alone.
   Captures may have any number of bytes and packets.
   Where standard error is a terminal, a run of more than two seconds tells there
-  how many packets were read, and how many a second.
+  the packets read, how many a second, and the bindings held.
 
 Exit status, and the line on standard error that says why: as of napt, with
 stream: in place of napt: at its beginning. too-large and too-many never come.

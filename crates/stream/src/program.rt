@@ -8,8 +8,8 @@ ghost use Rattle.napt_program.specs.Command.{IsLineStop, IsRunStop, IsTaken, IsU
 use crate::counted::Counted;
 use crate::manual::MANUAL;
 use crate::progress::Progress;
+use crate::watched::Watched;
 use napt_options::{LineFault, Options, parse_words_of};
-use napt_pool::OpenGate;
 use napt_program::{Devices, MEMORY, Opened, Stop, Streams, open, words};
 use napt_stream::run_streams;
 use std::env::Env;
@@ -63,7 +63,7 @@ pub fn serve_words<
         (IsLineStop streams (line_of_words (map string_bytes words.items))) }
 {
     match parse_words_of(rt.alloc(), MANUAL, words) {
-        Ok(options) => run(rt, streams, &options, &Progress::of(rt, is_told)),
+        Ok(options) => run(rt, streams, &options, is_told),
         Err(LineFault::Help(text)) => rt.print(text).map_err(|_| Stop::Help),
         Err(LineFault::Usage) => Err(Stop::Usage),
         Err(LineFault::Memory) => Err(Stop::LineMemory),
@@ -83,7 +83,7 @@ fn run<
         + Copy
         + Send
         + 'static,
->(rt: &R, streams: Streams, options: &Options, progress: &Progress<'_, R>) -> Result<(), Stop>
+>(rt: &R, streams: Streams, options: &Options, is_told: bool) -> Result<(), Stop>
     ensures { IfErr result (IsRunStop streams (files_of options.now)) }
 {
     let alloc = rt.alloc();
@@ -95,9 +95,11 @@ fn run<
         mut to_inside,
         mut report,
     } = devices;
-    let mut inside = Counted::over(inside, progress);
-    let mut outside = Counted::over_given(outside, progress);
-    let gate = Arc::new(alloc, OpenGate).map_err(|_| MEMORY)?;
+    let watched = Watched::new(alloc, config.pool().len()).map_err(|_| MEMORY)?;
+    let gate = Arc::new(alloc, watched).map_err(|_| MEMORY)?;
+    let progress = Progress::of(rt, gate.clone().map_err(|_| MEMORY)?, is_told);
+    let mut inside = Counted::over(inside, &progress);
+    let mut outside = Counted::over_given(outside, &progress);
     let answer = run_streams(
         rt,
         alloc,

@@ -1,6 +1,8 @@
 //! How far a run is, for whoever waits at a terminal.
 
+use crate::watched::Watched;
 use std::cell::Cell;
+use std::sync::Arc;
 use std::time::{Clock, Instant};
 
 /// A run of fewer milliseconds tells nothing.
@@ -35,6 +37,7 @@ impl Mark {
 #[derive(Drop)]
 pub struct Progress<'r, R> {
     rt: &'r R,
+    gate: Arc<Watched>,
     /// When the run began; none where nobody is told.
     began: Option<Instant>,
     packets: Cell<u64>,
@@ -44,10 +47,11 @@ pub struct Progress<'r, R> {
 
 impl<'r, R: Eprint + Clock> Progress<'r, R> {
     /// Of a run that begins now, for somebody who waits or for nobody.
-    pub fn of(rt: &'r R, is_told: bool) -> Progress<'r, R> {
+    pub fn of(rt: &'r R, gate: Arc<Watched>, is_told: bool) -> Progress<'r, R> {
         let began = if is_told { Instant::now(rt).ok() } else { None };
         Progress {
             rt,
+            gate,
             began,
             packets: Cell::new(0),
             told: Cell::new(Mark::BEGIN),
@@ -64,7 +68,8 @@ impl<'r, R: Eprint + Clock> Progress<'r, R> {
         self.packets.set(self.packets.get().saturating_add(more));
     }
 
-    /// Says how many packets were read, and how many a second since the line before, where it is time for that.
+    /// Says how many packets were read, how many a second since the line before, and how many bindings there are, where it is
+    /// time for that.
     pub fn tell(&self) {
         let Some(now) = self.mark() else {
             return;
@@ -75,11 +80,15 @@ impl<'r, R: Eprint + Clock> Progress<'r, R> {
         }
         let Mark { packets, .. } = now;
         let rate = now.rate_since(told);
-        let _ = eprint!(self.rt; "\rstream: {packets} packets, {rate} a second    ");
+        let bindings = self.gate.bindings();
+        let _ = eprint!(self.rt;
+            "\rstream: {packets} packets, {rate} a second, {bindings} bindings    "
+        );
         self.told.set(now);
     }
 
-    /// Says how many packets were read in the whole run, and ends the line, where there is one.
+    /// Says how many packets were read in the whole run and how many bindings it leaves, and ends the line, where there is
+    /// one.
     pub fn tell_end(&self) {
         if self.told.get().millis == 0 {
             return;
@@ -89,8 +98,9 @@ impl<'r, R: Eprint + Clock> Progress<'r, R> {
         };
         let Mark { packets, millis } = now;
         let (seconds, rate) = (millis / 1_000, now.rate_since(Mark::BEGIN));
+        let bindings = self.gate.bindings();
         let _ = eprintln!(self.rt;
-            "\rstream: {packets} packets in {seconds} s, {rate} a second    "
+            "\rstream: {packets} packets in {seconds} s, {rate} a second, {bindings} bindings    "
         );
     }
 

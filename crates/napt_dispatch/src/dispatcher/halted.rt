@@ -2,8 +2,23 @@
 
 ghost use Rattle.std.specs.Prelude.{◌≡◌};
 ghost use Rattle.napt_dispatch.specs.declared.dispatcher.halted.Halted.TheVariants.{Run};
+ghost use Rattle.napt_pool.specs.declared.fault.PoolFault.TheVariants.{Ring};
+ghost use Rattle.napt_sequential.specs.declared.fault.RunFault.TheVariants.{Pool};
 
+use napt_pool::PoolFault;
 use napt_sequential::RunFault;
+
+/// An answer, or a number of answers, that no worker gives.
+#[derive(Clone, Copy)]
+pub(crate) struct ImpossibleAnswer;
+
+impl From<ImpossibleAnswer> for RunFault {
+    ghost from_gives = { λ _ fault. fault ≡ Pool Ring };
+
+    fn from(_answer: ImpossibleAnswer) -> RunFault {
+        RunFault::Pool(PoolFault::Ring)
+    }
+}
 
 /// Why dispatching ends before all outcomes have left.
 #[derive(Drop)]

@@ -1,4 +1,4 @@
-//! What a dispatcher keeps of legs: those that are not yet offered, and those whose answers are owed.
+//! What a dispatcher keeps of legs: those that may be offered at once, those that are held, and those whose answers are owed.
 
 ghost use Rattle.std.specs.Prelude.{◌≡◌, ◌↔◌, ◌+◌, ◌<◌, ◌≤◌, ℕ, [], length, true, IfOk, OnOk, IfSome, MatchOption};
 ghost use Rattle.napt_dispatch.specs.Dispatch.{of_worker};
@@ -30,6 +30,13 @@ pub(crate) struct Owed {
     pub(crate) way: Way,
     /// The time of the leg, in ns.
     pub(crate) now: u64,
+}
+
+/// A leg that may be offered to a worker at once.
+#[derive(Drop)]
+pub(crate) struct Offer {
+    pub(crate) worker: u32,
+    pub(crate) leg: Leg,
 }
 
 /// What is held for all workers, at most 65,536 legs and places. Contracts see the list of each worker, oldest first.

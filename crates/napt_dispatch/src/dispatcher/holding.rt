@@ -6,10 +6,9 @@ ghost use Rattle.napt_dispatch.specs.Standing.{parts_of, IsSized, Noted, IsFirst
 
 use crate::dispatcher::Dispatcher;
 use crate::dispatcher::held::Held;
-use crate::dispatcher::impossible_answer::ImpossibleAnswer;
-use crate::dispatcher::progress::Progress;
+use crate::dispatcher::halted::ImpossibleAnswer;
+use crate::dispatcher::progress::{Progress, Second};
 use crate::dispatcher::queues::{are_empty, len_at, pop_front};
-use crate::dispatcher::second::Second;
 use napt_translate::{Answer, Leg};
 use std::alloc::AllocError;
 

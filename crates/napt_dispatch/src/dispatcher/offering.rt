@@ -10,7 +10,7 @@ use crate::Worker;
 use crate::dispatcher::Dispatcher;
 use crate::dispatcher::held::{Held, Owed};
 use crate::dispatcher::holding::First;
-use crate::dispatcher::impossible_answer::ImpossibleAnswer;
+use crate::dispatcher::halted::ImpossibleAnswer;
 use crate::dispatcher::queues::push_back;
 use napt_pool::{Gate, OfferRefused, Pool};
 use napt_sequential::RunFault;

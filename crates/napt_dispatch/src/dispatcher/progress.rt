@@ -1,14 +1,15 @@
 //! What a dispatcher knows of an input.
 
 ghost use Rattle.std.specs.Prelude.{◌≡◌, Some, IfOk};
-ghost use Rattle.napt_dispatch.specs.Standing.{ended, IsToldBy};
+ghost use Rattle.napt_dispatch.specs.Standing.{ended, IsSecondOf, IsToldBy};
 ghost use Rattle.napt_dispatch.specs.Windows.{has_ended, outcome_in, is_unknown};
 
 use crate::dispatcher::held::Owed;
-use crate::dispatcher::impossible_answer::ImpossibleAnswer;
+use crate::dispatcher::halted::ImpossibleAnswer;
 use napt_sequential::Outcome;
-use napt_translate::End;
+use napt_translate::{End, Leg};
 use napt_wire::{Packet, Way};
+use std::mem;
 
 /// What is known of an input.
 #[derive(Drop)]
@@ -68,6 +69,52 @@ impl Progress {
         match self {
             Progress::EndedOut(outcome) | Progress::EndedIn(outcome) => Some(outcome),
             Progress::Awaited | Progress::Onward(..) => None,
+        }
+    }
+}
+
+/// The second leg of an input (RFC 4787, REQ-9), as far as it is known.
+#[derive(Drop)]
+pub(crate) enum Second {
+    Unknown,
+    Never,
+    Known(Leg),
+}
+
+/// An input that was read and whose outcome has not left.
+#[derive(Drop)]
+pub(crate) struct OpenInput {
+    /// When it arrived, in ns.
+    pub(crate) time: u64,
+    pub(crate) progress: Progress,
+    /// Whether a place is held for its second leg. Until that is gone its outcome does not leave.
+    pub(crate) has_place: bool,
+}
+
+impl OpenInput {
+    /// The second leg of the input of a number, taken out where it is known. Its place is gone then, or where there is none.
+    pub(crate) fn second_leg(&mut self, number: u64) -> Second
+        ensures { IsSecondOf number self.old self.new result }
+    {
+        match mem::replace(&mut self.progress, Progress::Awaited) {
+            Progress::Onward(now, packet) => {
+                self.has_place = false;
+                Second::Known(Leg {
+                    number,
+                    now,
+                    way: Way::Incoming,
+                    packet,
+                })
+            }
+            Progress::EndedOut(outcome) => {
+                self.progress = Progress::EndedOut(outcome);
+                self.has_place = false;
+                Second::Never
+            }
+            other => {
+                self.progress = other;
+                Second::Unknown
+            }
         }
     }
 }

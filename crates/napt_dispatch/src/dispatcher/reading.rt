@@ -8,6 +8,7 @@ ghost use Rattle.napt_wire.specs.Reading.{reading};
 ghost use Rattle.napt_config.specs.Rules.{KeepsRules, place_of};
 ghost use Rattle.napt_rules.specs.Prelude.{way_from, served_at, admission_as};
 ghost use Rattle.napt_pool.specs.Pools.{starts};
+ghost use Rattle.napt_sequential.specs.Inputs.{Hands};
 ghost use Rattle.napt_rules.specs.declared.Outcome.TheVariants.{Dropped};
 ghost use Rattle.napt_dispatch.specs.declared.dispatcher.held.Held.TheVariants.{Ready, Place};
 ghost use Rattle.napt_dispatch.specs.declared.dispatcher.progress.Progress.TheVariants.{EndedIn};
@@ -20,10 +21,8 @@ ghost use Rattle.napt_dispatch.specs.Standing.{parts_of, state_of, IsSized, Keep
 use crate::Worker;
 use crate::departures::Departures;
 use crate::dispatcher::Dispatcher;
-use crate::dispatcher::halted::Halted;
-use crate::dispatcher::held::Held;
-use crate::dispatcher::impossible_answer::ImpossibleAnswer;
-use crate::dispatcher::offer::Offer;
+use crate::dispatcher::halted::{Halted, ImpossibleAnswer};
+use crate::dispatcher::held::{Held, Offer};
 use crate::dispatcher::progress::Progress;
 use crate::dispatcher::queues::len_at;
 use napt_config::Config;
@@ -238,6 +237,22 @@ impl Dispatcher {
         }
     }
 
+    /// The next input, which may have the room of the vector of a packet that left. A device is asked for it only where all
+    /// outcomes have left and are settled.
+    fn next_input<A: Arrivals, D: Departures>(
+        &mut self,
+        arrivals: &mut A,
+        _departures: &D,
+    ) -> Result<Option<Input>, A::Fault>
+        requires settled { A.asks arrivals.old → (self.old.progress.under_way ≡ [])
+            × D.is_settled _departures.now }
+        ensures same { self.new ≡ self.old }
+        ensures hands { Hands A.hands A.ends arrivals.old result arrivals.new }
+    {
+        let spare = self.progress.spare();
+        arrivals.next(spare)
+    }
+
     /// Reads all inputs, in their order, until the end or a fault is told; their bytes move. Between them the answers of one
     /// worker after the other are taken.
     fn read_all<R: Wait, G: Gate, A: Arrivals, D: Departures>(
@@ -265,7 +280,7 @@ impl Dispatcher {
         for _ in rt.forever() {
             let asks_device = arrivals.asks_device();
             self.make_ready(rt, alloc, pool, departures, count, asks_device)?;
-            match arrivals.next() {
+            match self.next_input(arrivals, departures) {
                 Ok(Some(input)) => {
                     clock = clock.max(input.clock);
                     self.serve(rt, alloc, pool, config, clock, input)?;

@@ -7,10 +7,9 @@ ghost use Rattle.napt_dispatch.specs.Passing.{HandsOver, FailsOver};
 ghost use Rattle.napt_dispatch.specs.Standing.{IsSecond};
 
 use crate::departures::Departures;
-use crate::dispatcher::impossible_answer::ImpossibleAnswer;
-use crate::dispatcher::open_input::OpenInput;
-use crate::dispatcher::progress::Progress;
-use crate::dispatcher::second::Second;
+use crate::dispatcher::halted::ImpossibleAnswer;
+use crate::dispatcher::progress::{OpenInput, Progress, Second};
+use crate::dispatcher::spares::Spares;
 use http_server::Log;
 use napt_sequential::{Outcome, RunFault};
 use std::alloc::Global;
@@ -29,6 +28,8 @@ pub(crate) struct RunProgress {
     under_way: VecDeque<OpenInput>,
     /// The outcomes that left. It takes no memory: only proofs read it.
     past: Log<u64, Outcome>,
+    /// The vectors of packets that left.
+    spares: Spares,
 }
 
 impl Model for RunProgress {
@@ -57,6 +58,7 @@ impl RunProgress {
             first: 0,
             under_way: VecDeque::new(alloc),
             past: Log::new(),
+            spares: Spares::new(alloc),
         }
     }
 
@@ -65,6 +67,20 @@ impl RunProgress {
         ensures { (result ≡ true) ↔ (length self.now.under_way < 131072) }
     {
         self.under_way.len() < WINDOW
+    }
+
+    /// Keeps the vector of a packet that left, if there is one.
+    fn keep_spare(&mut self, vector: Option<Vec<u8>>)
+        ensures { self.new ≡ self.old }
+    {
+        self.spares.keep(vector);
+    }
+
+    /// A vector whose room an input to come may have.
+    pub(crate) fn spare(&mut self) -> Vec<u8>
+        ensures { self.new ≡ self.old }
+    {
+        self.spares.take()
     }
 
     /// Whether the outcome of each input that was read has left.
@@ -187,7 +203,7 @@ impl RunProgress {
     {
         while let Some((time, outcome)) = self.take_first() {
             match departures.leave(time, outcome) {
-                Ok(()) => {}
+                Ok(vector) => self.keep_spare(vector),
                 Err(fault) => return Err(fault),
             }
         }

@@ -8,8 +8,7 @@ ghost use Rattle.napt_dispatch.specs.Standing.{parts_of, IsSizedFor, ContinuesUn
 use crate::Worker;
 use crate::departures::Departures;
 use crate::dispatcher::Dispatcher;
-use crate::dispatcher::halted::Halted;
-use crate::dispatcher::impossible_answer::ImpossibleAnswer;
+use crate::dispatcher::halted::{Halted, ImpossibleAnswer};
 use crate::dispatcher::queues::{are_empty, len_at};
 use napt_pool::{Backoff, Gate, Pool};
 use napt_sequential::RunFault;

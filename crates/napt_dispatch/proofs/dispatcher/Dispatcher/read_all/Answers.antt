@@ -39,45 +39,47 @@ loop-preserved g c =
     record {
       inputs = inputs ++ input ∷ [];
       went = went ++ ready.went;
-      handed = g.met.A.Arrivals.hands_more c.args.arrivals.now c.loop.arrivals c.next-in-loop.new.self inputs
-          (input ∷ []) c.loop.invariant.handed (rw c.in-Ok-Some.field-0-is at c.in-Ok-Some.ensures);
+      handed = g.met.A.Arrivals.hands_more c.args.arrivals.now c.loop.arrivals c.next_input.new.arrivals inputs
+          (input ∷ []) c.loop.invariant.handed (rw c.in-Ok-Some.field-0-is at c.in-Ok-Some.ensures.hands);
       clock = now;
       reads = reads_more c.args.config.now c.args.pool.now c.args.self.now inputs (went ++ ready.went)
           c.make_ready.new.pool c.make_ready.new.self c.max-clock.result input c.serve.new.pool c.serve.new.self
           (reads_on c.args.config.now c.args.pool.now c.args.self.now inputs went ready.went c.loop.pool c.loop.self
           c.make_ready.new.pool c.make_ready.new.self c.loop.invariant.reads ready.goes)
-          now c.in_ok-serve-in-Ok-Some.ensures.serves;
+          now (rw c.next_input.ensures.same at c.in_ok-serve-in-Ok-Some.ensures.serves);
       took = g.met.D.Departures.takes_more c.args.departures.now c.loop.departures c.make_ready.new.departures went
           ready.went c.loop.invariant.took ready.took;
     }
 
 pub returns-in-Ok-None : goal.returns-in-Ok-None
 returns-in-Ok-None g c =
-    reads_over g.D.Departures.takes g.D.Departures.fails g.met.D.Departures.takes_more c.args.config.now
+    rw c.next_input.ensures.same
+    (reads_over g.D.Departures.takes g.D.Departures.fails g.met.D.Departures.takes_more c.args.config.now
     g.A.Arrivals.hands g.A.Arrivals.ends g.D.Departures.is_settled c.args.pool.now c.args.self.now c.args.arrivals.now
     c.args.departures.now c.loop.pool c.loop.self c.loop.departures c.make_ready.new.pool c.make_ready.new.self
-    c.next-in-loop.new.self c.make_ready.new.departures c.loop.invariant.inputs c.loop.invariant.went c.new.result
+    c.next_input.new.arrivals c.make_ready.new.departures c.loop.invariant.inputs c.loop.invariant.went c.new.result
     c.loop.invariant.reads c.loop.invariant.took c.in_ok-make_ready.ensures.state
     (record {
       last = c.loop.arrivals;
       handed = c.loop.invariant.handed;
-      ended = subst (λ fault. g.A.Arrivals.ends c.loop.arrivals fault c.next-in-loop.new.self) (sym c.new.ensures.1)
-          (rw c.in-Ok-None.field-0-is at c.in-Ok-None.ensures);
+      ended = subst (λ fault. g.A.Arrivals.ends c.loop.arrivals fault c.next_input.new.arrivals) (sym c.new.ensures.1)
+          (rw c.in-Ok-None.field-0-is at c.in-Ok-None.ensures.hands);
     })
-    (c.new.ensures.0 ∙ c.loop.invariant.clock)
+    (c.new.ensures.0 ∙ c.loop.invariant.clock))
 
 pub returns-in-Err : goal.returns-in-Err
 returns-in-Err g c =
-    reads_over g.D.Departures.takes g.D.Departures.fails g.met.D.Departures.takes_more c.args.config.now
+    rw c.next_input.ensures.same
+    (reads_over g.D.Departures.takes g.D.Departures.fails g.met.D.Departures.takes_more c.args.config.now
     g.A.Arrivals.hands g.A.Arrivals.ends g.D.Departures.is_settled c.args.pool.now c.args.self.now c.args.arrivals.now
     c.args.departures.now c.loop.pool c.loop.self c.loop.departures c.make_ready.new.pool c.make_ready.new.self
-    c.next-in-loop.new.self c.make_ready.new.departures c.loop.invariant.inputs c.loop.invariant.went
+    c.next_input.new.arrivals c.make_ready.new.departures c.loop.invariant.inputs c.loop.invariant.went
     c.new-in-Err.result
     c.loop.invariant.reads c.loop.invariant.took c.in_ok-make_ready.ensures.state
     (record {
       last = c.loop.arrivals;
       handed = c.loop.invariant.handed;
-      ended = subst (λ fault. g.A.Arrivals.ends c.loop.arrivals fault c.next-in-loop.new.self)
-          (sym c.new-in-Err.ensures.1) c.in-Err.ensures;
+      ended = subst (λ fault. g.A.Arrivals.ends c.loop.arrivals fault c.next_input.new.arrivals)
+          (sym c.new-in-Err.ensures.1) c.in-Err.ensures.hands;
     })
-    (c.new-in-Err.ensures.0 ∙ c.loop.invariant.clock)
+    (c.new-in-Err.ensures.0 ∙ c.loop.invariant.clock))

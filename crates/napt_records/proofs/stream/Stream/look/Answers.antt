@@ -69,3 +69,31 @@ returns-in_ok-push_back-in-Whole-clause-writable g c all =
     rw c.in_ok-push_back-in-Whole.ensures.items
     (All-push IsWritable c.args.firsts.now.items c.in-Whole.record all (rw c.in-Whole.is at
     c.in_ok-record.ensures.writable))
+
+pub returns-in_err-record-clause-asks : goal.returns-in_err-record-clause-asks
+returns-in_err-record-clause-asks g c asked =
+    let none : c.args.firsts.now.items ≡ [] =
+    none_of c.args.firsts.now.items (deque_len c.args.firsts.now) c.is_empty.result c.is_empty.ensures
+    c.if-not-is_empty.false (omega (arith, c.args.firsts.now.ok)) in
+    c.next.ensures.asks (λ partial. asked ((none, untold c.args.self.now.cut c.if-is_some.ensures), partial))
+
+pub returns-in_err-push_back-in-Whole-clause-asks : goal.returns-in_err-push_back-in-Whole-clause-asks
+returns-in_err-push_back-in-Whole-clause-asks g c asked =
+    let none : c.args.firsts.now.items ≡ [] =
+    none_of c.args.firsts.now.items (deque_len c.args.firsts.now) c.is_empty.result c.is_empty.ensures
+    c.if-not-is_empty.false (omega (arith, c.args.firsts.now.ok)) in
+    c.next.ensures.asks (λ partial. asked ((none, untold c.args.self.now.cut c.if-is_some.ensures), partial))
+
+pub returns-in_ok-push_back-in-Whole-clause-asks : goal.returns-in_ok-push_back-in-Whole-clause-asks
+returns-in_ok-push_back-in-Whole-clause-asks g c asked =
+    let none : c.args.firsts.now.items ≡ [] =
+    none_of c.args.firsts.now.items (deque_len c.args.firsts.now) c.is_empty.result c.is_empty.ensures
+    c.if-not-is_empty.false (omega (arith, c.args.firsts.now.ok)) in
+    c.next.ensures.asks (λ partial. asked ((none, untold c.args.self.now.cut c.if-is_some.ensures), partial))
+
+pub returns-in-End-clause-asks : goal.returns-in-End-clause-asks
+returns-in-End-clause-asks g c asked =
+    let none : c.args.firsts.now.items ≡ [] =
+    none_of c.args.firsts.now.items (deque_len c.args.firsts.now) c.is_empty.result c.is_empty.ensures
+    c.if-not-is_empty.false (omega (arith, c.args.firsts.now.ok)) in
+    c.next.ensures.asks (λ partial. asked ((none, untold c.args.self.now.cut c.if-is_some.ensures), partial))

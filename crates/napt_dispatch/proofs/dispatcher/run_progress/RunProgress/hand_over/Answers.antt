@@ -9,8 +9,9 @@ loop-time-preserved g c =
     let went = c.loop-time.invariant.went in
     record {
       went = went ++ pair ∷ [];
-      handed = over_more went (pair ∷ []) c.args.self.now c.loop-time.self c.take_first.new.self
-          c.loop-time.invariant.handed (leaves_over pair c.loop-time.self c.take_first.new.self c.in-Some.ensures);
+      handed = rw c.keep_spare.ensures
+          (over_more went (pair ∷ []) c.args.self.now c.loop-time.self c.take_first.new.self
+          c.loop-time.invariant.handed (leaves_over pair c.loop-time.self c.take_first.new.self c.in-Some.ensures));
       took = g.met.D.Departures.takes_more c.args.departures.now c.loop-time.departures c.leave.new.self went
           (pair ∷ []) c.loop-time.invariant.took c.in-Ok.ensures;
     }

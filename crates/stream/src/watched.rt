@@ -1,0 +1,60 @@
+//! The gate of a run whose bindings are counted.
+
+use napt_pool::Gate;
+use std::alloc::{AllocError, Global};
+use std::sync::atomic::{AtomicU64, Ordering};
+
+/// A count that has a cache line to itself, so that workers do not wait for one another.
+#[derive(Drop)]
+struct Count {
+    many: AtomicU64,
+    _rest: [u64; 15],
+}
+
+/// A gate that always says yes, and counts the bindings of all workers.
+#[derive(Drop)]
+pub struct Watched {
+    /// Of each worker.
+    counts: Vec<Count>,
+}
+
+impl Watched {
+    /// Of a run over so many workers.
+    pub fn new(alloc: Global, workers: usize) -> Result<Watched, AllocError> {
+        let mut counts = Vec::with_capacity(alloc, workers)?;
+        for _ in 0..workers {
+            counts.push(Count {
+                many: AtomicU64::new(0),
+                _rest: [0; 15],
+            })?;
+        }
+        Ok(Watched { counts })
+    }
+
+    /// How many bindings all workers held, each after its latest packet.
+    pub fn bindings(&self) -> u64 {
+        let mut many = 0u64;
+        for count in &self.counts {
+            many = many.saturating_add(count.many.load(Ordering::SeqCst));
+        }
+        many
+    }
+}
+
+impl Gate for Watched {
+    ghost use Rattle.std.specs.Prelude.{true};
+
+    ghost is_open = { true };
+
+    fn enter(&self, _worker: u32, _turn: u64) -> bool {
+        true
+    }
+
+    fn observe(&self, worker: u32, size: u64) {
+        if let Some(count) = self.counts.get(worker as usize) {
+            if count.many.load(Ordering::SeqCst) != size {
+                count.many.store(size, Ordering::SeqCst);
+            }
+        }
+    }
+}
