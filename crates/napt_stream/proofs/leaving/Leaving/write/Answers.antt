@@ -1,5 +1,5 @@
 use Rattle.napt_stream.proofs.Leaves.{leaves_outside, leaves_inside}
-use Rattle.napt_stream.proofs.departing.Leaving.write.Goals as goal
+use Rattle.napt_stream.proofs.leaving.Leaving.write.Goals as goal
 
 pub returns-in-ToOutside : goal.returns-in-ToOutside
 returns-in-ToOutside g c =
