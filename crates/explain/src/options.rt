@@ -134,7 +134,7 @@ const APART: &[(&str, &str)] = &[
 #[derive(Drop)]
 pub struct Options<'m> {
     /// The files that a call of `napt` with these words reads and writes.
-    pub files: napt_options::Options,
+    pub files: napt_program::Options,
     /// Where the picture is drawn; absent, there is none.
     pub svg: Option<&'m str>,
     /// The part of the time that is drawn.
@@ -320,8 +320,8 @@ fn asked_of<R: Eprint>(rt: &R, matches: &ArgMatches<'_>) -> Result<Option<Asked>
 }
 
 /// The files that the options of `napt` name.
-fn files_of(alloc: Global, matches: &ArgMatches<'_>) -> Result<napt_options::Options, AllocError> {
-    Ok(napt_options::Options {
+fn files_of(alloc: Global, matches: &ArgMatches<'_>) -> Result<napt_program::Options, AllocError> {
+    Ok(napt_program::Options {
         config: file_of(alloc, matches, "config")?,
         inside: file_of(alloc, matches, "inside")?,
         outside: file_of(alloc, matches, "outside")?,

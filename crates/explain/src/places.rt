@@ -2,8 +2,7 @@
 
 use crate::options::Options;
 use crate::stop::Stop;
-use napt_options::{Role, is_same, place_of};
-use napt_program::{MOST_BYTES, unmade};
+use napt_program::{MOST_BYTES, Role, is_same, place_of, unmade};
 use std::fs::File;
 use std::io::Read;
 use std::rt::Files;
@@ -158,7 +157,7 @@ fn option_of(output: Output) -> &'static str {
 
 /// What has the file of an output of a path too, of all that is named before it.
 ///
-/// Files are compared for what they are (`napt_options`), so that another spelling of a path, and a link, name the same file.
+/// Files are compared for what they are (`napt_program`), so that another spelling of a path, and a link, name the same file.
 fn named_again<R: Files>(
     rt: &R,
     options: &Options<'_>,

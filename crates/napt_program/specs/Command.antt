@@ -1,8 +1,8 @@
 -- What stops a program on its command line: its words, what it opens, and its run.
 use Rattle.std.specs.Prelude.{◌≡◌, ◌||◌, Bool, true, false, not, is_some}
-use Rattle.napt_options.specs.CommandLine.{Files, Line, files, help, mistake}
-use Rattle.napt_options.specs.declared.Role.{Role}
-use Rattle.napt_options.specs.declared.Role.TheVariants as role
+use Rattle.napt_program.specs.CommandLine.{Files, Line, files, help, mistake}
+use Rattle.napt_program.specs.declared.role.Role.{Role}
+use Rattle.napt_program.specs.declared.role.Role.TheVariants as role
 use Rattle.napt_program.specs.declared.stop.Stop.{Stop}
 use Rattle.napt_program.specs.declared.stop.Stop.TheVariants as stop
 use Rattle.napt_program.specs.declared.streams.Streams.{Streams}

@@ -3,7 +3,7 @@ use Rattle.std.specs.Prelude.{◌≡◌, ◌≢◌, ℕ, List, Bool, true, Resul
 use Rattle.napt_config.specs.Configured.{configuration_of}
 use Rattle.napt_config.specs.Rules.{Rules}
 use Rattle.napt_config.specs.declared.fault.ConfigFault.TheVariants.{Memory}
-use Rattle.napt_options.specs.declared.Role.TheVariants as role
+use Rattle.napt_program.specs.declared.role.Role.TheVariants as role
 use Rattle.napt_program.specs.declared.stop.Stop.{Stop}
 use Rattle.napt_program.specs.declared.stop.Stop.TheVariants as stop
 

@@ -1,8 +1,8 @@
 -- What opening the files of a run gives.
 use Rattle.std.specs.Prelude.{◌≡◌, true, not, is_some}
 use Rattle.either.specs.Either.{is_left}
-use Rattle.napt_options.specs.CommandLine.{is_named}
-use Rattle.napt_options.specs.declared.Options.{Options}
+use Rattle.napt_program.specs.CommandLine.{is_named}
+use Rattle.napt_program.specs.declared.options.Options.{Options}
 use Rattle.napt_program.specs.declared.files.InputFiles.{InputFiles}
 use Rattle.napt_program.specs.declared.files.RunFiles.{RunFiles}
 use Rattle.napt_program.specs.declared.stop.Stop.{Stop}

@@ -1,8 +1,8 @@
 -- The standard streams that are wanted.
 use Rattle.std.specs.Prelude.{◌&&◌, not, Option, Some, None, is_some, if◌then◌else◌}
-use Rattle.napt_options.specs.declared.Options.{Options}
-use Rattle.napt_options.specs.declared.Role.{Role}
-use Rattle.napt_options.specs.declared.Role.TheVariants as role
+use Rattle.napt_program.specs.declared.options.Options.{Options}
+use Rattle.napt_program.specs.declared.role.Role.{Role}
+use Rattle.napt_program.specs.declared.role.Role.TheVariants as role
 use Rattle.napt_program.specs.declared.streams.Streams.{Streams}
 
 -- the first standard stream that is wanted, since no file is named for it, and is closed

@@ -1,17 +1,17 @@
 //! The command line of a program, and all that it opens for its run.
 
 ghost use Rattle.std.specs.Prelude.{◌≡◌, ◌⊎◌, IfErr, IfOk};
-ghost use Rattle.napt_options.specs.CommandLine.{files_of};
+ghost use Rattle.napt_program.specs.CommandLine.{files_of};
 ghost use Rattle.napt_program.specs.Command.{IsRunStop};
 ghost use Rattle.napt_program.specs.Devices.{AreFresh};
 
 use crate::config_file::configuration;
 use crate::devices::{Devices, buffered};
 use crate::files::open_files;
+use crate::options::Options;
 use crate::stop::Stop;
 use crate::streams::{Streams, closed_stream};
 use napt_config::Config;
-use napt_options::Options;
 use std::env;
 use std::env::Env;
 use std::io::{ErrorKind, Printer, Write};

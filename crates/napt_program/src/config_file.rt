@@ -5,9 +5,9 @@ ghost use Rattle.std.specs.IoError.{error_kind};
 ghost use Rattle.napt_config.specs.Configured.{built_in};
 ghost use Rattle.napt_program.specs.Config.{IsConfigStop, IsReadingOf, IsUnread};
 
+use crate::role::Role;
 use crate::stop::Stop;
 use napt_config::{Config, ConfigFault};
-use napt_options::Role;
 use std::alloc::Global;
 use std::fs::File;
 use std::io;

@@ -3,9 +3,11 @@
 ghost use Rattle.std.specs.Prelude.{◌≡◌, IfErr, IfOk, IsSome, is_some};
 ghost use Rattle.napt_program.specs.Files.{AreInputsOpen, AreOpen, IsFileStop};
 
+use crate::options::Options;
+use crate::places::lost_file;
+use crate::role::Role;
 use crate::stop::Stop;
 use either::{Either, Left, Right};
-use napt_options::{Options, Role, lost_file};
 use std::fs::File;
 use std::io;
 use std::io::Printer;

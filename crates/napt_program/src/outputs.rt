@@ -3,8 +3,9 @@
 ghost use Rattle.std.specs.Prelude.{◌≡◌, IfErr, IsSome};
 ghost use Rattle.napt_program.specs.Files.{IsFileStop};
 
+use crate::options::Options;
+use crate::role::Role;
 use crate::stop::Stop;
-use napt_options::{Options, Role};
 use std::fs::{FileType, OpenOptions};
 use std::io::ErrorKind;
 use std::os::unix::fs::FileTypeExt;

@@ -2,9 +2,9 @@
 ghost use Rattle.std.specs.Prelude.{◌≡◌, IfOk, Some, option_map, string_bytes};
 ghost use Rattle.napt_program.specs.Stop.{capture_name, config_name, fault_text, line_at_end, line_of, output_role, run_name, side_name, status_at_end, status_of, status_of_fault, stop_text};
 
+use crate::role::Role;
 use napt_capture::CaptureFault;
 use napt_config::ConfigFault;
-use napt_options::Role;
 use napt_pool::PoolFault;
 use napt_records::{Fault, Which};
 use napt_sequential::RunFault;

@@ -3,7 +3,8 @@
 ghost use Rattle.std.specs.Prelude.{◌≡◌};
 ghost use Rattle.napt_program.specs.Streams.{closed_stream};
 
-use napt_options::{Options, Role};
+use crate::options::Options;
+use crate::role::Role;
 use std::os::fd::AsFd;
 
 /// The error of the system for a number that is no open file, EBADF of errno(3).

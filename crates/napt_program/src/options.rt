@@ -1,7 +1,7 @@
 //! The command line: which files the program reads and writes.
 ghost use Rattle.std.specs.Prelude.{◌≡◌, ◌≢◌, IfErr, IfOk, false, map, option_map, string_bytes};
 ghost use Rattle.clap.specs.Words.{app_of, first_value, found_of, kind_of, rule_of};
-ghost use Rattle.napt_options.specs.CommandLine.{IsHelp, file_option, files, files_of, help, line_of_words, mistake, napt_app};
+ghost use Rattle.napt_program.specs.CommandLine.{IsHelp, file_option, files, files_of, help, line_of_words, mistake, napt_app};
 
 use clap::error::ErrorKind;
 use clap::{Arg, ArgAction, ArgMatches, Command, Error};
@@ -139,7 +139,7 @@ pub enum LineFault {
 }
 
 impl From<AllocError> for LineFault {
-    ghost use Rattle.napt_options.specs.declared.options.LineFault.TheVariants.{Memory};
+    ghost use Rattle.napt_program.specs.declared.options.LineFault.TheVariants.{Memory};
 
     ghost from_gives = { λ _ fault. fault ≡ Memory };
 

@@ -1,8 +1,8 @@
 -- Which places are one file.
 use Rattle.std.specs.Prelude.{◌==◌, ◌&&◌, Bool, false, bytes_eq}
-use Rattle.napt_options.specs.declared.place.Node.{Node}
-use Rattle.napt_options.specs.declared.place.Place.{Place}
-use Rattle.napt_options.specs.declared.place.Place.TheVariants.{There, New, Words}
+use Rattle.napt_program.specs.declared.place.Node.{Node}
+use Rattle.napt_program.specs.declared.place.Place.{Place}
+use Rattle.napt_program.specs.declared.place.Place.TheVariants.{There, New, Words}
 
 abbrev pub is_same_node : Node → Node → Bool
 is_same_node a b = a.device == b.device && a.number == b.number

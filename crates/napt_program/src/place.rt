@@ -1,6 +1,6 @@
 //! Where a file stands, so that one file is known under several paths.
 ghost use Rattle.std.specs.Prelude.{◌≡◌};
-ghost use Rattle.napt_options.specs.Place.{is_same, is_same_node};
+ghost use Rattle.napt_program.specs.Place.{is_same, is_same_node};
 
 use std::fs;
 use std::fs::Metadata;

@@ -3,11 +3,11 @@ use Rattle.std.specs.Prelude.{List, [], ◌∷◌, Bool, Option, Some, codes, is
 use Rattle.clap.specs.Words.{App, Kinds, Row, Rule, Text, fault_of, first_of, matches_of, new_app, new_rule, with_rule}
 use Rattle.clap.specs.declared.builder.action.ArgAction.TheVariants.{Set}
 use Rattle.clap.specs.declared.error.kind.ErrorKind.TheVariants.{DisplayHelp}
-use Rattle.napt_options.specs.declared.options.Options.{Options}
-use Rattle.napt_options.specs.declared.options.LineFault.{LineFault}
-use Rattle.napt_options.specs.declared.options.LineFault.TheVariants.{Help}
-use Rattle.napt_options.specs.declared.role.Role.{Role}
-use Rattle.napt_options.specs.declared.role.Role.TheVariants as role
+use Rattle.napt_program.specs.declared.options.Options.{Options}
+use Rattle.napt_program.specs.declared.options.LineFault.{LineFault}
+use Rattle.napt_program.specs.declared.options.LineFault.TheVariants.{Help}
+use Rattle.napt_program.specs.declared.role.Role.{Role}
+use Rattle.napt_program.specs.declared.role.Role.TheVariants as role
 
 -- `--name FILE`: a plain option that takes one value
 abbrev pub file_option : Text → Rule

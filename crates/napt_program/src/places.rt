@@ -1,7 +1,7 @@
 //! The places of all files of a run, and the output that would destroy one of them.
 ghost use Rattle.std.specs.Prelude.{◌≡◌, IfSome, is_some, true};
-ghost use Rattle.napt_options.specs.CommandLine.{is_named};
-ghost use Rattle.napt_options.specs.Places.{ArePlacesOf, is_again, is_input, is_placed, is_there, output_named_again};
+ghost use Rattle.napt_program.specs.CommandLine.{is_named};
+ghost use Rattle.napt_program.specs.Places.{ArePlacesOf, is_again, is_input, is_placed, is_there, output_named_again};
 
 use crate::options::Options;
 use crate::place::{Place, is_same, place_of};
