@@ -1,10 +1,10 @@
 //! What is told of a configuration or a capture that napt refuses.
 
 use crate::names::hyphened;
+use crate::reasons::{Reason, capture_reasons, config_reasons};
 use crate::stop::Stop;
 use napt_capture::CaptureFault;
 use napt_config::ConfigFault;
-use napt_reasons::{Reason, capture_reasons, config_reasons};
 use std::alloc::AllocError;
 
 /// Writes that the configuration of a path, which is this text, is refused by a fault, and why.
