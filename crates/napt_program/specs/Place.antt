@@ -1,8 +1,11 @@
 -- Which places are one file.
-use Rattle.std.specs.Prelude.{◌==◌, ◌&&◌, Bool, false, bytes_eq}
+use Rattle.std.specs.Prelude.{◌≡◌, ◌==◌, ◌&&◌, ℕ, Bool, false, List, Some, bytes_eq}
+use Rattle.std.specs.Fs.{IsFile}
+use Rattle.std.specs.Path.{path_file_name}
+use Rattle.std.specs.declared.fs.attrs.FileType.{FileType}
 use Rattle.napt_program.specs.declared.place.Node.{Node}
 use Rattle.napt_program.specs.declared.place.Place.{Place}
-use Rattle.napt_program.specs.declared.place.Place.TheVariants.{There, New, Words}
+use Rattle.napt_program.specs.declared.place.Place.TheVariants.{There, New, Words, Aside}
 
 abbrev pub is_same_node : Node → Node → Bool
 is_same_node a b = a.device == b.device && a.number == b.number
@@ -13,3 +16,17 @@ is_same (There a) (There b) = is_same_node a b
 is_same (New a a_name) (New b b_name) = is_same_node a b && bytes_eq a_name.now b_name.now
 is_same (Words a) (Words b) = bytes_eq a.now b.now
 is_same _ _ = false
+
+-- what stands in the place of a path is that path, or the name at its end
+abbrev pub IsOfPath : List ℕ → Place → Type 0
+IsOfPath path (There node) = Unit {0}
+IsOfPath path (New folder name) = path_file_name path ≡ Some name.now
+IsOfPath path (Words words) = words.now ≡ path
+IsOfPath path Aside = Unit {0}
+
+-- of what is there a file has a place of its own, and all else stands aside
+abbrev pub IsOfKind : FileType → Place → Type 0
+IsOfKind kind (There node) = IsFile kind
+IsOfKind kind (New folder name) = ⊥
+IsOfKind kind (Words words) = Unit {0}
+IsOfKind kind Aside = ¬ IsFile kind

@@ -1,5 +1,5 @@
 -- Which output is a file that an option before it names.
-use Rattle.std.specs.Prelude.{◌≡◌, ◌||◌, Bool, false, Option, Some, None, is_some, if◌then◌else◌}
+use Rattle.std.specs.Prelude.{◌≡◌, ◌||◌, Bool, false, not, Option, Some, None, is_some, if◌then◌else◌}
 use Rattle.napt_program.specs.Place.{is_same}
 use Rattle.napt_program.specs.declared.place.Place.{Place}
 use Rattle.napt_program.specs.declared.options.Options.{Options}
@@ -38,8 +38,14 @@ is_placed p role.ToInside = is_some p.to_inside
 is_placed p role.Report = is_some p.report
 is_placed p other = false
 
--- the outputs that have places are those that the words name
+-- the files that have places are those that the words name, and a standard stream has one where it stands for a capture
+-- that is not named
 pub record ArePlacesOf (options : Options) (places : Places) : Type 0 where
+  pub config : is_some places.config ≡ is_some options.config
+  pub standard_input : is_some places.standard_input ≡ not (is_some options.inside)
+  pub inside : is_some places.inside ≡ is_some options.inside
+  pub outside : is_some places.outside ≡ is_some options.outside
+  pub standard_output : is_some places.standard_output ≡ not (is_some options.to_outside)
   pub to_outside : is_some places.to_outside ≡ is_some options.to_outside
   pub to_inside : is_some places.to_inside ≡ is_some options.to_inside
   pub report : is_some places.report ≡ is_some options.report

@@ -1,6 +1,7 @@
 //! Identifies files, so that one file is recognized under several paths.
 ghost use Rattle.std.specs.Prelude.{◌≡◌};
-ghost use Rattle.napt_program.specs.Place.{is_same, is_same_node};
+ghost use Rattle.std.specs.Fs.{file_type};
+ghost use Rattle.napt_program.specs.Place.{IsOfKind, IsOfPath, is_same, is_same_node};
 
 use std::fs;
 use std::fs::Metadata;
@@ -35,11 +36,21 @@ fn node_of(known: &Metadata) -> Option<Node> {
 }
 
 /// The place of the file at this path. Links are followed, except one to a file that does not exist yet.
-pub fn place_of<'a, R: Files>(rt: &R, path: &'a str) -> Place<'a> {
-    let Ok(known) = fs::metadata(rt, path) else {
-        return place_of_new(rt, path);
-    };
-    match node_of(&known) {
+pub fn place_of<'a, R: Files>(rt: &R, path: &'a str) -> Place<'a>
+    ensures { IsOfPath path.now result }
+{
+    match fs::metadata(rt, path) {
+        Ok(known) => place_there(&known, path),
+        Err(_) => place_of_new(rt, path),
+    }
+}
+
+/// The place of what exists at this path.
+fn place_there<'a>(known: &Metadata, path: &'a str) -> Place<'a>
+    ensures path { IsOfPath path.now result }
+    ensures kind { IsOfKind (file_type known.now) result }
+{
+    match node_of(known) {
         Some(_) if !known.is_file() => Place::Aside,
         Some(node) => Place::There(node),
         None => Place::Words(path),
@@ -47,7 +58,9 @@ pub fn place_of<'a, R: Files>(rt: &R, path: &'a str) -> Place<'a> {
 }
 
 /// The place where a file of this path would be created.
-fn place_of_new<'a, R: Files>(rt: &R, path: &'a str) -> Place<'a> {
+fn place_of_new<'a, R: Files>(rt: &R, path: &'a str) -> Place<'a>
+    ensures { IsOfPath path.now result }
+{
     let whole = Path::new(path);
     let (Some(folder), Some(name)) = (whole.parent(), whole.file_name()) else {
         return Place::Words(path);

@@ -1,5 +1,5 @@
 //! Finds an output that would overwrite another file of the run.
-ghost use Rattle.std.specs.Prelude.{◌≡◌, IfSome, is_some, true};
+ghost use Rattle.std.specs.Prelude.{◌≡◌, IfSome, is_some, not, true};
 ghost use Rattle.napt_program.specs.CommandLine.{is_named};
 ghost use Rattle.napt_program.specs.Places.{ArePlacesOf, is_again, is_input, is_placed, is_there, output_named_again};
 
@@ -57,7 +57,9 @@ fn place_of_stream<'a, R: Files>(
     rt: &R,
     path: Option<&'a String>,
     stream: &'a str,
-) -> Option<Place<'a>> {
+) -> Option<Place<'a>>
+    ensures { is_some result ≡ not (is_some path.entry) }
+{
     match path {
         Some(_) => None,
         None => Some(place_of(rt, stream)),
