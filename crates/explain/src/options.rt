@@ -13,43 +13,43 @@ use std::alloc::{AllocError, Global};
 const VERSION: &str = "1.0, its sources proved with Rattle's logic dac8208d650f15bf";
 
 const ABOUT: &str =
-    "Tells what napt does with each packet of its captures, or why it refuses what it is given.";
+    "Explains what napt does with each packet of its captures, or why it refuses its input.";
 
 const NOT_WRITTEN: &str =
-    "Not written: taken as an option of napt, and refused as napt would refuse it";
+    "Never written: accepted as an option of napt, and refused if napt would refuse it";
 
 const SVG: &str =
-    "Draws the run into this file, none that is named otherwise, in SVG: its bindings, hairpins and \
-drops over time, or how many bindings live where more than 30 are shown";
+    "Draws the run in SVG into this file, which nothing else may name: its bindings, hairpins and \
+drops over time, or counts of live bindings if more than 30 are shown";
 
 const LOG: &str =
-    "Writes the log of the run into this file, none that is named otherwise, in CSV: each binding when it \
-is made and when it has ended, and each packet that got none for want of quota or numbers \
+    "Writes the log of the run in CSV into this file, which nothing else may name: each binding when it \
+is made and when it expires, and each packet refused one by the quota or for lack of a free port \
 (docs/FORMATS.md)";
 
 const WHO: &str =
-    "Tells which inside endpoints had this external endpoint, or one of this address, and nothing else: a \
-line for each, with its protocol and the times from and until when; the status is 1 where nobody had it";
+    "Prints only which inside endpoints had this external endpoint, or one of this address: a line for \
+each, with its protocol and the times from and until when; the status is 1 if nobody had it";
 
 const AT: &str =
-    "Asks --who for this time alone: in seconds since 1970, as in the lines, or in RFC 3339, as \
+    "Limits --who to this time: seconds since 1970, as in the lines, or an RFC 3339 date such as \
 2026-11-26T10:02:07Z";
 
 const SIZES: &str =
-    "Tells how many bindings, numbers and hosts there were at once, what quotas would have refused, and \
-how long bindings lived, and nothing else (docs/FORMATS.md)";
+    "Prints only how many bindings, ports and hosts there were at once, what quotas would have refused, \
+and how long bindings lived (docs/FORMATS.md)";
 
 const NOTES: &str = "Examples:
   explain --config napt.toml --inside inside.pcap --outside outside.pcap --dropped
   explain --config napt.toml --inside inside.pcap --outside outside.pcap --who 203.0.113.1:5000 --at 2.5
 
-A line tells a packet's number, time in seconds, side, the packet, what happened, and the packet as it leaves:
+Each line has a packet's number, time in seconds, side, the packet, what happened, and the packet as it leaves:
   1 1.000000 inside  udp 10.0.0.2:5000 > 198.51.100.7:3000 | made a binding | udp 203.0.113.1:5000 > 198.51.100.7:3000
-A number that stands for a query of ICMP is its identifier, also in a --host.
+For ICMP queries the number of an endpoint is the identifier, also in --host.
 
-The words of a call of napt may stand as they are: no output of napt is written. The statuses are those of napt, and what it
-refuses is explained on standard error. With --against the status is 1 where a packet differs, and with --who where nobody had
-what is asked for.";
+The arguments of napt can be given unchanged: no output of napt is written. The statuses are those of napt, and whatever it
+refuses is explained on standard error. With --against the status is 1 if a packet differs, and with --who if nobody had the
+endpoint.";
 
 // The options that take a value: name, kind of value and meaning, in the order of the help text.
 const VALUES: &[(&str, &str, &str)] = &[
@@ -75,12 +75,12 @@ const VALUES: &[(&str, &str, &str)] = &[
     (
         "from",
         "SECONDS",
-        "Begins the picture so long after the first packet [default: at it]",
+        "Starts the picture this long after the first packet [default: 0]",
     ),
     (
         "until",
         "SECONDS",
-        "Ends the picture so long after the first packet [default: behind the last one]",
+        "Ends the picture this long after the first packet [default: after the last packet]",
     ),
     ("log", "FILE", LOG),
     ("who", "ADDRESS[:PORT]", WHO),
@@ -88,26 +88,26 @@ const VALUES: &[(&str, &str, &str)] = &[
     (
         "only",
         "N",
-        "Shows the packet of this number alone, and the bindings that it used",
+        "Shows only the packet with this number, and the bindings that it used",
     ),
     (
         "host",
         "ADDRESS[:PORT]",
-        "Shows the packets and bindings that have this address, or this endpoint, inside or external",
+        "Shows only the packets and bindings with this address or endpoint, inside or external",
     ),
     (
         "against",
         "FILE",
-        "Shows the packets that end otherwise under this configuration, and the counts of both",
+        "Shows the packets that end differently under this configuration, and the counts of both",
     ),
 ];
 
 // The options without a value: name and meaning.
 const FLAGS: &[(&str, &str)] = &[
-    ("dropped", "Shows the dropped packets alone"),
+    ("dropped", "Shows only dropped packets"),
     (
         "json",
-        "Writes a JSON object for each packet, on a line of its own, and nothing else (docs/FORMATS.md)",
+        "Prints only a JSON object for each packet, on a line of its own (docs/FORMATS.md)",
     ),
     ("sizes", SIZES),
 ];
