@@ -56,7 +56,7 @@ config_name config.DoubleRedirect = codes "double-redirect"
 config_name config.TimerTooShort = codes "timer-too-short"
 config_name config.Memory = codes "memory"
 
--- the same, followed by the record's number where the fault has one
+-- the same, followed by the record's number if the fault has one
 abbrev pub capture_name : CaptureFault → Text
 capture_name capture.NoHeader = codes "no-header"
 capture_name capture.BadMagic = codes "bad-magic"
