@@ -1,10 +1,10 @@
 //! Prints why napt refuses a configuration or a capture.
 
 use crate::names::hyphened;
-use crate::reasons::{Reason, capture_reasons, config_reasons};
 use crate::stop::Stop;
 use napt_capture::CaptureFault;
 use napt_config::ConfigFault;
+use napt_reasons::{Reason, capture_reasons, config_reasons};
 use std::alloc::AllocError;
 
 /// Prints that the configuration at a path, with this text, is refused for a fault, and why.

@@ -1,11 +1,11 @@
 //! What the picture of a run shows, in the words of the printed lines.
 
 use crate::names::Seconds;
-use crate::picture::{Binding, BindingKind, MOST_BARS, Pass, Scene};
 use crate::summary::count_dropped;
 use jiff::Timestamp;
 use napt_account::{Account, Entry};
 use napt_config::{Address, Config};
+use napt_picture::{Binding, BindingKind, MOST_BARS, Pass, Scene};
 use napt_records::{EndpointText, cause_name, protocol_name};
 use napt_sequential::{Input, Outcome};
 use napt_wire::{Cause, Protocol};

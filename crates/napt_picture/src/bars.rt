@@ -1,12 +1,10 @@
 //! The picture of a run of few bindings: the bar of each, the packets on it, and the drops below.
 
-use crate::picture::frame::{draw_axis, draw_lanes, draw_legend, draw_page, name_at};
-use crate::picture::layout::{Bar, Cause, Layout, Mark, MarkKind, Packets};
-use crate::picture::scene::{Binding, BindingKind, Scene};
-use crate::picture::shapes::{
-    Area, Point, draw_area, draw_words, open_words, push_escaped, push_moment,
-};
-use crate::picture::span::Span;
+use crate::frame::{draw_axis, draw_lanes, draw_legend, draw_page, name_at};
+use crate::layout::{Bar, Cause, Layout, Mark, MarkKind, Packets};
+use crate::scene::{Binding, BindingKind, Scene};
+use crate::shapes::{Area, Point, draw_area, draw_words, open_words, push_escaped, push_moment};
+use crate::span::Span;
 use std::alloc::{AllocError, Global};
 
 /// The words above the lanes.

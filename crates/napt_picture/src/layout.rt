@@ -1,8 +1,8 @@
 //! Where the bars, packets and drops of a picture are, in pixels.
 
-use crate::picture::frame::Lane;
-use crate::picture::scene::{Binding, BindingKind, Pass, Scene};
-use crate::picture::span::{HEAD, LEFT, RIGHT, Span};
+use crate::frame::Lane;
+use crate::scene::{Binding, BindingKind, Pass, Scene};
+use crate::span::{HEAD, LEFT, RIGHT, Span};
 use std::alloc::{AllocError, Global};
 use std::collections::BTreeMap;
 

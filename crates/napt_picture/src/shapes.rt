@@ -1,6 +1,6 @@
 //! The shapes and the words that a picture is made of.
 
-use crate::picture::span::{MICROSECOND, SECOND, Span};
+use crate::span::{MICROSECOND, SECOND, Span};
 use std::alloc::AllocError;
 
 /// A rectangle.

@@ -1,5 +1,6 @@
 //! Why napt refuses a configuration or a capture, or drops packets, for people to read: where a configuration has its fault,
 //! what a capture seems to be, what a cause means, and what to do.
+#![tactic(auto)]
 
 mod capture;
 mod cause;
@@ -9,7 +10,7 @@ mod part;
 mod reason;
 mod spelling;
 
-pub use crate::reasons::capture::capture_reasons;
-pub use crate::reasons::cause::{advice, meaning};
-pub use crate::reasons::config::config_reasons;
-pub use crate::reasons::reason::Reason;
+pub use crate::capture::capture_reasons;
+pub use crate::cause::{advice, meaning};
+pub use crate::config::config_reasons;
+pub use crate::reason::Reason;

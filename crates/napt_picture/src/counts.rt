@@ -1,14 +1,14 @@
 //! The picture of a run of many bindings: how many live at each address, and below it the numbers of packets, of
 //! hairpins among them, and of drops for each cause.
 
-use crate::picture::frame::{
+use crate::frame::{
     LANE_PAD, Lane, NAME_END, draw_axis, draw_lane, draw_lanes, draw_legend, draw_page,
 };
-use crate::picture::lives::{LiveBin, Lives, lives_of};
-use crate::picture::scene::Scene;
-use crate::picture::shapes::{Area, Point, open_area, open_words, push_moment, push_time};
-use crate::picture::span::{BIN_WIDTH, HEAD, LEFT, Span};
-use crate::picture::tallies::{Tallies, Tally, tallies_of};
+use crate::lives::{LiveBin, Lives, lives_of};
+use crate::scene::Scene;
+use crate::shapes::{Area, Point, open_area, open_words, push_moment, push_time};
+use crate::span::{BIN_WIDTH, HEAD, LEFT, Span};
+use crate::tallies::{Tallies, Tally, tallies_of};
 use std::alloc::{AllocError, Global};
 
 /// The words above the lanes. The time of a bar follows them.

@@ -2,7 +2,7 @@
 
 ghost use Rattle.std.specs.Prelude.{◌≤◌, ◌+◌};
 
-use crate::picture::scene::{Binding, BindingKind, Scene};
+use crate::scene::{Binding, BindingKind, Scene};
 
 /// The line above the first lane, below the legend and the axis.
 pub const HEAD: u64 = 140;

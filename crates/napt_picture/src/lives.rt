@@ -1,7 +1,7 @@
 //! How many bindings of each lane live, in bins of the time shown.
 
-use crate::picture::scene::{Binding, BindingKind};
-use crate::picture::span::{BINS, Span};
+use crate::scene::{Binding, BindingKind};
+use crate::span::{BINS, Span};
 use std::alloc::{AllocError, Global};
 
 /// The bindings of a lane in a bin.

@@ -3,6 +3,7 @@
 //! address, and packets.
 //!
 //! The caller says what to show (`Scene`), in its own words and with times in ns; `drawing_of` lays it out and draws it.
+#![tactic(auto)]
 
 mod bars;
 mod counts;
@@ -15,5 +16,5 @@ mod span;
 mod svg;
 mod tallies;
 
-pub use crate::picture::scene::{Binding, BindingKind, Pass, Scene};
-pub use crate::picture::svg::{MOST_BARS, drawing_of};
+pub use crate::scene::{Binding, BindingKind, Pass, Scene};
+pub use crate::svg::{MOST_BARS, drawing_of};

@@ -1,7 +1,7 @@
 //! How many packets there are, in bins of the time shown.
 
-use crate::picture::scene::{Pass, Scene};
-use crate::picture::span::{BINS, Span};
+use crate::scene::{Pass, Scene};
+use crate::span::{BINS, Span};
 use std::alloc::{AllocError, Global};
 
 /// How many packets of a kind there are in each bin.

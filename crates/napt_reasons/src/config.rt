@@ -2,10 +2,10 @@
 
 ghost use Rattle.std.specs.Prelude.{◌≤◌, ◌+◌, IfOk, OnOk, vec_len};
 
-use crate::reasons::expected::{expected_at, shape_of};
-use crate::reasons::part::{Entry, Place, Refused};
-use crate::reasons::reason::{Reason, add};
-use crate::reasons::spelling::{line_of_name, meant};
+use crate::expected::{expected_at, shape_of};
+use crate::part::{Entry, Place, Refused};
+use crate::reason::{Reason, add};
+use crate::spelling::{line_of_name, meant};
 use napt_config::ConfigFault;
 use std::alloc::{AllocError, Global};
 use toml::Value;

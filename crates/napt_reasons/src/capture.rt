@@ -2,7 +2,7 @@
 
 ghost use Rattle.std.specs.Prelude.{◌≤◌, ◌+◌, IfOk, OnOk, vec_len};
 
-use crate::reasons::reason::{Reason, add};
+use crate::reason::{Reason, add};
 use napt_capture::CaptureFault;
 use std::alloc::{AllocError, Global};
 

@@ -1,12 +1,12 @@
 //! The drawing of a picture in SVG.
 
 ghost use Rattle.std.specs.Prelude.{IfOk, string_bytes};
-ghost use Rattle.explain.specs.Element.{IsElement};
+ghost use Rattle.napt_picture.specs.Element.{IsElement};
 
-use crate::picture::bars::draw_bars;
-use crate::picture::counts::draw_counts;
-use crate::picture::scene::Scene;
-use crate::picture::span::Span;
+use crate::bars::draw_bars;
+use crate::counts::draw_counts;
+use crate::scene::Scene;
+use crate::span::Span;
 use std::alloc::{AllocError, Global};
 
 /// Up to this many bindings have a bar each; of more, only numbers are shown.

@@ -1,6 +1,6 @@
 //! An unknown name: its line, and the name that was meant.
 
-use crate::reasons::part::{Place, known_names};
+use crate::part::{Place, known_names};
 use std::alloc::{AllocError, Global};
 use strsim::levenshtein;
 

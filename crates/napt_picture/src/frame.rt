@@ -1,7 +1,7 @@
 //! What both pictures have: the page, the legend, the lanes with their names, and the axis.
 
-use crate::picture::shapes::{Area, Point, draw_area, draw_words, open_words};
-use crate::picture::span::{HEAD, LEFT, MICROSECOND, MILLISECOND, RIGHT, SECOND, Span, TIME_WIDTH};
+use crate::shapes::{Area, Point, draw_area, draw_words, open_words};
+use crate::span::{HEAD, LEFT, MICROSECOND, MILLISECOND, RIGHT, SECOND, Span, TIME_WIDTH};
 use std::alloc::AllocError;
 
 const STYLE: &str = "<style>
