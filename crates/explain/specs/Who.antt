@@ -6,20 +6,20 @@ use Rattle.napt_account.specs.declared.log.Entry.{Entry}
 use Rattle.explain.specs.declared.shown.Party.{Party}
 use Rattle.explain.specs.declared.who.Asked.{Asked}
 
--- no number stands for any
+-- no number means any
 abbrev pub is_number : Option ℕ → ℕ → Bool
 is_number None number = true
 is_number (Some wanted) number = wanted == number
 
--- whether an endpoint is the one that is meant, or one of the address that is
+-- whether an endpoint is the one asked about, or one of the address asked about
 abbrev pub is_meant : Party → Endpoint → Bool
 is_meant party endpoint = (endpoint.address == party.address) && is_number party.number endpoint.number
 
--- whether the binding of an entry lives at a time; at any, where none is given
+-- whether the binding of an entry is live at a time, if one is given
 abbrev pub stands_by : Option ℕ → Entry → Bool
 stands_by None entry = true
 stands_by (Some at) entry = stands_at at entry
 
--- whether an entry tells who had what is asked for, when it is asked for
+-- whether an entry answers the question: the endpoint, and the time
 abbrev pub answers : Asked → Entry → Bool
 answers asked entry = is_meant asked.party entry.binding.external && stands_by asked.at entry

@@ -1,4 +1,4 @@
-//! The same captures under two configurations: which packets end otherwise.
+//! The same captures under two configurations: which packets end differently.
 
 use crate::names::{Seconds, side_name};
 use crate::options::Choice;
@@ -20,7 +20,7 @@ struct Both<'a> {
     second: &'a [Outcome],
 }
 
-/// A packet that ends otherwise under the second configuration; its number counts from 1.
+/// A packet that ends differently under the second configuration, numbered from 1.
 #[derive(Clone, Copy)]
 struct Difference<'a> {
     number: u64,
@@ -29,8 +29,8 @@ struct Difference<'a> {
     second: &'a Outcome,
 }
 
-/// Makes the run over the inputs under both configurations, and writes a line for each packet that is chosen and ends otherwise,
-/// and how many end in which way under each. Stops by `Differ` where any packet ends otherwise.
+/// Runs the inputs under both configurations, and prints a line for each selected packet that ends differently, then the
+/// counts of both runs. Fails with `Differ` if any packet, selected or not, ends differently.
 pub fn tell_against<R: Print + AllocGlobal>(
     rt: &R,
     choice: Choice,
@@ -54,7 +54,7 @@ pub fn tell_against<R: Print + AllocGlobal>(
 }
 
 impl<'a> Both<'a> {
-    /// Writes the lines of the chosen packets that end otherwise, and answers how many of all do.
+    /// Prints the lines of the selected packets that end differently, and returns how many of all packets do.
     fn tell_differences<R: Print + AllocGlobal>(self, rt: &R, choice: Choice) -> Result<u64, Stop> {
         let mut different = 0u64;
         for at in 0..self.inputs.len() {
@@ -69,7 +69,7 @@ impl<'a> Both<'a> {
         Ok(different)
     }
 
-    /// The packet at a place, from 0, where it ends otherwise.
+    /// The packet at an index, if it ends differently.
     fn difference_at(self, at: usize) -> Option<Difference<'a>> {
         let (first, second) = (self.first.get(at)?, self.second.get(at)?);
         if ends_alike(first, second) {
@@ -83,7 +83,7 @@ impl<'a> Both<'a> {
         })
     }
 
-    /// Writes how many packets end otherwise, and how many end in which way under each configuration.
+    /// Prints how many packets end differently, and the counts under each configuration.
     fn tell_counts<R: Print>(self, rt: &R, different: u64) -> Result<(), Stop> {
         let (first, second) = (self.first, self.second);
         println!(rt;
@@ -104,7 +104,7 @@ impl<'a> Both<'a> {
     }
 }
 
-/// Whether a packet ends in the same way, with the same bytes.
+/// Whether both outcomes are the same, to the byte.
 fn ends_alike(first: &Outcome, second: &Outcome) -> bool {
     match (first, second) {
         (Outcome::Dropped(one), Outcome::Dropped(other)) => one == other,
@@ -130,12 +130,12 @@ impl<'a> Difference<'a> {
         host.is_end_of_arrival(alloc, input.side, &input.bytes)
     }
 
-    /// Whether it is dropped under either configuration.
+    /// Whether either configuration drops it.
     fn is_dropped(self) -> bool {
         matches!(self.first, Outcome::Dropped(_)) || matches!(self.second, Outcome::Dropped(_))
     }
 
-    /// The line of the packet, with what becomes of it under the first and under the second configuration.
+    /// The line of the packet, with its outcome under the first and the second configuration.
     fn text(self, alloc: Global) -> Result<String, AllocError> {
         let (number, input) = (self.number, self.input);
         let time = Seconds(input.time);
@@ -150,7 +150,7 @@ impl<'a> Difference<'a> {
     }
 }
 
-/// Adds what becomes of a packet to a text, as `out: udp 203.0.113.1:5000 > 198.51.100.7:3000`.
+/// Appends an outcome, such as `out: udp 203.0.113.1:5000 > 198.51.100.7:3000`.
 fn add_outcome(text: &mut String, outcome: &Outcome) -> Result<(), AllocError> {
     match outcome {
         Outcome::Dropped(cause) => write!(text, "dropped, {}", cause_name(*cause)),

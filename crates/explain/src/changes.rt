@@ -1,39 +1,39 @@
-//! What happened to the bindings of a run, in the order of time.
+//! What happened to the bindings of a run, in order of time.
 
 use napt_account::Log;
 use std::alloc::{AllocError, Global};
 
-/// What happened, to the entry or by the shortage at a place of the log.
+/// What happened, with the index of the log's entry, or of its shortage.
 #[derive(Clone, Copy)]
 pub enum Event {
-    /// A binding has ended.
+    /// A binding expired.
     Ended(usize),
     /// A binding was made.
     Made(usize),
-    /// A packet got none.
+    /// A packet was refused a binding.
     Refused(usize),
 }
 
-/// What happened at a time, in ns.
+/// What happened, and when, in ns.
 #[derive(Clone, Copy)]
 pub struct Change {
     pub at: u64,
     pub event: Event,
 }
 
-/// What happened up to the last time, in the order of time. Of one time the bindings that have ended come first, since their numbers
-/// are free for those that are made then; the packets that got none come last.
+/// What happened up to the last packet, in order of time. At equal times expired bindings come first, since their ports are
+/// free for the bindings made then; refused packets come last.
 pub fn changes_of(alloc: Global, log: &Log, last: u64) -> Result<Vec<Change>, AllocError> {
     let mut changes = Vec::new(alloc);
     add_ends(&mut changes, log, last)?;
     add_makings(&mut changes, log)?;
     add_shortages(&mut changes, log)?;
-    // equal times stay in the order in which they were added
+    // the sort is stable: equal times keep the order in which they were added
     changes.sort_by_key(|change| change.at)?;
     Ok(changes)
 }
 
-/// The bindings that have ended up to the last time, in the order of time.
+/// The bindings that expired by the last packet, in order of time.
 pub fn ends_of(alloc: Global, log: &Log, last: u64) -> Result<Vec<Change>, AllocError> {
     let mut changes = Vec::new(alloc);
     add_ends(&mut changes, log, last)?;
@@ -41,7 +41,7 @@ pub fn ends_of(alloc: Global, log: &Log, last: u64) -> Result<Vec<Change>, Alloc
     Ok(changes)
 }
 
-/// Those that have ended up to a time. One that has not may end later, by another packet or none.
+/// Those that expired by a time. When the others expire depends on packets to come.
 fn add_ends(changes: &mut Vec<Change>, log: &Log, last: u64) -> Result<(), AllocError> {
     for (place, entry) in log.entries.iter().enumerate() {
         if let Some(at) = ended_by(entry.end, last) {
@@ -52,7 +52,7 @@ fn add_ends(changes: &mut Vec<Change>, log: &Log, last: u64) -> Result<(), Alloc
     Ok(())
 }
 
-/// An end that has come by a time.
+/// The end, if it came by that time.
 pub fn ended_by(end: Option<u128>, last: u64) -> Option<u64> {
     match end {
         Some(end) if end <= u128::from(last) => Some(end as u64),

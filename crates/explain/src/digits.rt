@@ -1,11 +1,11 @@
-//! Numbers, addresses and spaces, added to a text. Of a million lines most of the time goes into these, so they are not formatted by
+//! Appends numbers, addresses and spaces to a text. Most of the time of a million lines goes into these, so they avoid
 //! `write!`.
 
 use itoa::Buffer;
 use napt_wire::Endpoint;
 use std::alloc::{AllocError, Global};
 
-/// Each octet in three digits, with a dot behind them.
+/// Each octet as three digits and a dot.
 const OCTETS: &str =
     "000.001.002.003.004.005.006.007.008.009.010.011.012.013.014.015.016.017.018.019.020.021.022.023.024.025.\
     026.027.028.029.030.031.032.033.034.035.036.037.038.039.040.041.042.043.044.045.046.047.048.049.050.051.\
@@ -18,16 +18,16 @@ const OCTETS: &str =
     208.209.210.211.212.213.214.215.216.217.218.219.220.221.222.223.224.225.226.227.228.229.230.231.232.233.\
     234.235.236.237.238.239.240.241.242.243.244.245.246.247.248.249.250.251.252.253.254.255.";
 
-/// As wide as the widest column.
+/// As many spaces as the widest column needs.
 const SPACES: &str = "                                                  ";
 
-/// Adds a number in decimal.
+/// Appends a number in decimal.
 pub fn add_number(text: &mut String, number: u64) -> Result<(), AllocError> {
     let mut digits = Buffer::new();
     text.push_str(digits.format(number))
 }
 
-/// Adds a number in decimal that is so wide at least, with spaces before it.
+/// Appends a number in decimal, padded on the left to at least this width.
 pub fn add_number_within(text: &mut String, number: u64, wide: usize) -> Result<(), AllocError> {
     let mut digits = Buffer::new();
     let shown = digits.format(number);
@@ -35,7 +35,7 @@ pub fn add_number_within(text: &mut String, number: u64, wide: usize) -> Result<
     text.push_str(shown)
 }
 
-/// Adds an address, as `10.0.0.2`.
+/// Appends an address, such as `10.0.0.2`.
 pub fn add_address(text: &mut String, address: u32) -> Result<(), AllocError> {
     let [first, second, third, fourth] = address.to_be_bytes();
     text.push_str(octet(first, true))?;
@@ -44,7 +44,7 @@ pub fn add_address(text: &mut String, address: u32) -> Result<(), AllocError> {
     text.push_str(octet(fourth, false))
 }
 
-/// An octet in decimal, with a dot behind it or without.
+/// An octet in decimal, with or without a trailing dot.
 fn octet(octet: u8, has_dot: bool) -> &'static str {
     let place = usize::from(octet) * 4;
     let zeros = match octet {
@@ -63,29 +63,29 @@ pub fn address_text(alloc: Global, address: u32) -> Result<String, AllocError> {
     Ok(text)
 }
 
-/// Adds an endpoint, as `10.0.0.2:5000`.
+/// Appends an endpoint, such as `10.0.0.2:5000`.
 pub fn add_endpoint(text: &mut String, endpoint: Endpoint) -> Result<(), AllocError> {
     add_address(text, endpoint.address)?;
     text.push_str(":")?;
     add_number(text, u64::from(endpoint.number))
 }
 
-/// Adds a time in ns in seconds, with six decimals; so wide at least before its point.
+/// Appends a time in ns as seconds with six decimals, padded to at least this width before the point.
 pub fn add_seconds(text: &mut String, time: u64, wide: usize) -> Result<(), AllocError> {
     add_number_within(text, time / 1_000_000_000, wide)?;
-    // a digit before those of the microseconds keeps their zeros
+    // the 1 in front keeps leading zeros of the microseconds
     let mut digits = Buffer::new();
     let micros = digits.format(1_000_000 + time % 1_000_000_000 / 1000);
     text.push_str(".")?;
     text.push_str(micros.strip_prefix('1').unwrap_or(micros))
 }
 
-/// Adds so many spaces, as many as a column has at most.
+/// Appends this many spaces, at most the width of the widest column.
 pub fn add_spaces(text: &mut String, many: usize) -> Result<(), AllocError> {
     text.push_str(SPACES.get(..many).unwrap_or(SPACES))
 }
 
-/// Adds spaces until what begins at a place of a text is so wide.
+/// Appends spaces until what starts at `begin` has this width.
 pub fn pad(text: &mut String, begin: usize, wide: usize) -> Result<(), AllocError> {
     add_spaces(text, wide.saturating_sub(text.len().saturating_sub(begin)))
 }

@@ -1,17 +1,17 @@
-//! The bindings that have ended, one after another.
+//! The expired bindings, one after another.
 
 use crate::changes::{Change, Event, ends_of};
 use napt_account::Log;
 use std::alloc::{AllocError, Global};
 
-/// The ends of bindings in the order of time, of which some were told.
+/// The ends of bindings in order of time, with how many were already taken.
 #[derive(Drop)]
 pub struct Ended {
     ends: Vec<Change>,
     told: usize,
 }
 
-/// A binding has ended: when, in ns, and the place of its entry in the log.
+/// The end of a binding: its time in ns, and the index of its entry in the log.
 #[derive(Clone, Copy)]
 pub struct End {
     pub at: u64,
@@ -19,7 +19,7 @@ pub struct End {
 }
 
 impl Ended {
-    /// Those up to the last time, of which none was told.
+    /// Those up to the last packet, none taken yet.
     pub fn of(alloc: Global, log: &Log, last: u64) -> Result<Ended, AllocError> {
         Ok(Ended {
             ends: ends_of(alloc, log, last)?,
@@ -27,7 +27,7 @@ impl Ended {
         })
     }
 
-    /// The next one up to a time, which is told now.
+    /// Takes the next one, if it came by that time.
     pub fn next_by(&mut self, by: u64) -> Option<End> {
         let Change { at, event } = *self.ends.get(self.told)?;
         let Event::Ended(place) = event else {

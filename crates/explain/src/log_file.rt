@@ -1,4 +1,4 @@
-//! The log of a run as CSV, by the terms of RFC 8158. Its fields are told in docs/FORMATS.md.
+//! The log of a run as CSV, in the terms of RFC 8158. docs/FORMATS.md describes its fields.
 
 use crate::changes::{Change, Event, changes_of};
 use crate::digits::address_text;
@@ -9,15 +9,14 @@ use crate::stop::Stop;
 use csv::{ErrorKind, Writer, WriterBuilder};
 use napt_account::{Entry, Log, Shortage};
 use napt_config::Config;
-use napt_options::{is_same, place_of};
-use napt_program::unmade;
+use napt_program::{is_same, place_of, unmade};
 use napt_wire::{Cause, Protocol};
 use serde::Serialize;
 use std::alloc::{AllocError, Global};
 use std::io::Write;
 use std::rt::Files;
 
-/// The names of the fields: those of IPFIX's information elements (RFC 8158, and IANA's registry), in mixed case, and others.
+/// The names of the fields: those in mixed case are IPFIX information elements (RFC 8158 and IANA's registry).
 const HEADER: &[&[u8]] = &[
     b"observationTimeNanoseconds",
     b"time",
@@ -36,7 +35,7 @@ const HEADER: &[&[u8]] = &[
     b"last_use",
 ];
 
-/// The values of natEvent that a run has (RFC 8158).
+/// The values of natEvent that can occur (RFC 8158).
 const BINDING_MADE: u8 = 8;
 
 const BINDING_ENDED: u8 = 9;
@@ -48,7 +47,7 @@ const QUOTA_EXCEEDED: u8 = 13;
 /// The value of natQuotaExceededEvent: the most entries of one user (RFC 8158).
 const ENTRIES_OF_USER: u8 = 3;
 
-/// An event of the log, by its fields in the order of the header.
+/// An event of the log: its fields, in the order of the header.
 #[derive(Drop, Serialize)]
 struct Record {
     at: u64,
@@ -68,7 +67,7 @@ struct Record {
     last_time: Option<String>,
 }
 
-/// The fields of a record that are texts in every event.
+/// The text fields that every record has.
 #[derive(Drop)]
 struct Texts {
     time: Option<String>,
@@ -83,7 +82,7 @@ struct Source<'a> {
     log: &'a Log,
 }
 
-/// Refuses a log whose file is one that is named before, or cannot be made, and says why.
+/// Refuses a log file that another option already names, or that cannot be created, and says why.
 pub fn refuse_log<R: Files + Eprint>(rt: &R, options: &Options<'_>) -> Result<(), Stop> {
     let Some(path) = options.log else {
         return Ok(());
@@ -98,7 +97,7 @@ pub fn refuse_log<R: Files + Eprint>(rt: &R, options: &Options<'_>) -> Result<()
     Err(picture_stop())
 }
 
-/// What has the file of a path too, of all that is named beside the log. Standard output counts in any case.
+/// What else names the file of this path. Standard output always counts.
 fn named_again<R: Files>(rt: &R, options: &Options<'_>, path: &str) -> Option<&'static str> {
     let files = &options.files;
     let input = match files.inside {
@@ -128,7 +127,7 @@ fn text_of(path: Option<&String>) -> Option<&str> {
     path.map(|path| path.as_str())
 }
 
-/// Writes the log of a run, whose last packet came at a time, to a file. One that cannot be written is told by its name, with the
+/// Writes the log of a run to a file; `last` is the time of its last packet. If that fails, it names the file and the
 /// system's reason.
 pub fn write_log<R: Files + Eprint + AllocGlobal>(
     rt: &R,
@@ -150,7 +149,7 @@ pub fn write_log<R: Files + Eprint + AllocGlobal>(
     }
 }
 
-/// What a log that cannot be written comes to.
+/// How the program stops if the log cannot be written.
 fn failed<R: Eprint>(rt: &R, path: &str, error: csv::Error) -> Stop {
     match error.into_kind() {
         ErrorKind::Io(error) => {
@@ -252,7 +251,7 @@ impl<'a> Source<'a> {
 }
 
 impl Texts {
-    /// Those of a time in ns, of the address of a host and of its external address.
+    /// The texts for a time in ns, a host and its external address.
     fn of(alloc: Global, at: u64, host: u32, external: u32) -> Result<Texts, AllocError> {
         let time = date_text(alloc, at)?;
         let host = address_text(alloc, host)?;
@@ -273,7 +272,7 @@ fn shortage_kind(shortage: &Shortage) -> (u8, Option<u8>) {
     }
 }
 
-/// When a packet last went through the binding of an entry, if one did.
+/// When a packet last used the binding, if one did.
 fn last_use(entry: &Entry) -> Option<u64> {
     (entry.sent > 0 || entry.received > 0).then_some(entry.last)
 }
@@ -287,7 +286,7 @@ fn protocol_number(protocol: Protocol) -> u8 {
     }
 }
 
-/// The date of a last use, where there is one.
+/// The date of the last use, if there is one.
 fn last_text(alloc: Global, last: Option<u64>) -> Result<Option<String>, AllocError> {
     match last {
         Some(last) => date_text(alloc, last),

@@ -1,9 +1,8 @@
-//! The program `explain`: what a run of `napt` does, told for people.
+//! The program `explain`: what a run of `napt` does, for people to read.
 //!
-//! It takes the words of `napt`, makes the same run on one thread, and writes one line for each packet, the bindings that live
-//! at the end, and a summary, to standard output, and a picture of the run where one is asked for. It writes none of the files
-//! that the words name as outputs of `napt`. What `napt` refuses is explained on standard error instead, with the status that
-//! `napt` ends with.
+//! It takes the arguments of `napt`, makes the same run on one thread, and prints one line per packet, the bindings that live
+//! at the end, and a summary; on request it also draws a picture of the run. It never writes an output file of `napt`. If
+//! `napt` would refuse a file, `explain` says why on standard error, and exits with the same status.
 #![tactic(auto)]
 
 mod against;
@@ -63,7 +62,7 @@ fn main(rt: HostRuntime) -> ExitCode {
     }
 }
 
-/// Does what the words of the command line ask for.
+/// Does what the command line asks for.
 fn explained<R: Env + Files + Input + Print + Eprint + AllocGlobal>(
     rt: &R,
     streams: Streams,
@@ -75,7 +74,7 @@ fn explained<R: Env + Files + Input + Print + Eprint + AllocGlobal>(
     }
 }
 
-/// The words of the command line. One that is no text is not understood.
+/// The command line's arguments. One that is not UTF-8 is a usage error.
 fn words<R: Env + AllocGlobal>(rt: &R) -> Result<Vec<String>, Stop> {
     match env::args(rt) {
         Ok(args) => Ok(args.collect(rt.alloc())?),
@@ -86,7 +85,7 @@ fn words<R: Env + AllocGlobal>(rt: &R) -> Result<Vec<String>, Stop> {
     }
 }
 
-/// Reads the configuration and the captures, and tells the run.
+/// Reads the configuration and the captures, and prints the run.
 fn explained_under<R: Files + Input + Print + Eprint + AllocGlobal>(
     rt: &R,
     streams: Streams,
@@ -108,7 +107,7 @@ fn explained_under<R: Files + Input + Print + Eprint + AllocGlobal>(
     }
 }
 
-/// Makes the run over the inputs, writes its log and draws it where that is asked for, and tells it.
+/// Makes the run over the inputs, writes its log and its picture if requested, and prints it.
 fn run<R: Files + Print + Eprint + AllocGlobal>(
     rt: &R,
     options: &Options<'_>,
@@ -145,7 +144,7 @@ fn run<R: Files + Print + Eprint + AllocGlobal>(
     }
 }
 
-/// Writes the picture of a run to a file. One that cannot be written is told by its name, with the system's reason.
+/// Writes the picture of a run to a file. If that fails, it names the file and the system's reason.
 fn draw<R: Files + Eprint + AllocGlobal>(rt: &R, path: &str, shown: Shown<'_>) -> Result<(), Stop> {
     let text = drawing(rt.alloc(), shown)?;
     match fs::write(rt, path, text.as_str()) {
@@ -162,7 +161,7 @@ fn drawing(alloc: Global, shown: Shown<'_>) -> Result<String, AllocError> {
     drawing_of(alloc, &scene)
 }
 
-/// Writes the lines that are asked for, the bindings and the summary; of one packet alone its line and the bindings that it used.
+/// Prints the requested lines, the bindings and the summary; for a single packet, its line and the bindings that it used.
 fn tell_run<R: Print + Eprint + AllocGlobal>(
     rt: &R,
     options: &Options<'_>,
@@ -188,7 +187,7 @@ fn tell_run<R: Print + Eprint + AllocGlobal>(
     }
 }
 
-/// Writes the lines of the packets that are asked for and of the bindings that have ended, the live bindings and the summary.
+/// Prints the lines of the requested packets and of expired bindings, then the live bindings and the summary.
 fn tell_lines<R: Print + Eprint + AllocGlobal>(
     rt: &R,
     told: Told<'_>,
@@ -207,7 +206,7 @@ fn tell_lines<R: Print + Eprint + AllocGlobal>(
     page.end(rt)
 }
 
-/// Writes a JSON object for each packet that is asked for.
+/// Prints a JSON object for each requested packet.
 fn tell_in_json<R: Print + Eprint + AllocGlobal>(
     rt: &R,
     told: Told<'_>,

@@ -1,4 +1,4 @@
-//! The figures of a run in lines.
+//! Prints the figures of a run.
 
 use crate::changes::changes_of;
 use crate::names::Moment;
@@ -11,10 +11,10 @@ use napt_account::Log;
 use napt_config::{Address, Config};
 use napt_records::protocol_name;
 
-/// So many hosts have a line, of those with the most bindings.
+/// How many hosts get a line, those with the most bindings first.
 const TOP: usize = 10;
 
-/// Writes the figures of a run, whose last packet came at a time.
+/// Prints the figures of a run; `last` is the time of its last packet.
 pub fn tell_sizes<R: Print + AllocGlobal>(
     rt: &R,
     config: &Config,
@@ -38,7 +38,7 @@ pub fn tell_sizes<R: Print + AllocGlobal>(
     tell_lifetimes(rt, sizes.lifetimes)
 }
 
-/// Writes what is used of the numbers of a protocol at an address.
+/// Prints how much of a protocol's numbers is used at an address.
 fn tell_space<R: Print>(rt: &R, space: &Space) -> Result<(), Stop> {
     let (name, address) = (protocol_name(space.protocol), Address(space.address));
     let Level { most, at, .. } = space.bindings;
@@ -65,7 +65,7 @@ fn tell_classes<R: Print>(rt: &R, space: &Space) -> Result<(), Stop> {
     Ok(())
 }
 
-/// Writes how many bindings the hosts had at once, which are ranked.
+/// Prints how many bindings the ranked hosts had at once.
 fn tell_hosts<R: Print>(rt: &R, ranked: &[Host]) -> Result<(), Stop> {
     println!(rt; "hosts with bindings: {}", ranked.len())?;
     if ranked.is_empty() {
@@ -91,7 +91,7 @@ fn tell_host<R: Print>(rt: &R, host: &Host) -> Result<(), Stop> {
     Ok(())
 }
 
-/// Writes what quotas would have refused, up to the first that refuses nothing.
+/// Prints what each quota would have refused, up to the first that refuses nothing.
 fn tell_quotas<R: Print>(rt: &R, sizes: &Sizes, greatest: u64) -> Result<(), Stop> {
     let mut is_behind = false;
     for quota in &sizes.quotas {
@@ -104,7 +104,7 @@ fn tell_quotas<R: Print>(rt: &R, sizes: &Sizes, greatest: u64) -> Result<(), Sto
     Ok(())
 }
 
-/// Writes how many packets got no binding for a cause, if any did not.
+/// Prints how many packets were refused a binding for this cause, if any were.
 fn tell_refusals<R: Print>(rt: &R, cause: &str, refusals: &Refusals) -> Result<(), Stop> {
     let (packets, hosts) = (refusals.packets, refusals.hosts());
     if packets > 0 {
@@ -113,7 +113,7 @@ fn tell_refusals<R: Print>(rt: &R, cause: &str, refusals: &Refusals) -> Result<(
     Ok(())
 }
 
-/// Writes how long bindings lived.
+/// Prints how long bindings lived.
 fn tell_lifetimes<R: Print>(rt: &R, lifetimes: Lifetimes) -> Result<(), Stop> {
     println!(rt; "bindings by how long they lived:")?;
     for (seconds, many) in SPANS.iter().zip(lifetimes.within.iter()) {

@@ -1,4 +1,4 @@
-//! Names of things in the words that users read.
+//! Names and times as users read them.
 
 use jiff::Timestamp;
 use napt_wire::Side;
@@ -24,7 +24,7 @@ impl fmt::Display for Seconds {
     }
 }
 
-/// A time in nanoseconds since 1970, shown in seconds as others, and as a date in UTC (RFC 3339) with all its decimals.
+/// A time in nanoseconds since 1970, shown in seconds like the others, and as a UTC date (RFC 3339) with all decimals.
 #[derive(Clone, Copy)]
 pub struct Moment(pub u128);
 
@@ -45,7 +45,7 @@ pub fn date_of(time: u128) -> Option<Timestamp> {
     Timestamp::from_nanosecond(i128::try_from(time).ok()?).ok()
 }
 
-/// A name in code, as `BadAddress`, as users read it: `bad-address`.
+/// A name in code, such as `BadAddress`, as users read it: `bad-address`.
 pub fn hyphened(alloc: Global, name: &str) -> Result<String, AllocError> {
     let mut text = String::new(alloc);
     for letter in name.chars() {

@@ -1,7 +1,7 @@
-//! A JSON object for each packet, for programs. Its fields are told in docs/FORMATS.md.
+//! A JSON object for each packet, for programs. docs/FORMATS.md describes its fields.
 //!
-//! Of a million objects most of the time goes into their texts. All that an object says but its numbers and ends is one of a few
-//! texts, so serde_json makes each of these once; the rest are digits, added straight to the text of all lines.
+//! Most of the time of a million objects goes into their texts. All of an object but its numbers and endpoints is one of a
+//! few texts, so serde_json makes each of these once; the rest are digits, appended directly.
 
 use crate::digits::{add_address, add_number};
 use crate::names::side_name;
@@ -14,16 +14,16 @@ use napt_wire::{Cause, Endpoint, Inner, Kind, Packet, Protocol, Side};
 use serde::Serialize;
 use std::alloc::{AllocError, Global};
 
-/// What became of a packet, but for its numbers and its ends.
+/// The fate of a packet, without its numbers and endpoints.
 #[derive(Clone, Copy, PartialEq, Eq)]
 struct Fate {
     side: Side,
-    /// Where it left to, or why it did not.
+    /// The side it left for, or why it was dropped.
     left: Result<Side, Cause>,
     note: Note,
 }
 
-/// The members of an object that tell what became of its packet.
+/// The members of an object for the fate of its packet.
 #[derive(Drop, Serialize)]
 struct Members {
     side: &'static str,
@@ -33,20 +33,20 @@ struct Members {
     hairpin: bool,
 }
 
-/// The text of what became of a packet.
+/// The text of a fate.
 #[derive(Drop)]
 struct Known {
     fate: Fate,
     members: String,
 }
 
-/// The objects of a run. It knows the text of each fate that a packet had.
+/// Makes the objects of a run. It keeps the text of each fate seen so far.
 #[derive(Drop)]
 pub struct Objects {
     known: Vec<Known>,
 }
 
-/// What the numbers of a packet's ends are.
+/// What the numbers of a packet's endpoints are.
 #[derive(Clone, Copy, PartialEq, Eq)]
 enum Numbers {
     Ports,
@@ -62,7 +62,7 @@ impl Objects {
         }
     }
 
-    /// Adds the object of a packet to a text, on a line of its own.
+    /// Appends the object of a packet, on a line of its own.
     pub fn add(
         &mut self,
         alloc: Global,
@@ -88,7 +88,7 @@ impl Objects {
         text.push_str("}\n")
     }
 
-    /// Adds the members that tell what became of a packet, with a comma before them.
+    /// Appends the members of a fate, with a comma before them.
     fn add_fate(&mut self, alloc: Global, text: &mut String, fate: Fate) -> Result<(), AllocError> {
         if let Some(known) = self.known.iter().find(|known| known.fate == fate) {
             return text.push_str(&known.members);
@@ -146,7 +146,7 @@ impl Fate {
         }
     }
 
-    /// What a packet that went through did to the binding that it used first; an ICMP error did nothing to it.
+    /// What a forwarded packet did to the first binding that it used; an ICMP error does nothing to it.
     fn binding(self) -> Option<&'static str> {
         match (self.left, self.note) {
             (Err(_), _) | (_, Note::Nothing) => None,
@@ -157,7 +157,7 @@ impl Fate {
     }
 }
 
-/// Adds the object of a packet by its ends.
+/// Appends the object of a packet's endpoints.
 fn add_packet(text: &mut String, packet: &Packet) -> Result<(), AllocError> {
     let kind = packet.kind();
     let numbers = match kind {
@@ -176,7 +176,7 @@ fn add_packet(text: &mut String, packet: &Packet) -> Result<(), AllocError> {
     text.push_str("}")
 }
 
-/// Adds the object of the packet that an ICMP error quotes.
+/// Appends the object of the packet that an ICMP error quotes.
 fn add_quoted(text: &mut String, inner: Inner) -> Result<(), AllocError> {
     let numbers = match inner.protocol {
         Protocol::Icmp => Numbers::Identifier,
@@ -188,7 +188,7 @@ fn add_quoted(text: &mut String, inner: Inner) -> Result<(), AllocError> {
     text.push_str("}")
 }
 
-/// Adds the end of a name, and the members for the ends of a packet.
+/// Ends a name, and appends the members for the endpoints of a packet.
 fn add_ends(
     text: &mut String,
     source: Endpoint,

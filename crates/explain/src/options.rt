@@ -13,45 +13,45 @@ use std::alloc::{AllocError, Global};
 const VERSION: &str = "1.0, its sources proved with Rattle's logic dac8208d650f15bf";
 
 const ABOUT: &str =
-    "Tells what napt does with each packet of its captures, or why it refuses what it is given.";
+    "Explains what napt does with each packet of its captures, or why it refuses its input.";
 
 const NOT_WRITTEN: &str =
-    "Not written: taken as an option of napt, and refused as napt would refuse it";
+    "Never written: accepted as an option of napt, and refused if napt would refuse it";
 
 const SVG: &str =
-    "Draws the run into this file, none that is named otherwise, in SVG: its bindings, hairpins and \
-drops over time, or how many bindings live where more than 30 are shown";
+    "Draws the run in SVG into this file, which nothing else may name: its bindings, hairpins and \
+drops over time, or counts of live bindings if more than 30 are shown";
 
 const LOG: &str =
-    "Writes the log of the run into this file, none that is named otherwise, in CSV: each binding when it \
-is made and when it has ended, and each packet that got none for want of quota or numbers \
+    "Writes the log of the run in CSV into this file, which nothing else may name: each binding when it \
+is made and when it expires, and each packet refused one by the quota or for lack of a free port \
 (docs/FORMATS.md)";
 
 const WHO: &str =
-    "Tells which inside endpoints had this external endpoint, or one of this address, and nothing else: a \
-line for each, with its protocol and the times from and until when; the status is 1 where nobody had it";
+    "Prints only which inside endpoints had this external endpoint, or one of this address: a line for \
+each, with its protocol and the times from and until when; the status is 1 if nobody had it";
 
 const AT: &str =
-    "Asks --who for this time alone: in seconds since 1970, as in the lines, or in RFC 3339, as \
+    "Limits --who to this time: seconds since 1970, as in the lines, or an RFC 3339 date such as \
 2026-11-26T10:02:07Z";
 
 const SIZES: &str =
-    "Tells how many bindings, numbers and hosts there were at once, what quotas would have refused, and \
-how long bindings lived, and nothing else (docs/FORMATS.md)";
+    "Prints only how many bindings, ports and hosts there were at once, what quotas would have refused, \
+and how long bindings lived (docs/FORMATS.md)";
 
 const NOTES: &str = "Examples:
   explain --config napt.toml --inside inside.pcap --outside outside.pcap --dropped
   explain --config napt.toml --inside inside.pcap --outside outside.pcap --who 203.0.113.1:5000 --at 2.5
 
-A line tells a packet's number, time in seconds, side, the packet, what happened, and the packet as it leaves:
+Each line has a packet's number, time in seconds, side, the packet, what happened, and the packet as it leaves:
   1 1.000000 inside  udp 10.0.0.2:5000 > 198.51.100.7:3000 | made a binding | udp 203.0.113.1:5000 > 198.51.100.7:3000
-A number that stands for a query of ICMP is its identifier, also in a --host.
+For ICMP queries the number of an endpoint is the identifier, also in --host.
 
-The words of a call of napt may stand as they are: no output of napt is written. The statuses are those of napt, and what it
-refuses is explained on standard error. With --against the status is 1 where a packet differs, and with --who where nobody had
-what is asked for.";
+The arguments of napt can be given unchanged: no output of napt is written. The statuses are those of napt, and whatever it
+refuses is explained on standard error. With --against the status is 1 if a packet differs, and with --who if nobody had the
+endpoint.";
 
-// The options that take a value, each with the value's kind and its meaning, in the order of the help text.
+// The options that take a value: name, kind of value and meaning, in the order of the help text.
 const VALUES: &[(&str, &str, &str)] = &[
     (
         "config",
@@ -75,12 +75,12 @@ const VALUES: &[(&str, &str, &str)] = &[
     (
         "from",
         "SECONDS",
-        "Begins the picture so long after the first packet [default: at it]",
+        "Starts the picture this long after the first packet [default: 0]",
     ),
     (
         "until",
         "SECONDS",
-        "Ends the picture so long after the first packet [default: behind the last one]",
+        "Ends the picture this long after the first packet [default: after the last packet]",
     ),
     ("log", "FILE", LOG),
     ("who", "ADDRESS[:PORT]", WHO),
@@ -88,31 +88,31 @@ const VALUES: &[(&str, &str, &str)] = &[
     (
         "only",
         "N",
-        "Shows the packet of this number alone, and the bindings that it used",
+        "Shows only the packet with this number, and the bindings that it used",
     ),
     (
         "host",
         "ADDRESS[:PORT]",
-        "Shows the packets and bindings that have this address, or this endpoint, inside or external",
+        "Shows only the packets and bindings with this address or endpoint, inside or external",
     ),
     (
         "against",
         "FILE",
-        "Shows the packets that end otherwise under this configuration, and the counts of both",
+        "Shows the packets that end differently under this configuration, and the counts of both",
     ),
 ];
 
-// The options without a value, each with its meaning.
+// The options without a value: name and meaning.
 const FLAGS: &[(&str, &str)] = &[
-    ("dropped", "Shows the dropped packets alone"),
+    ("dropped", "Shows only dropped packets"),
     (
         "json",
-        "Writes a JSON object for each packet, on a line of its own, and nothing else (docs/FORMATS.md)",
+        "Prints only a JSON object for each packet, on a line of its own (docs/FORMATS.md)",
     ),
     ("sizes", SIZES),
 ];
 
-// What asks for another text on standard output, or for other files, than the second of a pair.
+// Pairs that exclude each other: they want different texts on standard output, or different files.
 const APART: &[(&str, &str)] = &[
     ("against", "json"),
     ("against", "sizes"),
@@ -130,16 +130,16 @@ const APART: &[(&str, &str)] = &[
     ("who", "dropped"),
 ];
 
-/// What is to be explained, and which of its lines are shown.
+/// What to explain, and which lines to print.
 #[derive(Drop)]
 pub struct Options<'m> {
-    /// The files that a call of `napt` with these words reads and writes.
-    pub files: napt_options::Options,
-    /// Where the picture is drawn; absent, there is none.
+    /// The files that `napt` would read and write with these arguments.
+    pub files: napt_program::Options,
+    /// The file for the picture, if one is requested.
     pub svg: Option<&'m str>,
-    /// The part of the time that is drawn.
+    /// The part of the run that is drawn.
     pub part: Part,
-    /// Where the log is written; absent, it is not.
+    /// The file for the log, if one is requested.
     pub log: Option<&'m str>,
     /// What is written to standard output.
     pub form: Form<'m>,
@@ -153,34 +153,34 @@ pub enum Form<'m> {
     Lines,
     /// A JSON object for each packet.
     Objects,
-    /// Who had what is asked for.
+    /// Who had an external endpoint.
     Holders(Asked),
-    /// How much there was at once.
+    /// How many bindings, ports and hosts there were at once.
     Sizes,
-    /// What ends otherwise under the configuration of this path.
+    /// What ends differently under the configuration at this path.
     Differences(&'m str),
 }
 
 impl<'m> Form<'m> {
-    /// Whether it is read by programs, so that only what is asked for may stand in it.
+    /// Whether programs read it, so that it may hold nothing else.
     pub fn is_for_programs(self) -> bool {
         matches!(self, Form::Objects | Form::Holders(_))
     }
 }
 
-/// Which packets have a line: those of which all that is given holds.
+/// Which packets get a line: those that meet every condition given.
 #[derive(Clone, Copy)]
 pub struct Choice {
     /// The packet of this number, from 1.
     pub only: Option<u64>,
-    /// A packet with this host or endpoint before or after.
+    /// A packet with this host or endpoint, before or after translation.
     pub host: Option<Party>,
-    /// A dropped packet.
+    /// Only dropped packets.
     pub dropped: bool,
 }
 
-/// Reads the words, the program's name first. Help, the version and what is wrong with the words are written at once: nothing
-/// is answered then, or there is an error.
+/// Parses the arguments, the program's name first. Help and the version are printed at once, and `None` is returned; a usage
+/// error is printed and returned as an error.
 pub fn read<'w, R: Print + Eprint + AllocGlobal>(
     rt: &R,
     words: &'w [String],
@@ -195,7 +195,7 @@ pub fn read<'w, R: Print + Eprint + AllocGlobal>(
     }
 }
 
-/// Writes what `clap` says: help and version to standard output, a mistake to standard error.
+/// Prints what `clap` says: help and version to standard output, a usage error to standard error.
 fn told<R: Print + Eprint + AllocGlobal>(rt: &R, error: &Error) -> Result<(), Stop> {
     let text = error.to_string(rt.alloc())?;
     match error.kind() {
@@ -245,7 +245,7 @@ fn value_arg<'a>(alloc: Global, name: &'a str, value: &'a str, meaning: &'a str)
         .help(meaning)
 }
 
-/// The options that words are read as. A number or an address that is none is told.
+/// The options given. An invalid number or address is reported.
 pub fn options_of<'m, R: Eprint + AllocGlobal>(
     rt: &R,
     matches: &'m ArgMatches<'_>,
@@ -268,7 +268,7 @@ pub fn options_of<'m, R: Eprint + AllocGlobal>(
     })
 }
 
-/// Refuses two words that do not go together.
+/// Refuses two options that exclude each other.
 fn refuse_mixed<R: Eprint>(rt: &R, matches: &ArgMatches<'_>) -> Result<(), Stop> {
     for (one, other) in APART.iter() {
         if is_given(matches, one) && is_given(matches, other) {
@@ -279,7 +279,7 @@ fn refuse_mixed<R: Eprint>(rt: &R, matches: &ArgMatches<'_>) -> Result<(), Stop>
     Ok(())
 }
 
-/// Whether an option stands on the command line.
+/// Whether an option is on the command line.
 fn is_given(matches: &ArgMatches<'_>, name: &str) -> bool {
     let is_flag = FLAGS.iter().any(|(flag, _)| *flag == name);
     if is_flag {
@@ -289,7 +289,7 @@ fn is_given(matches: &ArgMatches<'_>, name: &str) -> bool {
     }
 }
 
-/// What is to be written to standard output.
+/// What to write to standard output.
 fn form_of<'m, R: Eprint>(rt: &R, matches: &'m ArgMatches<'_>) -> Result<Form<'m>, Stop> {
     if let Some(asked) = asked_of(rt, matches)? {
         return Ok(Form::Holders(asked));
@@ -306,7 +306,7 @@ fn form_of<'m, R: Eprint>(rt: &R, matches: &'m ArgMatches<'_>) -> Result<Form<'m
     })
 }
 
-/// What is asked of the log. A time without it is told.
+/// What `--who` asks, if it is given. `--at` without it is reported.
 fn asked_of<R: Eprint>(rt: &R, matches: &ArgMatches<'_>) -> Result<Option<Asked>, Stop> {
     let at = moment_of(rt, matches)?;
     match party_at(rt, matches, "who")? {
@@ -320,8 +320,8 @@ fn asked_of<R: Eprint>(rt: &R, matches: &ArgMatches<'_>) -> Result<Option<Asked>
 }
 
 /// The files that the options of `napt` name.
-fn files_of(alloc: Global, matches: &ArgMatches<'_>) -> Result<napt_options::Options, AllocError> {
-    Ok(napt_options::Options {
+fn files_of(alloc: Global, matches: &ArgMatches<'_>) -> Result<napt_program::Options, AllocError> {
+    Ok(napt_program::Options {
         config: file_of(alloc, matches, "config")?,
         inside: file_of(alloc, matches, "inside")?,
         outside: file_of(alloc, matches, "outside")?,
@@ -355,7 +355,7 @@ fn only_of<R: Eprint>(rt: &R, matches: &ArgMatches<'_>) -> Result<Option<u64>, S
     }
 }
 
-/// The host or the endpoint that an option names. One that is none is told.
+/// The host or endpoint that an option names. An invalid one is reported.
 fn party_at<R: Eprint>(
     rt: &R,
     matches: &ArgMatches<'_>,
@@ -375,7 +375,7 @@ fn party_at<R: Eprint>(
     }
 }
 
-/// The host or the endpoint that a text is, as `10.0.0.2` or `203.0.113.1:5000`.
+/// Parses a host or an endpoint, such as `10.0.0.2` or `203.0.113.1:5000`.
 fn party_of(text: &str) -> Option<Party> {
     let (address, number) = match text.split_once(':') {
         Some((address, number)) => (address, Some(number.parse::<u16>().ok()?)),
@@ -388,7 +388,7 @@ fn party_of(text: &str) -> Option<Party> {
     })
 }
 
-/// The part of the time that is drawn. One that is no time, or of a picture that is not asked for, is told.
+/// The part of the run that is drawn. An invalid time, or one without `--svg`, is reported.
 fn part_of<R: Eprint>(rt: &R, matches: &ArgMatches<'_>) -> Result<Part, Stop> {
     let from = time_of(rt, matches, "from")?;
     let until = time_of(rt, matches, "until")?;
@@ -403,7 +403,7 @@ fn part_of<R: Eprint>(rt: &R, matches: &ArgMatches<'_>) -> Result<Part, Stop> {
     Ok(Part { from, until })
 }
 
-/// The time that an option names, in ns. One that is none is told.
+/// The time that an option gives, in ns. An invalid one is reported.
 fn time_of<R: Eprint>(rt: &R, matches: &ArgMatches<'_>, option: &str) -> Result<Option<u64>, Stop> {
     let Some(text) = matches.get_str(option) else {
         return Ok(None);
@@ -417,7 +417,7 @@ fn time_of<R: Eprint>(rt: &R, matches: &ArgMatches<'_>, option: &str) -> Result<
     }
 }
 
-/// The time of which is asked, in ns since 1970. One that is none is told.
+/// The time of `--at`, in ns since 1970. An invalid one is reported.
 fn moment_of<R: Eprint>(rt: &R, matches: &ArgMatches<'_>) -> Result<Option<u64>, Stop> {
     let Some(text) = matches.get_str("at") else {
         return Ok(None);
@@ -439,7 +439,7 @@ fn nanoseconds_of_date(text: &str) -> Option<u64> {
     u64::try_from(date.as_nanosecond()).ok()
 }
 
-/// The nanoseconds of a text of seconds, with up to nine decimals.
+/// Parses seconds with up to nine decimals, as nanoseconds.
 fn nanoseconds_of(text: &str) -> Option<u64> {
     let (seconds, decimals) = match text.split_once('.') {
         Some((seconds, decimals)) => (seconds, decimals),

@@ -1,12 +1,12 @@
-//! Standard output, which takes many lines at once.
+//! Buffers lines for standard output.
 
 use crate::stop::Stop;
 use std::alloc::Global;
 
-/// So many bytes are written at once, and the rest of the last line.
+/// How many bytes are collected before they are written.
 const BUFFERED: usize = 65_536;
 
-/// The lines that were not written yet.
+/// The lines not written yet.
 #[derive(Drop)]
 pub struct Page {
     pub text: String,
@@ -19,7 +19,7 @@ impl Page {
         }
     }
 
-    /// Writes the lines where there are enough of them.
+    /// Writes the lines if there are enough of them.
     pub fn turn<R: Print>(&mut self, rt: &R) -> Result<(), Stop> {
         if self.text.len() < BUFFERED {
             return Ok(());

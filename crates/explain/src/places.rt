@@ -1,22 +1,21 @@
-//! Why a file of the command line is not used, in words. That it is not used was decided before, as `napt` decides it.
+//! Says why a file of the command line cannot be used. `napt_program` has already decided that it cannot, as for `napt`.
 
 use crate::options::Options;
 use crate::stop::Stop;
-use napt_options::{Role, is_same, place_of};
-use napt_program::{MOST_BYTES, unmade};
+use napt_program::{MOST_BYTES, Role, is_same, place_of, unmade};
 use std::fs::File;
 use std::io::Read;
 use std::rt::Files;
 use std::{fs, io};
 
-/// A file by what names it: an option, or a standard stream that stands for an absent one.
+/// A file and what names it: an option, or a standard stream in place of an absent option.
 #[derive(Clone, Copy)]
 struct Named<'a> {
     name: &'static str,
     path: Option<&'a str>,
 }
 
-/// An output, which may not be a file that is named before it.
+/// An output. It must not be a file that an earlier option names.
 #[derive(Clone, Copy)]
 enum Output {
     ToOutside,
@@ -25,7 +24,7 @@ enum Output {
     Picture,
 }
 
-/// Says why a capture or an output of a role is not used, and answers the stop: that of `napt`.
+/// Says why the file of a role cannot be used, and returns how `napt` would stop.
 pub fn tell_file<R: Files + Eprint>(rt: &R, options: &Options<'_>, role: Role) -> Stop {
     let files = &options.files;
     match role {
@@ -39,7 +38,7 @@ pub fn tell_file<R: Files + Eprint>(rt: &R, options: &Options<'_>, role: Role) -
     Stop::Told(napt_program::Stop::File(role))
 }
 
-/// Says that the standard stream that stands for a role is closed, and answers the stop.
+/// Says that the standard stream for a role is closed, and returns how `napt` would stop.
 pub fn tell_closed<R: Eprint>(rt: &R, role: Role) -> Stop {
     let stream = match role {
         Role::Inside => "standard input",
@@ -52,7 +51,7 @@ pub fn tell_closed<R: Eprint>(rt: &R, role: Role) -> Stop {
     Stop::Told(napt_program::Stop::File(role))
 }
 
-/// Refuses a picture whose file is one that is named before, or cannot be made, and says why.
+/// Refuses a picture file that another option already names, or that cannot be created, and says why.
 pub fn refuse_picture<R: Files + Eprint>(rt: &R, options: &Options<'_>) -> Result<(), Stop> {
     let Some(path) = options.svg else {
         return Ok(());
@@ -67,7 +66,7 @@ pub fn refuse_picture<R: Files + Eprint>(rt: &R, options: &Options<'_>) -> Resul
     Err(picture_stop())
 }
 
-/// The stop of a picture that cannot be written, which is that of an output of `napt`.
+/// How the program stops if a picture cannot be written: as for an output of `napt`.
 pub fn picture_stop() -> Stop {
     Stop::Told(napt_program::Stop::File(Role::Report))
 }
@@ -81,8 +80,8 @@ pub fn tell_failed<R: Eprint>(rt: &R, option: &str, path: &str, error: &io::Erro
     let _ = eprintln!(rt; "explain: --{option} {path}: {error}{hint}");
 }
 
-/// Says why the file of a configuration, which an option names, is not used, and answers the stop: it is not there, fails, or is
-/// too long.
+/// Says why a configuration file cannot be used, and returns how `napt` would stop: it is missing, cannot be read, or is too
+/// long.
 pub fn tell_config<R: Files + Eprint>(rt: &R, option: &str, path: &str) -> Stop {
     match failure_of_reading(rt, path) {
         Some(error) => tell_failed(rt, option, path, &error),
@@ -95,8 +94,7 @@ pub fn tell_config<R: Files + Eprint>(rt: &R, option: &str, path: &str) -> Stop 
     Stop::Told(napt_program::Stop::File(Role::Config))
 }
 
-/// Why a file or a folder is not there or gives not even its first byte, if it does not. A pipe is not asked: it might keep us
-/// waiting.
+/// Why a file or folder is missing or unreadable, if it is. Pipes are not tried: reading one might block.
 fn failure_of_reading<R: Files>(rt: &R, path: &str) -> Option<io::Error> {
     match fs::metadata(rt, path) {
         Ok(known) if known.is_file() || known.is_dir() => failure_of_first(rt, path),
@@ -105,7 +103,7 @@ fn failure_of_reading<R: Files>(rt: &R, path: &str) -> Option<io::Error> {
     }
 }
 
-/// Why a file gives not even its first byte, if it does not.
+/// Why the first byte of a file cannot be read, if it cannot.
 fn failure_of_first<R: Files>(rt: &R, path: &str) -> Option<io::Error> {
     let mut first = [0u8; 1];
     match File::open(rt, path) {
@@ -114,7 +112,7 @@ fn failure_of_first<R: Files>(rt: &R, path: &str) -> Option<io::Error> {
     }
 }
 
-/// Says why a capture is not opened.
+/// Says why a capture cannot be opened.
 fn tell_input<R: Files + Eprint>(rt: &R, role: Role, path: Option<&String>) {
     let Some(path) = path else {
         return;
@@ -124,7 +122,7 @@ fn tell_input<R: Files + Eprint>(rt: &R, role: Role, path: Option<&String>) {
     }
 }
 
-/// Says why an output would not be made.
+/// Says why an output cannot be created.
 fn tell_output<R: Files + Eprint>(
     rt: &R,
     options: &Options<'_>,
@@ -142,7 +140,7 @@ fn tell_output<R: Files + Eprint>(
     }
 }
 
-/// Says what has the file of an output too.
+/// Says what else names the file of an output.
 fn tell_again<R: Eprint>(rt: &R, option: &str, path: &str, name: &str) {
     let _ = eprintln!(rt; "explain: --{option} {path}: it is the file of {name}");
 }
@@ -156,9 +154,10 @@ fn option_of(output: Output) -> &'static str {
     }
 }
 
-/// What has the file of an output of a path too, of all that is named before it.
+/// What else names the file of an output, among all that come before it.
 ///
-/// Files are compared for what they are (`napt_options`), so that another spelling of a path, and a link, name the same file.
+/// Files are compared by what they are (`napt_program::is_same`), so another spelling of the path, or a link, is the same
+/// file.
 fn named_again<R: Files>(
     rt: &R,
     options: &Options<'_>,
@@ -177,7 +176,7 @@ fn named_again<R: Files>(
     again.map(|named| named.name)
 }
 
-/// How many files of `all_named` stand before an output.
+/// How many files of `all_named` come before an output.
 fn before(output: Output) -> usize {
     match output {
         Output::ToOutside => 5,
@@ -187,7 +186,7 @@ fn before(output: Output) -> usize {
     }
 }
 
-/// The files that are named, in the order of the options. Standard output counts for a picture in any case.
+/// All named files, in the order of the options. For a picture, standard output always counts.
 fn all_named<'a>(options: &'a Options<'_>, output: Output) -> [Named<'a>; 8] {
     let files = &options.files;
     let has_input = files.inside.is_none();
@@ -211,7 +210,7 @@ fn option_file<'a>(name: &'static str, path: Option<&'a String>) -> Named<'a> {
     }
 }
 
-/// A standard stream, where it stands for a file.
+/// A standard stream, if it is in use.
 fn stream_file<'a>(name: &'static str, path: &'a str, stands: bool) -> Named<'a> {
     Named {
         name,

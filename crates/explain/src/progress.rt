@@ -1,12 +1,12 @@
-//! How far the lines of a run are, for whoever waits at a terminal.
+//! Progress, for a user who waits at a terminal.
 
 use std::fs;
 use std::rt::Files;
 
-/// After so many packets it is told how far the lines are; a run of fewer tells nothing.
+/// How many packets there are between two reports; a run of fewer packets reports nothing.
 const EACH: u64 = 65_536;
 
-/// How far the lines of a run over so many packets are.
+/// The progress of a run over `many` packets.
 #[derive(Clone, Copy)]
 pub struct Progress {
     many: usize,
@@ -14,7 +14,7 @@ pub struct Progress {
 }
 
 impl Progress {
-    /// It is told where standard error goes to a terminal and standard output does not: there the lines show it.
+    /// Reports if standard error is a terminal and standard output is not: there the lines themselves show the progress.
     pub fn of<R: Files + AllocGlobal>(rt: &R, many: usize) -> Progress {
         let is_long = many as u64 > EACH;
         Progress {
@@ -25,21 +25,21 @@ impl Progress {
         }
     }
 
-    /// Says over how many packets the run is made.
+    /// Reports how many packets the run has.
     pub fn tell_begin<R: Eprint>(self, rt: &R) {
         if self.is_told {
             let _ = eprint!(rt; "explain: a run over {} packets", self.many);
         }
     }
 
-    /// Says how far the lines are, in place of what was said before.
+    /// Reports progress, in place of the report before.
     pub fn tell<R: Eprint>(self, rt: &R, number: u64) {
         if self.is_told && number % EACH == 0 {
             let _ = eprint!(rt; "\rexplain: {number} of {} packets    ", self.many);
         }
     }
 
-    /// Says that all lines are there, and ends the line.
+    /// Reports that all lines are printed, and ends the line.
     pub fn tell_end<R: Eprint>(self, rt: &R) {
         if self.is_told {
             let _ = eprintln!(rt; "\rexplain: {} of {} packets    ", self.many, self.many);
@@ -47,7 +47,7 @@ impl Progress {
     }
 }
 
-/// Whether a stream of this process is a terminal, by the name that Linux gives to what stands behind it.
+/// Whether a stream of this process is a terminal, by the name of its file in Linux.
 fn is_terminal<R: Files + AllocGlobal>(rt: &R, stream: &str) -> bool {
     match fs::read_link(rt, stream) {
         Ok(path) => match path.to_str() {

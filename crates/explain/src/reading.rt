@@ -1,4 +1,4 @@
-//! The configuration and the captures, read as `napt` reads them. What it refuses is explained.
+//! Reads the configuration and the captures as `napt` does, and explains what it refuses.
 
 use crate::log_file::refuse_log;
 use crate::names::side_name;
@@ -22,24 +22,24 @@ use std::rt::Files;
 /// How many bytes are read at once.
 const BUFFERED: usize = 65_536;
 
-/// How many first bytes of a capture tell what it is: those of its header.
+/// How many bytes of a capture are kept to say what it is: its header.
 const HEADER: u64 = 24;
 
-/// What is said of a capture that ends inside a record.
+/// What is printed about a capture that ends inside a record.
 const CUT: &str = "is cut: its last packet is not whole, and is left out";
 
-/// What a run is made of.
+/// What a run needs.
 #[derive(Drop)]
 pub struct Given {
     pub config: Config,
-    /// The configuration to which it is compared.
+    /// The configuration to compare with.
     pub other: Option<Config>,
-    /// The packets of both captures, in the order in which napt takes them.
+    /// The packets of both captures, in the order in which `napt` takes them.
     pub inputs: Vec<napt_sequential::Input>,
     pub cuts: Cuts,
 }
 
-/// Which captures end inside a record, which is left out.
+/// Which captures end inside a record. That record is left out.
 #[derive(Clone, Copy)]
 pub struct Cuts {
     inside: bool,
@@ -47,7 +47,8 @@ pub struct Cuts {
 }
 
 impl Cuts {
-    /// Says of a capture that ends inside a record that its last packet is left out; beside what programs read on standard error.
+    /// Says that the last packet of a capture that ends inside a record is left out; on standard error if programs read
+    /// standard output.
     pub fn tell<R: Print + Eprint>(self, rt: &R, form: Form<'_>) -> Result<(), Stop> {
         for (side, cut) in [("inside", self.inside), ("outside", self.outside)] {
             if cut && form.is_for_programs() {
@@ -62,8 +63,8 @@ impl Cuts {
 
 /// Reads the configuration and the captures.
 ///
-/// Ends as `napt` would: what it refuses is refused in the same order. Its outputs are neither made nor emptied: one that could
-/// not be is refused as far as that is known beforehand (`napt_program::unmade`).
+/// Fails as `napt` would, with the same fault first. The outputs of `napt` are neither created nor emptied: one that could
+/// not be is refused as far as that can be known beforehand (`napt_program::unmade`).
 pub fn read_given<R: Files + Input + Eprint + AllocGlobal>(
     rt: &R,
     streams: Streams,
@@ -97,7 +98,7 @@ pub fn read_given<R: Files + Input + Eprint + AllocGlobal>(
     })
 }
 
-/// What was opened; where a file was refused it is told why.
+/// What was opened. If a file was refused, says why.
 fn explain_file<R: Files + Eprint, T: Drop>(
     rt: &R,
     options: &Options<'_>,
@@ -110,7 +111,7 @@ fn explain_file<R: Files + Eprint, T: Drop>(
     }
 }
 
-/// The configuration that a file holds; the built-in one where there is none. One that is refused is explained.
+/// The configuration in the file, or the built-in one if none is named. A refusal is explained.
 fn configuration<R: Files + Eprint + AllocGlobal>(
     rt: &R,
     options: &Options<'_>,
@@ -123,7 +124,7 @@ fn configuration<R: Files + Eprint + AllocGlobal>(
     }
 }
 
-/// The configuration to which the first is compared, if one is.
+/// The configuration to compare with, if there is one.
 fn other_configuration<R: Files + Eprint + AllocGlobal>(
     rt: &R,
     options: &Options<'_>,
@@ -134,7 +135,7 @@ fn other_configuration<R: Files + Eprint + AllocGlobal>(
     }
 }
 
-/// The configuration that a file holds, which an option names. One that is refused is explained.
+/// The configuration in the file that an option names. A refusal is explained.
 fn configuration_at<R: Files + Eprint + AllocGlobal>(
     rt: &R,
     option: &str,
@@ -160,7 +161,7 @@ fn configuration_text<R: Files + AllocGlobal>(
     config_text(rt.alloc(), open_config(rt, path)?)
 }
 
-/// The capture of what comes from the outside; one of no packets where there is none.
+/// The outside capture, or an empty one if none is named.
 fn outside_capture<R: Eprint + AllocGlobal, F: Read + Drop>(
     rt: &R,
     file: Option<F>,
@@ -174,7 +175,7 @@ fn outside_capture<R: Eprint + AllocGlobal, F: Read + Drop>(
     }
 }
 
-/// The capture of a side that a device tells. One that is refused is explained.
+/// Reads the capture of a side. A refusal is explained.
 fn capture<R: Eprint + AllocGlobal, D: Read + Drop>(
     rt: &R,
     side: Side,
@@ -191,7 +192,7 @@ fn capture<R: Eprint + AllocGlobal, D: Read + Drop>(
     }
 }
 
-/// The capture that a device tells, and its first bytes, which go into `head`.
+/// Reads a capture, and keeps its first bytes in `head`.
 fn read_whole<D: Read + Drop>(
     alloc: Global,
     device: D,

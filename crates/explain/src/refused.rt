@@ -1,4 +1,4 @@
-//! What is told of a configuration or a capture that napt refuses.
+//! Prints why napt refuses a configuration or a capture.
 
 use crate::names::hyphened;
 use crate::stop::Stop;
@@ -7,7 +7,7 @@ use napt_config::ConfigFault;
 use napt_reasons::{Reason, capture_reasons, config_reasons};
 use std::alloc::AllocError;
 
-/// Writes that the configuration of a path, which is this text, is refused by a fault, and why.
+/// Prints that the configuration at a path, with this text, is refused for a fault, and why.
 pub fn tell_config<R: Eprint + AllocGlobal>(
     rt: &R,
     path: &str,
@@ -19,7 +19,7 @@ pub fn tell_config<R: Eprint + AllocGlobal>(
     tell_reasons(rt, config_reasons(rt.alloc(), text, fault))
 }
 
-/// Writes that the capture of a side, which is these bytes, is refused by a fault, and why.
+/// Prints that the capture of a side, which starts with these bytes, is refused for a fault, and why.
 pub fn tell_capture<R: Eprint + AllocGlobal>(
     rt: &R,
     side: &str,
@@ -31,7 +31,7 @@ pub fn tell_capture<R: Eprint + AllocGlobal>(
     tell_reasons(rt, capture_reasons(rt.alloc(), bytes, fault))
 }
 
-/// Writes that a file is refused, by a fault's name in code.
+/// Prints that a file is refused, with the name of the fault.
 fn tell_refusal<R: Eprint + AllocGlobal>(
     rt: &R,
     kind: &str,

@@ -1,4 +1,4 @@
-//! What the picture of a run shows, in the words of its lines.
+//! What the picture of a run shows, in the words of the printed lines.
 
 use crate::names::Seconds;
 use crate::summary::count_dropped;
@@ -20,12 +20,12 @@ pub struct Shown<'a> {
     pub part: Part,
 }
 
-/// The part of the time that a picture shows, in ns since the first packet.
+/// The part of a run that a picture shows, in ns since the first packet.
 #[derive(Clone, Copy)]
 pub struct Part {
-    /// Absent, from the first packet on.
+    /// If absent, from the first packet.
     pub from: Option<u64>,
-    /// Absent, until the last packet and a little more.
+    /// If absent, until a little after the last packet.
     pub until: Option<u64>,
 }
 
@@ -35,12 +35,12 @@ impl<'a> Shown<'a> {
         self.inputs.first().map_or(0, |input| input.clock)
     }
 
-    /// A time since the first packet, in ns since 1970.
+    /// Converts a time since the first packet into ns since 1970.
     fn moment(self, since: Option<u64>) -> Option<u64> {
         since.map(|since| self.zero().saturating_add(since))
     }
 
-    /// Whether a binding lives in the part that is shown; a redirect always does.
+    /// Whether a binding is live in the part shown; a redirect always is.
     fn has(self, entry: &Entry) -> bool {
         let begins = self
             .moment(self.part.until)
@@ -75,7 +75,7 @@ pub fn scene_of(alloc: Global, shown: Shown<'_>) -> Result<Scene, AllocError> {
     Ok(scene)
 }
 
-/// The line above the picture, with the date from which its times count.
+/// The line above the picture, with the date of the first packet, from which its times count.
 fn head_of(alloc: Global, shown: Shown<'_>) -> Result<String, AllocError> {
     let packets = shown.account.uses.len();
     let addresses = shown.config.pool().len();
@@ -98,7 +98,7 @@ fn add_lanes(alloc: Global, lanes: &mut Vec<String>, config: &Config) -> Result<
     Ok(())
 }
 
-/// The bindings of all lives. Those that have a bar have words too.
+/// All bindings. Those with a bar also get a label and a title.
 fn add_bindings(
     alloc: Global,
     bindings: &mut Vec<Binding>,
@@ -116,7 +116,7 @@ fn add_bindings(
     Ok(())
 }
 
-/// A binding without words.
+/// A binding without label and title.
 fn binding_of(alloc: Global, config: &Config, entry: &Entry) -> Binding {
     let lane = match config.pool_index(entry.binding.external.address) {
         Some(lane) => lane as usize,
@@ -133,7 +133,7 @@ fn binding_of(alloc: Global, config: &Config, entry: &Entry) -> Binding {
     }
 }
 
-/// When a binding ended, or would end; the greatest time where that is later, or it lives on.
+/// When a binding ends if no more packets come; `u64::MAX` for a redirect, or if that is later.
 fn end_of(entry: &Entry) -> u64 {
     match entry.end {
         Some(end) => u64::try_from(end).unwrap_or(u64::MAX),
@@ -152,7 +152,7 @@ fn kind_of(entry: &Entry) -> BindingKind {
     }
 }
 
-/// A binding as `udp 10.0.0.2:5000 > :5000`.
+/// The label of a binding, such as `udp 10.0.0.2:5000 > :5000`.
 fn label_of(alloc: Global, entry: &Entry) -> Result<String, AllocError> {
     let name = protocol_name(entry.binding.protocol);
     let inside = EndpointText(entry.binding.inside);
@@ -167,7 +167,7 @@ fn label_of(alloc: Global, entry: &Entry) -> Result<String, AllocError> {
     )
 }
 
-/// A binding of a label with its external address, and with its times since the first packet where it is no redirect.
+/// The title of a binding: its label and external address, and, unless it is a redirect, its times since the first packet.
 fn title_of(alloc: Global, entry: &Entry, label: &str, zero: u64) -> Result<String, AllocError> {
     let external = Address(entry.binding.external.address);
     if entry.binding.fixed {
@@ -212,7 +212,7 @@ fn add_rows(alloc: Global, rows: &mut Vec<String>, causes: &[Cause]) -> Result<(
     Ok(())
 }
 
-/// What each packet did, where those that were dropped have the causes.
+/// What each packet did; `causes` has the cause of every drop.
 fn add_passes(
     passes: &mut Vec<Pass>,
     inputs: &[Input],

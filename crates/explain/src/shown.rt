@@ -1,4 +1,4 @@
-//! Packets in the words of tcpdump's users.
+//! Packets in the style of tcpdump.
 
 ghost use Rattle.std.specs.Prelude.{◌≡◌};
 ghost use Rattle.explain.specs.Who.{is_meant};
@@ -11,7 +11,7 @@ use std::alloc::{AllocError, Global};
 use std::fmt;
 use std::fmt::Write;
 
-/// Adds a packet to a text, as `udp 10.0.0.2:5000 > 198.51.100.7:3000`.
+/// Appends a packet, such as `udp 10.0.0.2:5000 > 198.51.100.7:3000`.
 pub fn add_packet(text: &mut String, packet: &Packet) -> Result<(), AllocError> {
     let (source, destination) = (packet.source(), packet.destination());
     match packet.kind() {
@@ -39,7 +39,7 @@ pub fn add_packet(text: &mut String, packet: &Packet) -> Result<(), AllocError> 
     }
 }
 
-/// Adds what comes first, and the ends of a packet.
+/// Appends `first` and the endpoints of a packet.
 fn add_ends(
     text: &mut String,
     first: &str,
@@ -52,7 +52,7 @@ fn add_ends(
     add_endpoint(text, destination)
 }
 
-/// Whether an echo message is a reply, by its ICMP type (RFC 792), which stands behind the IP header.
+/// Whether an echo message is a reply, by its ICMP type (RFC 792), the first byte after the IP header.
 pub fn is_reply(bytes: &[u8]) -> bool {
     match bytes.first() {
         Some(first) => bytes.get((*first & 15) as usize * 4) == Some(&0),
@@ -74,13 +74,13 @@ impl fmt::Display for FlagsText {
     }
 }
 
-/// The packet that some bytes are on their arrival, if they are one.
+/// The packet that some bytes are as they arrive, if they are one.
 pub fn arrival(alloc: Global, side: Side, bytes: &[u8]) -> Result<Option<Packet>, AllocError> {
     let copy = Vec::from_slice(alloc, bytes)?;
     Ok(Packet::read(side, copy).ok())
 }
 
-/// Adds it to a text; where they are none, what can be said of them.
+/// Appends that packet, or what can be said of bytes that are none.
 pub fn add_arrival(
     alloc: Global,
     text: &mut String,
@@ -107,8 +107,8 @@ fn add_unread(text: &mut String, bytes: &[u8]) -> Result<(), AllocError> {
     }
 }
 
-/// Whether a packet without its Ethernet header is ARP for IPv4 over Ethernet (RFC 826): it begins with the hardware 1, the
-/// protocol 0x0800, and the lengths 6 and 4 of both addresses.
+/// Whether bytes without an Ethernet header are ARP for IPv4 over Ethernet (RFC 826): hardware type 1, protocol type 0x0800,
+/// and address lengths 6 and 4.
 fn is_arp(bytes: &[u8]) -> bool {
     bytes.starts_with(&[0, 1, 8, 0, 6, 4])
 }
@@ -120,7 +120,7 @@ fn addresses(bytes: &[u8]) -> Option<(Address, Address)> {
     Some((Address(from), Address(to)))
 }
 
-/// The version of an IP header; 0 without a byte.
+/// The version of an IP header; 0 if there are no bytes.
 fn version(bytes: &[u8]) -> u8 {
     match bytes.first() {
         Some(byte) => *byte >> 4,
@@ -128,23 +128,23 @@ fn version(bytes: &[u8]) -> u8 {
     }
 }
 
-/// The address at a place of some bytes.
+/// The address at an offset, if there are enough bytes.
 fn address_at(bytes: &[u8], at: usize) -> Option<u32> {
     let rest = bytes.get(at..)?;
     let four = rest.first_chunk::<4>()?;
     Some(u32::from_be_bytes(*four))
 }
 
-/// A host by its address, or one of its endpoints by its number too.
+/// A host, or one of its endpoints if a number is given.
 #[derive(Clone, Copy)]
 pub struct Party {
     pub address: u32,
-    /// The port or identifier; absent, any.
+    /// The port or identifier; if absent, any.
     pub number: Option<u16>,
 }
 
 impl Party {
-    /// Whether an endpoint is this one, or is the host's.
+    /// Whether an endpoint is this one, or one of this host.
     pub fn has(self, endpoint: Endpoint) -> bool
         ensures { result ≡ is_meant self endpoint }
     {
@@ -155,8 +155,8 @@ impl Party {
             }
     }
 
-    /// Whether it is an end of a packet. An error is also of the ends of the packet that it quotes, and an identifier of a query
-    /// is that of both ends.
+    /// Whether it is an endpoint of a packet. An ICMP error also has those of the packet that it quotes, and the identifier
+    /// of a query counts for both ends.
     pub fn is_end_of(self, packet: &Packet) -> bool {
         let (source, destination) = (packet.source(), packet.destination());
         match packet.kind() {
@@ -178,12 +178,13 @@ impl Party {
         }
     }
 
-    /// Whether it is a whole host, of this address.
+    /// Whether it is the whole host of this address.
     fn is_host(self, address: u32) -> bool {
         self.number.is_none() && self.address == address
     }
 
-    /// Whether it is an end of what some bytes are on their arrival; of what is no packet only an address may be one.
+    /// Whether it is an endpoint of the packet that some bytes are as they arrive. Bytes that are no packet have only
+    /// addresses.
     pub fn is_end_of_arrival(
         self,
         alloc: Global,

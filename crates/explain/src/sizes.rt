@@ -1,5 +1,5 @@
-//! How many bindings, numbers and hosts a run had at once, what quotas would have refused, and how long bindings lived: figures to
-//! size a pool and a quota by (RFC 6888, REQ-4). What each of them is stands in docs/FORMATS.md.
+//! How many bindings, ports and hosts a run had at once, what quotas would have refused, and how long bindings lived: figures
+//! for sizing a pool and a quota (RFC 6888, REQ-4). docs/FORMATS.md defines each of them.
 
 pub mod hosts;
 pub mod lifetimes;
@@ -16,7 +16,7 @@ use napt_config::Config;
 use napt_wire::{Cause, Protocol};
 use std::alloc::{AllocError, Global};
 
-/// The quotas that are tried are so many, each twice the one before; the first is `LEAST_QUOTA`. A configuration has at most 65,535.
+/// How many quotas are tried, each twice the one before, from `LEAST_QUOTA` up. A configuration allows at most 65,535.
 const QUOTAS: usize = 13;
 
 const LEAST_QUOTA: u64 = 8;
@@ -24,20 +24,20 @@ const LEAST_QUOTA: u64 = 8;
 /// The figures of a run.
 #[derive(Drop)]
 pub struct Sizes {
-    /// Those of each external address, in the order of the pool, and there of ICMP, TCP and UDP.
+    /// One for each external address, in the order of the pool, and for ICMP, TCP and UDP there.
     pub spaces: Vec<Space>,
-    /// Those of each inside host that had a binding.
+    /// The inside hosts that had a binding.
     pub hosts: Hosts,
-    /// What each quota would have refused, from the least on.
+    /// What each quota would have refused, the lowest first.
     pub quotas: Vec<Quota>,
     pub lifetimes: Lifetimes,
-    /// Packets that got no binding because their host had its quota.
+    /// Packets refused because their host had reached its quota.
     pub over_quota: Refusals,
-    /// Packets that got no binding because each number of their class was taken.
+    /// Packets refused because every number of their class was taken.
     pub no_number: Refusals,
 }
 
-/// How many there are now, the most that there were at once, and when there first were so many, in ns.
+/// How many there are now, the most there were at once, and when that many were first reached, in ns.
 #[derive(Clone, Copy)]
 pub struct Level {
     now: u64,
@@ -52,7 +52,7 @@ impl Level {
         at: 0,
     };
 
-    /// One more, from a time on.
+    /// One more, from this time on.
     pub fn rise(&mut self, at: u64) {
         self.now = self.now.saturating_add(1);
         if self.now > self.most {
@@ -67,7 +67,7 @@ impl Level {
     }
 }
 
-/// The figures of a log, whose changes stand in the order of time.
+/// The figures of a log, whose changes are in order of time.
 pub fn sizes_of(
     alloc: Global,
     config: &Config,
@@ -89,7 +89,7 @@ pub fn sizes_of(
     Ok(sizes)
 }
 
-/// Where nothing is used, of each protocol at each address of the pool.
+/// An empty space for each protocol at each address of the pool.
 fn spaces_of(alloc: Global, config: &Config) -> Result<Vec<Space>, AllocError> {
     let mut spaces = Vec::new(alloc);
     for address in config.pool() {
@@ -100,7 +100,7 @@ fn spaces_of(alloc: Global, config: &Config) -> Result<Vec<Space>, AllocError> {
     Ok(spaces)
 }
 
-/// The quotas that are tried, over so many hosts and bindings.
+/// The quotas to try, for this many hosts and bindings.
 fn quotas_of(alloc: Global, hosts: usize, bindings: usize) -> Result<Vec<Quota>, AllocError> {
     let mut quotas = Vec::new(alloc);
     let mut most = LEAST_QUOTA;
@@ -112,7 +112,7 @@ fn quotas_of(alloc: Global, hosts: usize, bindings: usize) -> Result<Vec<Quota>,
 }
 
 impl Sizes {
-    /// Takes a change of the log.
+    /// Applies a change of the log.
     fn take(&mut self, config: &Config, log: &Log, change: Change) -> Result<(), AllocError> {
         match change.event {
             Event::Made(place) => match log.entries.get(place) {
@@ -132,7 +132,7 @@ impl Sizes {
         }
     }
 
-    /// The binding of the entry at a place is made.
+    /// The binding of the entry at an index is made.
     fn make(&mut self, config: &Config, place: usize, entry: &Entry) -> Result<(), AllocError> {
         if let Some(space) = self.space_of(config, entry) {
             space.make(entry)?;
@@ -150,7 +150,7 @@ impl Sizes {
         Ok(())
     }
 
-    /// The binding of the entry at a place has ended at a time.
+    /// The binding of the entry at an index expires at a time.
     fn end(&mut self, config: &Config, place: usize, entry: &Entry, at: u64) {
         if let Some(space) = self.space_of(config, entry) {
             space.end(entry);
@@ -164,7 +164,7 @@ impl Sizes {
         }
     }
 
-    /// A packet got no binding.
+    /// A packet is refused a binding.
     fn refuse(&mut self, shortage: &Shortage) -> Result<(), AllocError> {
         match shortage.cause {
             Cause::OverQuota => self.over_quota.add(shortage.host),
@@ -172,7 +172,7 @@ impl Sizes {
         }
     }
 
-    /// The external address and protocol of an entry's binding.
+    /// The space of an entry's external address and protocol.
     fn space_of(&mut self, config: &Config, entry: &Entry) -> Option<&mut Space> {
         let address = config.pool_index(entry.binding.external.address)? as usize;
         let place = address

@@ -1,4 +1,4 @@
-//! Why the program ends with a status other than 0.
+//! Why the program exits with a status other than 0.
 
 use napt_program::{MEMORY, stop_status};
 use napt_records::Fault;
@@ -6,26 +6,26 @@ use napt_sequential::RunFault;
 use std::alloc::{AllocError, AllocFailed};
 use std::io;
 
-/// Why the program ends early.
+/// Why the program stops.
 #[derive(Drop)]
 pub enum Stop {
-    /// As `napt` stops, by a reason that was told before.
+    /// As `napt` would stop, for a reason that was already printed.
     Told(napt_program::Stop),
-    /// As `napt` stops, by what its fault line says.
+    /// As `napt` would stop, for the reason in its fault line.
     As(napt_program::Stop),
-    /// Standard output was closed from the start.
+    /// Standard output was closed at startup.
     NoOutput,
     /// Standard output cannot be written.
     Output(io::Error),
-    /// Some packets end otherwise under the other configuration.
+    /// Some packets end differently under the other configuration.
     Differ,
-    /// Nobody had what was asked for.
+    /// Nobody had the endpoint asked about.
     Nobody,
 }
 
 impl Stop {
-    /// The exit status, which is that of `napt`; 6 where standard output fails, as for a file; 1 where
-    /// packets differ, and where nobody had what was asked for.
+    /// The exit status: that of `napt`; 6 if standard output fails, as for a file; 1 if packets differ, or if nobody had the
+    /// endpoint asked about.
     pub fn status(&self) -> u8 {
         match self {
             Stop::Told(stop) | Stop::As(stop) => stop_status(stop),
@@ -34,7 +34,7 @@ impl Stop {
         }
     }
 
-    /// Writes the line that says why, where that was not told before.
+    /// Prints the line that says why, unless the reason was already printed.
     pub fn tell<R: Eprint>(&self, rt: &R) {
         let _ = match self {
             Stop::Told(_) | Stop::Differ | Stop::Nobody => Ok(()),

@@ -1,4 +1,4 @@
-//! The lines of an account.
+//! The printed lines of a run.
 
 use crate::digits::{add_number_within, add_seconds, add_spaces, pad};
 use crate::ended::Ended;
@@ -17,7 +17,7 @@ use napt_wire::{Cause, Kind, Packet, Side};
 use std::alloc::{AllocError, Global};
 use std::fmt::Write;
 
-/// A run whose lines are told.
+/// A run to print.
 #[derive(Clone, Copy)]
 pub struct Told<'a> {
     pub choice: Choice,
@@ -30,17 +30,17 @@ pub struct Told<'a> {
 #[derive(Clone, Copy)]
 pub struct Widths {
     number: usize,
-    /// Of the seconds of a time, before its point.
+    /// Of a time's seconds, before the point.
     seconds: usize,
 }
 
-/// How wide what a packet was is at least, and what happened to it.
+/// The least widths of a packet as it arrived, and of what happened to it.
 const BEFORE: usize = 50;
 
 const HAPPENED: usize = 21;
 
 impl Widths {
-    /// Those that the numbers and the times of all packets need.
+    /// The widths that the numbers and times of all packets need.
     pub fn of(inputs: &[Input]) -> Widths {
         let latest = inputs.last().map_or(0, |input| input.clock);
         Widths {
@@ -63,7 +63,7 @@ fn digits(number: u64) -> usize {
     many
 }
 
-/// A packet of a run: its number, from 1, what it was, and what became of it.
+/// A packet of a run: its number, from 1, its arrival, and its outcome.
 #[derive(Clone, Copy)]
 pub struct Line<'a> {
     pub number: u64,
@@ -78,7 +78,7 @@ impl<'a> Told<'a> {
         self.inputs.last().map_or(0, |input| input.clock)
     }
 
-    /// Adds the line of the packet of a number, from 1, where it is asked for, and before it those of the bindings that have ended
+    /// Appends the line of packet `number`, from 1, if it is selected, and before it the lines of the bindings that expired
     /// by then.
     pub fn add_line(
         self,
@@ -98,7 +98,7 @@ impl<'a> Told<'a> {
         Ok(())
     }
 
-    /// Adds the lines of the bindings that have ended by a time and were not told yet, where they are asked for.
+    /// Appends the lines of the bindings that expired by a time and have no line yet, if they are selected.
     fn add_ended(self, text: &mut String, ended: &mut Ended, by: u64) -> Result<(), AllocError> {
         for _ in 0..self.account.log.entries.len() {
             let Some(change) = ended.next_by(by) else {
@@ -114,7 +114,7 @@ impl<'a> Told<'a> {
         Ok(())
     }
 
-    /// Whether a binding's end is asked for.
+    /// Whether a binding's end is selected.
     fn has_chosen(self, entry: &Entry) -> bool {
         !self.choice.dropped && has_party(&entry.binding, self.choice.host)
     }
@@ -132,7 +132,7 @@ impl<'a> Told<'a> {
         })
     }
 
-    /// Adds the JSON object of the packet of a number, from 1, where it is asked for.
+    /// Appends the JSON object of packet `number`, from 1, if it is selected.
     pub fn add_json(
         self,
         alloc: Global,
@@ -146,7 +146,7 @@ impl<'a> Told<'a> {
         }
     }
 
-    /// Writes the line of the packet of a number, from 1, and the bindings that it went through.
+    /// Prints the line of packet `number`, from 1, and the bindings that it used.
     pub fn tell_one<R: Print + Eprint + AllocGlobal>(
         self,
         rt: &R,
@@ -168,7 +168,7 @@ impl<'a> Told<'a> {
         Ok(())
     }
 
-    /// Writes the binding at a place, through which a packet went this way.
+    /// Prints the binding at an index, which a packet used in this direction.
     fn tell_used<R: Print>(self, rt: &R, way: &str, at: Option<usize>) -> Result<(), Stop> {
         let Some(entry) = at.and_then(|at| self.account.log.entries.get(at)) else {
             return Ok(());
@@ -187,7 +187,7 @@ impl<'a> Told<'a> {
     }
 }
 
-/// Adds the line of a packet. Its columns stand below one another, but for an ICMP error, which quotes more than fits.
+/// Appends the line of a packet. The columns of all lines align, except for an ICMP error, which quotes more than fits.
 fn add_packet_line(
     alloc: Global,
     text: &mut String,
@@ -215,7 +215,7 @@ fn add_packet_line(
     text.push('\n')
 }
 
-/// Adds the line of a binding that has ended at a time, in the columns of packets.
+/// Appends the line of a binding that expired at a time, aligned with those of packets.
 fn add_end(text: &mut String, widths: Widths, at: u64, entry: &Entry) -> Result<(), AllocError> {
     let name = protocol_name(entry.binding.protocol);
     let (inside, external) = (
@@ -255,7 +255,7 @@ fn is_chosen(alloc: Global, choice: Choice, line: Line<'_>) -> Result<bool, Allo
     }
 }
 
-/// Whether an outcome's packet has the host or endpoint.
+/// Whether a packet leaves with this host or endpoint.
 pub fn leaves_with(outcome: &Outcome, host: Party) -> bool {
     match outcome {
         Outcome::ToOutside(packet) | Outcome::ToInside(packet) => host.is_end_of(packet),
@@ -263,7 +263,7 @@ pub fn leaves_with(outcome: &Outcome, host: Party) -> bool {
     }
 }
 
-/// Adds what happened to a packet that came from a side, and the packet as it leaves.
+/// Appends what happened to a packet from this side, and the packet as it leaves.
 fn add_rest(
     text: &mut String,
     side: Side,
@@ -286,7 +286,7 @@ fn add_rest(
     add_packet(text, packet)
 }
 
-/// What a packet that went through did to a binding.
+/// What a forwarded packet did to a binding.
 fn used(packet: &Packet, note: Note) -> &'static str {
     match (packet.kind(), note) {
         (Kind::ErrorOf(_), _) => "error about a binding",
@@ -296,7 +296,8 @@ fn used(packet: &Packet, note: Note) -> &'static str {
     }
 }
 
-/// Writes the bindings that live at the last clock, with their ages; those of a host or an endpoint where one is chosen.
+/// Prints the bindings that live at the last packet's time, with their ages; only those of a host or endpoint if one is
+/// selected.
 pub fn tell_bindings<R: Print>(rt: &R, page: &mut Page, told: Told<'_>) -> Result<(), Stop> {
     let now = told.last();
     let time = Seconds(now);
@@ -312,7 +313,7 @@ pub fn tell_bindings<R: Print>(rt: &R, page: &mut Page, told: Told<'_>) -> Resul
     Ok(())
 }
 
-/// Whether a binding has a host or an endpoint, where one is chosen.
+/// Whether a binding has the selected host or endpoint, if one is selected.
 fn has_party(row: &Row, host: Option<Party>) -> bool {
     host.is_none_or(|host| host.has(row.inside) || host.has(row.external))
 }
@@ -341,7 +342,7 @@ fn add_binding(
     text.push('\n')
 }
 
-/// Adds how many packets ended in which way, and what to do where more than a fifth of them were dropped for one cause.
+/// Appends the counts of outcomes, and what to do if more than a fifth of the packets were dropped for one cause.
 pub fn add_counts(text: &mut String, account: &Account) -> Result<(), AllocError> {
     let outcomes = account.run.outcomes.as_slice();
     writeln!(text, "packets: {}", outcomes.len())?;
@@ -368,7 +369,7 @@ fn add_cause(text: &mut String, cause: Cause, outcomes: &[Outcome]) -> Result<()
     }
 }
 
-/// How many packets leave for the outside.
+/// How many packets left for the outside.
 pub fn count_to_outside(outcomes: &[Outcome]) -> usize {
     outcomes
         .iter()
@@ -376,7 +377,7 @@ pub fn count_to_outside(outcomes: &[Outcome]) -> usize {
         .count()
 }
 
-/// How many packets leave for the inside.
+/// How many packets left for the inside.
 pub fn count_to_inside(outcomes: &[Outcome]) -> usize {
     outcomes
         .iter()

@@ -13,23 +13,23 @@ use napt_config::{Address, Config};
 use napt_records::{EndpointText, protocol_name};
 use std::alloc::{AllocError, Global};
 
-/// What is asked: who had an external endpoint, or one of an external address.
+/// A question: who had an external endpoint, or any endpoint of an external address.
 #[derive(Clone, Copy)]
 pub struct Asked {
     pub party: Party,
-    /// At which time, in ns since 1970; absent, at any.
+    /// At which time, in ns since 1970; if absent, at any time.
     pub at: Option<u64>,
 }
 
 impl Asked {
-    /// Whether an entry is an answer: its binding had the endpoint, and lived at the time.
+    /// Whether an entry is an answer: its binding had the endpoint, and was live at the time.
     fn is_answered_by(self, entry: &Entry) -> bool
         ensures { result ≡ answers self entry.now }
     {
         self.party.has(entry.binding.external) && self.is_met_by(entry)
     }
 
-    /// Whether the binding of an entry lived at the time.
+    /// Whether the binding of an entry was live at the time asked about.
     fn is_met_by(self, entry: &Entry) -> bool
         ensures { result ≡ stands_by self.at entry.now }
     {
@@ -40,7 +40,7 @@ impl Asked {
     }
 }
 
-/// Whether the binding of an entry was made by a time and has not ended by then.
+/// Whether the binding of an entry was made by a time and had not expired by then.
 fn lives_at(entry: &Entry, at: u64) -> bool
     ensures { result ≡ stands_at at entry.now }
 {
@@ -51,7 +51,7 @@ fn lives_at(entry: &Entry, at: u64) -> bool
         }
 }
 
-/// Those of the entries that tell who had what is asked for, in their order.
+/// The entries that answer the question, in their order.
 fn holders_among(alloc: Global, entries: &[Entry], asked: Asked) -> Result<Vec<Entry>, AllocError>
     ensures { IfOk result (λ found. found.items ≡ filter (answers asked) entries.now) }
 {
@@ -62,8 +62,8 @@ fn holders_among(alloc: Global, entries: &[Entry], asked: Asked) -> Result<Vec<E
         .collect(alloc)
 }
 
-/// Writes a line for each binding that had what is asked for, in the order in which they were made, after a run whose last packet
-/// came at a time. Stops by `Nobody`, after a line that says so, where there is none.
+/// Prints a line for each binding that had the endpoint, in the order in which they were made; `last` is the time of the
+/// run's last packet. If there is none, prints that nobody had it and fails with `Nobody`.
 pub fn tell_holders<R: Print + AllocGlobal>(
     rt: &R,
     asked: Asked,
@@ -84,7 +84,7 @@ pub fn tell_holders<R: Print + AllocGlobal>(
     Err(Stop::Nobody)
 }
 
-/// The line of a binding that had what is asked for. Its end may come after the last packet.
+/// The line of a binding that had the endpoint. It may expire after the last packet.
 fn holder_text(alloc: Global, entry: &Entry, last: u64) -> Result<String, AllocError> {
     let name = protocol_name(entry.binding.protocol);
     let (inside, external) = (

@@ -1,12 +1,13 @@
 //! What the program does: it reads its words and its configuration, opens the files in a fixed order, and runs over them.
 
 ghost use Rattle.std.specs.Prelude.{◌≡◌, IfErr, OnOk, map, string_bytes};
-ghost use Rattle.napt_options.specs.CommandLine.{files_of, line_of_words};
+ghost use Rattle.napt_program.specs.CommandLine.{files_of, line_of_words};
 ghost use Rattle.napt_program.specs.Command.{IsLineStop, IsRunStop, IsTaken, IsUnderOpenGate};
 
-use napt_options::{LineFault, Options, parse_words};
 use napt_pool::OpenGate;
-use napt_program::{Devices, MEMORY, Opened, Stop, Streams, open, words};
+use napt_program::{
+    Devices, LineFault, MEMORY, Opened, Options, Stop, Streams, open, parse_words, words,
+};
 use napt_run::run_captures;
 use std::env::Env;
 use std::rt::Files;

@@ -1,1 +1,4 @@
 pub mod ConfigLemmas
+pub mod LineLemmas
+pub mod OneKind
+pub mod OptionLemmas

@@ -1,14 +1,14 @@
--- What stops a program on its command line: its words, what it opens, and its run.
+-- What stops a program: its arguments, what it opens, or its run.
 use Rattle.std.specs.Prelude.{◌≡◌, ◌||◌, Bool, true, false, not, is_some}
-use Rattle.napt_options.specs.CommandLine.{Files, Line, files, help, mistake}
-use Rattle.napt_options.specs.declared.Role.{Role}
-use Rattle.napt_options.specs.declared.Role.TheVariants as role
+use Rattle.napt_program.specs.CommandLine.{Files, Line, files, help, mistake}
+use Rattle.napt_program.specs.declared.role.Role.{Role}
+use Rattle.napt_program.specs.declared.role.Role.TheVariants as role
 use Rattle.napt_program.specs.declared.stop.Stop.{Stop}
 use Rattle.napt_program.specs.declared.stop.Stop.TheVariants as stop
 use Rattle.napt_program.specs.declared.streams.Streams.{Streams}
 use Rattle.napt_records.specs.Faults.{tells_shut_gate}
 
--- what may fail as a file: one that is named, and a standard stream that is closed
+-- what may fail as a file: one that is named, or a closed standard stream
 abbrev pub can_fail : Streams → Files → Role → Bool
 can_fail streams named role.Config = is_some named.config
 can_fail streams named role.Inside = is_some named.inside || not streams.input
@@ -25,7 +25,7 @@ IsRunStop streams named (stop.File role) = can_fail streams named role ≡ true
 IsRunStop streams named (stop.Run fault) = tells_shut_gate fault ≡ false
 IsRunStop streams named other = ⊥
 
--- the help text was not made or written
+-- the help text could not be made or written
 abbrev pub IsHelpStop : Stop → Type 0
 IsHelpStop stop.LineMemory = Unit {0}
 IsHelpStop stop.Help = Unit {0}
@@ -42,7 +42,7 @@ IsLineStop streams (files named) s = IsRunStop streams named s
 IsLineStop streams help s = IsHelpStop s
 IsLineStop streams mistake s = IsUsageStop s
 
--- the words were understood
+-- the arguments were understood
 abbrev pub IsTaken : Line → Type 0
 IsTaken mistake = ⊥
 IsTaken other = Unit {0}

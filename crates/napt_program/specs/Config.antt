@@ -1,13 +1,13 @@
--- What reading a configuration's file gives.
+-- The result of reading a configuration's file.
 use Rattle.std.specs.Prelude.{◌≡◌, ◌≢◌, ℕ, List, Bool, true, Result, Ok, Err}
 use Rattle.napt_config.specs.Configured.{configuration_of}
 use Rattle.napt_config.specs.Rules.{Rules}
 use Rattle.napt_config.specs.declared.fault.ConfigFault.TheVariants.{Memory}
-use Rattle.napt_options.specs.declared.Role.TheVariants as role
+use Rattle.napt_program.specs.declared.role.Role.TheVariants as role
 use Rattle.napt_program.specs.declared.stop.Stop.{Stop}
 use Rattle.napt_program.specs.declared.stop.Stop.TheVariants as stop
 
--- a fault of the configuration, or of its file where one is named
+-- a fault of the configuration, or of its file if one is named
 abbrev pub IsConfigStop : Bool → Stop → Type 0
 IsConfigStop named (stop.Config fault) = Unit {0}
 IsConfigStop named (stop.File role.Config) = named ≡ true
@@ -19,7 +19,7 @@ IsUnread (stop.Config Memory) = Unit {0}
 IsUnread (stop.File role.Config) = Unit {0}
 IsUnread other = ⊥
 
--- what a configuration's text comes to: its configuration or its own fault, unless it was not read or memory ran out
+-- the result for a text: its configuration or its own fault, unless it was not read or memory ran out
 abbrev pub IsReadingOf : List ℕ → Result Rules Stop → Type 0
 IsReadingOf text (Ok config) = configuration_of text ≡ Ok config
 IsReadingOf text (Err (stop.Config fault)) = fault ≢ Memory → configuration_of text ≡ Err fault

@@ -1,6 +1,9 @@
 pub mod Command
+pub mod CommandLine
 pub mod Config
 pub mod Devices
 pub mod Files
+pub mod Place
+pub mod Places
 pub mod Stop
 pub mod Streams

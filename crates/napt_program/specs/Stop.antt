@@ -1,8 +1,8 @@
 -- The fault line and the exit status of a program that stops early.
 use Rattle.std.specs.Prelude.{ℕ, List, ◌++◌, Bool, true, false, Option, Some, None, Result, Ok, Err, codes, decimal}
-use Rattle.napt_options.specs.CommandLine.{role_name}
-use Rattle.napt_options.specs.declared.Role.{Role}
-use Rattle.napt_options.specs.declared.Role.TheVariants as role
+use Rattle.napt_program.specs.CommandLine.{role_name}
+use Rattle.napt_program.specs.declared.role.Role.{Role}
+use Rattle.napt_program.specs.declared.role.Role.TheVariants as role
 use Rattle.napt_program.specs.declared.stop.Stop.{Stop}
 use Rattle.napt_program.specs.declared.stop.Stop.TheVariants as stop
 use Rattle.napt_wire.specs.declared.Side.{Side}
@@ -56,7 +56,7 @@ config_name config.DoubleRedirect = codes "double-redirect"
 config_name config.TimerTooShort = codes "timer-too-short"
 config_name config.Memory = codes "memory"
 
--- the same, followed by the record's number where the fault has one
+-- the same, followed by the record's number if the fault has one
 abbrev pub capture_name : CaptureFault → Text
 capture_name capture.NoHeader = codes "no-header"
 capture_name capture.BadMagic = codes "bad-magic"

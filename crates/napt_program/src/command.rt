@@ -1,23 +1,23 @@
-//! The command line of a program, and all that it opens for its run.
+//! The arguments of a program, and everything that it opens for its run.
 
 ghost use Rattle.std.specs.Prelude.{◌≡◌, ◌⊎◌, IfErr, IfOk};
-ghost use Rattle.napt_options.specs.CommandLine.{files_of};
+ghost use Rattle.napt_program.specs.CommandLine.{files_of};
 ghost use Rattle.napt_program.specs.Command.{IsRunStop};
 ghost use Rattle.napt_program.specs.Devices.{AreFresh};
 
 use crate::config_file::configuration;
 use crate::devices::{Devices, buffered};
 use crate::files::open_files;
+use crate::options::Options;
 use crate::stop::Stop;
 use crate::streams::{Streams, closed_stream};
 use napt_config::Config;
-use napt_options::Options;
 use std::env;
 use std::env::Env;
 use std::io::{ErrorKind, Printer, Write};
 use std::rt::Files;
 
-/// The words of the command line. `Stop::Usage` if one is no text.
+/// The command line's arguments. Fails with `Stop::Usage` if one is not UTF-8.
 pub fn words<R: Env + AllocGlobal>(rt: &R) -> Result<Vec<String>, Stop>
     ensures { IfErr result (λ stop. (stop ≡ Stop.Usage) ⊎ (stop ≡ Stop.LineMemory)) }
 {
@@ -28,18 +28,18 @@ pub fn words<R: Env + AllocGlobal>(rt: &R) -> Result<Vec<String>, Stop>
     }
 }
 
-/// All that a run is over. `S` reads standard input, `T` writes standard output, and `F` is a file.
+/// Everything that a run needs. `S` reads standard input, `T` writes standard output, and `F` is a file.
 #[derive(Drop)]
 pub struct Opened<S, T: Write + Drop, F: Write + Drop> {
     pub config: Config,
     pub devices: Devices<S, T, F>,
 }
 
-/// Opens the files of the options, and the standard streams for absent ones: first the configuration, then the captures and
-/// the outputs, each behind a buffer.
+/// Opens the files of the options, or the standard streams in their place: first the configuration, then the captures and the
+/// outputs, each behind a buffer.
 ///
-/// Fails, by its role, if such a stream is closed, before anything is opened; then if the configuration is refused, or if a
-/// file cannot be opened or created.
+/// Before anything is opened, fails with the role of a needed standard stream that is closed; then if the configuration is
+/// refused, or with the role of a file that cannot be opened or created.
 pub fn open<'r, R: Files + Input + Print + AllocGlobal>(
     rt: &'r R,
     streams: Streams,

@@ -1,24 +1,24 @@
-//! The configuration that a file holds.
+//! The configuration in a file.
 
 ghost use Rattle.std.specs.Prelude.{◌≡◌, ◌≢◌, ◌≤◌, IfErr, IfOk, IfSome, None, OnOk, is_some, length, true, vec_len};
 ghost use Rattle.std.specs.IoError.{error_kind};
 ghost use Rattle.napt_config.specs.Configured.{built_in};
 ghost use Rattle.napt_program.specs.Config.{IsConfigStop, IsReadingOf, IsUnread};
 
+use crate::role::Role;
 use crate::stop::Stop;
 use napt_config::{Config, ConfigFault};
-use napt_options::Role;
 use std::alloc::Global;
 use std::fs::File;
 use std::io;
 use std::io::{ErrorKind, Read};
 use std::rt::Files;
 
-/// The most bytes that a configuration has, 64 MiB: a file that never ends is not read further.
+/// The most bytes that a configuration may have, 64 MiB: an endless file is not read further.
 pub const MOST_BYTES: u64 = 67_108_864;
 
-/// The configuration that the file holds; the built-in one where there is none. Fails as `config_from` does, and by the
-/// file's role where it cannot be opened.
+/// The configuration in the file, or the built-in one if no file is named. Fails as `config_from` does, and with the file's
+/// role if it cannot be opened.
 pub fn configuration<R: Files + AllocGlobal>(rt: &R, path: Option<&String>) -> Result<Config, Stop>
     ensures built_in { path.entry ≡ None → IfOk result (λ config. config ≡ built_in) }
     ensures stop { IfErr result (IsConfigStop (is_some path.entry)) }
@@ -29,17 +29,17 @@ pub fn configuration<R: Files + AllocGlobal>(rt: &R, path: Option<&String>) -> R
     config_from(rt.alloc(), open_config(rt, path)?)
 }
 
-/// The file of a configuration, to be read. Fails by its role, or where memory runs out, where it cannot be opened.
+/// Opens a configuration for reading. Fails with its role, or with `ConfigFault::Memory` if memory ran out.
 pub fn open_config<R: Files>(rt: &R, path: &str) -> Result<R::File, Stop>
     ensures { IfErr result IsUnread }
 {
     File::open(rt, path).map_err(|error| unread_config(&error))
 }
 
-/// The configuration that the reader tells to its end.
+/// Reads a configuration to the reader's end.
 ///
-/// Fails as the text does, by `Stop::Config`; where memory runs out, by `ConfigFault::Memory`; and where the reader
-/// fails or tells more than `MOST_BYTES`, by the file's role.
+/// Fails with `Stop::Config` if the text is refused, with `ConfigFault::Memory` if memory runs out, and with the file's role
+/// if the reader fails or has more than `MOST_BYTES`.
 pub fn config_from<D: Read + Drop>(alloc: Global, device: D) -> Result<Config, Stop>
     ensures read { IfSome (D.remaining device) (λ text. IsReadingOf text result) }
     ensures bounded { OnOk result (IfSome (D.remaining device) (λ text. length text ≤ MOST_BYTES)) }
@@ -49,9 +49,9 @@ pub fn config_from<D: Read + Drop>(alloc: Global, device: D) -> Result<Config, S
     Ok(Config::read(alloc, &text)?)
 }
 
-/// All that the reader tells, where that is at most `MOST_BYTES`.
+/// All bytes of the reader, at most `MOST_BYTES`.
 ///
-/// Fails where the reader fails or tells more, by the file's role, and where memory runs out, by `ConfigFault::Memory`.
+/// Fails with the file's role if the reader fails or has more, and with `ConfigFault::Memory` if memory runs out.
 pub fn config_text<D: Read + Drop>(alloc: Global, device: D) -> Result<Vec<u8>, Stop>
     ensures told { IfOk result (λ text. IfSome (D.remaining device) (λ bytes. text.items ≡ bytes)) }
     ensures bounded { IfOk result (λ text. vec_len text ≤ MOST_BYTES) }

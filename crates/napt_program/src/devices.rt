@@ -1,4 +1,4 @@
-//! The devices of a run: its files behind buffers, with their failed calls counted.
+//! The devices of a run: its files behind buffers, with failed calls counted.
 
 ghost use Rattle.std.specs.Prelude.{◌≡◌, IfErr, IfOk, IfSome, is_some, option_map};
 ghost use Rattle.napt_capture.specs.Watched.{failed_of};
@@ -11,7 +11,7 @@ use napt_capture::Watched;
 use std::alloc::Global;
 use std::io::{BufReader, BufWriter, Read, Write};
 
-/// How many bytes are read or written at once.
+/// How many bytes each buffer holds.
 const BUFFERED: usize = 65_536;
 
 /// A device for each file of a run, as `RunFiles` names them.
@@ -24,8 +24,8 @@ pub struct Devices<S, T: Write + Drop, F: Write + Drop> {
     pub report: Option<Watched<BufWriter<F>>>,
 }
 
-/// The devices over the files: each tells what its reader tells, or shows what its writer shows. Fails, by a run's fault,
-/// where memory runs out.
+/// Puts the files behind buffers: each device reads what its file reads, or writes what its file writes. Fails, as a run
+/// does, if memory runs out.
 pub fn buffered<S: Read + Drop, T: Write + Drop, F: Read + Write + Drop>(
     alloc: Global,
     files: RunFiles<S, T, F>,
@@ -44,7 +44,7 @@ pub fn buffered<S: Read + Drop, T: Write + Drop, F: Read + Write + Drop>(
     })
 }
 
-/// The device over a reader, which tells what the reader tells. Fails, by a run's fault, where memory runs out.
+/// The device over a reader. Fails, as a run does, if memory runs out.
 fn source<D: Read + Drop>(alloc: Global, device: D) -> Result<Watched<BufReader<D>>, Stop>
     ensures fresh { IfOk result (λ made. failed_of made ≡ 0) }
     ensures tells { IfOk result (λ made. bytes_left D.remaining made ≡ D.remaining device) }
@@ -56,7 +56,7 @@ fn source<D: Read + Drop>(alloc: Global, device: D) -> Result<Watched<BufReader<
     }
 }
 
-/// The same, where there is a reader.
+/// The same, if there is a reader.
 fn source_over<D: Read + Drop>(
     alloc: Global,
     device: Option<D>,
@@ -73,7 +73,7 @@ fn source_over<D: Read + Drop>(
     }
 }
 
-/// The device over a writer, which shows what the writer shows. Fails, by a run's fault, where memory runs out.
+/// The device over a writer. Fails, as a run does, if memory runs out.
 fn sink<D: Write + Drop>(alloc: Global, device: D) -> Result<Watched<BufWriter<D>>, Stop>
     ensures fresh { IfOk result (λ made. failed_of made ≡ 0) }
     ensures shows { IfOk result (λ made. bytes_written D.contents made ≡ D.contents device) }
@@ -85,7 +85,7 @@ fn sink<D: Write + Drop>(alloc: Global, device: D) -> Result<Watched<BufWriter<D
     }
 }
 
-/// The same, where there is a writer.
+/// The same, if there is a writer.
 fn sink_over<D: Write + Drop>(
     alloc: Global,
     device: Option<D>,

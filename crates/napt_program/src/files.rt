@@ -3,15 +3,17 @@
 ghost use Rattle.std.specs.Prelude.{◌≡◌, IfErr, IfOk, IsSome, is_some};
 ghost use Rattle.napt_program.specs.Files.{AreInputsOpen, AreOpen, IsFileStop};
 
+use crate::options::Options;
+use crate::places::lost_file;
+use crate::role::Role;
 use crate::stop::Stop;
 use either::{Either, Left, Right};
-use napt_options::{Options, Role, lost_file};
 use std::fs::File;
 use std::io;
 use std::io::Printer;
 use std::rt::Files;
 
-/// The files of a run, open: those that are named, and the standard streams for captures that are not. `S` reads
+/// The open files of a run: those that are named, and the standard streams in place of captures that are not. `S` reads
 /// standard input, `T` writes standard output, and `F` is a file.
 #[derive(Drop)]
 pub struct RunFiles<S, T, F> {
@@ -27,7 +29,7 @@ pub struct RunFiles<S, T, F> {
     pub report: Option<F>,
 }
 
-/// The captures of a run, open: those that are named, and standard input for an inside capture that is not.
+/// The open captures of a run: those that are named, and standard input in place of an inside capture that is not.
 #[derive(Drop)]
 pub struct InputFiles<S, F> {
     /// The capture of what inside hosts send.
@@ -36,10 +38,10 @@ pub struct InputFiles<S, F> {
     pub outside: Option<F>,
 }
 
-/// Opens the captures, the inside first; then makes or empties the outputs, to the outside, to the inside, the report.
+/// Opens the captures, the inside first; then creates or empties the outputs: to the outside, to the inside, the report.
 ///
-/// Fails, by its role, where a file cannot be opened or created, and before any output is touched where one is a file
-/// that an earlier option names.
+/// Fails with the role of a file that cannot be opened or created; and, before any output is touched, with the role of one
+/// that an earlier option also names.
 pub fn open_files<'r, R: Files + Input + Print>(
     rt: &'r R,
     options: &Options,
@@ -61,9 +63,9 @@ pub fn open_files<'r, R: Files + Input + Print>(
     })
 }
 
-/// Opens the captures, the inside first, and makes and empties nothing.
+/// Opens the captures, the inside first. Creates and empties nothing.
 ///
-/// Fails, by its role, where a capture cannot be opened, and then where an output is a file that an earlier option names.
+/// Fails with the role of a capture that cannot be opened, then with that of an output that an earlier option also names.
 pub fn open_inputs<R: Files + Input>(
     rt: &R,
     options: &Options,
@@ -83,7 +85,7 @@ pub fn open_inputs<R: Files + Input>(
     Ok(InputFiles { inside, outside })
 }
 
-/// Refuses, by its role, the first output in the order of the options that is a file which an earlier one names.
+/// Fails with the role of the first output that an earlier option also names.
 fn refuse_lost_file<R: Files>(rt: &R, options: &Options) -> Result<(), Stop>
     ensures { IfErr result (IsFileStop options.now) }
 {
@@ -93,21 +95,21 @@ fn refuse_lost_file<R: Files>(rt: &R, options: &Options) -> Result<(), Stop>
     }
 }
 
-/// The file, to be read. Fails, by its role, where it cannot be opened.
+/// Opens a file for reading. Fails with its role.
 fn opened<R: Files>(rt: &R, path: &str, role: Role) -> Result<R::File, Stop>
     ensures { IfErr result (λ stop. stop ≡ Stop.File role) }
 {
     File::open(rt, path).map_err(|_| Stop::File(role))
 }
 
-/// The file, made or emptied, to be written. Fails, by its role, where it cannot be created.
+/// Creates or empties a file for writing. Fails with its role.
 fn created<R: Files>(rt: &R, path: &str, role: Role) -> Result<R::File, Stop>
     ensures { IfErr result (λ stop. stop ≡ Stop.File role) }
 {
     File::create(rt, path).map_err(|_| Stop::File(role))
 }
 
-/// The same, where there is a path.
+/// The same, if there is a path.
 fn created_at<R: Files>(rt: &R, path: Option<&String>, role: Role) -> Result<Option<R::File>, Stop>
     ensures given { IfOk result (λ made. is_some made ≡ is_some path.entry) }
     ensures refused { IfErr result (λ stop. stop ≡ Stop.File role) }

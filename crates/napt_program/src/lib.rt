@@ -1,11 +1,16 @@
-//! What the program is made of beside its run: why it stops, its configuration, its standard streams and its files.
+//! What the programs share beside their runs: the command line, the files it names, the configuration, the standard streams,
+//! and why a program stops.
 #![tactic(auto)]
 
 mod command;
 mod config_file;
 mod devices;
 mod files;
+mod options;
 mod outputs;
+mod place;
+mod places;
+mod role;
 mod stop;
 mod streams;
 
@@ -15,6 +20,10 @@ pub use crate::config_file::{
 };
 pub use crate::devices::{Devices, buffered};
 pub use crate::files::{InputFiles, RunFiles, open_files, open_inputs};
+pub use crate::options::{LineFault, Manual, Options, parse_words, parse_words_of};
 pub use crate::outputs::{refuse_unmade, unmade};
+pub use crate::place::{Node, Place, is_same, place_of};
+pub use crate::places::lost_file;
+pub use crate::role::Role;
 pub use crate::stop::{MEMORY, Stop, StopLine, line_at_end, status_at_end, stop_line, stop_status};
 pub use crate::streams::{Streams, closed_stream};

@@ -1,10 +1,11 @@
-//! Outputs that cannot be made, told without making one.
+//! Finds outputs that cannot be created, without creating any.
 
 ghost use Rattle.std.specs.Prelude.{◌≡◌, IfErr, IsSome};
 ghost use Rattle.napt_program.specs.Files.{IsFileStop};
 
+use crate::options::Options;
+use crate::role::Role;
 use crate::stop::Stop;
-use napt_options::{Options, Role};
 use std::fs::{FileType, OpenOptions};
 use std::io::ErrorKind;
 use std::os::unix::fs::FileTypeExt;
@@ -12,8 +13,8 @@ use std::path::Path;
 use std::rt::Files;
 use std::{fs, io};
 
-/// Refuses, by its role, the first output in the order of the options that could not be made or emptied, as `unmade` tells.
-/// Makes and changes nothing.
+/// Fails, with its role, on the first output in the order of the options that cannot be created or emptied, as far as
+/// `unmade` knows. Creates and changes nothing.
 pub fn refuse_unmade<R: Files>(rt: &R, options: &Options) -> Result<(), Stop>
     ensures { IfErr result (IsFileStop options.now) }
 {
@@ -22,7 +23,7 @@ pub fn refuse_unmade<R: Files>(rt: &R, options: &Options) -> Result<(), Stop>
     refuse_unmade_file(rt, options.report.as_ref(), Role::Report)
 }
 
-/// Refuses the file, by its role, where there is one that could not be made or emptied.
+/// Fails, with its role, on a file that cannot be created or emptied.
 fn refuse_unmade_file<R: Files>(rt: &R, path: Option<&String>, role: Role) -> Result<(), Stop>
     ensures refused { IfErr result (λ stop. stop ≡ Stop.File role) }
     ensures path { IfErr result (λ stop. IsSome path.entry) }
@@ -33,11 +34,11 @@ fn refuse_unmade_file<R: Files>(rt: &R, path: Option<&String>, role: Role) -> Re
     }
 }
 
-/// Why the file could not be made or emptied, as far as the system tells without touching it.
+/// Why the file cannot be created or emptied, as far as that can be known without touching it.
 ///
-/// What is there is opened to be written, which changes nothing, but for a device or a pipe, which is not opened. Of what is
-/// not there the folder has to be. Not known beforehand are: whether a folder takes a new file, whether a link leads to a folder
-/// that is not there, and what only writing shows, as a full disk.
+/// An existing file is opened for writing, which changes nothing; a device or a pipe is not opened. If there is no file, its
+/// folder must exist. Unknown beforehand: whether the folder takes a new file, whether a link leads to a missing folder, and
+/// what only writing shows, such as a full disk.
 pub fn unmade<R: Files>(rt: &R, path: &str) -> Option<io::Error> {
     match fs::metadata(rt, path) {
         Ok(known) if is_aside(known.file_type()) => None,
@@ -52,7 +53,7 @@ fn is_aside(kind: FileType) -> bool {
     kind.is_fifo() || kind.is_char_device() || kind.is_block_device()
 }
 
-/// Why a file that is not there could not be made: it has no name, as this error says, or its folder is not there.
+/// Why a missing file cannot be created: it has no name, as this error says, or its folder is missing.
 fn missing_folder<R: Files>(rt: &R, path: &str, error: io::Error) -> Option<io::Error> {
     if path.is_empty() || path.ends_with('/') {
         return Some(error);

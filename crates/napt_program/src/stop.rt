@@ -1,10 +1,10 @@
-//! Why the program stops before it is done: the fault line for standard error and the exit status.
+//! Why a program stops early: the fault line for standard error, and the exit status.
 ghost use Rattle.std.specs.Prelude.{◌≡◌, IfOk, Some, option_map, string_bytes};
 ghost use Rattle.napt_program.specs.Stop.{capture_name, config_name, fault_text, line_at_end, line_of, output_role, run_name, side_name, status_at_end, status_of, status_of_fault, stop_text};
 
+use crate::role::Role;
 use napt_capture::CaptureFault;
 use napt_config::ConfigFault;
-use napt_options::Role;
 use napt_pool::PoolFault;
 use napt_records::{Fault, Which};
 use napt_sequential::RunFault;
@@ -12,12 +12,12 @@ use napt_wire::Side;
 use std::alloc::{AllocError, Global};
 use std::fmt;
 
-/// Why the program stops with a status other than 0.
+/// Why a program stops with a status other than 0.
 #[derive(Clone, Copy, Debug, PartialEq, Eq)]
 pub enum Stop {
     /// The command line is not understood.
     Usage,
-    /// Memory ran out while the command line was read.
+    /// Memory ran out while parsing the command line.
     LineMemory,
     /// The help text could not be written to standard output.
     Help,
@@ -57,7 +57,7 @@ pub fn stop_status(stop: &Stop) -> u8
     }
 }
 
-/// The exit status of a run that was done or stopped: 0, or the stop's.
+/// The exit status of a run: 0 if it was done, else the stop's.
 pub fn status_at_end(answer: &Result<(), Stop>) -> u8
     ensures { result ≡ status_at_end answer.now }
 {
@@ -67,7 +67,7 @@ pub fn status_at_end(answer: &Result<(), Stop>) -> u8
     }
 }
 
-/// The line that a run leaves on standard error, if that is open: none where it was done, else the stop's.
+/// The line that a run prints on standard error, if that is open: none if it was done, else the stop's.
 pub fn line_at_end(is_open: bool, answer: &Result<(), Stop>) -> Option<StopLine>
     ensures { option_map (λ line. line_of line.0) result ≡ line_at_end is_open answer.now }
 {
@@ -87,7 +87,7 @@ fn status_of_run(fault: Fault) -> u8
     }
 }
 
-/// The fault line of a stop, without its line feed. Showing it takes no memory, so that a want of memory can be told.
+/// The fault line of a stop, without its line feed. Printing it takes no memory, so that it can say that memory ran out.
 #[derive(Clone, Copy, Debug)]
 pub struct StopLine(pub Stop);
 
@@ -100,14 +100,14 @@ impl fmt::Display for StopLine {
     }
 }
 
-/// The fault line as a text. Fails only where memory runs out.
+/// The fault line as a text. Fails only if memory runs out.
 pub fn stop_line(alloc: Global, stop: &Stop) -> Result<String, AllocError>
     ensures { IfOk result (λ line. string_bytes line ≡ line_of stop.now) }
 {
     StopLine(*stop).to_string(alloc)
 }
 
-/// The fault line after the program's name, as `config timer-too-short`.
+/// The fault line after the program's name, such as `config timer-too-short`.
 impl fmt::Display for Stop {
     ghost output = { λ stop. Some (stop_text stop) };
 
@@ -132,7 +132,7 @@ impl fmt::Display for Stop {
     }
 }
 
-/// The fault of a run, shown as its line after the program's name, as `capture inside bad-fraction 3`.
+/// The fault of a run, printed as its line after the program's name, such as `capture inside bad-fraction 3`.
 #[derive(Clone, Copy)]
 struct FaultText(Fault);
 
@@ -167,7 +167,7 @@ fn name_of_side(side: Side) -> &'static str
     }
 }
 
-/// A run's fault, shown by its name, and by the worker's number where a gate was shut.
+/// A run's fault, printed as its name, with the worker's number if a gate was shut.
 #[derive(Clone, Copy)]
 struct RunFaultName(RunFault);
 
@@ -196,7 +196,7 @@ fn role_of(which: Which) -> Role
     }
 }
 
-/// A capture's fault, shown by its name, and by its record's number where it has one.
+/// A capture's fault, printed as its name, with its record's number if it has one.
 #[derive(Clone, Copy)]
 struct CaptureFaultName(CaptureFault);
 

@@ -3,14 +3,15 @@
 ghost use Rattle.std.specs.Prelude.{◌≡◌};
 ghost use Rattle.napt_program.specs.Streams.{closed_stream};
 
-use napt_options::{Options, Role};
+use crate::options::Options;
+use crate::role::Role;
 use std::os::fd::AsFd;
 
-/// The error of the system for a number that is no open file, EBADF of errno(3).
+/// The system's error for a descriptor that is not open: EBADF of errno(3).
 const NOT_OPEN: i32 = 9;
 
-/// Which standard streams are open. The system gives the number of a closed one to the next file that is opened, so
-/// that a closed stream is neither read nor written.
+/// Which standard streams were open at startup. The next file opened gets the descriptor of a closed one, so a stream that
+/// was closed is neither read nor written.
 #[derive(Clone, Copy, Debug, PartialEq, Eq)]
 pub struct Streams {
     pub input: bool,
@@ -19,7 +20,7 @@ pub struct Streams {
 }
 
 impl Streams {
-    /// Those that are open now, which is to be asked before any file is opened.
+    /// The streams open now. Call at startup, before opening any file.
     pub fn open_now(rt: &HostRuntime) -> Streams {
         Streams {
             input: is_open(&rt.stdin()),
@@ -29,7 +30,7 @@ impl Streams {
     }
 }
 
-/// Whether the stream is open: one that is not has no copy.
+/// Whether the stream is open: a closed one cannot be duplicated.
 fn is_open(stream: &impl AsFd) -> bool {
     match stream.as_fd().try_clone_to_owned() {
         Ok(_) => true,
@@ -37,7 +38,7 @@ fn is_open(stream: &impl AsFd) -> bool {
     }
 }
 
-/// The first standard stream that is wanted, since no file is named for its role, and is closed: the role.
+/// The role of the first standard stream that is needed, because no file is named for the role, and is closed.
 pub fn closed_stream(streams: Streams, options: &Options) -> Option<Role>
     ensures { result ≡ closed_stream streams options.now }
 {

@@ -10,9 +10,9 @@ use napt_config::ConfigFault;
 use std::alloc::{AllocError, Global};
 use toml::Value;
 
-/// Why `Config::read` refuses a text with this fault: the place, the value there, the other entry if the fault is about
-/// two, and what was expected; or the line that is not TOML; or the fault in words if it has no place. There is at
-/// least one reason. Fails only if memory runs out.
+/// Why `Config::read` refuses a text with this fault: the place, the value there, the other entry if the fault is about two,
+/// and what was expected; or the line that is not TOML; or just the fault if it has no place. There is at least one reason.
+/// Fails only if memory runs out.
 pub fn config_reasons(
     alloc: Global,
     text: &[u8],

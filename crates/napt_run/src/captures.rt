@@ -1,4 +1,4 @@
-//! A run over captures: both are read, workers run in memory, and only then anything is written.
+//! A run over captures: reads both, runs in memory, and only then writes anything.
 ghost use Rattle.std.specs.Prelude.{◌≡◌, ◌↔◌, ◌+◌, ◌-◌, ◌^◌, ◌<◌, length, All, OnOk, IfOk, IfErr, IfSome, Err, true, false};
 ghost use Rattle.napt_capture.specs.Text.{IsWritable, text};
 ghost use Rattle.napt_records.specs.Output.{IsTime, records_at};
@@ -25,12 +25,12 @@ struct Captures {
     outside: Capture,
 }
 
-/// What a run writes, but for the headers of its records.
+/// What a run writes, without record headers.
 #[derive(Drop)]
 struct Outputs {
     /// When each input arrived, in ns.
     times: Vec<u64>,
-    /// What became of each input.
+    /// The outcome of each input.
     outcomes: Vec<Outcome>,
     report: String,
 }
@@ -75,7 +75,7 @@ impl Captures {
     }
 }
 
-/// Runs over the captures, and makes all that is to be written.
+/// Runs over the captures, and makes everything to be written.
 fn make_outputs<T: Threads + Wait + Copy + Send + 'static, G: Gate + Send + Sync + Drop + 'static>(
     rt: &T,
     alloc: Global,
@@ -153,19 +153,18 @@ fn write_report<W: Sink>(output: &mut W, report: &str) -> Result<(), Fault>
     }
 }
 
-/// Translates the inside capture and, where there is one, the outside capture, and writes what leaves to each side and a
-/// report: exactly what a run on one thread comes to, whatever the gate, the size of the rings and the schedule are.
+/// Translates the inside capture and, if there is one, the outside capture, and writes what leaves to each side, and a
+/// report: exactly what the run on one thread gives, whatever the gate, the ring size and the schedule.
 ///
-/// All is read first. Then the run is made in memory, with a worker on a thread of its own for each external address; each
-/// worker asks the gate before each leg, and the gate decides nothing but when it goes on. The workers are closed and
-/// joined before any fault of the run is told. At last the outputs that are handed in are written: to the outside, to the
-/// inside, the report.
+/// Everything is read first. The run is then made in memory, with one worker thread for each external address; each worker
+/// asks the gate before each leg, and the gate decides only when the worker goes on. The workers are closed and joined before
+/// a fault of the run is returned. Last, the given outputs are written: to the outside, to the inside, the report.
 ///
-/// `Fault::Capture` comes where the capture of that side is refused or reading it failed, the inside first.
-/// `Fault::Run` comes with `TooMany` exactly where the captures have more than 4,294,967,295 records, with `Memory` where
-/// memory is refused, and with `Pool` where a worker could not be started or stopped early; `GateShut` never comes under
-/// a gate that promises yes. After these nothing is written. `Fault::Write` comes where writing that output failed: those
-/// before it are whole, it has the first `written` bytes of its text, and those after it have nothing.
+/// Fails with `Fault::Capture` if the capture of that side is refused or cannot be read, the inside first; with `Fault::Run`:
+/// `TooMany` if and only if the captures have more than 4,294,967,295 records, `Memory` if memory is refused, `Pool` if a
+/// worker could not be started or stopped early (never `GateShut` under a gate that promises yes). After these faults nothing
+/// is written. Fails with `Fault::Write` if writing that output failed: the outputs before it are complete, it has the first
+/// `written` bytes of its text, and those after it have nothing.
 pub fn run_captures<
     T: Threads + Wait + Copy + Send + 'static,
     R: Source,

@@ -1,9 +1,9 @@
 //! A whole run of the translator: captures in, captures and a report out.
 //!
-//! [`merge`] makes the inputs of a run out of the records of both sides' captures. [`run_plain`] takes them through the
-//! translators of all external addresses on one thread; [`run_workers`] does so by [`dispatch`], with a worker on a thread
-//! of its own for each address, and both answer the same run. [`run_captures`] reads, merges, runs over workers, and writes
-//! what leaves to each side, with a report.
+//! [`merge`] makes the inputs of a run from the records of both captures. [`run_plain`] takes them through the translators of
+//! all external addresses on one thread; [`run_workers`] does so by [`dispatch`], with one worker thread for each address,
+//! and both return the same run. [`run_captures`] reads, merges, runs over workers, and writes what leaves to each side, with
+//! a report.
 #![tactic(auto)]
 
 mod captures;

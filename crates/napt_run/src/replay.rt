@@ -1,11 +1,11 @@
-//! Replay: of the same bytes of both captures there is one output.
+//! Replay: captures of the same bytes have one output.
 ghost use Rattle.napt_run.specs.Replay.{OutputsAreOne};
 
 use napt_capture::one_answer;
 
-/// Replay: two runs under one configuration over captures of the same bytes write the same bytes to each output. For two runs
-/// that are told no fault this is the whole output; for two that are told the same fault it is what either has written by then.
-/// Holds of outputs that held the same bytes before, on devices that tell theirs.
+/// Replay: under one configuration, two runs over captures of the same bytes write the same bytes to each output. If neither
+/// fails, this is the whole output; if both fail with the same fault, it is what either has written by then. It holds of
+/// outputs with the same bytes before the run, on devices that tell their bytes.
 pub fn outputs_are_one()
     ensures { OutputsAreOne }
 {

@@ -1,6 +1,5 @@
-//! The tests of runs, of workers on threads, and of the parts of the program, over what the crates napt_run, napt_capture, napt_pool,
-//! napt_options and napt_program make public. They stand in a crate of their own, so that the gate does not prove those
-//! again for them.
+//! Tests of runs, of workers on threads, and of the parts of the program, through what napt_run, napt_capture, napt_pool and
+//! napt_program make public. They are a crate of their own so that the gate does not prove those crates again for them.
 #![tactic(auto)]
 
 #[cfg(test)]

@@ -1,6 +1,6 @@
 //! What the program says of itself.
 
-use napt_options::Manual;
+use napt_program::Manual;
 
 /// The help of the program.
 pub const MANUAL: Manual = Manual {

@@ -2,15 +2,16 @@
 //! them.
 
 ghost use Rattle.std.specs.Prelude.{◌≡◌, IfErr, OnOk, map, string_bytes};
-ghost use Rattle.napt_options.specs.CommandLine.{files_of, line_of_words};
+ghost use Rattle.napt_program.specs.CommandLine.{files_of, line_of_words};
 ghost use Rattle.napt_program.specs.Command.{IsLineStop, IsRunStop, IsTaken, IsUnderOpenGate};
 
 use crate::counted::Counted;
 use crate::manual::MANUAL;
 use crate::progress::Progress;
 use crate::watched::Watched;
-use napt_options::{LineFault, Options, parse_words_of};
-use napt_program::{Devices, MEMORY, Opened, Stop, Streams, open, words};
+use napt_program::{
+    Devices, LineFault, MEMORY, Opened, Options, Stop, Streams, open, parse_words_of, words,
+};
 use napt_stream::run_streams;
 use std::env::Env;
 use std::rt::Files;

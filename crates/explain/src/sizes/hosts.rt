@@ -1,4 +1,4 @@
-//! How many bindings each inside host had at once. Redirects do not count, as for a quota.
+//! How many bindings each inside host had at once. Redirects do not count, as in a quota.
 
 use crate::sizes::Level;
 use napt_account::Entry;
@@ -13,16 +13,16 @@ pub struct Host {
     pub bindings: Level,
 }
 
-/// The inside hosts that had a binding, in the order of their first ones.
+/// The inside hosts that had a binding, in the order of their first bindings.
 #[derive(Drop)]
 pub struct Hosts {
     list: Vec<Host>,
-    /// The place of each in the list.
+    /// The index of each in the list.
     places: BTreeMap<u32, usize>,
 }
 
 impl Hosts {
-    /// Those of the entries, before any binding is made.
+    /// The hosts of the entries, before any binding is made.
     pub fn of(alloc: Global, entries: &[Entry]) -> Result<Hosts, AllocError> {
         let mut hosts = Hosts {
             list: Vec::new(alloc),
@@ -53,21 +53,21 @@ impl Hosts {
         self.list.len()
     }
 
-    /// The binding of an entry, which is no redirect, is made: answers the place of its host.
+    /// The binding of an entry, not a redirect, is made. Returns the index of its host.
     pub fn make(&mut self, entry: &Entry) -> Option<usize> {
         let place = *self.places.get(&entry.binding.inside.address)?;
         self.list.get_mut(place)?.bindings.rise(entry.made);
         Some(place)
     }
 
-    /// It has ended: answers the place of its host.
+    /// It has expired. Returns the index of its host.
     pub fn end(&mut self, entry: &Entry) -> Option<usize> {
         let place = *self.places.get(&entry.binding.inside.address)?;
         self.list.get_mut(place)?.bindings.fall();
         Some(place)
     }
 
-    /// The hosts, those first that had the most bindings at once, and of one number those with the lower address.
+    /// The hosts, those with the most bindings at once first; of equal ones the lower address first.
     pub fn ranked(&self, alloc: Global) -> Result<Vec<Host>, AllocError> {
         let mut ranked = Vec::from_slice(alloc, &self.list)?;
         ranked.sort_by_key(|host| (u64::MAX - host.bindings.most, host.address))?;
@@ -75,8 +75,8 @@ impl Hosts {
     }
 }
 
-/// What so many of a hundred hosts, which are ranked, had at most: the least number of bindings such that so many of a hundred had no
-/// more; 0 where there is no host.
+/// The percentile of bindings at once over ranked hosts: the least number that `percent` of a hundred hosts did not exceed; 0
+/// if there are no hosts.
 pub fn percentile(ranked: &[Host], percent: u64) -> u64 {
     let many = ranked.len() as u64;
     let within = many.saturating_mul(percent).saturating_add(99) / 100;
@@ -84,7 +84,7 @@ pub fn percentile(ranked: &[Host], percent: u64) -> u64 {
     ranked.get(place).map_or(0, |host| host.bindings.most)
 }
 
-/// Packets that got no binding, and the hosts that sent them.
+/// Packets refused a binding, and the hosts that sent them.
 #[derive(Drop)]
 pub struct Refusals {
     pub packets: u64,
@@ -99,7 +99,7 @@ impl Refusals {
         }
     }
 
-    /// One more of a host.
+    /// One more from a host.
     pub fn add(&mut self, host: u32) -> Result<(), AllocError> {
         self.packets = self.packets.saturating_add(1);
         if let Some(many) = self.by_host.get_mut(&host) {

@@ -1,19 +1,19 @@
-//! How long bindings lived, from when they were made until they had ended.
+//! How long bindings lived, from when they were made until they expired.
 
-/// A span holds the lives of at most so many seconds that are longer than those of the span before. The timers of the RFCs are 60, 120,
-/// 240, 300 and 7440 seconds.
+/// The upper bounds of the spans, in seconds: each holds the lifetimes up to it that the span before does not. The timers of
+/// the RFCs are 60, 120, 240, 300 and 7440 seconds.
 pub const SPANS: [u64; 8] = [60, 120, 240, 300, 600, 1800, 3600, 7440];
 
 const SECOND: u64 = 1_000_000_000;
 
-/// How many bindings lived how long. Redirects do not count.
+/// How many bindings had which lifetime. Redirects do not count.
 #[derive(Clone, Copy)]
 pub struct Lifetimes {
-    /// Those of each span.
+    /// How many in each span.
     pub within: [u64; 8],
-    /// Those that were longer.
+    /// How many longer than every span.
     pub longer: u64,
-    /// Those that had not ended.
+    /// How many have not expired.
     pub living: u64,
 }
 
@@ -24,12 +24,12 @@ impl Lifetimes {
         living: 0,
     };
 
-    /// A binding begins to live.
+    /// A binding is made.
     pub fn begin(&mut self) {
         self.living = self.living.saturating_add(1);
     }
 
-    /// One has ended that lived for so many ns.
+    /// A binding expired after this many ns.
     pub fn end(&mut self, lived: u64) {
         self.living = self.living.saturating_sub(1);
         match self.within.get_mut(span_of(lived)) {
@@ -39,7 +39,7 @@ impl Lifetimes {
     }
 }
 
-/// The place of the span of a life of so many ns; behind the last where it is longer than all.
+/// The index of the span of a lifetime in ns; past the last one if it is longer than every span.
 fn span_of(lived: u64) -> usize {
     let shorter = SPANS
         .iter()

@@ -1,26 +1,26 @@
-//! What a quota would have refused: the new bindings of hosts that have so many already, not counting those that it refused before.
+//! What a quota would have refused: new bindings of hosts that have reached it, not counting the bindings it refused before.
 
 use std::alloc::{AllocError, Global};
 
-/// A quota that is tried on a run.
+/// A quota tried on a run.
 #[derive(Drop)]
 pub struct Quota {
     /// How many bindings a host may have at once.
     pub most: u64,
     /// How many new bindings it would have refused.
     pub refused: u64,
-    /// To how many hosts.
+    /// How many hosts it would have refused one.
     pub hosts: u64,
-    /// How many bindings of each host it let be, which have not ended.
+    /// How many live bindings each host has that it allowed.
     kept: Vec<u64>,
-    /// Whether it refused each host one.
+    /// Whether it refused a binding of each host.
     hurt: Vec<bool>,
-    /// Whether it let each binding be.
+    /// Whether it allowed each binding.
     lets: Vec<bool>,
 }
 
 impl Quota {
-    /// A quota over so many hosts and bindings, before any is made.
+    /// A quota for this many hosts and bindings, before any is made.
     pub fn new(
         alloc: Global,
         most: u64,
@@ -37,7 +37,7 @@ impl Quota {
         })
     }
 
-    /// The host at a place makes the binding at a place.
+    /// The host at an index makes the binding at an index.
     pub fn make(&mut self, host: usize, binding: usize) {
         let (Some(kept), Some(lets)) = (self.kept.get_mut(host), self.lets.get_mut(binding)) else {
             return;
@@ -51,7 +51,7 @@ impl Quota {
         self.hurt(host);
     }
 
-    /// The host at a place is refused a binding.
+    /// The host at an index is refused a binding.
     fn hurt(&mut self, host: usize) {
         if let Some(hurt) = self.hurt.get_mut(host) {
             if !*hurt {
@@ -61,7 +61,7 @@ impl Quota {
         }
     }
 
-    /// The binding at a place, of the host at a place, has ended.
+    /// The binding at an index, of the host at an index, has expired.
     pub fn end(&mut self, host: usize, binding: usize) {
         if self.lets.get(binding) != Some(&true) {
             return;

@@ -1,4 +1,4 @@
-//! What is used of the numbers of a protocol at an external address.
+//! How much of a protocol's numbers is used at an external address.
 
 use crate::sizes::Level;
 use napt_account::Entry;
@@ -6,7 +6,7 @@ use napt_wire::Protocol;
 use std::alloc::{AllocError, Global};
 use std::collections::BTreeMap;
 
-/// A class of external numbers, and how many it has (RFC 4787, REQ-3 (a) and REQ-4; RFC 5508, section 3.1).
+/// A class of external numbers, and its size (RFC 4787, REQ-3 (a) and REQ-4; RFC 5508, section 3.1).
 #[derive(Clone, Copy)]
 pub struct Class {
     pub name: &'static str,
@@ -33,13 +33,13 @@ const PORTS: &[Class] = &[
     },
 ];
 
-/// An identifier of ICMP becomes any other.
+/// An ICMP identifier may become any other.
 const IDENTIFIERS: &[Class] = &[Class {
     name: "identifiers",
     many: 65_536,
 }];
 
-/// The bindings of a protocol at an external address, redirects too.
+/// The bindings of a protocol at an external address, redirects included.
 #[derive(Drop)]
 pub struct Space {
     pub address: u32,
@@ -100,7 +100,7 @@ impl Space {
         Ok(())
     }
 
-    /// The binding of an entry has ended.
+    /// The binding of an entry has expired.
     pub fn end(&mut self, entry: &Entry) {
         self.bindings.fall();
         if let Some(level) = self
@@ -118,7 +118,7 @@ impl Space {
     }
 }
 
-/// The place of a number's class among those of its protocol.
+/// The index of a number's class among those of its protocol.
 fn class_at(protocol: Protocol, number: u16) -> usize {
     match (protocol, number < 1024, number % 2 == 0) {
         (Protocol::Icmp, _, _) => 0,

@@ -1,8 +1,7 @@
 //! What a file says of the configuration, and where reading it ends.
 
 use napt_config::ConfigFault;
-use napt_options::Role;
-use napt_program::{Stop, config_from};
+use napt_program::{Role, Stop, config_from};
 use std::alloc::Global;
 use std::io::{Read, repeat};
 use std::test::Fail;

@@ -1,6 +1,6 @@
 //! Which files a command line names. What is no command line, and the help, are seen in tests/end_to_end.
 
-use napt_options::{LineFault, Options, parse_words};
+use napt_program::{LineFault, Options, parse_words};
 use std::alloc::{AllocError, Global};
 use std::test::Fail;
 

@@ -1,7 +1,7 @@
 //! Which output is a file that an option before it names. That the standard streams are files too is seen in tests/end_to_end.
 
 use super::options::{NOTHING, Named, options};
-use napt_options::{Node, Place, Role, is_same, lost_file};
+use napt_program::{Node, Place, Role, is_same, lost_file};
 use std::test::Fail;
 
 /// Two files of Linux, and the null device.

@@ -2,9 +2,8 @@
 
 use napt_capture::{CaptureFault, WriteFault};
 use napt_config::ConfigFault;
-use napt_options::Role;
 use napt_pool::PoolFault;
-use napt_program::{Stop, StopLine, line_at_end, status_at_end, stop_line, stop_status};
+use napt_program::{Role, Stop, StopLine, line_at_end, status_at_end, stop_line, stop_status};
 use napt_records::{Fault, Which};
 use napt_sequential::RunFault;
 use napt_wire::Side;

@@ -7,8 +7,8 @@ use Rattle.clap.specs.declared.error.kind.ErrorKind.{ErrorKind}
 use Rattle.clap.specs.declared.error.kind.ErrorKind.TheVariants as kind
 use Rattle.clap.specs.declared.error.Error.{Error}
 use Rattle.clap.specs.declared.parser.matches.ArgMatches.{ArgMatches}
-use Rattle.napt_options.specs.CommandLine.{files, files_in, help, line_by, line_of_words, mistake, napt_app}
-use Rattle.napt_options.proofs.OneKind.{one_fault}
+use Rattle.napt_program.specs.CommandLine.{files, files_in, help, line_by, line_of_words, mistake, napt_app}
+use Rattle.napt_program.proofs.OneKind.{one_fault}
 
 pub napt_is_simple : is_simple napt_app ≡ true
 napt_is_simple = refl

@@ -1,13 +1,13 @@
--- What a command line means, by what clap makes of its words.
+-- What a command line means, by clap's own specification.
 use Rattle.std.specs.Prelude.{List, [], ◌∷◌, Bool, Option, Some, codes, is_some, option_map, string_bytes}
 use Rattle.clap.specs.Words.{App, Kinds, Row, Rule, Text, fault_of, first_of, matches_of, new_app, new_rule, with_rule}
 use Rattle.clap.specs.declared.builder.action.ArgAction.TheVariants.{Set}
 use Rattle.clap.specs.declared.error.kind.ErrorKind.TheVariants.{DisplayHelp}
-use Rattle.napt_options.specs.declared.options.Options.{Options}
-use Rattle.napt_options.specs.declared.options.LineFault.{LineFault}
-use Rattle.napt_options.specs.declared.options.LineFault.TheVariants.{Help}
-use Rattle.napt_options.specs.declared.role.Role.{Role}
-use Rattle.napt_options.specs.declared.role.Role.TheVariants as role
+use Rattle.napt_program.specs.declared.options.Options.{Options}
+use Rattle.napt_program.specs.declared.options.LineFault.{LineFault}
+use Rattle.napt_program.specs.declared.options.LineFault.TheVariants.{Help}
+use Rattle.napt_program.specs.declared.role.Role.{Role}
+use Rattle.napt_program.specs.declared.role.Role.TheVariants as role
 
 -- `--name FILE`: a plain option that takes one value
 abbrev pub file_option : Text → Rule
@@ -57,19 +57,19 @@ files_in rows = record {
   report = first_of (codes "report") rows;
 }
 
--- what a command line comes to: files, a wish for help, or a mistake
+-- what a command line means: files, a request for help, or a mistake
 pub data Line : Type 0 where
   files : Files → Line
   help : Line
   mistake : Line
 
--- clap finds no fault in words that it takes, and shows its help as a fault of that kind
+-- clap finds no fault in arguments that it accepts, and reports help as a fault of that kind
 abbrev pub line_by : Kinds → List Row → Line
 line_by [] rows = files (files_in rows)
 line_by (DisplayHelp ∷ more) rows = help
 line_by (other ∷ more) rows = mistake
 
--- the words begin with the program's name
+-- the arguments begin with the program's name
 unfoldable pub line_of_words : List Text → Line
 line_of_words words = line_by (fault_of napt_app words) (matches_of napt_app words)
 
@@ -82,7 +82,7 @@ role_name role.ToOutside = codes "to-outside"
 role_name role.ToInside = codes "to-inside"
 role_name role.Report = codes "report"
 
--- the words name a file for this role
+-- the arguments name a file for this role
 abbrev pub is_named : Options → Role → Bool
 is_named options role.Config = is_some options.config
 is_named options role.Inside = is_some options.inside

@@ -3,9 +3,9 @@ use Rattle.std.specs.Prelude.{◌≡◌, ◌==◌, ◌&&◌, ℕ, Bool, false, L
 use Rattle.std.specs.Fs.{IsFile}
 use Rattle.std.specs.Path.{path_file_name}
 use Rattle.std.specs.declared.fs.attrs.FileType.{FileType}
-use Rattle.napt_options.specs.declared.place.Node.{Node}
-use Rattle.napt_options.specs.declared.place.Place.{Place}
-use Rattle.napt_options.specs.declared.place.Place.TheVariants.{There, New, Words, Aside}
+use Rattle.napt_program.specs.declared.place.Node.{Node}
+use Rattle.napt_program.specs.declared.place.Place.{Place}
+use Rattle.napt_program.specs.declared.place.Place.TheVariants.{There, New, Words, Aside}
 
 abbrev pub is_same_node : Node → Node → Bool
 is_same_node a b = a.device == b.device && a.number == b.number

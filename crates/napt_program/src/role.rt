@@ -1,7 +1,7 @@
 //! The files of the command line, by their options.
 
 ghost use Rattle.std.specs.Prelude.{◌≡◌};
-ghost use Rattle.napt_options.specs.CommandLine.{role_name};
+ghost use Rattle.napt_program.specs.CommandLine.{role_name};
 
 /// A file of the command line, by its option.
 #[derive(Clone, Copy, Debug, PartialEq, Eq)]

@@ -1,7 +1,7 @@
 use Rattle.std.proofs.Common.{◌∙◌, ap}
 use Rattle.clap.specs.Words.{Rule, app_of, with_rule}
-use Rattle.napt_options.proofs.OptionLemmas.{option_added}
-use Rattle.napt_options.proofs.options.command_of.Goals as goal
+use Rattle.napt_program.proofs.OptionLemmas.{option_added}
+use Rattle.napt_program.proofs.options.command_of.Goals as goal
 
 pub loop-name-preserved : goal.loop-name-preserved
 loop-name-preserved c =

@@ -1,14 +1,14 @@
-//! The places of all files of a run, and the output that would destroy one of them.
+//! Finds an output that would overwrite another file of the run.
 ghost use Rattle.std.specs.Prelude.{◌≡◌, IfSome, is_some, not, true};
-ghost use Rattle.napt_options.specs.CommandLine.{is_named};
-ghost use Rattle.napt_options.specs.Places.{ArePlacesOf, is_again, is_input, is_placed, is_there, output_named_again};
+ghost use Rattle.napt_program.specs.CommandLine.{is_named};
+ghost use Rattle.napt_program.specs.Places.{ArePlacesOf, is_again, is_input, is_placed, is_there, output_named_again};
 
 use crate::options::Options;
 use crate::place::{Place, is_same, place_of};
 use crate::role::Role;
 use std::rt::Files;
 
-/// The place of the file that each option names, and of the standard streams that stand for absent ones.
+/// The place of the file of each option, and of the standard streams in place of absent options.
 #[derive(Clone, Copy, Debug)]
 struct Places<'a> {
     config: Option<Place<'a>>,
@@ -21,7 +21,7 @@ struct Places<'a> {
     report: Option<Place<'a>>,
 }
 
-/// The first output in the order of the options that is a file which an earlier one names, by its role.
+/// The role of the first output, in the order of the options, that is a file which an earlier option also names.
 pub fn lost_file<R: Files>(rt: &R, options: &Options) -> Option<Role>
     ensures { IfSome result (λ role. is_named options.now role ≡ true) }
 {
@@ -52,7 +52,7 @@ fn place_at<'a, R: Files>(rt: &R, path: Option<&'a String>) -> Option<Place<'a>>
     }
 }
 
-/// The place of the standard stream that stands for an absent option.
+/// The place of the standard stream in place of an absent option.
 fn place_of_stream<'a, R: Files>(
     rt: &R,
     path: Option<&'a String>,
@@ -66,7 +66,7 @@ fn place_of_stream<'a, R: Files>(
     }
 }
 
-/// The first output that is a file which stands before it in the order of the options.
+/// The first output that is the same file as an earlier option.
 fn output_named_again(places: &Places<'_>) -> Option<Role>
     ensures first { result ≡ output_named_again places.now }
     ensures named { IfSome result (λ role. is_placed places.now role ≡ true) }
@@ -83,7 +83,7 @@ fn output_named_again(places: &Places<'_>) -> Option<Role>
     }
 }
 
-/// Whether there is a file, and it is an input, a standard stream or one of two other outputs.
+/// Whether a file is an input, a standard stream or one of two other outputs.
 fn is_again(
     places: &Places<'_>,
     file: Option<Place<'_>>,

@@ -1,8 +1,8 @@
 use Rattle.std.proofs.Common.{rules, ◌∙◌, ap}
 use Rattle.clap.specs.Words.{app_of}
-use Rattle.napt_options.specs.CommandLine.{files}
-use Rattle.napt_options.proofs.LineLemmas.{files_read, help_line, mistaken_line, taken_line}
-use Rattle.napt_options.proofs.options.parse_words_of.Goals as goal
+use Rattle.napt_program.specs.CommandLine.{files}
+use Rattle.napt_program.proofs.LineLemmas.{files_read, help_line, mistaken_line, taken_line}
+use Rattle.napt_program.proofs.options.parse_words_of.Goals as goal
 
 pub returns-in-Ok-clause-ok : goal.returns-in-Ok-clause-ok
 returns-in-Ok-clause-ok c =

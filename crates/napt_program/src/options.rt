@@ -1,20 +1,20 @@
-//! The command line: which files the program reads and writes.
+//! The command line: which files a program reads and writes.
 ghost use Rattle.std.specs.Prelude.{◌≡◌, ◌≢◌, IfErr, IfOk, false, map, option_map, string_bytes};
 ghost use Rattle.clap.specs.Words.{app_of, first_value, found_of, kind_of, rule_of};
-ghost use Rattle.napt_options.specs.CommandLine.{IsHelp, file_option, files, files_of, help, line_of_words, mistake, napt_app};
+ghost use Rattle.napt_program.specs.CommandLine.{IsHelp, file_option, files, files_of, help, line_of_words, mistake, napt_app};
 
 use clap::error::ErrorKind;
 use clap::{Arg, ArgAction, ArgMatches, Command, Error};
 use std::alloc::{AllocError, Global};
 
-/// A program that takes the options, by what its help says beside them.
+/// A program that takes these options, with the texts of its help.
 #[derive(Clone, Copy, Debug)]
 pub struct Manual {
     /// What the program is called.
     pub name: &'static str,
     /// What it does, in a paragraph.
     pub about: &'static str,
-    /// What stands behind the options.
+    /// The text after the options.
     pub notes: &'static str,
 }
 
@@ -127,19 +127,19 @@ pub struct Options {
     pub report: Option<String>,
 }
 
-/// Why a command line gives no options.
+/// Why a command line was not accepted.
 #[derive(Debug, PartialEq, Eq, Drop)]
 pub enum LineFault {
-    /// Help is asked for: its text, for standard output, with status 0.
+    /// Help was requested: its text, for standard output, with status 0.
     Help(String),
-    /// The words are not understood.
+    /// The arguments are not understood.
     Usage,
     /// Memory ran out.
     Memory,
 }
 
 impl From<AllocError> for LineFault {
-    ghost use Rattle.napt_options.specs.declared.options.LineFault.TheVariants.{Memory};
+    ghost use Rattle.napt_program.specs.declared.options.LineFault.TheVariants.{Memory};
 
     ghost from_gives = { λ _ fault. fault ≡ Memory };
 
@@ -148,11 +148,11 @@ impl From<AllocError> for LineFault {
     }
 }
 
-/// Reads the words of the command line of `napt`, the program's name first, as `clap` reads them.
+/// Parses the arguments of `napt`, the program's name first, as `clap` does.
 ///
-/// Each option is a long one with one value, in the word after it or after `=`. It stands at most
-/// once. A value begins with `-` only where it is `-` alone, or follows `=`. `-h` and `--help` ask
-/// for help, and there is no `--version`. `Memory` may come in place of any other answer.
+/// Each option is a long one with one value, in the next argument or after `=`, and may be given once. A value begins with
+/// `-` only if it is `-` itself, or follows `=`. `-h` and `--help` print help; there is no `--version`. `Memory` may be
+/// returned in place of any other result.
 pub fn parse_words(alloc: Global, words: Vec<String>) -> Result<Options, LineFault>
     ensures ok { IfOk result (λ o. line_of_words (map string_bytes words.items)
         ≡ files (files_of o)) }
@@ -164,7 +164,7 @@ pub fn parse_words(alloc: Global, words: Vec<String>) -> Result<Options, LineFau
     parse_words_of(alloc, NAPT, words)
 }
 
-/// The same for the program of this help, which takes the same words.
+/// The same for a program with this help text and the same options.
 pub fn parse_words_of(
     alloc: Global,
     manual: Manual,
@@ -191,7 +191,7 @@ pub fn parse_words_of(
     }
 }
 
-/// The command: what a program is called changes its help alone.
+/// The command. A program's name changes only its help.
 fn command_of<'a>(alloc: Global, manual: Manual) -> Result<Command<'a>, AllocError>
     ensures { IfOk result (λ command. app_of command ≡ napt_app) }
 {

@@ -1,7 +1,7 @@
 -- One option more of those that the command is to have.
 use Rattle.std.proofs.Common.{◌≡◌, ◌<◌, ◌+◌, ℕ, List, ◌∷◌, map, drop, length, get_or, add-one, drop-cons}
 use Rattle.clap.specs.Words.{App, Text, with_rule}
-use Rattle.napt_options.specs.CommandLine.{file_option, napt_app, with_options}
+use Rattle.napt_program.specs.CommandLine.{file_option, napt_app, with_options}
 
 pub option_added : {X : Type 0} (name : X → Text) (xs : List X) (i : ℕ) (d : X) (old new : App) → i < length xs
     → with_options old (map name (drop i xs)) ≡ napt_app → new ≡ with_rule old (file_option (name (get_or xs i d)))

@@ -1,7 +1,7 @@
-//! Where a file stands, so that one file is known under several paths.
+//! Identifies files, so that one file is recognized under several paths.
 ghost use Rattle.std.specs.Prelude.{◌≡◌};
 ghost use Rattle.std.specs.Fs.{file_type};
-ghost use Rattle.napt_options.specs.Place.{IsOfKind, IsOfPath, is_same, is_same_node};
+ghost use Rattle.napt_program.specs.Place.{IsOfKind, IsOfPath, is_same, is_same_node};
 
 use std::fs;
 use std::fs::Metadata;
@@ -9,33 +9,33 @@ use std::os::unix::fs::MetadataExt;
 use std::path::Path;
 use std::rt::Files;
 
-/// A file or a folder, as the system tells them apart: its device, and its number there, which is not 0.
+/// A file or a folder, as the system identifies it: its device, and its inode number there, which is not 0.
 #[derive(Clone, Copy, Debug)]
 pub struct Node {
     pub device: u64,
     pub number: u64,
 }
 
-/// Where a file stands, as far as the system tells.
+/// What is known of where a file is.
 #[derive(Clone, Copy, Debug)]
 pub enum Place<'a> {
-    /// A file that is there.
+    /// An existing file.
     There(Node),
-    /// No file yet: the folder that it would be made in, and its name there.
+    /// A file that does not exist yet: the folder it would be created in, and its name there.
     New(Node, &'a str),
-    /// The system tells nothing of it: its path.
+    /// Nothing is known: just its path.
     Words(&'a str),
     /// A device, a pipe or a folder: writing to it destroys nothing.
     Aside,
 }
 
-/// The node that the system tells of, if it tells any.
+/// The node, if the system gives one.
 fn node_of(known: &Metadata) -> Option<Node> {
     let (device, number) = (known.dev(), known.ino());
     (number != 0).then_some(Node { device, number })
 }
 
-/// The place of the file of this path. Links are followed, but for one to a file that is not there yet.
+/// The place of the file at this path. Links are followed, except one to a file that does not exist yet.
 pub fn place_of<'a, R: Files>(rt: &R, path: &'a str) -> Place<'a>
     ensures { IsOfPath path.now result }
 {
@@ -45,7 +45,7 @@ pub fn place_of<'a, R: Files>(rt: &R, path: &'a str) -> Place<'a>
     }
 }
 
-/// The place of what is there under this path.
+/// The place of what exists at this path.
 fn place_there<'a>(known: &Metadata, path: &'a str) -> Place<'a>
     ensures path { IsOfPath path.now result }
     ensures kind { IsOfKind (file_type known.now) result }
@@ -57,7 +57,7 @@ fn place_there<'a>(known: &Metadata, path: &'a str) -> Place<'a>
     }
 }
 
-/// The place where a file of this path would be made.
+/// The place where a file of this path would be created.
 fn place_of_new<'a, R: Files>(rt: &R, path: &'a str) -> Place<'a>
     ensures { IsOfPath path.now result }
 {
@@ -85,7 +85,7 @@ fn is_same_node(a: Node, b: Node) -> bool
     a.device == b.device && a.number == b.number
 }
 
-/// Whether both are one file; of what stands aside nothing is.
+/// Whether both are one file. `Aside` is the same as nothing.
 pub fn is_same(a: Place<'_>, b: Place<'_>) -> bool
     ensures { result ≡ is_same a.entry b.entry }
 {

@@ -1,7 +1,7 @@
 use Rattle.std.proofs.Common.{◌≡◌, map, drop}
 use Rattle.clap.specs.Words.{app_of}
-use Rattle.napt_options.specs.CommandLine.{napt_app, with_options}
-use Rattle.napt_options.proofs.options.command_of.Given as goal
+use Rattle.napt_program.specs.CommandLine.{napt_app, with_options}
+use Rattle.napt_program.proofs.options.command_of.Given as goal
 
 abbrev pub invariant-loop-name : goal.invariant-loop-name
 invariant-loop-name l =

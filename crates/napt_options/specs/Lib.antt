@@ -1,3 +1,0 @@
-pub mod CommandLine
-pub mod Place
-pub mod Places
