@@ -5,8 +5,8 @@ ghost use Rattle.napt_dispatch.specs.Dispatch.{of_worker};
 ghost use Rattle.napt_dispatch.specs.Standing.{parts_of, IsSized, Noted, IsFirst, first_waits, waits, IsDone};
 
 use crate::dispatcher::Dispatcher;
-use crate::dispatcher::held::Held;
 use crate::dispatcher::halted::ImpossibleAnswer;
+use crate::dispatcher::held::Held;
 use crate::dispatcher::progress::{Progress, Second};
 use crate::dispatcher::queues::{are_empty, len_at, pop_front};
 use napt_translate::{Answer, Leg};

@@ -8,9 +8,9 @@ ghost use Rattle.napt_dispatch.specs.Standing.{parts_of, state_of, IsSizedFor, K
 
 use crate::Worker;
 use crate::dispatcher::Dispatcher;
+use crate::dispatcher::halted::ImpossibleAnswer;
 use crate::dispatcher::held::{Held, Owed};
 use crate::dispatcher::holding::First;
-use crate::dispatcher::halted::ImpossibleAnswer;
 use crate::dispatcher::queues::push_back;
 use napt_pool::{Gate, OfferRefused, Pool};
 use napt_sequential::RunFault;
