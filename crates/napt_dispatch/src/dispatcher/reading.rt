@@ -37,7 +37,7 @@ use std::sync::Wait;
 
 /// After so many inputs the answers of one worker are looked at, of each in its turn. Each look may fetch what another
 /// processor wrote, so fewer looks cost less.
-const LOOK_EACH: u64 = 4;
+const LOOK_EACH: u64 = 16;
 
 impl Dispatcher {
     /// Holds a place at worker `to`, where there is one, for the second leg of the input of a number.
@@ -342,7 +342,7 @@ impl<F> EndOfInputs<F> {
 /// The worker whose answers are looked at after the input of a number.
 fn turn_after(number: u64, count: u64) -> Option<u32>
     requires { (0 < count) × (count < 2 ^ 32) }
-    ensures turn { result ≡ cond (number % 4 == 0) (Some (number / 4 % count)) None }
+    ensures turn { result ≡ cond (number % 16 == 0) (Some (number / 16 % count)) None }
     ensures place { IfSome result (λ w. w < count) }
 {
     if number % LOOK_EACH > 0 {

@@ -3,12 +3,12 @@
 use std::alloc::Global;
 
 /// The most vectors that are kept.
-const MOST_SPARES: usize = 4_096;
+const MOST_SPARES: usize = 16_384;
 
 /// The most bytes that a vector that is kept has room for.
-const MOST_ROOM: usize = 2_048;
+const MOST_ROOM: usize = 1_536;
 
-/// At most 4,096 vectors, each with room for at most 2,048 bytes, so that no packet needs one of its own.
+/// At most 16,384 vectors, each with room for at most 1,536 bytes, so that no packet needs one of its own.
 #[derive(Drop)]
 pub(crate) struct Spares {
     alloc: Global,
