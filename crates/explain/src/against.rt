@@ -2,7 +2,7 @@
 
 use crate::names::{Seconds, side_name};
 use crate::options::Choice;
-use crate::shown::{add_arrival, add_packet};
+use crate::shown::{add_arrival, add_packet, is_end_of_arrival};
 use crate::stop::Stop;
 use crate::summary::{count_dropped, count_to_inside, count_to_outside, leaves_with};
 use napt_config::Config;
@@ -127,7 +127,7 @@ impl<'a> Difference<'a> {
             return Ok(true);
         }
         let input = self.input;
-        host.is_end_of_arrival(alloc, input.side, &input.bytes)
+        is_end_of_arrival(host, alloc, input.side, &input.bytes)
     }
 
     /// Whether either configuration drops it.

@@ -42,7 +42,7 @@ use crate::summary::{Told, Widths};
 use crate::who::tell_holders;
 use napt_account::{Account, account_of};
 use napt_config::Config;
-use napt_picture::drawing_of;
+use napt_display::picture::drawing_of;
 use napt_program::Streams;
 use std::alloc::{AllocError, Global};
 use std::env::Env;
@@ -132,9 +132,9 @@ fn run<R: Files + Print + Eprint + AllocGlobal>(
         draw(rt, path, shown)?;
     }
     match options.form {
-        Form::Holders(asked) => {
+        Form::Holders(question) => {
             progress.tell_end(rt);
-            tell_holders(rt, asked, config, log, last)
+            tell_holders(rt, question, config, log, last)
         }
         Form::Sizes => {
             progress.tell_end(rt);

@@ -1,12 +1,11 @@
 //! The command line.
 
 use crate::scene::Part;
-use crate::shown::Party;
 use crate::stop::Stop;
-use crate::who::Asked;
 use clap::error::ErrorKind;
 use clap::{Arg, ArgAction, ArgMatches, Command, Error};
 use jiff::Timestamp;
+use napt_account::{Party, Question};
 use napt_config::Address;
 use std::alloc::{AllocError, Global};
 
@@ -154,7 +153,7 @@ pub enum Form<'m> {
     /// A JSON object for each packet.
     Objects,
     /// Who had an external endpoint.
-    Holders(Asked),
+    Holders(Question),
     /// How many bindings, ports and hosts there were at once.
     Sizes,
     /// What ends differently under the configuration at this path.
@@ -291,8 +290,8 @@ fn is_given(matches: &ArgMatches<'_>, name: &str) -> bool {
 
 /// What to write to standard output.
 fn form_of<'m, R: Eprint>(rt: &R, matches: &'m ArgMatches<'_>) -> Result<Form<'m>, Stop> {
-    if let Some(asked) = asked_of(rt, matches)? {
-        return Ok(Form::Holders(asked));
+    if let Some(question) = question_of(rt, matches)? {
+        return Ok(Form::Holders(question));
     }
     if let Some(path) = matches.get_str("against") {
         return Ok(Form::Differences(path));
@@ -307,10 +306,10 @@ fn form_of<'m, R: Eprint>(rt: &R, matches: &'m ArgMatches<'_>) -> Result<Form<'m
 }
 
 /// What `--who` asks, if it is given. `--at` without it is reported.
-fn asked_of<R: Eprint>(rt: &R, matches: &ArgMatches<'_>) -> Result<Option<Asked>, Stop> {
+fn question_of<R: Eprint>(rt: &R, matches: &ArgMatches<'_>) -> Result<Option<Question>, Stop> {
     let at = moment_of(rt, matches)?;
     match party_at(rt, matches, "who")? {
-        Some(party) => Ok(Some(Asked { party, at })),
+        Some(party) => Ok(Some(Question { party, at })),
         None if at.is_some() => {
             let _ = eprintln!(rt; "explain: --at chooses a time of --who");
             Err(Stop::Told(napt_program::Stop::Usage))

@@ -4,7 +4,7 @@ use crate::names::hyphened;
 use crate::stop::Stop;
 use napt_capture::CaptureFault;
 use napt_config::ConfigFault;
-use napt_reasons::{Reason, capture_reasons, config_reasons};
+use napt_display::reasons::{Reason, capture_reasons, config_reasons};
 use std::alloc::AllocError;
 
 /// Prints that the configuration at a path, with this text, is refused for a fault, and why.

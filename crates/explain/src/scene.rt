@@ -5,7 +5,7 @@ use crate::summary::count_dropped;
 use jiff::Timestamp;
 use napt_account::{Account, Entry};
 use napt_config::{Address, Config};
-use napt_picture::{Binding, BindingKind, MOST_BARS, Pass, Scene};
+use napt_display::picture::{Binding, BindingKind, MOST_BARS, Pass, Scene};
 use napt_records::{EndpointText, cause_name, protocol_name};
 use napt_sequential::{Input, Outcome};
 use napt_wire::{Cause, Protocol};

@@ -1,9 +1,7 @@
 //! Packets in the style of tcpdump.
 
-ghost use Rattle.std.specs.Prelude.{◌≡◌};
-ghost use Rattle.explain.specs.Who.{is_meant};
-
 use crate::digits::add_endpoint;
+use napt_account::Party;
 use napt_config::Address;
 use napt_records::protocol_name;
 use napt_wire::{Endpoint, Flags, Kind, Packet, Side};
@@ -135,69 +133,48 @@ fn address_at(bytes: &[u8], at: usize) -> Option<u32> {
     Some(u32::from_be_bytes(*four))
 }
 
-/// A host, or one of its endpoints if a number is given.
-#[derive(Clone, Copy)]
-pub struct Party {
-    pub address: u32,
-    /// The port or identifier; if absent, any.
-    pub number: Option<u16>,
+/// Whether a host or endpoint is one of a packet. An ICMP error also has those of the packet that it quotes, and the
+/// identifier of a query counts for both ends.
+pub fn is_end_of(party: Party, packet: &Packet) -> bool {
+    let (source, destination) = (packet.source(), packet.destination());
+    match packet.kind() {
+        Kind::Echo => {
+            let number = source.number.max(destination.number);
+            party.has(Endpoint { number, ..source })
+                || party.has(Endpoint {
+                    number,
+                    ..destination
+                })
+        }
+        Kind::ErrorOf(inner) => {
+            is_host(party, source.address)
+                || is_host(party, destination.address)
+                || party.has(inner.source)
+                || party.has(inner.destination)
+        }
+        Kind::Udp | Kind::Tcp(_) => party.has(source) || party.has(destination),
+    }
 }
 
-impl Party {
-    /// Whether an endpoint is this one, or one of this host.
-    pub fn has(self, endpoint: Endpoint) -> bool
-        ensures { result ≡ is_meant self endpoint }
-    {
-        endpoint.address == self.address
-            && match self.number {
-                Some(number) => number == endpoint.number,
-                None => true,
-            }
-    }
+/// Whether it is the whole host of this address.
+fn is_host(party: Party, address: u32) -> bool {
+    party.number.is_none() && party.address == address
+}
 
-    /// Whether it is an endpoint of a packet. An ICMP error also has those of the packet that it quotes, and the identifier
-    /// of a query counts for both ends.
-    pub fn is_end_of(self, packet: &Packet) -> bool {
-        let (source, destination) = (packet.source(), packet.destination());
-        match packet.kind() {
-            Kind::Echo => {
-                let number = source.number.max(destination.number);
-                self.has(Endpoint { number, ..source })
-                    || self.has(Endpoint {
-                        number,
-                        ..destination
-                    })
-            }
-            Kind::ErrorOf(inner) => {
-                self.is_host(source.address)
-                    || self.is_host(destination.address)
-                    || self.has(inner.source)
-                    || self.has(inner.destination)
-            }
-            Kind::Udp | Kind::Tcp(_) => self.has(source) || self.has(destination),
-        }
+/// Whether a host or endpoint is one of the packet that some bytes are as they arrive. Bytes that are no packet have only
+/// addresses.
+pub fn is_end_of_arrival(
+    party: Party,
+    alloc: Global,
+    side: Side,
+    bytes: &[u8],
+) -> Result<bool, AllocError> {
+    if party.number.is_none() {
+        return Ok(has_address(bytes, party.address));
     }
-
-    /// Whether it is the whole host of this address.
-    fn is_host(self, address: u32) -> bool {
-        self.number.is_none() && self.address == address
-    }
-
-    /// Whether it is an endpoint of the packet that some bytes are as they arrive. Bytes that are no packet have only
-    /// addresses.
-    pub fn is_end_of_arrival(
-        self,
-        alloc: Global,
-        side: Side,
-        bytes: &[u8],
-    ) -> Result<bool, AllocError> {
-        if self.number.is_none() {
-            return Ok(has_address(bytes, self.address));
-        }
-        match arrival(alloc, side, bytes)? {
-            Some(packet) => Ok(self.is_end_of(&packet)),
-            None => Ok(false),
-        }
+    match arrival(alloc, side, bytes)? {
+        Some(packet) => Ok(is_end_of(party, &packet)),
+        None => Ok(false),
     }
 }
 

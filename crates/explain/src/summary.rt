@@ -6,10 +6,10 @@ use crate::names::Seconds;
 use crate::objects::Objects;
 use crate::options::Choice;
 use crate::page::Page;
-use crate::shown::{Party, add_arrival, add_packet};
+use crate::shown::{add_arrival, add_packet, is_end_of, is_end_of_arrival};
 use crate::stop::Stop;
-use napt_account::{Account, Entry, Note};
-use napt_reasons::{advice, meaning};
+use napt_account::{Account, Entry, Note, Party};
+use napt_display::reasons::{advice, meaning};
 use napt_records::{EndpointText, cause_name, protocol_name};
 use napt_sequential::{Input, Outcome};
 use napt_table::Row;
@@ -249,7 +249,7 @@ fn is_chosen(alloc: Global, choice: Choice, line: Line<'_>) -> Result<bool, Allo
             let input = line.input;
             Ok(
                 leaves_with(line.outcome, host)
-                    || host.is_end_of_arrival(alloc, input.side, &input.bytes)?,
+                    || is_end_of_arrival(host, alloc, input.side, &input.bytes)?,
             )
         }
     }
@@ -258,7 +258,7 @@ fn is_chosen(alloc: Global, choice: Choice, line: Line<'_>) -> Result<bool, Allo
 /// Whether a packet leaves with this host or endpoint.
 pub fn leaves_with(outcome: &Outcome, host: Party) -> bool {
     match outcome {
-        Outcome::ToOutside(packet) | Outcome::ToInside(packet) => host.is_end_of(packet),
+        Outcome::ToOutside(packet) | Outcome::ToInside(packet) => is_end_of(host, packet),
         Outcome::Dropped(_) => false,
     }
 }

@@ -5,7 +5,7 @@ use Rattle.std.specs.List.{list_any}
 use Rattle.napt_wire.specs.Laws.{PacketsCarryNumbers}
 use Rattle.napt_config.specs.Rules.{Rules, KeepsRules, pair_of}
 use Rattle.napt_rules.specs.Prelude.{Binding, is_live, opening, Arrival, row, Course, step, run_from, last_clock, IsSound, OpeningIsSound, OutStaysSound, InStaysSound, OutLeavesLive, InLeavesLive}
-use Rattle.napt_sequential.proofs.Sound.{run_sound}
+use Rattle.napt_laws.proofs.RunsSound.{run_sound}
 use Rattle.napt_account.specs.declared.log.Entry.{Entry}
 use Rattle.napt_binding.specs.Ends.{end_of, is_before}
 use Rattle.napt_account.specs.Passages.{has_ends}

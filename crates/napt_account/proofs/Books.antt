@@ -10,7 +10,7 @@ use Rattle.napt_rules.specs.Prelude.{same_protocol, same_endpoint}
 use Rattle.napt_binding.specs.Ends.{is_before}
 use Rattle.napt_binding.proofs.FirstEnds.{before_sooner}
 use Rattle.napt_rules.specs.declared.Row.{Row}
-use Rattle.napt_table.proofs.Seen.{protocol_is, end_is}
+use Rattle.napt_laws.proofs.Endpoints.{protocol_is, end_is}
 use Rattle.napt_account.specs.declared.log.Entry.{Entry}
 use Rattle.napt_account.specs.declared.places.Places.{Places}
 use Rattle.napt_account.specs.Book.{shares, is_of, through}

@@ -9,14 +9,15 @@ use Rattle.napt_config.specs.Rules.{AreTimers}
 use Rattle.napt_config.specs.declared.settings.Timers.{Timers}
 use Rattle.napt_rules.specs.Prelude.{Binding, Each, same_protocol, same_endpoint, is_live, row, Course, AreRowsApart, Apart}
 use Rattle.napt_rules.specs.declared.Row.{Row}
-use Rattle.napt_binding.proofs.Lists.{filter_narrow, each_filter, filter_all, find_passes, each_weaker}
-use Rattle.napt_binding.proofs.Purges.{lived}
-use Rattle.napt_table.proofs.Seen.{protocol_is, same_itself, end_itself, end_is}
-use Rattle.napt_table.proofs.Sound.{apart_kept}
+use Rattle.napt_laws.proofs.Lists.{filter_narrow, find_passes, each_weaker}
+use Rattle.napt_rules.proofs.Lists.{each_filter, filter_all}
+use Rattle.napt_rules.proofs.Life.{lived}
+use Rattle.napt_laws.proofs.Endpoints.{protocol_is, same_itself, end_itself, end_is}
+use Rattle.napt_laws.proofs.StepsSound.{apart_kept}
 use Rattle.napt_account.specs.declared.log.Entry.{Entry}
 use Rattle.napt_binding.specs.Ends.{end_of, is_before, EndsAreFirst}
 use Rattle.napt_account.specs.Passages.{has_ends}
-use Rattle.napt_account.specs.Log.{living, has_row, begun, made_between, end_by_found, end_told, counted, told, logged, stands_at}
+use Rattle.napt_account.specs.Log.{living, has_row, begun, made_between, end_by_found, end_told, with_counts, told, logged, stands_at}
 use Rattle.napt_binding.proofs.FirstEnds.{before_sooner}
 use Rattle.napt_account.proofs.Lists.{filter_seen, filter_agrees, filter_agrees_each, filter_none, filter_joined, map_joined, map_twice, map_agrees, any_seen_of, each_joined, each_mapped, each_every, each_among, each_both, each_shown, each_behind}
 use Rattle.napt_account.proofs.Steps.{Grows}
@@ -163,7 +164,7 @@ module _ (ends : EndsAreFirst) (timers : Timers) (t : AreTimers timers) where
     made = made_between timers now before course.list
 
     abbrev retold : Entry → Entry
-    retold entry = record (counted now course.acts entry) { end = end_told timers now course.list entry }
+    retold entry = record (with_counts now course.acts entry) { end = end_told timers now course.list entry }
 
     found_open : (entry : Entry) → is_open now entry ≡ true → (found : Option Binding) →
         find (has_row entry.binding) left ≡ found → is_before now (end_by_found timers entry.end found) ≡ true

@@ -22,17 +22,18 @@ use Rattle.napt_rules.specs.declared.Sent.{Sent}
 use Rattle.napt_rules.specs.Prelude.{Binding, change_first, Each, same_protocol, same_endpoint, is_live, with_live_flows, purge, permits, inbound_of, granted, of_source, sent_by, fresh, out_made, out_found, step_out, of_destination, received_by, In, in_found, step_in, no_flags, Acted, onward_by, end_out, end_in, sent_of, received_of, act_out, act_in, act_by, act, Arrival, row, Act, Course, follow_by, first_leg, step, OutLeavesLive, InLeavesLive}
 use Rattle.napt_binding.specs.Ends.{end_of}
 use Rattle.napt_binding.proofs.FirstEnds.{end_without_dead}
-use Rattle.napt_binding.proofs.Finds.{passes, find_passed_over}
-use Rattle.napt_binding.proofs.Lists.{find_passes, each_filter}
+use Rattle.napt_laws.proofs.Finds.{passes, find_passed_over}
+use Rattle.napt_laws.proofs.Lists.{find_passes}
+use Rattle.napt_rules.proofs.Lists.{each_filter}
 use Rattle.napt_rules.specs.declared.Received.{Received}
 use Rattle.napt_rules.specs.declared.Row.{Row}
-use Rattle.napt_table.proofs.Seen.{protocol_is, end_is, same_itself, end_itself}
-use Rattle.napt_table.proofs.Sound.{sent_row, received_row}
+use Rattle.napt_laws.proofs.Endpoints.{protocol_is, end_is, same_itself, end_itself}
+use Rattle.napt_laws.proofs.StepsSound.{sent_row, received_row}
 use Rattle.napt_rules.specs.declared.Leg.{Leg}
 use Rattle.napt_rules.specs.declared.End.{End}
 use Rattle.napt_rules.specs.declared.End.TheVariants.{ToOutside, ToInside, Onward, Dropped}
 use Rattle.napt_translate.specs.Carried.{carried_by}
-use Rattle.napt_sequential.proofs.AnyStep.{of_step}
+use Rattle.napt_laws.proofs.AnyStep.{of_step}
 use Rattle.napt_account.specs.Passages.{has_ends, is_of_source, is_of_destination, is_out, is_in, went_out, came_in}
 use Rattle.napt_account.specs.Log.{living, has_row}
 use Rattle.napt_account.proofs.Lists.{map_joined}

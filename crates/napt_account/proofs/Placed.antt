@@ -8,44 +8,29 @@ use Rattle.napt_binding.specs.Lists.{pair_eq}
 use Rattle.napt_account.specs.declared.places.Places.{Places}
 use Rattle.napt_account.specs.Places.{place_at}
 
-pub put_icmp : (protocol : Protocol) → protocol ≡ Icmp → (old new : Places) (external : Endpoint) (place : ℕ) →
-    ((e : Endpoint) → place_at new Icmp e ≡ cond (pair_eq (external.address, external.number) (e.address, e.number))
-    (Some place) (place_at old Icmp e)) → ((p : Protocol) → same_protocol Icmp p ≡ false → (e : Endpoint)
-    → place_at new p e
-    ≡ place_at old p e) → (p : Protocol) (e : Endpoint) →
-    place_at new p e ≡ cond (same_protocol protocol p && same_endpoint external e) (Some place) (place_at old p e)
-put_icmp protocol is old new external place put others Icmp e = put e
-    ∙ sym (ap (λ q. cond (same_protocol q Icmp && same_endpoint external e) (Some place) (place_at old Icmp e)) is)
-put_icmp protocol is old new external place put others Tcp e = others Tcp refl e
-    ∙ sym (ap (λ q. cond (same_protocol q Tcp && same_endpoint external e) (Some place) (place_at old Tcp e)) is)
-put_icmp protocol is old new external place put others Udp e = others Udp refl e
-    ∙ sym (ap (λ q. cond (same_protocol q Udp && same_endpoint external e) (Some place) (place_at old Udp e)) is)
+put_own : (at : Protocol) (old new : Places) (external : Endpoint) (place : ℕ) →
+    ((e : Endpoint) → place_at new at e ≡ cond (pair_eq (external.address, external.number) (e.address, e.number))
+    (Some place) (place_at old at e)) → ((p : Protocol) → same_protocol at p ≡ false → (e : Endpoint)
+    → place_at new p e ≡ place_at old p e) → (p : Protocol) (e : Endpoint) →
+    place_at new p e ≡ cond (same_protocol at p && same_endpoint external e) (Some place) (place_at old p e)
+put_own Icmp old new external place put others Icmp e = put e
+put_own Icmp old new external place put others Tcp e = others Tcp refl e
+put_own Icmp old new external place put others Udp e = others Udp refl e
+put_own Tcp old new external place put others Icmp e = others Icmp refl e
+put_own Tcp old new external place put others Tcp e = put e
+put_own Tcp old new external place put others Udp e = others Udp refl e
+put_own Udp old new external place put others Icmp e = others Icmp refl e
+put_own Udp old new external place put others Tcp e = others Tcp refl e
+put_own Udp old new external place put others Udp e = put e
 
-pub put_tcp : (protocol : Protocol) → protocol ≡ Tcp → (old new : Places) (external : Endpoint) (place : ℕ) →
-    ((e : Endpoint) → place_at new Tcp e ≡ cond (pair_eq (external.address, external.number) (e.address, e.number))
-    (Some place) (place_at old Tcp e)) → ((p : Protocol) → same_protocol Tcp p ≡ false → (e : Endpoint)
-    → place_at new p e
-    ≡ place_at old p e) → (p : Protocol) (e : Endpoint) →
+-- the map of one protocol has a place put, and the others are as they were
+pub put_at : (at protocol : Protocol) → protocol ≡ at → (old new : Places) (external : Endpoint) (place : ℕ) →
+    ((e : Endpoint) → place_at new at e ≡ cond (pair_eq (external.address, external.number) (e.address, e.number))
+    (Some place) (place_at old at e)) → ((p : Protocol) → same_protocol at p ≡ false → (e : Endpoint)
+    → place_at new p e ≡ place_at old p e) → (p : Protocol) (e : Endpoint) →
     place_at new p e ≡ cond (same_protocol protocol p && same_endpoint external e) (Some place) (place_at old p e)
-put_tcp protocol is old new external place put others Icmp e = others Icmp refl e
-    ∙ sym (ap (λ q. cond (same_protocol q Icmp && same_endpoint external e) (Some place) (place_at old Icmp e)) is)
-put_tcp protocol is old new external place put others Tcp e = put e
-    ∙ sym (ap (λ q. cond (same_protocol q Tcp && same_endpoint external e) (Some place) (place_at old Tcp e)) is)
-put_tcp protocol is old new external place put others Udp e = others Udp refl e
-    ∙ sym (ap (λ q. cond (same_protocol q Udp && same_endpoint external e) (Some place) (place_at old Udp e)) is)
-
-pub put_udp : (protocol : Protocol) → protocol ≡ Udp → (old new : Places) (external : Endpoint) (place : ℕ) →
-    ((e : Endpoint) → place_at new Udp e ≡ cond (pair_eq (external.address, external.number) (e.address, e.number))
-    (Some place) (place_at old Udp e)) → ((p : Protocol) → same_protocol Udp p ≡ false → (e : Endpoint)
-    → place_at new p e
-    ≡ place_at old p e) → (p : Protocol) (e : Endpoint) →
-    place_at new p e ≡ cond (same_protocol protocol p && same_endpoint external e) (Some place) (place_at old p e)
-put_udp protocol is old new external place put others Icmp e = others Icmp refl e
-    ∙ sym (ap (λ q. cond (same_protocol q Icmp && same_endpoint external e) (Some place) (place_at old Icmp e)) is)
-put_udp protocol is old new external place put others Tcp e = others Tcp refl e
-    ∙ sym (ap (λ q. cond (same_protocol q Tcp && same_endpoint external e) (Some place) (place_at old Tcp e)) is)
-put_udp protocol is old new external place put others Udp e = put e
-    ∙ sym (ap (λ q. cond (same_protocol q Udp && same_endpoint external e) (Some place) (place_at old Udp e)) is)
+put_at at protocol is old new external place put others p e = put_own at old new external place put others p e
+    ∙ sym (ap (λ q. cond (same_protocol q p && same_endpoint external e) (Some place) (place_at old p e)) is)
 
 pub icmp_others : (old new : Places) → new.tcp ≡ old.tcp → new.udp ≡ old.udp → (p : Protocol) →
     same_protocol Icmp p ≡ false → (e : Endpoint) → place_at new p e ≡ place_at old p e

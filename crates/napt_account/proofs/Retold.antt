@@ -18,14 +18,14 @@ use Rattle.napt_config.specs.declared.settings.Timers.{Timers}
 use Rattle.napt_rules.specs.Prelude.{Binding, Each, same_protocol, same_endpoint, is_of_inside, has_number, is_live, with_live_flows, purge, opening, end_in, act, Arrival, row, Act, Course, follow_by, first_leg, step, AreRowsApart, Apart, IsSound, OpeningIsSound, OutStaysSound, InStaysSound, OutLeavesLive, InLeavesLive}
 use Rattle.napt_binding.specs.Ends.{end_of, is_before}
 use Rattle.napt_binding.proofs.FirstEnds.{ends_are_first}
-use Rattle.napt_binding.proofs.Finds.{any_found}
-use Rattle.napt_binding.proofs.Lists.{each_weaker}
+use Rattle.napt_laws.proofs.Finds.{any_found}
+use Rattle.napt_laws.proofs.Lists.{each_weaker}
 use Rattle.napt_rules.specs.declared.Row.{Row}
 use Rattle.napt_table.specs.declared.TimedRow.{TimedRow}
 use Rattle.napt_table.specs.TimedRows.{timed}
-use Rattle.napt_table.proofs.Seen.{protocol_is, end_is}
-use Rattle.napt_table.proofs.Sound.{apart_kept}
-use Rattle.napt_binding.proofs.Purges.{any_weaker}
+use Rattle.napt_laws.proofs.Endpoints.{protocol_is, end_is}
+use Rattle.napt_laws.proofs.StepsSound.{apart_kept}
+use Rattle.napt_rules.proofs.Lists.{any_weaker}
 use Rattle.napt_translate.specs.Carried.{carried_by}
 use Rattle.napt_rules.specs.declared.Leg.{Leg}
 use Rattle.napt_rules.specs.declared.End.{End}
@@ -33,12 +33,12 @@ use Rattle.napt_rules.specs.declared.End.TheVariants as ends
 use Rattle.napt_sequential.specs.declared.passage.Passage.{Passage}
 use Rattle.napt_sequential.specs.declared.passage.Passage.TheVariants.{Nothing, Out, In, Dropped}
 use Rattle.napt_sequential.specs.Traces.{seen_of, out_through, in_through, went_by, passage_by, first_of, second_of, trace_of, traces_from, traces}
-use Rattle.napt_sequential.proofs.AnyStep.{of_step}
-use Rattle.napt_sequential.proofs.Grown.{step_one}
-use Rattle.napt_sequential.proofs.Sound.{run_sound}
+use Rattle.napt_laws.proofs.AnyStep.{of_step}
+use Rattle.napt_laws.proofs.Grown.{step_one}
+use Rattle.napt_laws.proofs.RunsSound.{run_sound}
 use Rattle.napt_account.specs.declared.log.Entry.{Entry}
 use Rattle.napt_account.specs.Kept.{IsNotOut}
-use Rattle.napt_account.specs.Log.{living, has_row, end_told, counted, begun, made_between, told, logged, entries_from, entries_of}
+use Rattle.napt_account.specs.Log.{living, has_row, end_told, with_counts, begun, made_between, told, logged, entries_from, entries_of}
 use Rattle.napt_account.specs.Book.{shares, is_of, through, sent_through, received_through, made_by, after, after_trace, told_by}
 use Rattle.napt_account.proofs.Entries.{Tells, hold, hold_of, row_itself, is_row, binding_of, is_open, open_rows, made_added, each_found, tells_later, tells_step}
 use Rattle.napt_account.proofs.Attribution.{begins}
@@ -315,7 +315,7 @@ module _ (timers : Timers) (t : AreTimers timers) (now : ℕ) (before : List Bin
   told_closed : (e : Entry) → is_before now e.end ≡ false → told timers now course e ≡ both e
   told_closed e closed =
       ap (λ (v : Bool). cond v (record
-      (counted now course.acts e) { end = end_told timers now course.list e }) e) closed
+      (with_counts now course.acts e) { end = end_told timers now course.list e }) e) closed
       ∙ sym (ap (over now second) (over_closed now first e closed) ∙ over_closed now second e closed)
 
   told_entries : Each (λ e. told timers now course e ≡ both e) entries

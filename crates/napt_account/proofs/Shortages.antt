@@ -15,7 +15,7 @@ use Rattle.napt_rules.specs.declared.Leg.{Leg}
 use Rattle.napt_rules.specs.declared.End.{End}
 use Rattle.napt_rules.specs.declared.End.TheVariants as ends
 use Rattle.napt_sequential.specs.Traces.{seen_of, out_through, in_through, went_by, passage_by, passage_of, first_of, second_of, trace_of, traces_from}
-use Rattle.napt_sequential.proofs.AnyStep.{of_step}
+use Rattle.napt_laws.proofs.AnyStep.{of_step}
 use Rattle.napt_account.specs.declared.log.Shortage.{Shortage}
 use Rattle.napt_account.specs.Book.{lost, lost_by}
 use Rattle.napt_account.specs.Kept.{AreInTime}

@@ -16,12 +16,12 @@ use Rattle.napt_rules.specs.declared.Sent.{Sent}
 use Rattle.napt_rules.specs.Prelude.{Binding, change_first, with_live_flows, purge, permits, inbound_of, granted, of_source, sent_by, fresh, out_made, out_found, step_out, of_destination, received_by, In, in_found, step_in, Acted, sent_of, received_of, act_out, act_in, act_by, act, Arrival, row, Course, follow_by, first_leg, step, OutLeavesLive, InLeavesLive}
 use Rattle.napt_rules.specs.declared.Received.{Received}
 use Rattle.napt_rules.specs.declared.Row.{Row}
-use Rattle.napt_table.proofs.Sound.{sent_row, received_row}
+use Rattle.napt_laws.proofs.StepsSound.{sent_row, received_row}
 use Rattle.napt_rules.specs.declared.Leg.{Leg}
 use Rattle.napt_rules.specs.declared.End.{End}
 use Rattle.napt_rules.specs.declared.End.TheVariants.{ToOutside, ToInside, Onward, Dropped}
-use Rattle.napt_translate.proofs.Acts.{of_act}
-use Rattle.napt_sequential.proofs.AnyStep.{of_step}
+use Rattle.napt_laws.proofs.Acts.{of_act}
+use Rattle.napt_laws.proofs.AnyStep.{of_step}
 use Rattle.napt_account.specs.Log.{living}
 use Rattle.napt_account.proofs.Lists.{map_joined, map_twice}
 

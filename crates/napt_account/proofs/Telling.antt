@@ -12,11 +12,12 @@ use Rattle.napt_config.specs.declared.settings.Timers.{Timers}
 use Rattle.napt_rules.specs.Prelude.{Binding, Each, same_protocol, same_endpoint, is_of_inside, has_number, is_live, with_live_flows, purge, row, Act, Course, Apart}
 use Rattle.napt_binding.specs.Ends.{end_of, is_before}
 use Rattle.napt_binding.proofs.FirstEnds.{ends_are_first, end_without_dead}
-use Rattle.napt_binding.proofs.Finds.{Once, passes, find_same}
-use Rattle.napt_binding.proofs.Lists.{find_passes, each_filter}
+use Rattle.napt_laws.proofs.Finds.{Once, passes, find_same}
+use Rattle.napt_laws.proofs.Lists.{find_passes}
+use Rattle.napt_rules.proofs.Lists.{each_filter}
 use Rattle.napt_rules.specs.declared.Row.{Row}
 use Rattle.napt_table.specs.TimedRows.{timed}
-use Rattle.napt_table.proofs.Seen.{protocol_is, same_itself, end_itself, end_is, has_it as has_its_number, once_inside, once_number}
+use Rattle.napt_laws.proofs.Endpoints.{protocol_is, same_itself, end_itself, end_is, has_it as has_its_number, once_inside, once_number}
 use Rattle.napt_translate.specs.Carried.{carried_by}
 use Rattle.napt_rules.specs.declared.End.{End}
 use Rattle.napt_rules.specs.declared.End.TheVariants as ends
@@ -25,7 +26,7 @@ use Rattle.napt_sequential.specs.declared.passage.Passage.TheVariants.{Nothing, 
 use Rattle.napt_sequential.specs.Traces.{seen_of, out_through, in_through, went_by, passage_by, passage_of, first_of, second_of}
 use Rattle.napt_account.specs.declared.log.Entry.{Entry}
 use Rattle.napt_account.specs.Passages.{has_ends, is_of_source, is_of_destination, is_out, is_in, went_out, came_in}
-use Rattle.napt_account.specs.Log.{living, has_row, end_by_found, counted, told}
+use Rattle.napt_account.specs.Log.{living, has_row, end_by_found, with_counts, told}
 use Rattle.napt_account.specs.Book.{shares, is_of, through, sent_through, received_through}
 use Rattle.napt_account.proofs.Legs.{same_ends, find_mapped, IsNotThrough}
 
@@ -344,7 +345,7 @@ module _ (timers : Timers) (t : AreTimers timers) (now : ℕ) (list : List Bindi
       (Each (IsNotThrough r) course.acts → e.end ≡ last_end) → told timers now course e
       ≡ over now (second_of timers now list course.acts) (over now (first_of timers now list course.acts) e)
   told_over course is few stays =
-      let all : Entry = counted now course.acts e in
+      let all : Entry = with_counts now course.acts e in
       ap (λ (v : Bool). cond v (record all {
         end = end_by_found timers e.end (find (has_row r)
             (living timers now course.list));

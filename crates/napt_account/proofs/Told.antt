@@ -14,7 +14,8 @@ use Rattle.napt_config.specs.Rules.{Rules, KeepsRules, pair_of, has}
 use Rattle.napt_config.specs.declared.settings.Timers.{Timers}
 use Rattle.napt_config.proofs.Pools.{paired_in_pool}
 use Rattle.napt_rules.specs.Prelude.{Binding, Each, same_protocol, same_endpoint, is_at, of, is_live, purge, opening, Arrival, admission_as, row, put, in_order, rows, first_leg, step_as, step, run_from, run, last_clock, ran, IsPaired, IsSound, RunsAreSound}
-use Rattle.napt_binding.proofs.Lists.{any_narrow, each_weaker}
+use Rattle.napt_rules.proofs.Lists.{any_narrow}
+use Rattle.napt_laws.proofs.Lists.{each_weaker}
 use Rattle.napt_rules.specs.declared.Row.{Row}
 use Rattle.napt_account.specs.Fronts.{nothing_at, came_by, IsFrontAt}
 use Rattle.napt_account.specs.Log.{living, log_of}

@@ -20,7 +20,7 @@ use Rattle.napt_sequential.specs.declared.passage.Passage.{Passage}
 use Rattle.napt_sequential.specs.declared.passage.Passage.TheVariants.{Nothing, Out, In, Dropped}
 use Rattle.napt_sequential.specs.declared.passage.Trace.{Trace}
 use Rattle.napt_sequential.specs.Traces.{seen_of, out_through, went_by, passage_by, first_of, second_of, trace_of, traces_from, traces}
-use Rattle.napt_sequential.proofs.AnyStep.{of_step}
+use Rattle.napt_laws.proofs.AnyStep.{of_step}
 use Rattle.napt_account.specs.declared.account.Note.{Note}
 use Rattle.napt_account.specs.declared.account.Note.TheVariants as notes
 use Rattle.napt_account.specs.declared.account.Use.{Use}

@@ -33,7 +33,8 @@ LogNamesTheHolders = (rules : Rules) → KeepsRules rules → (front rest : List
     is_held rules.timers now protocol inside external (run rules front (opening rules)).list
     ≡ is_named now protocol inside external (log_of rules (front ++ rest)).entries
 
--- the same as lists: the rows of what lives are those of the entries that stand, each once, in the order of making
+-- the same as lists: the rows of what is live are those of the entries that have not ended, each once, in the order of
+-- making
 abbrev pub LogListsTheLiving : Type 0
 LogListsTheLiving = (rules : Rules) → KeepsRules rules → (front rest : List Arrival) (now : ℕ) →
     last_clock 0 front ≤ now → IsBeforeNext now rest →

@@ -1,4 +1,4 @@
--- How entries are told leg by leg: an open entry of the binding that the packet went through changes, and where
+-- How entries change leg by leg: an open entry of the binding that the packet went through changes, and where
 -- there is
 -- none, one begins.
 use Rattle.std.specs.Prelude.{ℕ, ◌+◌, Bool, ◌&&◌, cond, List, [], ◌∷◌, ◌++◌, map, Option}

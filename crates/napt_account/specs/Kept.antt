@@ -1,4 +1,4 @@
--- What the log keeps while a run is told.
+-- What the log keeps while it is written.
 use Rattle.std.specs.Prelude.{◌≡◌, ℕ, ◌≤◌, true, List, [], ◌∷◌, Some}
 use Rattle.std.specs.List.{slice_get}
 use Rattle.napt_binding.specs.Ends.{is_before}

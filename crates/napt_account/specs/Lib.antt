@@ -6,5 +6,6 @@ pub mod Places
 pub mod Fronts
 pub mod Log
 pub mod Passages
+pub mod Questions
 pub mod Uses
 pub use Rattle.napt_rules.specs.Prelude

@@ -58,8 +58,8 @@ abbrev pub end_told : Timers → ℕ → List Binding → Entry → Option ℕ
 end_told timers now after entry = end_by_found timers entry.end (find (has_row entry.binding) (living timers now after))
 
 -- an entry with the packets of a step's legs counted
-abbrev pub counted : ℕ → List Act → Entry → Entry
-counted now acts entry =
+abbrev pub with_counts : ℕ → List Act → Entry → Entry
+with_counts now acts entry =
     let out : ℕ = count_out entry.binding acts in
     let came : ℕ = count_in entry.binding acts in
     record entry {
@@ -72,7 +72,7 @@ counted now acts entry =
 -- an entry after a step at a time: one that has ended stays as it is
 abbrev pub told : Timers → ℕ → Course → Entry → Entry
 told timers now course entry = cond (is_before now entry.end)
-    (record (counted now course.acts entry) { end = end_told timers now course.list entry }) entry
+    (record (with_counts now course.acts entry) { end = end_told timers now course.list entry }) entry
 
 -- the entries after a step from a list at a time
 abbrev pub logged : Timers → ℕ → List Binding → Course → List Entry → List Entry
@@ -87,7 +87,7 @@ entries_from rules number clock (input ∷ inputs) list entries =
     let course : Course = step rules number now input list in
     entries_from rules (number + 1) now inputs course.list (logged rules.timers now list course entries)
 
--- the redirects stand before the first input
+-- the redirects are there before the first input
 abbrev pub entries_of : Rules → List Arrival → List Entry
 entries_of rules inputs =
     let redirects : List Binding = opening rules in

@@ -1,4 +1,4 @@
--- Where the latest entry of each external endpoint stands.
+-- The place of the latest entry of each external endpoint.
 use Rattle.std.specs.Prelude.{ℕ, Option}
 use Rattle.std.specs.HashMap.{get}
 use Rattle.napt_wire.specs.declared.Protocol.{Protocol}

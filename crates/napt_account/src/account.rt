@@ -30,7 +30,7 @@ pub enum Note {
     Redirect,
 }
 
-/// What a packet did to the bindings, and the places of their entries in the log.
+/// What a packet did to the bindings, and where the log has their entries.
 #[derive(Clone, Copy, Debug, PartialEq, Eq)]
 pub struct Use {
     /// What it did to the binding that it used first.
@@ -50,15 +50,15 @@ pub struct Account {
     pub log: Log,
     /// One for each input, in their order.
     pub uses: Vec<Use>,
-    /// Where the last entry of each external endpoint stands.
+    /// The place of the last entry of each external endpoint.
     latest: Places,
     ghost index: { IsIndex log.entries.items latest },
 }
 
 /// The run over the inputs with its log, and what each packet did to the bindings.
 ///
-/// `RunFault::TooMany` comes exactly where there are more than 4,294,967,295 inputs, `RunFault::Memory` only where
-/// memory is refused, and `RunFault::Pool` never.
+/// Fails with `RunFault::TooMany` if and only if there are more than 4,294,967,295 inputs, with `RunFault::Memory` only
+/// if memory is refused, and never with `RunFault::Pool`.
 pub fn account_of(alloc: Global, config: &Config, inputs: &[Input]) -> Result<Account, RunFault>
     ensures run { IfOk result (λ account. account.run ≡ model.ran config.now inputs.now) }
     ensures one_each { IfOk result (λ account.
@@ -88,7 +88,7 @@ pub fn account_of(alloc: Global, config: &Config, inputs: &[Input]) -> Result<Ac
 }
 
 impl Account {
-    /// What became of the input at a place, from 0.
+    /// The outcome of the input at an index, from 0.
     pub fn outcome_at(&self, at: usize) -> Option<&Outcome>
         ensures { option_map (λ outcome. outcome.now) result ≡ slice_get self.now.run.outcomes at }
     {

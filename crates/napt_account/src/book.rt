@@ -1,4 +1,4 @@
-//! The log while a run is told, input by input.
+//! The log while it is written, input by input.
 
 ghost use Rattle.std.specs.Prelude.{◌≡◌, ◌+◌, ◌<◌, ◌≤◌, ◌^◌, ◌++◌, ℕ, [], ◌∷◌, false, length, map, flat_map, Some, IfOk, OnOk, IfSome, IfNone};
 ghost use Rattle.std.specs.List.{list_any, fold};
@@ -20,7 +20,7 @@ use napt_table::{Row, TimedRow, opening_is_sound};
 use napt_wire::{Cause, Endpoint, Protocol};
 use std::alloc::{AllocError, Global};
 
-/// The log so far, and where the latest entry of each external endpoint stands.
+/// The log so far, and the place of the latest entry of each external endpoint.
 #[derive(Drop)]
 pub(crate) struct Book {
     pub(crate) log: Log,
@@ -104,7 +104,7 @@ fn found(entry: Entry) -> Note
     }
 }
 
-/// Where no binding was used.
+/// No binding was used.
 const NO_USE: Use = Use {
     note: Note::Nothing,
     out: None,
@@ -128,7 +128,7 @@ fn both_uses(first: Use, second: Use) -> Use
 impl Book {
     ghost use Rattle.napt_account.specs.Kept.{IsBook, StandsAt};
 
-    /// The redirects stand in it.
+    /// A log that has the redirects.
     pub(crate) fn begin(alloc: Global, config: &Config) -> Result<Book, AllocError>
         ensures entries { IfOk result (λ book. book.log.entries.items
             ≡ map (begun config.now.timers 0) (opening config.now)) }
@@ -157,7 +157,7 @@ impl Book {
         Ok(book)
     }
 
-    /// An entry more: answers its place.
+    /// Appends an entry, and returns its place.
     fn put(&mut self, entry: Entry) -> Result<usize, AllocError>
         ensures place { IfOk result (λ place. place ≡ length self.old.log.entries.items) }
         ensures entries { OnOk result (self.new.log.entries.items
@@ -190,7 +190,7 @@ impl Book {
         }
     }
 
-    /// A packet went out through the binding, which has this end then: what it did to it.
+    /// Counts a packet that went out through the binding, which then has this end; returns what it did to it.
     fn go_out(&mut self, now: u64, timed: TimedRow) -> Result<Use, AllocError>
         requires { (most : ℕ) × IsBook now most self.old × (most + 1 < 2 ^ 64) }
         ensures entries { OnOk result (self.new.log.entries.items
@@ -236,7 +236,7 @@ impl Book {
         }
     }
 
-    /// A packet came in through the binding, which has this end then: what it did to it.
+    /// Counts a packet that came in through the binding, which then has this end; returns what it did to it.
     fn come_in(&mut self, now: u64, timed: TimedRow) -> Use
         requires { (most : ℕ) × IsBook now most self.old × (most + 1 < 2 ^ 64) }
         ensures entries { self.new.log.entries.items
@@ -263,7 +263,7 @@ impl Book {
         }
     }
 
-    /// A packet was dropped: where no binding could be made for it, that is noted.
+    /// Notes that a packet was dropped, if no binding could be made for it.
     fn lose(&mut self, now: u64, loss: Loss) -> Result<(), AllocError>
         ensures entries { self.new.log.entries.items ≡ self.old.log.entries.items }
         ensures latest { self.new.latest ≡ self.old.latest }
@@ -281,7 +281,7 @@ impl Book {
         Ok(())
     }
 
-    /// A leg passed: what it did to the bindings.
+    /// Enters one leg; returns what it did to the bindings.
     fn pass(&mut self, now: u64, passage: Passage) -> Result<Use, AllocError>
         requires { (most : ℕ) × IsBook now most self.old × (most + 1 < 2 ^ 64) }
         ensures entries { OnOk result (self.new.log.entries.items
@@ -304,7 +304,7 @@ impl Book {
         }
     }
 
-    /// What the legs of an input did to the bindings.
+    /// Enters the legs of an input; returns what they did to the bindings.
     fn tell(&mut self, trace: Trace) -> Result<Use, AllocError>
         requires kept { (most : ℕ) × IsBook trace.now most self.old × (most + 2 < 2 ^ 64) }
         requires legs { AreLegs trace.first trace.second }
@@ -322,7 +322,7 @@ impl Book {
         Ok(both_uses(first, second))
     }
 
-    /// What the legs of all inputs did, input by input.
+    /// Enters the legs of all inputs; returns what they did, input by input.
     pub(crate) fn tell_all(
         &mut self,
         alloc: Global,

@@ -6,8 +6,10 @@ mod account;
 mod book;
 mod log;
 mod places;
+mod question;
 mod who;
 
 pub use crate::account::{Account, Note, Use, account_of};
 pub use crate::log::{Entry, Log, Shortage, log_attributes, log_of};
+pub use crate::question::{Party, Question};
 pub use crate::who::holders;

@@ -18,18 +18,18 @@ use std::alloc::Global;
 pub struct Entry {
     /// Its protocol and both its endpoints, and whether it is a redirect.
     pub binding: Row,
-    /// When it was made; 0 for a redirect, which stands before the first packet.
+    /// When it was made; 0 for a redirect, which exists before the first packet.
     pub made: u64,
-    /// The first time at which it no longer lives, if no packet comes after the last input; none for
-    /// a redirect, which lives on. The last use may be near the greatest time that 64 bits can tell.
+    /// The first time at which it is no longer live, if no packet comes after the last input; `None` for a redirect,
+    /// which stays live. It may be past the greatest time that 64 bits hold.
     pub end: Option<u128>,
     /// How many packets went out through it. An ICMP error changes no binding and is not counted.
     pub sent: u64,
     /// How many packets came in through it.
     pub received: u64,
-    /// When a packet last went through it, either way; 0 for a redirect that none went through.
+    /// When a packet last went through it, either way; 0 for a redirect that none has used.
     pub last: u64,
-    /// When a packet last went out through it; 0 for a redirect that none went out through.
+    /// When a packet last went out through it; 0 for a redirect if none has.
     pub last_sent: u64,
 }
 
@@ -57,8 +57,8 @@ pub struct Log {
 
 /// The log of the run over the inputs.
 ///
-/// `RunFault::TooMany` comes exactly where there are more than 4,294,967,295 inputs, `RunFault::Memory` only where
-/// memory is refused, and `RunFault::Pool` never.
+/// Fails with `RunFault::TooMany` if and only if there are more than 4,294,967,295 inputs, with `RunFault::Memory` only
+/// if memory is refused, and never with `RunFault::Pool`.
 pub fn log_of(alloc: Global, config: &Config, inputs: &[Input]) -> Result<Log, RunFault>
     ensures entries { IfOk result (λ log.
         log.entries.items ≡ (log_of config.now inputs.now).entries) }
@@ -70,8 +70,8 @@ pub fn log_of(alloc: Global, config: &Config, inputs: &[Input]) -> Result<Log, R
     Ok(account_of(alloc, config, inputs)?.log)
 }
 
-/// At each moment of a run the log of the whole run names exactly the bindings that live: whom it
-/// names had the endpoint, and whoever had it is named.
+/// At each moment of a run the log of the whole run names exactly the live bindings: each host that it names had the
+/// endpoint, and each host that had it is named.
 pub fn log_attributes()
     ensures ends { EndsAreFirst }
     ensures names { LogNamesTheHolders }

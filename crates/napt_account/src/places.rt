@@ -20,7 +20,7 @@ pub(crate) struct Places {
 impl Places {
     ghost use Rattle.napt_account.specs.Places.{place_at};
 
-    /// None has one. It takes no memory.
+    /// No endpoint has a place. Takes no memory.
     pub(crate) fn new(alloc: Global) -> Places
         ensures { (p : Protocol) (e : Endpoint) → place_at result p e ≡ None }
     {
@@ -44,7 +44,7 @@ impl Places {
         place.copied()
     }
 
-    /// An external endpoint has this place from now on.
+    /// Sets the place of an external endpoint.
     pub(crate) fn put(
         &mut self,
         protocol: Protocol,

@@ -45,7 +45,7 @@ fn with_external(alloc: Global, rows: &[Row], external: Endpoint) -> Result<Vec<
         .collect(alloc)
 }
 
-/// The first inputs, as many as came by a time, in ns, and behind them one with no bytes at that time.
+/// The first inputs, as many as came by a time, in ns, and after them one with no bytes at that time.
 fn front(alloc: Global, inputs: Vec<Input>, came: usize, at: u64) -> Result<Vec<Input>, AllocError>
     requires within { came ≤ length inputs.items }
     requires by { last_clock 0 (take came inputs.items) ≤ at }
@@ -91,12 +91,11 @@ fn living_at(
 }
 
 /// Who had an external endpoint at a time, in ns: the bindings with it that were made by then and had
-/// not ended, at most one for each protocol. They are those that the log of the run over all inputs
-/// names then: whoever had the endpoint is told, and nobody else. Only the inputs that came by that
-/// time are run through, once.
+/// not ended, at most one for each protocol. They are exactly those that the log of the run over all inputs names at
+/// that time. Only the inputs that came by then are run, once.
 ///
-/// `RunFault::TooMany` comes exactly where more than 4,294,967,294 inputs came by then,
-/// `RunFault::Memory` only where memory is refused, and `RunFault::Pool` never.
+/// Fails with `RunFault::TooMany` if and only if more than 4,294,967,294 inputs came by then, with `RunFault::Memory`
+/// only if memory is refused, and never with `RunFault::Pool`.
 pub fn holders(
     alloc: Global,
     config: &Config,

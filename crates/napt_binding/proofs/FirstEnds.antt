@@ -11,7 +11,7 @@ use Rattle.napt_config.specs.declared.settings.Timers.{Timers}
 use Rattle.napt_rules.specs.declared.Marks.{Marks}
 use Rattle.napt_rules.specs.declared.Flow.{Flow}
 use Rattle.napt_rules.specs.Prelude.{Binding, is_established, idle, is_recent, is_live_flow, is_live_by, is_live, with_live_flows}
-use Rattle.napt_binding.proofs.Purges.{lived, live_same}
+use Rattle.napt_rules.proofs.Life.{lived, live_same}
 use Rattle.napt_binding.specs.Ends.{end_after, last_end, end_by, end_of, is_before, EndsAreFirst}
 
 pub recent_before : (now last seconds : ℕ) → 0 < seconds →

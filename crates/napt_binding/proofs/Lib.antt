@@ -1,8 +1,5 @@
 pub mod Lists
-pub mod Finds
-pub mod Purges
 pub mod FirstEnds
-pub mod Fresh
 mod Slots
 mod Standing
 mod Timed

@@ -16,7 +16,7 @@ use Rattle.napt_rules.specs.declared.Flow.{Flow}
 use Rattle.napt_rules.specs.Prelude.{change_first, no_marks, is_live_flow, live_flows, is_flow_of, used, with_flow}
 use Rattle.napt_binding.specs.Standing.{is_standing, standing_flow_of}
 use Rattle.napt_binding.proofs.Lists.{any_at, any_seen, set_seen, change_pushed, filter_pushed, map_same, any_set, any_pushed}
-use Rattle.napt_binding.proofs.Fresh.{used_live, flows_all, flows_kept}
+use Rattle.napt_rules.proofs.Life.{used_live, flows_all, flows_kept}
 use Rattle.napt_binding.specs.Slots.{somes, Stands}
 use Rattle.napt_binding.proofs.Slots.{any_stands, any_none, kept_set, stands_there}
 

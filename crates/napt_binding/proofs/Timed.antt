@@ -9,7 +9,8 @@ use Rattle.napt_rules.specs.declared.Flow.{Flow}
 use Rattle.napt_rules.specs.Prelude.{is_established, is_recent, is_live_flow}
 use Rattle.napt_binding.specs.Slots.{somes, Stands, established_time, other_time, is_recent_time}
 use Rattle.napt_binding.proofs.Slots.{any_live}
-use Rattle.napt_binding.proofs.Purges.{any_weaker, lived_flow}
+use Rattle.napt_rules.proofs.Lists.{any_weaker}
+use Rattle.napt_rules.proofs.Life.{lived_flow}
 use Rattle.napt_collections.specs.Bounds.{IsLatest, HasNoTime}
 
 -- ANY

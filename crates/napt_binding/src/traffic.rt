@@ -4,6 +4,7 @@ ghost use Rattle.std.specs.Prelude.{◌≡◌, true, OnOk, OnErr};
 ghost use Rattle.napt_rules.specs.Filtering as filtering;
 ghost use Rattle.napt_rules.specs.Life as life;
 ghost use Rattle.napt_rules.specs.Marks as marks;
+ghost use Rattle.napt_rules.specs.Steps as steps;
 ghost use Rattle.napt_rules.specs.Traffic as traffic;
 ghost use Rattle.napt_binding.specs.Entering.{left_by, entered};
 
@@ -12,7 +13,7 @@ use crate::idle_timers::IdleTimers;
 use crate::life::purge_flows;
 use crate::session::{NO_MARKS, marked};
 use napt_config::{Filter, Refresh};
-use napt_rules::{Flow, Inbound, Sent};
+use napt_rules::{Flow, Inbound, Received, Sent};
 use napt_wire::{Cause, Endpoint, Flags, Protocol, Way};
 use std::alloc::{AllocError, Global};
 
@@ -63,36 +64,27 @@ fn permits(binding: &Binding, inbound: Inbound, remote: Endpoint) -> bool
     }
 }
 
-/// Sends a packet out through the binding to the remote at `now` (ns); flags count only for TCP. A redirect does not
-/// change. Dead flows may stay, and do not count. `AllocError`, and nothing changed, if memory for a new flow is
-/// refused.
+/// Sends a packet out through the binding, under the binding's protocol. A redirect does not change. Dead flows may
+/// stay, and do not count. `AllocError`, and nothing changed, if memory for a new flow is refused.
 pub fn send(
     binding: &mut Binding,
     alloc: Global,
     timers: IdleTimers,
-    now: u64,
-    remote: Endpoint,
-    flags: Flags,
+    packet: Sent,
 ) -> Result<(), AllocError>
-    ensures ok { OnOk result (life.with_live_flows timers now binding.new
-        ≡ traffic.sent remote flags now (life.with_live_flows timers now binding.old)) }
-    ensures live { OnOk result (life.is_live timers now binding.new ≡ true) }
+    ensures ok { OnOk result (life.with_live_flows timers packet.now binding.new
+        ≡ steps.sent_by packet (life.with_live_flows timers packet.now binding.old)) }
+    ensures live { OnOk result (life.is_live timers packet.now binding.new ≡ true) }
     ensures found { OnOk result (binding.new.external ≡ binding.old.external) }
     ensures err { OnErr result (binding.new ≡ binding.old) }
 {
     if binding.fixed {
         return Ok(());
     }
-    let sent = Sent {
-        protocol: binding.protocol,
-        inside: binding.inside,
-        remote,
-        flags,
-        now,
-    };
+    let protocol = binding.protocol;
     let flows = &mut binding.flows;
-    flows.use_flow(alloc, timers, sent)?;
-    binding.last = now;
+    flows.use_flow(alloc, timers, Sent { protocol, ..packet })?;
+    binding.last = packet.now;
     Ok(())
 }
 
@@ -107,37 +99,34 @@ fn is_refreshed(binding: &Binding, refresh: Refresh) -> bool
 }
 
 /// Records a packet that the binding lets in.
-fn receive(binding: &mut Binding, inbound: Inbound, now: u64, remote: Endpoint, flags: Flags)
-    ensures { binding.new ≡ traffic.received inbound remote flags now binding.old }
+fn receive(binding: &mut Binding, inbound: Inbound, packet: Received)
+    ensures { binding.new ≡ steps.received_by inbound packet binding.old }
 {
     if let Protocol::Tcp = binding.protocol {
         let flows = &mut binding.flows;
-        flows.refresh_flow(now, remote, flags);
+        flows.refresh_flow(packet.now, packet.remote, packet.flags);
     } else if is_refreshed(binding, inbound.refresh) {
-        binding.last = now;
+        binding.last = packet.now;
     }
 }
 
-/// Takes in a packet from the remote through the binding, and removes its dead flows. Returns the inside endpoint, or
-/// `Filtered` if the filter refuses the remote (RFC 4787, REQ-8). `now` is in ns; flags count only for TCP. It takes no
-/// memory.
+/// Takes in a packet through the binding, under the binding's protocol, and removes its dead flows. Returns the inside
+/// endpoint, or `Filtered` if the filter refuses the remote (RFC 4787, REQ-8). It takes no memory.
 pub fn take_in(
     binding: &mut Binding,
     timers: IdleTimers,
     inbound: Inbound,
-    now: u64,
-    remote: Endpoint,
-    flags: Flags,
+    packet: Received,
 ) -> Result<Endpoint, Cause>
-    ensures answer { result ≡ entered inbound remote
-        (life.with_live_flows timers now binding.old) }
-    ensures left { binding.new ≡ left_by inbound remote flags now
-        (life.with_live_flows timers now binding.old) }
+    ensures answer { result ≡ entered inbound packet
+        (life.with_live_flows timers packet.now binding.old) }
+    ensures left { binding.new ≡ left_by inbound packet
+        (life.with_live_flows timers packet.now binding.old) }
 {
-    purge_flows(binding, timers, now);
-    if !permits(binding, inbound, remote) {
+    purge_flows(binding, timers, packet.now);
+    if !permits(binding, inbound, packet.remote) {
         return Err(Cause::Filtered);
     }
-    receive(binding, inbound, now, remote, flags);
+    receive(binding, inbound, packet);
     Ok(binding.inside)
 }

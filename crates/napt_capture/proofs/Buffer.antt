@@ -1,8 +1,8 @@
 -- A part of a buffer, and what is read behind it.
-use Rattle.std.proofs.Common.{◌≡◌, ℕ, ◌+◌, ◌-◌, ◌≤◌, List, ◌++◌, length, take, drop, slice_range, Option, None, Some, sym, ap, ◌∙◌, arith, append_assoc, length-take-le, le_refl, drop-drop}
+use Rattle.std.proofs.Common.{◌≡◌, ℕ, ◌+◌, ◌-◌, ◌≤◌, List, ◌++◌, length, take, drop, slice_range, Option, None, Some, sym, ap, ◌∙◌, arith, append_assoc, length-take-le, drop-drop}
 use Rattle.std.specs.Io.KnownBytes.{Consumes, Keeps, prepend_known}
 use Rattle.std.proofs.lemmas.List.{drop-take}
-use Rattle.std.proofs.lemmas.Slice.{between_from_start, take-put_mid_below}
+use Rattle.std.proofs.lemmas.Slice.{between_from_start}
 use lib.Seq.{take-append-le, take-append-add}
 use borrow.Rule.Slice.PartMut.{put_mid, post_of}
 
@@ -39,10 +39,3 @@ slice_range-read end room count xs ys within fits =
     ∙ take-append-add (take end xs) (ys ++ after) count
     ∙ ap (λ l. take end xs ++ l) (take-append-le count ys after fits)
     ∙ ap (λ l. l ++ take count ys) (sym (between_from_start xs end))
-
--- the part itself
-pub slice_range-same : (end room : ℕ) (xs ys : List ℕ) → end ≤ length xs → slice_range (put_mid end room xs ys) 0 end
-    ≡ slice_range xs 0 end
-slice_range-same end room xs ys within =
-    between_from_start (put_mid end room xs ys) end ∙ take-put_mid_below end room xs ys end (le_refl end) within
-    ∙ sym (between_from_start xs end)

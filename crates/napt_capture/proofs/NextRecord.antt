@@ -1,5 +1,5 @@
 -- The next record in what was read ahead.
-use Rattle.std.proofs.Common.{◌≡◌, ℕ, ◌+◌, ◌-◌, ◌<◌, ◌≤◌, List, ◌++◌, length, take, drop, slice_range, Option, None, Some, Result, Ok, Err, IfOk, IfErr, Bool, sym, ap, ◌∙◌, subst, arith, refl, inl, inr, length-append, length-drop, length-take-le, take-append-drop, append_assoc, append-nil}
+use Rattle.std.proofs.Common.{◌≡◌, ℕ, ◌+◌, ◌-◌, ◌<◌, ◌≤◌, List, ◌++◌, length, take, drop, slice_range, Option, None, Some, Result, Ok, Err, IfOk, IfErr, Bool, sym, ap, ◌∙◌, subst, arith, inl, inr, length-append, length-drop, length-take-le, take-append-drop, append_assoc, append-nil}
 use Rattle.std.proofs.lemmas.List.Folds.{drop_split}
 use Rattle.std.specs.Io.KnownBytes.{Consumes, IsAtEnd, Keeps, prepend_known}
 use Rattle.napt_capture.specs.declared.fault.CaptureFault.{CaptureFault}
@@ -13,7 +13,6 @@ use Rattle.napt_capture.specs.Capture.{IsPartial, captured_of}
 use Rattle.napt_capture.specs.Reading.{HasFields, ReadsNext, StopsBy}
 use Rattle.napt_capture.specs.Records.{Asks, KeepsLeft, StandsWhole, Tells, TellsEnd, left_of}
 use Rattle.napt_capture.specs.Stream.{EndsAs}
-use Rattle.napt_capture.proofs.OneAnswer.{IsPartial-stored, Refusal-partial, refusal_of}
 use Rattle.napt_capture.proofs.Steps.{ReadsNext-whole}
 
 -- the header is there, and not all of its bytes
@@ -52,20 +51,6 @@ Consumes-left : (old new bytes : List ℕ) (remaining : Option (List ℕ)) → o
     Consumes (prepend_known old remaining) (prepend_known new remaining) bytes
 Consumes-left old new bytes None taken = tt
 Consumes-left old new bytes (Some left) taken = ap (λ l. l ++ left) taken ∙ append_assoc bytes new left
-
--- what is known of what was read ahead is not partial
-pub IsPartial-refused : (r : Records) (fault : CaptureFault) → EndsAs r.spelling r.number r.ahead (Err fault) →
-    IsPartial r.spelling 0 r.ahead → ⊥
-IsPartial-refused r fault (header, behind, split, refused) partial =
-    Refusal-partial r.spelling 0 r.number header behind r.ahead fault split
-    (refusal_of r.spelling 0 r.number header fault refused) (omega arith) partial
-
-pub IsPartial-whole : (r : Records) (f : Fields) → StandsWhole r f → IsPartial r.spelling 0 r.ahead → ⊥
-IsPartial-whole r f stands partial =
-    let end = 16 + f.captured in
-    let (stored, good, is, may, taken) = ReadsNext-ahead r f (drop end r.ahead) (slice_range r.ahead 16 end) stands refl
-    refl in
-    IsPartial-stored r.spelling 0 r.ahead (drop end r.ahead) stored taken good partial
 
 -- what is partial is shorter than the buffer
 pub IsPartial-room : (s : Spelling) (ahead : List ℕ) → IsPartial s 0 ahead → length ahead < 262160

@@ -10,7 +10,7 @@ use Rattle.napt_capture.specs.declared.spelling.Spelling.{Spelling}
 use Rattle.napt_capture.specs.Spelling.{units_per_second}
 use Rattle.napt_capture.specs.Contents.{Entry}
 use Rattle.napt_capture.specs.Capture.{HasMagic, IsFileHeader, IsRecordHeader, IsStored, Stored, captured_of, entry_of, fraction_of, stored_text}
-use Rattle.napt_capture.specs.Stream.{EndsAs, HasRecords, IsStream, number_at, number_behind}
+use Rattle.napt_capture.specs.Stream.{EndsAs, HasRecords, IsStream, number_after, number_behind}
 use Rattle.napt_capture.proofs.OneAnswer.{IsPartial-stored, Refusal-good, Refusal-one, Refusal-partial, front_same, magic-one, refusal_of, rest_same, stored-same}
 
 -- ---- one list of records, and one end
@@ -44,7 +44,7 @@ Behind s number left r records end =
 first_of : (s : Spelling) (number : ℕ) (text left : List ℕ) (r : Stored) (records : List Entry)
     (end : Result Bool CaptureFault) (stored : List Stored) (rest : List ℕ)
     → text ≡ stored_text r ++ left → IsStored s r → text ≡ flat_map stored_text stored ++ rest → All (IsStored s) stored
-    → records ≡ map (entry_of s) stored → EndsAs s (number_at number stored) rest end
+    → records ≡ map (entry_of s) stored → EndsAs s (number_after number stored) rest end
     → Behind s number left r records end
 first_of s number text left r records end [] rest e good split all records_are ends =
     absurd (EndsAs-stored s number rest left r end ends (sym split ∙ e) good)
@@ -78,7 +78,7 @@ HasRecords-first s number text left r records end e good p =
 last_of : (s : Spelling) (number : ℕ) (text : List ℕ) (records : List Entry) (a end : Result Bool CaptureFault)
     (stored : List Stored) (rest : List ℕ)
     → EndsAs s number text a → text ≡ flat_map stored_text stored ++ rest → All (IsStored s) stored
-    → records ≡ map (entry_of s) stored → EndsAs s (number_at number stored) rest end → (records ≡ []) × (end ≡ a)
+    → records ≡ map (entry_of s) stored → EndsAs s (number_after number stored) rest end → (records ≡ []) × (end ≡ a)
 last_of s number text records a end [] rest p split all records_are ends =
     (records_are, EndsAs-one s number text end a (subst (λ l. EndsAs s number l end) (sym split) ends) p)
 last_of s number text records a end (t ∷ more) rest p split all records_are ends =
@@ -99,7 +99,7 @@ AreSame xs ys a b = (xs ≡ ys) × (a ≡ b)
 one_of : (s : Spelling) (number : ℕ) (text : List ℕ) (xs ys : List Entry) (a b : Result Bool CaptureFault)
     (stored : List Stored) (rest : List ℕ)
     → text ≡ flat_map stored_text stored ++ rest → All (IsStored s) stored → xs ≡ map (entry_of s) stored
-    → EndsAs s (number_at number stored) rest a → HasRecords s number text ys b → AreSame xs ys a b
+    → EndsAs s (number_after number stored) rest a → HasRecords s number text ys b → AreSame xs ys a b
 one_of s number text xs ys a b [] rest split all xs_are ends q =
     let last = HasRecords-last s number text ys a b (subst (λ l. EndsAs s number l a) (sym split) ends) q in
     (xs_are ∙ sym last.0, sym last.1)

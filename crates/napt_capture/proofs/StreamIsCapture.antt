@@ -7,7 +7,7 @@ use Rattle.napt_capture.specs.declared.fault.CaptureFault.TheVariants.{NoHeader,
 use Rattle.napt_capture.specs.declared.spelling.Spelling.{Spelling}
 use Rattle.napt_capture.specs.Contents.{Entry, Contents}
 use Rattle.napt_capture.specs.Capture.{EndsInRecord, Holds, IsCapture, IsFront, IsPartial, IsRefusedRecord, IsStored, Stored, stored_text}
-use Rattle.napt_capture.specs.Stream.{IsStream, number_at, number_behind}
+use Rattle.napt_capture.specs.Stream.{IsStream, number_after, number_behind}
 
 -- ---- numbers
 
@@ -25,12 +25,12 @@ length-stored s (r ∷ more) good =
       length-append r.header r.bytes,
     )
 
-number_at-few : (number : ℕ) (stored : List Stored) → number + length stored < 2 ^ 64 → number_at number stored
+number_at-few : (number : ℕ) (stored : List Stored) → number + length stored < 2 ^ 64 → number_after number stored
     ≡ number + length stored
 number_at-few number [] few = omega arith
 number_at-few number (r ∷ more) few =
     let next : number_behind number ≡ number + 1 = omega (arith, few) in
-    ap (λ n. number_at n more) next ∙ number_at-few (number + 1) more (omega (arith, few)) ∙ omega arith
+    ap (λ n. number_after n more) next ∙ number_at-few (number + 1) more (omega (arith, few)) ∙ omega arith
 
 -- ---- a stream that is short is a capture
 
@@ -133,9 +133,9 @@ IsCapture-refused bytes records fault short p =
       length-stored s stored p.has.good,
       length-append p.header (flat_map stored_text stored),
     ) in
-    let number : number_at 1 stored ≡ length stored + 1 = number_at-few 1 stored few ∙ omega arith in
-    let bad = IsRefusedRecord-behind s (length (front_of p)) (number_at 1 stored) (length stored + 1) header fault room
-    number refused in
+    let number : number_after 1 stored ≡ length stored + 1 = number_at-few 1 stored few ∙ omega arith in
+    let bad = IsRefusedRecord-behind s (length (front_of p)) (number_after 1 stored) (length stored + 1) header fault
+    room number refused in
     refuses_at p fault header behind split bad (no_file_fault s _ _ header fault bad)
 
 -- ---- a capture is a stream

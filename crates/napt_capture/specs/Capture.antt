@@ -1,4 +1,4 @@
--- What the bytes of a capture file stand for (pcap-savefile(5)): its records, or the fault at the least
+-- What the bytes of a capture file mean (pcap-savefile(5)): its records, or the fault at the least
 -- place of a forbidden field.
 use Rattle.std.specs.Prelude.{ℕ, ◌+◌, ◌*◌, ◌<◌, ◌≤◌, ◌≡◌, ◌⊎◌, ⊤, List, [], ◌++◌, length, drop, map, All, nat_lt, Some, None, Result, Ok, Err}
 use Rattle.std.specs.List.{flat_map}
@@ -46,7 +46,7 @@ pub record IsRecordHeader (s : Spelling) (header : List ℕ) : Type 0 where
   pub fraction : fraction_of s header < units_per_second s
   pub captured : captured_of s header ≤ LARGEST_RECORD
 
--- A record as it stands in a file: its header, and as many bytes as that says.
+-- A record as it is in a file: its header, and as many bytes as that says.
 pub record Stored : Type 0 where
   pub header : List ℕ
   pub bytes : List ℕ
@@ -58,7 +58,7 @@ pub record IsStored (s : Spelling) (r : Stored) : Type 0 where
   pub header : IsRecordHeader s r.header
   pub bytes : length r.bytes ≡ captured_of s r.header
 
--- what it stands for
+-- what it means
 abbrev pub entry_of : Spelling → Stored → Entry
 entry_of s r = record { time = time_of s r.header; bytes = r.bytes; original = original_of s r.header }
 
@@ -73,7 +73,7 @@ pub record IsFront (s : Spelling) (stored : List Stored) (front : List ℕ) : Ty
 abbrev pub MayAsk : ℕ → ℕ → Type 0
 MayAsk asked more = asked + more ≤ MOST_ASKED
 
--- Behind a front no further record stands whole: its header ends early, or its bytes do.
+-- After a front no whole record follows: its header ends early, or its bytes do.
 abbrev pub IsPartial : Spelling → ℕ → List ℕ → Type 0
 IsPartial s asked rest =
     (length rest < 16)
@@ -125,7 +125,7 @@ pub record EndsInRecord (bytes : List ℕ) (fault : CaptureFault) : Type 0 where
   pub is_front : IsFront spelling stored front
   pub refused : IsRefusedRecord spelling (length front) (length stored + 1) header fault
 
--- The bytes end with the header that has the fault, and no fault stands before it.
+-- The bytes end with the header that has the fault, and there is no fault before it.
 abbrev pub EndsInFault : List ℕ → CaptureFault → Type 0
 EndsInFault bytes fault = IsRefusedFile bytes fault ⊎ EndsInRecord bytes fault
 
@@ -134,7 +134,7 @@ abbrev pub Decides : List ℕ → List ℕ → Result Contents CaptureFault → 
 Decides bytes left (Ok contents) = Holds bytes contents × (left ≡ [])
 Decides bytes left (Err fault) = EndsInFault bytes fault × (fault ≡ NoHeader → left ≡ [])
 
--- What a file of these bytes comes to: its contents or its fault. Each text has exactly one answer.
+-- What a file of these bytes reads as: its contents or its fault. Each text has exactly one answer.
 unfoldable pub IsCapture : List ℕ → Result Contents CaptureFault → Type 0
 IsCapture bytes answer = (front : List ℕ) × (left : List ℕ) × (bytes ≡ front ++ left) × Decides front left answer
 

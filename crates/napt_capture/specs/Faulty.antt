@@ -1,5 +1,5 @@
 -- What contracts see of a device one of whose calls goes wrong.
-use Rattle.std.specs.Prelude.{ℕ, ◌-◌, ◌==◌, List, Option, Some, None, if◌then◌else◌}
+use Rattle.std.specs.Prelude.{◌≡◌, ℕ, ◌-◌, ◌==◌, List, Option, Some, None, Result, Ok, OnOk, if◌then◌else◌}
 use Rattle.napt_capture.specs.declared.faulty.Faulty.{Faulty}
 use Rattle.napt_capture.specs.declared.faulty.Plan.{Plan}
 use Rattle.napt_capture.specs.declared.faulty.Trouble.{Trouble}
@@ -21,11 +21,16 @@ own_failed f = f.failed
 abbrev pub trouble_of : Plan → Option Trouble
 trouble_of plan = if plan.call == 1 then Some plan.trouble else None
 
+-- a read or a write fails, or moves none
+abbrev pub GoesWrong : {E : Type 0} → Trouble → Result ℕ E → Type 0
+GoesWrong Fails result = OnOk result ⊥
+GoesWrong TakesNone result = result ≡ Ok 0
+
 -- the plan behind it
 abbrev pub after_a_call : Plan → Plan
 after_a_call plan = record plan { call = plan.call - 1 }
 
 -- Where a read is to answer 0 before the end, it is not known what reads give.
-abbrev pub told : Trouble → Option (List ℕ) → Option (List ℕ)
-told Fails known = known
-told TakesNone known = None
+abbrev pub known_bytes : Trouble → Option (List ℕ) → Option (List ℕ)
+known_bytes Fails known = known
+known_bytes TakesNone known = None

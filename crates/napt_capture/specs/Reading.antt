@@ -1,4 +1,4 @@
--- What the steps of reading a capture do, over what the source still told before and after.
+-- What the steps of reading a capture do, over the bytes left in the source before and after.
 use Rattle.std.specs.Prelude.{ℕ, ◌≡◌, ⊤, nat_lt, List, length, Option}
 use Rattle.std.specs.Io.KnownBytes.{Consumes, IsAtEnd}
 use Rattle.napt_capture.specs.declared.fault.CaptureFault.{CaptureFault}

@@ -14,23 +14,23 @@ use Rattle.napt_capture.specs.Stream.{EndsAs, number_behind}
 abbrev pub left_of : Records → Option (List ℕ) → Option (List ℕ)
 left_of records remaining = prepend_known records.ahead remaining
 
--- what was read ahead does not tell what is next, so the source is asked
+-- what was read ahead does not show what is next, so the source is asked
 abbrev pub Asks : Records → Type 0
 Asks records = IsPartial records.spelling 0 records.ahead
 
--- a reader with this text left, where it is known, tells that it ends so
+-- a reader with this text left, if it is known, returns this end
 abbrev pub TellsEnd : Records → Result Bool CaptureFault → Option (List ℕ) → Type 0
 TellsEnd records end left = IfSome left (λ text. EndsAs records.spelling records.number text end)
 
--- it told what is next: it took a record off the text, or nothing
+-- it returned what is next: it took a record off the text, or nothing
 abbrev pub Tells : Records → Option (List ℕ) → Option (List ℕ) → Next → Type 0
 Tells records old new (Whole entry) = ReadsNext records.spelling 0 old new (Whole entry)
 Tells records old new (End cut) = TellsEnd records (Ok cut) old × Keeps old new
 
--- the number of the next record, once this was told
-abbrev pub counted : Next → ℕ → ℕ
-counted (Whole entry) number = number_behind number
-counted (End cut) number = number
+-- the number of the next record, once this was returned
+abbrev pub next_number : Next → ℕ → ℕ
+next_number (Whole entry) number = number_behind number
+next_number (End cut) number = number
 
 -- nothing of the text was handed on
 pub record KeepsLeft (old : Records) (before : Option (List ℕ)) (new : Records) (after : Option (List ℕ)) : Type 0 where
@@ -38,7 +38,7 @@ pub record KeepsLeft (old : Records) (before : Option (List ℕ)) (new : Records
   pub number : new.number ≡ old.number
   pub spelling : new.spelling ≡ old.spelling
 
--- a record of these fields stands whole in what was read ahead
+-- a whole record of these fields is in what was read ahead
 pub record StandsWhole (records : Records) (fields : Fields) : Type 0 where
   pub header : HasFields records.spelling (take 16 records.ahead) fields
   pub time : fields.time < 2 ^ 32 * 1000000000

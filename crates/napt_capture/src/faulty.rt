@@ -75,14 +75,30 @@ impl<D> Faulty<D> {
 }
 
 impl<D: Source> Source for Faulty<D> {
-    ghost use Rattle.std.specs.Prelude.{◌+◌};
-    ghost use Rattle.napt_capture.specs.Faulty.{device_of, plan_of, own_failed, told};
+    ghost use Rattle.std.specs.Prelude.{◌+◌, ◌-◌, ◌^◌, ◌≤◌, IfOk, IfSome};
+    ghost use Rattle.std.specs.Io.{ReadsAtMost};
+    ghost use Rattle.std.specs.Io.KnownBytes.{ReadConsumes};
+    ghost use Rattle.napt_capture.specs.Device.{failed_calls};
+    ghost use Rattle.napt_capture.specs.Faulty.{GoesWrong, after_a_call, device_of, plan_of, own_failed, known_bytes, trouble_of};
 
-    ghost remaining = { λ f. told (plan_of f).trouble (D.remaining (device_of f)) };
+    ghost remaining = { λ f. known_bytes (plan_of f).trouble (D.remaining (device_of f)) };
 
     ghost failed = { λ f. own_failed f + D.failed (device_of f) };
 
-    fn read(&mut self, buffer: &mut [u8]) -> Result<usize, DeviceFault> {
+    fn read(&mut self, buffer: &mut [u8]) -> Result<usize, DeviceFault>
+        requires { own_failed self.old + D.failed (device_of self.old) < 2 ^ 64 - 1 }
+        ensures bound { ReadsAtMost result buffer.new }
+        ensures bytes { ReadConsumes
+            (known_bytes (plan_of self.old).trouble (D.remaining (device_of self.old)))
+            (known_bytes (plan_of self.new).trouble (D.remaining (device_of self.new))) result buffer.new }
+        ensures count { own_failed self.new + D.failed (device_of self.new)
+            ≡ own_failed self.old + D.failed (device_of self.old) + failed_calls result }
+        // Beside the trait's clauses: what the plan says.
+        ensures most { IfOk result (λ count. count ≤ (plan_of self.old).most) }
+        ensures trouble { IfSome (trouble_of (plan_of self.old)) (λ trouble.
+            GoesWrong trouble result) }
+        ensures plan { plan_of self.new ≡ after_a_call (plan_of self.old) }
+    {
         match self.next_trouble() {
             None => {
                 let most = self.plan.most.min(buffer.len());
@@ -98,8 +114,11 @@ impl<D: Source> Source for Faulty<D> {
 }
 
 impl<D: Sink> Sink for Faulty<D> {
-    ghost use Rattle.std.specs.Prelude.{◌+◌};
-    ghost use Rattle.napt_capture.specs.Faulty.{device_of, own_failed};
+    ghost use Rattle.std.specs.Prelude.{◌+◌, ◌-◌, ◌^◌, ◌≤◌, IfOk, IfSome};
+    ghost use Rattle.std.specs.Io.{WritesAtMost};
+    ghost use Rattle.std.specs.Io.KnownBytes.{WriteAppends};
+    ghost use Rattle.napt_capture.specs.Device.{failed_writes};
+    ghost use Rattle.napt_capture.specs.Faulty.{GoesWrong, after_a_call, device_of, own_failed, plan_of, trouble_of};
 
     ghost contents = { λ f. D.contents (device_of f) };
 
@@ -107,7 +126,22 @@ impl<D: Sink> Sink for Faulty<D> {
 
     ghost is_flushed = { λ f. D.is_flushed (device_of f) };
 
-    fn write(&mut self, bytes: &[u8]) -> Result<usize, DeviceFault> {
+    fn write(&mut self, bytes: &[u8]) -> Result<usize, DeviceFault>
+        requires { own_failed self.old + D.failed (device_of self.old) < 2 ^ 64 - 1 }
+        ensures bound { WritesAtMost result bytes.now }
+        ensures bytes { WriteAppends (D.contents (device_of self.old))
+            (D.contents (device_of self.new)) result bytes.now }
+        ensures unflushed { IfOk result (λ count. 0 < count →
+            ¬ D.is_flushed (device_of self.new)) }
+        ensures held { D.is_flushed (device_of self.new) → D.is_flushed (device_of self.old) }
+        ensures count { own_failed self.new + D.failed (device_of self.new)
+            ≡ own_failed self.old + D.failed (device_of self.old) + failed_writes result bytes.now }
+        // Beside the trait's clauses: what the plan says.
+        ensures most { IfOk result (λ count. count ≤ (plan_of self.old).most) }
+        ensures trouble { IfSome (trouble_of (plan_of self.old)) (λ trouble.
+            GoesWrong trouble result) }
+        ensures plan { plan_of self.new ≡ after_a_call (plan_of self.old) }
+    {
         match self.next_trouble() {
             None => {
                 let most = self.plan.most.min(bytes.len());

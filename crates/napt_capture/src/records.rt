@@ -6,7 +6,7 @@ ghost use Rattle.napt_capture.specs.Device.{failed_calls};
 ghost use Rattle.napt_capture.specs.declared.fault.CaptureFault.TheVariants.{Read};
 ghost use Rattle.napt_capture.specs.Reading.{HasFields, IsWritableNext, ReadsFileHeader, ReadsNext, RefusesFile, StopsBy};
 ghost use Rattle.napt_capture.specs.Stream.{EndsAs};
-ghost use Rattle.napt_capture.specs.Records.{Asks, KeepsLeft, StandsWhole, Tells, TellsEnd, counted, left_of};
+ghost use Rattle.napt_capture.specs.Records.{Asks, KeepsLeft, StandsWhole, Tells, TellsEnd, next_number, left_of};
 
 use crate::ahead::Ahead;
 use crate::contents::Record;
@@ -67,7 +67,7 @@ impl Records {
         requires can_fail { R.failed source.old < 2 ^ 64 - 1 }
         ensures next { IfOk result (Tells self.old
             (left_of self.old (R.remaining source.old)) (left_of self.new (R.remaining source.new))) }
-        ensures number { IfOk result (λ next. self.new.number ≡ counted next self.old.number) }
+        ensures number { IfOk result (λ next. self.new.number ≡ next_number next self.old.number) }
         ensures fault { IfErr result (λ fault. StopsBy fault
             (TellsEnd self.old (Err fault) (left_of self.old (R.remaining source.old)))) }
         ensures kept { OnErr result (KeepsLeft self.old (R.remaining source.old)
@@ -122,7 +122,7 @@ impl Records {
     /// Takes what is next from the bytes read ahead.
     fn take(&mut self, vector: Vec<u8>) -> Result<Next, CaptureFault>
         ensures next { IfOk result (Tells self.old (Some self.old.ahead) (Some self.new.ahead)) }
-        ensures number { IfOk result (λ next. self.new.number ≡ counted next self.old.number) }
+        ensures number { IfOk result (λ next. self.new.number ≡ next_number next self.old.number) }
         ensures fault { IfErr result (λ fault. StopsBy fault
             (TellsEnd self.old (Err fault) (Some self.old.ahead))) }
         ensures read { result ≢ Err Read }

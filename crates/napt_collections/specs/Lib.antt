@@ -1,7 +1,6 @@
 pub mod Sets
 pub mod SetKept
 pub mod Queue
-pub mod QueueKept
 pub mod Bounds
 pub mod PlacedTimes
 pub mod Spans

@@ -8,30 +8,34 @@ use std::cmp::Reverse;
 use std::collections::BinaryHeap;
 use std::marker::Model;
 
-/// A queue of entries, each a time (in any unit) and a number; an entry of the least time is taken first. Contracts see
+/// A queue of entries, each a time (in any unit) and an item; an entry of the least time is taken first. Contracts see
 /// the entries in no particular order, with repetitions, and how many more fit without growth (`room`).
 ///
 /// Growth is a separate call, `reserve`, so that a caller can secure the memory before it changes anything.
 #[derive(Drop)]
-pub struct Due {
-    heap: BinaryHeap<Reverse<(u64, u16)>>,
+pub struct Due<T: Ord> {
+    heap: BinaryHeap<Reverse<(u64, T)>>,
 }
 
-impl Model for Due {
-    ghost use Rattle.napt_collections.specs.Queue.{Queue};
+impl<T: Ord> Model for Due<T> {
+    ghost use Rattle.std.specs.Prelude.{◌-◌, map};
+    ghost use Rattle.std.specs.BinaryHeap.{heap_items, heap_len, heap_capacity};
+    ghost use Rattle.napt_collections.specs.Queue.{Queue, InOrder};
 
-    ghost Value = { Queue };
+    ghost Value = { Queue T };
 
-    ghost use Rattle.napt_collections.specs.QueueKept.{queue_of, InOrder};
+    ghost view = { λ due. record {
+      entries = map (λ e. e.0) (heap_items due.heap);
+      room = heap_capacity due.heap - heap_len due.heap;
+    } };
 
-    ghost view = { queue_of };
-
-    ghost invariant = { InOrder };
+    // as a heap whose greatest element has the least time
+    ghost invariant = { λ due. InOrder T.cmp (heap_items due.heap) };
 }
 
-impl Due {
+impl<T: Ord + Copy> Due<T> {
     /// The empty queue. It takes no memory.
-    pub fn new(alloc: Global) -> Due
+    pub fn new(alloc: Global) -> Due<T>
         ensures { result.entries ≡ [] }
     {
         Due {
@@ -48,19 +52,19 @@ impl Due {
     }
 
     /// Adds an entry, for which there is room. It takes no memory.
-    pub fn put(&mut self, time: u64, number: u16)
+    pub fn put(&mut self, time: u64, item: T)
         requires { 0 < self.old.room }
-        ensures entries { IsPermutation ((time, number) ∷ self.old.entries) self.new.entries }
+        ensures entries { IsPermutation ((time, item) ∷ self.old.entries) self.new.entries }
         ensures room { self.old.room ≤ self.new.room + 1 }
     {
-        match self.heap.push(Reverse((time, number))) {
+        match self.heap.push(Reverse((time, item))) {
             Ok(()) => {}
             Err(_) => unreachable!(),
         }
     }
 
     /// An entry of the least time, which stays; `None` if there are none.
-    pub fn first(&self) -> Option<(u64, u16)>
+    pub fn first(&self) -> Option<(u64, T)>
         ensures some { IfSome result (λ e. Contains self.now.entries e) }
         ensures least { IfSome result (λ e. All (λ other. e.0 ≤ other.0) self.now.entries) }
         ensures none { IfNone result (self.now.entries ≡ []) }
@@ -72,7 +76,7 @@ impl Due {
     }
 
     /// Takes out an entry of the least time, and frees its room; `None` if there are none. It takes no memory.
-    pub fn take_first(&mut self) -> Option<(u64, u16)>
+    pub fn take_first(&mut self) -> Option<(u64, T)>
         ensures some { IfSome result (λ e. IsPermutation self.old.entries (e ∷ self.new.entries)) }
         ensures least { IfSome result (λ e. All (λ other. e.0 ≤ other.0) self.old.entries) }
         ensures room { IfSome result (λ e. self.old.room < self.new.room) }

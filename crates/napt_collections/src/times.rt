@@ -58,14 +58,8 @@ impl Times {
         ensures room { self.old.room ≤ self.new.room + 1 }
     {
         let place = self.times.len();
-        match self.times.push(time) {
-            Ok(()) => {}
-            Err(_) => unreachable!(),
-        }
-        match self.spans.push(no_times()) {
-            Ok(()) => {}
-            Err(_) => unreachable!(),
-        }
+        self.times.push_reserved(time);
+        self.spans.push_reserved(no_times());
         mend(&self.times, &mut self.spans, place);
     }
 

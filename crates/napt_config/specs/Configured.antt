@@ -79,7 +79,7 @@ item_count (item entry rest) = 1 + item_count rest
 abbrev pub required : List ℕ → Members → Result Data ConfigFault
 required key table = ok_or (get_member key table) Missing
 
--- what the value at a key reads as, or what stands for it where the key is absent
+-- what the value at a key reads as, or the default if the key is absent
 abbrev pub optional : {A : Type 0} → List ℕ → A → (Data → Result A ConfigFault) → Members → Result A ConfigFault
 optional key default reading table = option_map_or reading (get_member key table) (Ok default)
 

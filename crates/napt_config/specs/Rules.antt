@@ -13,7 +13,7 @@ use Rattle.napt_config.specs.declared.settings.Timers.{Timers}
 use Rattle.napt_config.specs.declared.settings.Redirect.{Redirect}
 
 -- what a configuration says; the pairs are hosts with their external addresses, by ascending host, and the
--- redirects stand in the order of its text
+-- redirects are in the order of its text
 pub record Rules : Type 0 where
   pub pool : List ℕ
   pub inside : List Network

@@ -17,10 +17,10 @@ use Rattle.napt_rules.specs.declared.Outcome.{Outcome}
 use Rattle.napt_sequential.specs.Faults.{is_gate_fault}
 use Rattle.napt_sequential.specs.declared.fault.RunFault.{RunFault}
 use Rattle.napt_sequential.specs.declared.fault.RunFault.TheVariants as faults
-use Rattle.napt_sequential.specs.CountedTranslators.{IsAtOnce}
+use Rattle.napt_laws.specs.Agreeing.{IsAtOnce}
 use Rattle.napt_dispatch.specs.Dispatch.{started, of_worker, fresh, rows_after, IsFaultUnder, IsDispatched, first_fault}
 use Rattle.napt_pool.specs.declared.fault.PoolFault.{PoolFault}
-use Rattle.napt_sequential.proofs.RunsLocal.{seen}
+use Rattle.napt_laws.proofs.RunsLocal.{seen}
 use Rattle.napt_dispatch.proofs.Ended.{zip_index, zip_long, length_started, started_at}
 
 -- LISTS

@@ -7,7 +7,7 @@ use Rattle.napt_rules.specs.declared.Answer.{Answer}
 use Rattle.napt_pool.specs.declared.pool.Pool.{Pool}
 use Rattle.napt_pool.specs.Pools.{accepts, takes as taken}
 use Rattle.napt_rules.specs.declared.Outcome.{Outcome}
-use Rattle.napt_sequential.specs.Dispatching.{IsFront}
+use Rattle.napt_laws.specs.Dispatching.{IsFront}
 use Rattle.napt_dispatch.specs.declared.dispatcher.Dispatcher.{Dispatcher}
 use Rattle.napt_dispatch.specs.declared.dispatcher.Dispatched.{Dispatched}
 use Rattle.napt_dispatch.specs.declared.dispatcher.Ending.{Ending}
@@ -15,7 +15,8 @@ use Rattle.napt_dispatch.specs.declared.dispatcher.Ending.TheVariants as endings
 use Rattle.napt_dispatch.specs.declared.dispatcher.reading.EndOfInputs.{EndOfInputs}
 use Rattle.napt_dispatch.specs.Collecting.{outcome_of}
 use Rattle.napt_dispatch.specs.Dispatch.{IsDispatched}
-use Rattle.napt_dispatch.specs.Standing.{DispatchState, parts_of, state_of, IsSized, IsDone, Stands}
+use Rattle.napt_dispatch.specs.QueueStates.{unused, counts_in}
+use Rattle.napt_dispatch.specs.Standing.{DispatchState, parts_of, state_of, Stands}
 use Rattle.napt_dispatch.specs.Passing.{timed, Reads, ReadsAll, ReadsSome, EndsWith, EndsEarly, EndsBy}
 use Rattle.napt_dispatch.proofs.Ended.{same_lengths}
 use Rattle.napt_dispatch.proofs.Passing.{many_read}
@@ -24,12 +25,12 @@ use Rattle.napt_dispatch.proofs.Standing.{begin_stands, all_taken, dispatched, l
 
 -- before the first input
 pub begun : {M G : Type 0} (rules : Rules) (pool : Pool M G Leg Answer) (d : Dispatcher) (workers : ℕ) →
-    workers ≡ length rules.pool → IsSized workers (parts_of d) → d.offered.items ≡ replicate workers 0 →
-    IsDone (parts_of d) → d.progress.left ≡ [] → d.progress.under_way ≡ [] →
+    workers ≡ length rules.pool → d.queues ≡ replicate workers unused → d.progress.left ≡ [] →
+    d.progress.under_way ≡ [] →
     accepts pool ≡ replicate (length rules.pool) [] → taken pool ≡ replicate (length rules.pool) [] →
     (inputs : List Arrival) → Stands rules [] inputs (state_of pool d)
-begun rules pool d workers many sized counts idle left none unoffered untaken inputs =
-    begin_stands rules inputs (state_of pool d) (rw many at sized) unoffered untaken (rw many at counts) idle
+begun rules pool d workers many queues left none unoffered untaken inputs =
+    begin_stands rules inputs (state_of pool d) d.queues d.progress refl (rw many at queues) unoffered untaken
     (rw (left, none) refl)
 
 module _ {A F S B M G : Type 0} (rules : Rules) (hands : A → List Arrival → A → Type 0)
@@ -44,7 +45,7 @@ module _ {A F S B M G : Type 0} (rules : Rules) (hands : A → List Arrival → 
 
   pub ends_with : (end : EndOfInputs F) (done : Dispatched F B) →
       ReadsAll rules hands ends takes fails is_settled pool d from before later_pool later left after end →
-      done.legs.items ≡ later.offered.items → done.clock ≡ end.clock →
+      done.legs.items ≡ counts_in later.queues → done.clock ≡ end.clock →
       EndsWith rules hands ends takes fails is_settled from before later_pool left after end.fault done
   ends_with end done r legs clock =
       let inputs : List Arrival = r.to_end.inputs in
@@ -73,7 +74,7 @@ module _ {A F S B M G : Type 0} (rules : Rules) (hands : A → List Arrival → 
               subst (λ legs. IsDispatched rules inputs (accepts later_pool) (map outcome_of r.to_end.went) legs)
                   (sym legs)
                   (subst (λ (l : List (ℕ × Outcome)). IsDispatched rules inputs (accepts later_pool) (map outcome_of l)
-                  later.offered.items) reads.left_is both.1),
+                  (counts_in later.queues)) reads.left_is both.1),
             );
       }
 

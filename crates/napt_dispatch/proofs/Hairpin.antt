@@ -8,7 +8,7 @@ use Rattle.napt_rules.specs.declared.Answer.{Answer}
 use Rattle.napt_rules.specs.declared.End.{End}
 use Rattle.napt_rules.specs.declared.End.TheVariants as ends
 use Rattle.napt_rules.specs.Prelude.{Acted, Act, follow_by, Kept, kept_after, kept_answer, kept_replies}
-use Rattle.napt_sequential.specs.Dispatching.{IsFront}
+use Rattle.napt_laws.specs.Dispatching.{IsFront}
 use Rattle.napt_dispatch.specs.Dispatch.{of_worker, fresh, Right}
 
 -- a front that is short enough is a front of the front

@@ -6,6 +6,7 @@ pub mod Lists
 pub mod Offering
 pub mod Offers
 pub mod Passing
+pub mod QueueStates
 pub mod Queues
 pub mod RunsThrough
 pub mod Standing

@@ -45,3 +45,7 @@ pub of_replicate : (X : Type 0) (n w : ℕ) → of_worker (replicate n (let l : 
 of_replicate X zero w = refl
 of_replicate X (suc n) zero = refl
 of_replicate X (suc n) (suc w) = of_replicate X n w
+
+pub map_replicate : {X Y : Type 0} (f : X → Y) (n : ℕ) (x : X) → map f (replicate n x) ≡ replicate n (f x)
+map_replicate f zero x = refl
+map_replicate f (suc n) x = ap (λ ys. f x ∷ ys) (map_replicate f n x)

@@ -16,10 +16,10 @@ use Rattle.napt_dispatch.specs.declared.dispatcher.progress.Second.TheVariants a
 use Rattle.napt_dispatch.specs.Dispatch.{of_worker}
 use Rattle.napt_dispatch.specs.Queues.{put_first, Popped, many_in}
 use Rattle.napt_dispatch.specs.Windows.{Window, progress_in, is_unknown}
-use Rattle.napt_dispatch.specs.Standing.{Parts, DispatchState, parts_of, state_of, Keeps, with_held, with_first, IsSecond, Forgets, TakesFirst, first_waits, Offers, PutsBack, waits, HasTaken, IsRingFull, HasOffered, OffersOnlyTo}
+use Rattle.napt_dispatch.specs.Standing.{Parts, parts_of, state_of, Keeps, with_held, IsSecond, Forgets, TakesFirst, first_waits, Offers, PutsBack, waits, HasTaken, IsRingFull, HasOffered, OffersOnlyTo}
 use Rattle.napt_dispatch.proofs.Lists.{push_other}
 use Rattle.napt_dispatch.proofs.Queues.{nothing, many_popped}
-use Rattle.napt_dispatch.proofs.Standing.{set_own, held_as}
+use Rattle.napt_dispatch.proofs.Standing.{set_own}
 
 -- WHAT STANDS FIRST
 
@@ -55,13 +55,6 @@ taken_less w parts later within t =
     let was : length (of_worker parts.held w) ≡ suc (length t.popped.rest) = ap length t.popped.first in
     let now : length (of_worker later.held w) ≡ length t.popped.rest = ap length left in
     omega arith
-
--- a leg was taken out
-pub ready_keeps : (w : ℕ) (leg : Leg) (state : DispatchState) (held : List (List Held)) →
-    w < length state.parts.held → Popped w (Ready leg) state.parts.held held →
-    Keeps state (with_first w leg (held_as state held state.parts.progress))
-ready_keeps w leg state held within p = λ rules done all s.
-    rw (put_back_same state.parts.held held w (Ready leg) within p) s
 
 -- of no input more was known, whether its leg was taken out or not
 pub second_forgets : (number : ℕ) (window later : Window) (leg : Leg) →
@@ -256,6 +249,6 @@ taken_one w owed parts later within popped =
 pub taken_more : (parts mid later : Parts) (any more : Bool) → HasTaken parts mid any → HasTaken mid later more →
     HasTaken parts later (more || any)
 taken_more parts mid later true true a b = omega arith
-taken_more parts mid later false true a b = omega arith
-taken_more parts mid later true false a b = omega arith
+taken_more parts mid later false true a b = rw a at b
+taken_more parts mid later true false a b = rw b a
 taken_more parts mid later false false a b = b ∙ a

@@ -7,10 +7,11 @@ use Rattle.napt_rules.specs.declared.Leg.{Leg}
 use Rattle.napt_dispatch.specs.declared.dispatcher.held.Held.TheVariants.{Ready, Place}
 use Rattle.napt_dispatch.specs.Dispatch.{of_worker}
 use Rattle.napt_dispatch.specs.Queues.{pushed, put_first, many_in}
+use Rattle.napt_dispatch.specs.QueueStates.{QueueState, held_in}
 use Rattle.napt_dispatch.specs.Standing.{Parts, with_held}
 use Rattle.napt_dispatch.proofs.Lists.{push_other}
 use Rattle.napt_dispatch.proofs.Queues.{many_pushed}
-use Rattle.napt_dispatch.proofs.Standing.{set_own}
+use Rattle.napt_dispatch.proofs.Standing.{set_own, within_held}
 
 module _ {X : Type 0} (lists : List (List X)) (w : ℕ) (x : X) (lt : w < length lists)
     (none : of_worker lists w ≡ []) where
@@ -62,3 +63,8 @@ placed_room (Some v) number parts later within e room =
     let more : many_in later.held ≡ many_in parts.held + 1 =
     rw e (many_pushed parts.held v within (Place number)) in
     omega (arith, room, more)
+
+pub within_to : (queues : List QueueState) (to : Option ℕ) → IfSome to (λ v. v < length queues) →
+    IfSome to (λ v. v < length (held_in queues))
+within_to queues None h = tt
+within_to queues (Some v) h = within_held queues v h

@@ -9,7 +9,7 @@ use Rattle.napt_pool.specs.Pools.{starts, accepts, takes as taken}
 use Rattle.napt_rules.specs.declared.Outcome.{Outcome}
 use Rattle.napt_rules.specs.Prelude.{opening, Arrival, run, last_clock}
 use Rattle.napt_sequential.specs.Inputs.{Came}
-use Rattle.napt_sequential.proofs.Grown.{clock_more}
+use Rattle.napt_laws.proofs.Grown.{clock_more}
 use Rattle.napt_dispatch.specs.declared.dispatcher.Dispatcher.{Dispatcher}
 use Rattle.napt_dispatch.specs.declared.dispatcher.held.Offer.{Offer}
 use Rattle.napt_dispatch.specs.Offers.{with_offer, with_offered}
@@ -48,6 +48,14 @@ module _ {M G : Type 0} where
     keeps = λ rules done all s. s;
   }
 
+  pub continues_none : (pool : Pool M G Leg Answer) (d : Dispatcher) → IsSizedFor pool d → Continues pool d pool d
+  continues_none pool d sized = record {
+    starts_stay = refl;
+    sized = sized;
+    journal_stays = refl;
+    keeps = λ rules done all s. s;
+  }
+
   pub goes_more : (pool : Pool M G Leg Answer) (d : Dispatcher) (xs ys : List (ℕ × Outcome))
       (middle_pool : Pool M G Leg Answer) (middle : Dispatcher) (later_pool : Pool M G Leg Answer)
       (later : Dispatcher) →
@@ -77,25 +85,26 @@ module _ {M G : Type 0} where
 
   -- outcomes left, and nothing else was done
   pub goes_over : (pool : Pool M G Leg Answer) (d later : Dispatcher) (went : List (ℕ × Outcome)) →
-      IsSizedFor pool d → later.offered ≡ d.offered → later.owed ≡ d.owed → later.held ≡ d.held →
-      IsHandedOver went d.progress later.progress → GoesOn pool d went pool later
-  goes_over pool d later went sized offered owed held over = record {
+      IsSizedFor pool d → later.queues ≡ d.queues → IsHandedOver went d.progress later.progress →
+      GoesOn pool d went pool later
+  goes_over pool d later went sized queues over = record {
     starts_stay = refl;
-    sized = rw (offered, owed, held) (record { counts = sized.counts; owed = sized.owed; held = sized.held });
+    sized = rw queues sized;
     times_stay = over.times_stay;
     left_is = over.left_is;
     keeps = λ rules done all s. record {
       rest = s.rest;
       whole = s.whole;
-      sized = rw (offered, owed, held) (record { counts = s.sized.counts; owed = s.sized.owed; held = s.sized.held });
       offered_many = s.offered_many;
       taken_many = s.taken_many;
-      counts_are = rw offered s.counts_are;
-      owes = λ v lt. rw owed (s.owes v lt);
+      owed_many = rw queues s.owed_many;
+      held_many = rw queues s.held_many;
+      counts_are = rw queues s.counts_are;
+      owes = λ v lt. rw queues (s.owes v lt);
       reaches = λ right.
           let r : Reaches rules done all (state_of pool d) = s.reaches right in
           record {
-            reached = λ v lt. rw held (r.reached v lt);
+            reached = λ v lt. rw queues (r.reached v lt);
             known = over.known (run rules all (opening rules)) r.known;
           };
     };

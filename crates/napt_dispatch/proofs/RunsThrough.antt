@@ -8,9 +8,9 @@ use Rattle.napt_rules.specs.declared.Outcome.{Outcome}
 use Rattle.napt_rules.specs.Prelude.{opening, Arrival, run, Ran, ran}
 use Rattle.napt_pool.specs.declared.pool.Pool.{Pool}
 use Rattle.napt_pool.specs.Pools.{accepts, takes as taken}
-use Rattle.napt_sequential.specs.Dispatching.{IsFront}
+use Rattle.napt_laws.specs.Dispatching.{IsFront}
 use Rattle.napt_sequential.proofs.Inputs.{came_whole}
-use Rattle.napt_sequential.proofs.Shown.{ran_long}
+use Rattle.napt_laws.proofs.Grown.{ran_long}
 use Rattle.napt_dispatch.specs.declared.collected.Collected.{Collected}
 use Rattle.napt_dispatch.specs.declared.dispatcher.Dispatched.{Dispatched}
 use Rattle.napt_dispatch.specs.declared.workers.Passed.{Passed}

@@ -26,22 +26,23 @@ use Rattle.napt_dispatch.specs.declared.dispatcher.held.Owed.{Owed}
 use Rattle.napt_dispatch.specs.declared.dispatcher.progress.Progress.{Progress}
 use Rattle.napt_dispatch.specs.declared.dispatcher.progress.Progress.TheVariants.{Awaited, Onward, EndedOut, EndedIn}
 use Rattle.napt_dispatch.specs.declared.dispatcher.progress.Second.TheVariants as seconds
-use Rattle.napt_sequential.specs.Dispatching.{IsFront, told, IsTold, IsForetold, OnwardIsForetold}
+use Rattle.napt_laws.specs.Dispatching.{IsFront, outcome_told, IsTold, IsForetold, OnwardIsForetold}
 use Rattle.napt_dispatch.specs.Dispatch.{of_worker, Right, Distinct, IsDispatched}
-use Rattle.napt_sequential.specs.Places.{first_act, second_legs, second_of, IsSeconded}
+use Rattle.napt_laws.specs.Places.{first_act, second_legs, second_of, IsSeconded}
 use Rattle.napt_dispatch.specs.Queues.{pushed, put_first, Popped}
 use Rattle.napt_dispatch.specs.Collecting.{outcome_of}
 use Rattle.napt_dispatch.specs.Passing.{timed}
+use Rattle.napt_dispatch.specs.QueueStates.{QueueState, unused, counts_in, owed_in, held_in, Holds, Owes}
 use Rattle.napt_dispatch.specs.Windows.{Window, progress_in, times_in, next_leg, IsKnown, IsWritten}
-use Rattle.napt_dispatch.specs.Standing.{Journal, journal_of, Parts, DispatchState, IsSized, owed_of, IsOwed, resolved, Reaches, Stands, Keeps, with_held, with_progress, with_first, ended, IsToldBy, Noted, IsSecond, Admits, IsDone}
+use Rattle.napt_dispatch.specs.Standing.{Journal, journal_of, Parts, parts_with, DispatchState, owed_of, IsOwed, resolved, Reaches, Stands, Keeps, with_held, with_progress, with_first, ended, IsToldBy, Noted, IsSecond, Admits, IsDone}
 use Rattle.napt_dispatch.proofs.Windows.{known_set, known_push, left_front, left_whole, timed_outcomes}
-use Rattle.napt_dispatch.proofs.Lists.{push_own, push_other, count_push, place_within, no_lengths, of_replicate}
-use Rattle.napt_sequential.proofs.Dispatched.{right_answers, answers_tell}
-use Rattle.napt_sequential.proofs.Grown.{outcomes_long}
-use Rattle.napt_sequential.proofs.Places.{legs_append, answers_fill, cond_map, place_stands, acts_grow}
+use Rattle.napt_dispatch.proofs.Lists.{push_own, push_other, count_push, place_within, no_lengths, of_replicate, map_replicate}
+use Rattle.napt_laws.proofs.Dispatched.{right_answers, answers_tell}
+use Rattle.napt_laws.proofs.Grown.{outcomes_long}
+use Rattle.napt_laws.proofs.Places.{legs_append, answers_fill, cond_map, place_stands, acts_grow}
 use Rattle.napt_dispatch.proofs.Hairpin.{offer_back, answer_back, single_by}
-use Rattle.napt_sequential.proofs.OneInput.{acts_begin, outcomes_begin, get_at, grown}
-use Rattle.napt_sequential.proofs.Steps.{stands_at}
+use Rattle.napt_laws.proofs.OneInput.{acts_begin, outcomes_begin, get_at, grown}
+use Rattle.napt_laws.proofs.Pools.{stands_at}
 use Rattle.napt_dispatch.proofs.Ended.{map_at}
 
 -- LISTS OF WORKERS
@@ -109,7 +110,7 @@ module _ (w : ℕ) (leg : Leg) (state : DispatchState) (within : w < length stat
 
   module _ (rules : Rules) (done all : List Arrival) (s : Stands rules done all (with_first w leg state)) where
     long_held : length state.parts.held ≡ length rules.pool
-    long_held = sym (length-set state.parts.held w (Ready leg ∷ of_worker state.parts.held w)) ∙ s.sized.held
+    long_held = sym (length-set state.parts.held w (Ready leg ∷ of_worker state.parts.held w)) ∙ s.held_many
 
     inside : w < length rules.pool
     inside = rw long_held at within
@@ -118,7 +119,7 @@ module _ (w : ℕ) (leg : Leg) (state : DispatchState) (within : w < length stat
     in_offered = rw s.offered_many inside
 
     in_owed : w < length state.parts.owed
-    in_owed = rw s.sized.owed inside
+    in_owed = rw s.owed_many inside
 
     own : of_worker (pushed w leg state.offered) w ≡ of_worker state.offered w ++ leg ∷ []
     own = push_own state.offered w leg in_offered
@@ -157,11 +158,8 @@ module _ (w : ℕ) (leg : Leg) (state : DispatchState) (within : w < length stat
     offered_stand = record {
       rest = s.rest;
       whole = s.whole;
-      sized = record {
-        counts = length-set state.parts.counts w (slice_index state.parts.counts w + 1) ∙ s.sized.counts;
-        owed = length-set state.parts.owed w (of_worker state.parts.owed w ++ owed_of leg ∷ []) ∙ s.sized.owed;
-        held = long_held;
-      };
+      owed_many = length-set state.parts.owed w (of_worker state.parts.owed w ++ owed_of leg ∷ []) ∙ s.owed_many;
+      held_many = long_held;
       offered_many = length-set state.offered w (of_worker state.offered w ++ leg ∷ []) ∙ s.offered_many;
       taken_many = s.taken_many;
       counts_are = count_push state.offered w leg state.parts.counts s.counts_are;
@@ -181,19 +179,27 @@ module _ (w : ℕ) (leg : Leg) (state : DispatchState) (within : w < length stat
   offered_keeps later a b c = λ rules done all s.
       subst (Stands rules done all) (sym (state_as a b c)) (offered_stand rules done all s)
 
-pub offered_parts_are : (w : ℕ) (leg : Leg) (parts mid later : Parts) →
-    mid ≡ record parts { counts = slice_set parts.counts w (slice_index parts.counts w + 1) } →
-    later.counts ≡ mid.counts → later.owed ≡ pushed w (owed_of leg) mid.owed → later.held ≡ mid.held → later.progress
-    ≡ mid.progress → later.journal ≡ mid.journal →
-    later ≡ record parts {
-      counts = slice_set parts.counts w (slice_index parts.counts w + 1);
+pub offered_parts_are : (w : ℕ) (leg : Leg) (queues later : List QueueState) (window : Window) →
+    Owes w (owed_of leg) queues later →
+    parts_with later window ≡ record (parts_with queues window) {
+      counts = slice_set (counts_in queues) w (slice_index (counts_in queues) w + 1);
       owed =
-          pushed w (owed_of leg) parts.owed;
+          pushed w (owed_of leg) (owed_in queues);
     }
-offered_parts_are w leg parts mid later m counts owed held progress journal =
-    parts_as (counts ∙ ap (λ (p : Parts). p.counts) m) (owed ∙ ap (λ (p : Parts). pushed w (owed_of leg) p.owed) m)
-    (held ∙ ap (λ (p : Parts). p.held) m) (progress ∙ ap (λ (p : Parts). p.progress) m)
-    (journal ∙ ap (λ (p : Parts). p.journal) m)
+offered_parts_are w leg queues later window o = parts_as o.counts_are o.owed_is o.held_stays refl refl
+
+-- WHAT IS HELD, BY THE QUEUES
+
+pub held_parts : (queues later : List QueueState) (window : Window) (held : List (List Held)) →
+    Holds held queues later → parts_with later window ≡ with_held held (parts_with queues window)
+held_parts queues later window held h = parts_as h.counts_stay h.owed_stays h.held_is refl refl
+
+-- a worker has a list of each kind
+pub within_owed : (queues : List QueueState) (w : ℕ) → w < length queues → w < length (owed_in queues)
+within_owed queues w lt = rw length-map lt
+
+pub within_held : (queues : List QueueState) (w : ℕ) → w < length queues → w < length (held_in queues)
+within_held queues w lt = rw length-map lt
 
 -- AN ANSWER
 
@@ -237,7 +243,7 @@ ended_known course n Outgoing o tells none = (tells, none refl)
 ended_known course n Incoming o tells none = tells
 
 told_known : (course : Course) (leg : Leg) (e : End) (p : Progress) →
-    IfSome (told e) (λ o. slice_get course.outcomes leg.number ≡ Some o) →
+    IfSome (outcome_told e) (λ o. slice_get course.outcomes leg.number ≡ Some o) →
     (leg.way ≡ Outgoing → second_legs leg.number course.acts ≡ second_of leg e) →
     IsToldBy (owed_of leg) e p → IsKnown course leg.number p
 told_known course leg (ends.ToOutside packet) p tells seconded h =
@@ -297,7 +303,7 @@ module _ (w : ℕ) (answer : Answer) (state later : DispatchState) (within : w <
 
   module _ (rules : Rules) (done all : List Arrival) (s : Stands rules done all state) where
     w_inside : w < length rules.pool
-    w_inside = rw s.sized.owed at within
+    w_inside = rw s.owed_many at within
 
     in_taken : w < length state.taken
     in_taken = rw s.taken_many w_inside
@@ -367,11 +373,8 @@ module _ (w : ℕ) (answer : Answer) (state later : DispatchState) (within : w <
     answered_stand = record {
       rest = s.rest;
       whole = s.whole;
-      sized = record {
-        counts = s.sized.counts;
-        owed = length-set state.parts.owed w n.popped.rest ∙ s.sized.owed;
-        held = s.sized.held;
-      };
+      owed_many = length-set state.parts.owed w n.popped.rest ∙ s.owed_many;
+      held_many = s.held_many;
       offered_many = s.offered_many;
       taken_many = length-set state.taken w (of_worker state.taken w ++ answer ∷ []) ∙ s.taken_many;
       counts_are = s.counts_are;
@@ -401,7 +404,8 @@ stand_as : (rules : Rules) (done later rest all : List Arrival) (state : Dispatc
 stand_as rules done later rest all state held progress whole long reaches s = record {
   rest = rest;
   whole = whole;
-  sized = record { counts = s.sized.counts; owed = s.sized.owed; held = long ∙ s.sized.held };
+  owed_many = s.owed_many;
+  held_many = long ∙ s.held_many;
   offered_many = s.offered_many;
   taken_many = s.taken_many;
   counts_are = s.counts_are;
@@ -567,7 +571,7 @@ module _ (rules : Rules) (distinct : Distinct rules.pool) (done rest : List Arri
     held_first = pushed w (Ready leg_of) state.parts.held
 
     held_within : Stands rules done all_of state → w < length state.parts.held
-    held_within s = rw s.sized.held within
+    held_within s = rw s.held_many within
 
     same_first : (v : ℕ) → v < length rules.pool →
         (served_at rules (way_from input.side) packet == at_place v) ≡ (v == w)
@@ -617,7 +621,7 @@ module _ (rules : Rules) (distinct : Distinct rules.pool) (done rest : List Arri
         let one : List Leg = cond (v == w) (leg_of ∷ []) [] in
         let two : List Leg = cond (v == to) (second_legs number acts_all) [] in
         let to_held : to < length held_first =
-        rw (long_first, s.sized.held) to_within in (
+        rw (long_first, s.held_many) to_within in (
           one ++ two,
           push_reads f held_first to (Place number) to_held v
               ∙ (ap (λ (ls : List Leg). ls ++ two) (push_reads f state.parts.held w (Ready leg_of) (held_within s) v)
@@ -687,7 +691,8 @@ pub expected_keeps : (offered : List (List Leg)) (taken : List (List Answer)) (p
 expected_keeps offered taken parts later counts owed held progress = λ rules done all s. record {
   rest = s.rest;
   whole = s.whole;
-  sized = rw (counts, owed, held) (record { counts = s.sized.counts; owed = s.sized.owed; held = s.sized.held });
+  owed_many = rw owed s.owed_many;
+  held_many = rw held s.held_many;
   offered_many = s.offered_many;
   taken_many = s.taken_many;
   counts_are = counts ∙ s.counts_are;
@@ -706,31 +711,34 @@ none_known : (course : Course) (i : ℕ) (p : Progress) → slice_get (let ps : 
     IsKnown course i p
 none_known course i p h = cc
 
-pub begin_stands : (rules : Rules) (inputs : List Arrival) (state : DispatchState) →
-    IsSized (length rules.pool) state.parts → state.offered ≡ replicate (length rules.pool) [] → state.taken
-    ≡ replicate (length rules.pool) [] →
-    state.parts.counts ≡ replicate (length rules.pool) 0 → IsDone state.parts → state.parts.progress ≡ [] →
-    Stands rules [] inputs state
-begin_stands rules inputs state sized offered taken counts idle progress =
-    let none : (v : ℕ) → of_worker state.offered v ≡ [] = λ v. rw offered (of_replicate Leg (length rules.pool) v) in
-    let no_answers : (v : ℕ) → of_worker state.taken v ≡ [] =
-    λ v. rw taken (of_replicate Answer (length rules.pool) v) in
+pub begin_stands : (rules : Rules) (inputs : List Arrival) (state : DispatchState) (queues : List QueueState)
+    (window : Window) → state.parts ≡ parts_with queues window → queues ≡ replicate (length rules.pool) unused →
+    state.offered ≡ replicate (length rules.pool) [] → state.taken ≡ replicate (length rules.pool) [] →
+    state.parts.progress ≡ [] → Stands rules [] inputs state
+begin_stands rules inputs state queues window parts is offered taken progress =
+    let n : ℕ = length rules.pool in
+    let none : (v : ℕ) → of_worker state.offered v ≡ [] = λ v. rw offered (of_replicate Leg n v) in
+    let no_answers : (v : ℕ) → of_worker state.taken v ≡ [] = λ v. rw taken (of_replicate Answer n v) in
+    let counts : state.parts.counts ≡ replicate n 0 = rw (parts, is) (map_replicate (λ q. q.offered) n unused) in
+    let owed : state.parts.owed ≡ replicate n [] = rw (parts, is) (map_replicate (λ q. q.owed) n unused) in
+    let held : state.parts.held ≡ replicate n [] = rw (parts, is) (map_replicate (λ q. q.held) n unused) in
     record {
       rest = inputs;
       whole = refl;
-      sized = sized;
-      offered_many = ap length offered ∙ length-replicate (length rules.pool) [];
-      taken_many = ap length taken ∙ length-replicate (length rules.pool) [];
-      counts_are = counts ∙ (sym (no_lengths Leg (length rules.pool)) ∙ ap (map length) (sym offered));
+      offered_many = ap length offered ∙ length-replicate n [];
+      taken_many = ap length taken ∙ length-replicate n [];
+      owed_many = ap length owed ∙ length-replicate n [];
+      held_many = ap length held ∙ length-replicate n [];
+      counts_are = counts ∙ (sym (no_lengths Leg n) ∙ ap (map length) (sym offered));
       owes = λ v lt. record {
         before = [];
         rest = [];
         parts = none v;
         long = ap length (sym (no_answers v));
-        owed_is = idle.owed v;
+        owed_is = rw owed (of_replicate Owed n v);
       };
       reaches = λ right. record {
-        reached = λ v lt. rw (none v, idle.held v) refl;
+        reached = λ v lt. rw (none v, held, of_replicate Held n v) refl;
         known = λ i p h. none_known (run rules inputs (opening rules)) i p (rw progress at h);
       };
     }

@@ -14,7 +14,7 @@ use Rattle.napt_pool.specs.declared.fault.PoolFault.{PoolFault}
 use Rattle.napt_rules.specs.declared.Outcome.{Outcome}
 use Rattle.napt_sequential.specs.declared.fault.RunFault.{RunFault}
 use Rattle.napt_sequential.specs.declared.fault.RunFault.TheVariants as faults
-use Rattle.napt_sequential.specs.Dispatching.{IsFront}
+use Rattle.napt_laws.specs.Dispatching.{IsFront}
 
 -- WORKERS
 

@@ -1,6 +1,6 @@
 -- A run from arrivals to departures.
 use Rattle.std.specs.Prelude.{◌≡◌, ◌⊎◌, ⊤, ℕ, ◌^◌, ◌<◌, max, Bool, List, [], ◌∷◌, ◌++◌, map, length, Option, Some, None, Result, Ok, Err, MatchResult}
-use Rattle.napt_config.specs.Rules.{Rules}
+use Rattle.napt_config.specs.Rules.{Rules, KeepsRules}
 use Rattle.napt_rules.specs.Prelude.{opening, Arrival, run, last_clock, ran}
 use Rattle.napt_rules.specs.declared.Leg.{Leg}
 use Rattle.napt_rules.specs.declared.Answer.{Answer}
@@ -8,7 +8,7 @@ use Rattle.napt_pool.specs.declared.pool.Pool.{Pool}
 use Rattle.napt_pool.specs.Pools.{starts, accepts, zip_with, takes as taken}
 use Rattle.napt_rules.specs.declared.Outcome.{Outcome}
 use Rattle.napt_sequential.specs.Inputs.{Came}
-use Rattle.napt_sequential.specs.Dispatching.{IsFront}
+use Rattle.napt_laws.specs.Dispatching.{IsFront}
 use Rattle.napt_dispatch.specs.declared.dispatcher.Dispatcher.{Dispatcher}
 use Rattle.napt_dispatch.specs.declared.dispatcher.halted.Halted.{Halted}
 use Rattle.napt_dispatch.specs.declared.dispatcher.halted.Halted.TheVariants as halts
@@ -100,6 +100,14 @@ LetsGoUnlessFault open_gate takes fails pool d before later_pool later after res
     (HaltsAt open_gate takes fails pool d before later_pool later after)
 
 -- READING
+
+-- no input was read, and there are queues for each worker of the pool, one for each address
+pub record Begins {M G : Type 0} (rules : Rules) (pool : Pool M G Leg Answer) (d : Dispatcher) : Type 0 where
+  pub keeps : KeepsRules rules
+  pub count : length (starts pool) ≡ length rules.pool
+  pub sized : IsSizedFor pool d
+  pub left : d.progress.left ≡ []
+  pub under_way : d.progress.under_way ≡ []
 
 -- one input more was read, at a time
 pub record Serves {M G : Type 0} (rules : Rules) (now : ℕ) (input : Arrival) (pool : Pool M G Leg Answer)

@@ -28,10 +28,13 @@ use Rattle.napt_dispatch.specs.declared.dispatcher.progress.Progress.{Progress}
 use Rattle.napt_dispatch.specs.declared.dispatcher.progress.Progress.TheVariants.{Awaited, Onward, EndedOut, EndedIn}
 use Rattle.napt_dispatch.specs.declared.dispatcher.progress.Second.{Second}
 use Rattle.napt_dispatch.specs.declared.dispatcher.progress.Second.TheVariants as seconds
+use Rattle.napt_dispatch.specs.declared.dispatcher.taking.Until.{Until}
+use Rattle.napt_dispatch.specs.declared.dispatcher.taking.Until.TheVariants as untils
 use Rattle.napt_dispatch.specs.Dispatch.{of_worker, IsDispatchFault, Right}
 use Rattle.napt_dispatch.specs.Queues.{pushed, put_first, Popped, many_in}
+use Rattle.napt_dispatch.specs.QueueStates.{QueueState, counts_in, owed_in, held_in}
 use Rattle.napt_dispatch.specs.Windows.{Window, progress_in, times_in, is_unknown, next_leg, AllKnown, IsWritten}
-use Rattle.napt_sequential.specs.Places.{second_legs}
+use Rattle.napt_laws.specs.Places.{second_legs}
 
 -- WHAT A DISPATCHER KEEPS
 
@@ -52,14 +55,17 @@ pub record Parts : Type 0 where
   pub progress : List Progress
   pub journal : Journal
 
-abbrev pub parts_of : Dispatcher → Parts
-parts_of d = record {
-  counts = d.offered.items;
-  owed = map (λ q. q.items) d.owed.items;
-  held = d.held;
-  progress = progress_in d.progress;
-  journal = journal_of d.progress;
+abbrev pub parts_with : List QueueState → Window → Parts
+parts_with queues window = record {
+  counts = counts_in queues;
+  owed = owed_in queues;
+  held = held_in queues;
+  progress = progress_in window;
+  journal = journal_of window;
 }
+
+abbrev pub parts_of : Dispatcher → Parts
+parts_of d = parts_with d.queues d.progress
 
 -- with what each worker was offered, and what was taken of each
 pub record DispatchState : Type 0 where
@@ -69,12 +75,6 @@ pub record DispatchState : Type 0 where
 
 abbrev pub state_of : {M G : Type 0} → Pool M G Leg Answer → Dispatcher → DispatchState
 state_of pool d = record { offered = accepts pool; taken = takes pool; parts = parts_of d }
-
--- a list for each of so many workers
-pub record IsSized (count : ℕ) (parts : Parts) : Type 0 where
-  pub counts : length parts.counts ≡ count
-  pub owed : length parts.owed ≡ count
-  pub held : length parts.held ≡ count
 
 -- WHAT STANDS
 
@@ -106,9 +106,10 @@ pub record Reaches (rules : Rules) (done all : List Arrival) (state : DispatchSt
 pub record Stands (rules : Rules) (done all : List Arrival) (state : DispatchState) : Type 0 where
   pub rest : List Arrival
   pub whole : done ++ rest ≡ all
-  pub sized : IsSized (length rules.pool) state.parts
   pub offered_many : length state.offered ≡ length rules.pool
   pub taken_many : length state.taken ≡ length rules.pool
+  pub owed_many : length state.parts.owed ≡ length rules.pool
+  pub held_many : length state.parts.held ≡ length rules.pool
   pub counts_are : state.parts.counts ≡ map length state.offered
   pub owes : (w : ℕ) → w < length rules.pool → IsOwed (of_worker state.offered w) (of_worker state.taken w)
       (of_worker state.parts.owed w)
@@ -131,9 +132,9 @@ KeepsParts parts later =
 
 -- OVER A POOL
 
--- a dispatcher has a list for each worker of its pool
+-- a dispatcher has queues for each worker of its pool
 abbrev pub IsSizedFor : {M G : Type 0} → Pool M G Leg Answer → Dispatcher → Type 0
-IsSizedFor pool d = IsSized (length (starts pool)) (parts_of d)
+IsSizedFor pool d = length d.queues ≡ length (starts pool)
 
 -- the pool has the same workers, and what stood of it and of its dispatcher still stands
 pub record Continues {M G : Type 0} (pool : Pool M G Leg Answer) (d : Dispatcher) (later_pool : Pool M G Leg Answer)
@@ -250,10 +251,10 @@ Admits rules number now input parts later =
           later;
     })
 
--- whether answers were taken: fewer are owed than before, or as many
+-- whether answers were taken: fewer are owed than before, or nothing was done
 abbrev pub HasTaken : Parts → Parts → Bool → Type 0
 HasTaken parts later true = many_in later.owed < many_in parts.owed
-HasTaken parts later false = many_in later.owed ≡ many_in parts.owed
+HasTaken parts later false = later ≡ parts
 
 -- OFFERS
 
@@ -292,6 +293,10 @@ waits ring parts w = nat_le ring (length (of_worker parts.owed w))
 abbrev pub HasOffered : {M G : Type 0} → Pool M G Leg Answer → Dispatcher → ℕ → Type 0
 HasOffered pool d w = (waits d.ring (parts_of d) w ≡ true) ⊎ IsRingFull pool w
 
+-- so was every worker
+abbrev pub HasOfferedAll : {M G : Type 0} → Pool M G Leg Answer → Dispatcher → Type 0
+HasOfferedAll pool d = (w : ℕ) → w < length (starts pool) → HasOffered pool d w
+
 -- no worker but w was offered anything, and of no input is more known
 pub record OffersOnlyTo {M G : Type 0} (w : ℕ) (pool : Pool M G Leg Answer) (d : Dispatcher)
     (later_pool : Pool M G Leg Answer) (later : Dispatcher) : Type 0 where
@@ -316,3 +321,8 @@ pub record HasRoom (d : Dispatcher) : Type 0 where
 pub record IsDone (parts : Parts) : Type 0 where
   pub owed : (w : ℕ) → of_worker parts.owed w ≡ []
   pub held : (w : ℕ) → of_worker parts.held w ≡ []
+
+-- a state up to which a dispatcher goes on
+abbrev pub HasReached : Until → Dispatcher → Type 0
+HasReached untils.Room d = HasRoom d
+HasReached untils.Done d = IsDone (parts_of d)

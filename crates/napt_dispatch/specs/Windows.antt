@@ -3,7 +3,7 @@ use Rattle.std.specs.Prelude.{◌≡◌, ℕ, ◌++◌, List, [], ◌∷◌, Boo
 use Rattle.napt_wire.specs.declared.Way.TheVariants.{Incoming}
 use Rattle.napt_rules.specs.declared.Leg.{Leg}
 use Rattle.napt_rules.specs.Prelude.{Course}
-use Rattle.napt_sequential.specs.Places.{second_legs}
+use Rattle.napt_laws.specs.Places.{second_legs}
 use Rattle.napt_rules.specs.declared.Outcome.{Outcome}
 use Rattle.napt_dispatch.specs.declared.dispatcher.progress.Progress.{Progress}
 use Rattle.napt_dispatch.specs.declared.dispatcher.progress.Progress.TheVariants.{Awaited, Onward, EndedOut, EndedIn}

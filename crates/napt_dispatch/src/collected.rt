@@ -6,7 +6,7 @@ use crate::departures::Departures;
 use napt_sequential::Outcome;
 use std::alloc::{AllocError, Global};
 
-/// The outcomes of a run, one for each input, and when these arrived, in ns.
+/// The outcomes of a run, one for each input, and the arrival times of the inputs, in ns.
 #[derive(Drop)]
 pub(crate) struct Collected {
     pub(crate) outcomes: Vec<Outcome>,
@@ -14,7 +14,7 @@ pub(crate) struct Collected {
 }
 
 impl Collected {
-    /// Before the first, with room for so many.
+    /// No outcomes, with memory reserved for a number of inputs.
     pub(crate) fn with_capacity(alloc: Global, inputs: usize) -> Result<Collected, AllocError>
         ensures outcomes { IfOk result (λ none. none.outcomes.items ≡ []) }
         ensures times { IfOk result (λ none. none.times.items ≡ []) }

@@ -1,31 +1,31 @@
-//! What takes the outcomes of a run.
+//! Where the outcomes of a run go.
 
 ghost use Rattle.std.specs.Prelude.{◌≡◌, ◌∷◌, ◌++◌, [], ℕ, List, MatchResult};
 ghost use Rattle.napt_rules.specs.declared.Outcome.{Outcome as KnownOutcome};
 
 use napt_sequential::Outcome;
 
-/// What takes the outcomes of a run, one after another, in the order of the inputs.
+/// Takes the outcomes of a run, one at a time, in the order of the inputs.
 pub trait Departures {
-    /// Why no more can be taken.
+    /// Why no more outcomes can be taken.
     type Fault: Drop;
 
-    // These were taken, each with the arrival time of its input, in this order, and it was left so.
+    // From a state to a later one these outcomes were taken in this order, each with the arrival time of its input.
     ghost takes: { Self → List (ℕ × KnownOutcome) → Self → Type 0 };
 
-    // While these were taken this fault was told, and it was left so.
+    // From a state to a later one taking these outcomes ended in this fault.
     ghost fails: { Self → List (ℕ × KnownOutcome) → Self.Fault → Self → Type 0 };
 
-    // All that was taken is where it belongs.
+    // Every outcome taken is at its destination.
     ghost is_settled: { Self → Type 0 };
 
-    /// Takes the outcome of the next input, which arrived at a time in ns. Gives back the vector of its packet's bytes, if it
-    /// does not keep them: its room serves an input to come.
+    /// Takes the outcome of the next input, which arrived at a time in ns. Returns the buffer of its packet unless it keeps
+    /// that: an input to come uses it.
     fn leave(&mut self, time: u64, outcome: Outcome) -> Result<Option<Vec<u8>>, Self::Fault>
         ensures { MatchResult result (λ _. takes self.old ((time, outcome) ∷ []) self.new)
             (λ fault. fails self.old ((time, outcome) ∷ []) fault self.new) };
 
-    /// Brings all that was taken to where it belongs: a flush.
+    /// Brings every outcome taken to its destination: a flush.
     fn settle(&mut self) -> Result<(), Self::Fault>
         ensures { MatchResult result (λ _. takes self.old [] self.new × is_settled self.new)
             (λ fault. fails self.old [] fault self.new) };

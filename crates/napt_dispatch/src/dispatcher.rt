@@ -1,81 +1,75 @@
-//! The dispatcher: it hands out the legs of all inputs to workers, and takes their answers.
+//! The dispatcher: it offers the legs of all inputs to workers, and takes their answers.
 //!
-//! For each worker the legs not yet offered are held in the order of the inputs. An outgoing packet that goes to an external
-//! address has a second leg at the worker of that address, if the first is answered onward (RFC 4787, REQ-9): a place stands
-//! for it in that worker's list from the time when its input is read. What stands behind a place waits; all else goes on.
+//! Legs not offered yet are held for each worker in the order of the inputs. An outgoing packet to an external address has a
+//! second leg at the worker of that address, if the answer to the first leg is onward (RFC 4787, REQ-9). As soon as the input
+//! is read, a placeholder for the second leg is held for that worker. Everything behind it waits for that answer; nothing
+//! else does.
 ghost use Rattle.std.specs.Prelude.{◌≡◌, ◌<◌, ◌^◌, [], length, map, replicate, IfOk, IfErr, OnOk};
 ghost use Rattle.napt_pool.specs.Pools.{starts, accepts, takes, zip_with};
 ghost use Rattle.napt_pool.specs.Histories.{replies};
 ghost use Rattle.napt_dispatch.specs.Dispatch.{started, IsDispatchFault, IsDispatched};
 ghost use Rattle.napt_dispatch.specs.Passing.{EndsBy};
-ghost use Rattle.napt_dispatch.specs.Standing.{parts_of, IsSized, IsDone};
+ghost use Rattle.napt_dispatch.specs.QueueStates.{unused};
 
 mod halted;
 mod held;
 mod holding;
 mod offering;
 mod progress;
-mod queues;
 mod reading;
 mod run_progress;
 mod spares;
 mod taking;
+mod worker_queue;
+mod worker_queues;
 
 use crate::Worker;
 use crate::collected::Collected;
 use crate::departures::Departures;
 use crate::inputs::copies;
 use halted::Halted;
-use held::{HeldLegs, Owed};
 use napt_config::Config;
 use napt_pool::{Gate, Machine, Pool};
 use napt_sequential::{Arrivals, Input, Outcome, RunFault};
-use queues::empty;
 use reading::EndOfInputs;
 use run_progress::RunProgress;
 use std::alloc::{AllocError, Global};
-use std::collections::VecDeque;
 use std::sync::Wait;
+use worker_queues::WorkerQueues;
 
-/// What a dispatcher knows of its workers and of the run.
+/// The dispatcher's state: the queues of each worker and the progress of each input.
 #[derive(Drop)]
 pub(crate) struct Dispatcher {
-    /// How many legs a worker may owe.
+    alloc: Global,
+    /// The most legs that a worker may have been offered and not answered yet.
     ring: usize,
-    /// How many legs each worker was offered.
-    offered: Vec<u64>,
-    /// The legs whose answers each worker owes, oldest first.
-    owed: Vec<VecDeque<Owed>>,
-    /// What is not yet offered to each worker, oldest first.
-    held: HeldLegs,
-    /// Of each input.
+    queues: WorkerQueues,
     progress: RunProgress,
 }
 
 impl Dispatcher {
-    /// For so many workers, with rings for so many legs.
-    fn new(alloc: Global, workers: usize, ring: usize) -> Result<Dispatcher, AllocError>
-        ensures sized { IfOk result (λ d. IsSized workers (parts_of d)) }
-        ensures counts { IfOk result (λ d. d.offered.items ≡ replicate workers 0) }
-        ensures idle { IfOk result (λ d. IsDone (parts_of d)) }
+    /// The state before the first input, for a number of workers and the number of legs that fit in a ring.
+    fn new(alloc: Global, workers: u32, ring: usize) -> Result<Dispatcher, AllocError>
+        requires { 0 < workers }
+        ensures ring { IfOk result (λ d. d.ring ≡ ring) }
+        ensures queues { IfOk result (λ d. d.queues ≡ replicate workers unused) }
         ensures left { IfOk result (λ d. d.progress.left ≡ []) }
         ensures under_way { IfOk result (λ d. d.progress.under_way ≡ []) }
     {
         Ok(Dispatcher {
+            alloc,
             ring,
-            offered: vec![in alloc; 0; workers]?,
-            owed: empty(alloc, workers)?,
-            held: HeldLegs::new(alloc, workers)?,
+            queues: WorkerQueues::new(alloc, workers)?,
             progress: RunProgress::new(alloc),
         })
     }
 }
 
-/// Runs the inputs over a pool of workers: offers the legs of all of them, takes all answers, and answers the outcome of each
-/// input and how many legs each worker was offered. Any refusal leaves the pool such that only `close` is of use.
+/// Runs the inputs over a pool of workers: offers every leg, takes every answer, and returns the outcome of each input and
+/// the number of legs offered to each worker. After an `Err` only `close` is of use on the pool.
 ///
-/// Where `close` tells that the answers were the workers' own, outcomes and numbers are those of the sequential run, and so
-/// are the legs.
+/// If `close` confirms that the answers were the workers' own, the outcomes, the numbers and the legs are those of the
+/// sequential run.
 pub fn dispatch<R: Wait, G: Gate>(
     rt: &R,
     alloc: Global,
@@ -107,26 +101,26 @@ pub fn dispatch<R: Wait, G: Gate>(
 /// How dispatching ended.
 #[derive(Drop)]
 pub(crate) enum Ending<A, D> {
-    /// The end of the arrivals was told, and all outcomes have left.
+    /// The arrivals ended, and every outcome has left.
     Whole,
-    /// The arrivals told a fault, and the outcomes of all inputs before it have left.
+    /// The arrivals failed, and the outcome of every input before the fault has left.
     Arrival(A),
-    /// The departures told a fault.
+    /// The departures failed.
     Departure(D),
 }
 
-/// What dispatching comes to.
+/// The result of dispatching.
 #[derive(Drop)]
 pub(crate) struct Dispatched<A, D> {
-    /// How many legs each worker was offered.
+    /// The number of legs offered to each worker. Empty if the departures failed.
     pub(crate) legs: Vec<u64>,
-    /// The greatest clock of the inputs, in ns; 0 where there are none, or where the departures told a fault.
+    /// The greatest clock of the inputs, in ns. 0 if there were none, or if the departures failed.
     pub(crate) clock: u64,
     pub(crate) ending: Ending<A, D>,
 }
 
-/// The same over inputs that come until an end or a fault is told, and whose outcomes leave in their order. Before a device
-/// is asked for an input all outcomes have left and are settled, and so it is at the end.
+/// Dispatches inputs until their end or a fault. Their outcomes leave in the order of the inputs. Before a device is asked
+/// for an input, and at the end, every outcome has left and is settled.
 pub(crate) fn dispatch_to<R: Wait, G: Gate, A: Arrivals, D: Departures>(
     rt: &R,
     alloc: Global,
@@ -144,16 +138,16 @@ pub(crate) fn dispatch_to<R: Wait, G: Gate, A: Arrivals, D: Departures>(
         done.ending) }
     ensures fault { IfErr result (IsDispatchFault G.is_open) }
 {
-    let count = config.pool().len();
-    let mut dispatcher = Dispatcher::new(alloc, count, config.ring())?;
-    match dispatcher.pass_all(rt, alloc, pool, config, arrivals, departures) {
+    let workers = config.pool().len() as u32;
+    let mut dispatcher = Dispatcher::new(alloc, workers, config.ring())?;
+    match dispatcher.pass_all(rt, pool, config, arrivals, departures) {
         Ok(EndOfInputs { clock, fault }) => Ok(Dispatched {
-            legs: dispatcher.offered,
+            legs: dispatcher.queues.counts(alloc)?,
             clock,
             ending: Ending::of(fault),
         }),
         Err(Halted::Departure(fault)) => Ok(Dispatched {
-            legs: dispatcher.offered,
+            legs: Vec::new(alloc),
             clock: 0,
             ending: Ending::Departure(fault),
         }),
@@ -165,7 +159,7 @@ impl<A, D> Ending<A, D> {
     ghost use Rattle.std.specs.Prelude.{◌≡◌, MatchOption};
     ghost use Rattle.napt_dispatch.specs.declared.dispatcher.Ending.TheVariants.{Whole, Arrival};
 
-    /// That of arrivals which told the end, or a fault.
+    /// The ending of a run whose arrivals ended, or failed with this fault.
     fn of(fault: Option<A>) -> Ending<A, D>
         ensures { MatchOption fault (result ≡ Whole) (λ fault. result ≡ Arrival fault) }
     {

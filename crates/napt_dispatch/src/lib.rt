@@ -1,7 +1,7 @@
-//! A run over workers on threads of their own, one for each external address.
+//! A run over workers, each on a thread of its own, one for each external address.
 //!
-//! [`dispatch`] hands out the legs of all inputs to a pool of workers and takes their answers; [`run_workers`] starts the
-//! pool, dispatches, joins the workers, and answers what the sequential run answers.
+//! [`dispatch`] offers the legs of all inputs to a pool of workers and takes their answers. [`run_workers`] starts the pool,
+//! dispatches, joins the workers, and returns what the sequential run returns.
 #![tactic(auto)]
 
 mod collected;

@@ -1,18 +1,18 @@
-//! Why a run from arrivals to departures ends early.
+//! Why a run from arrivals to departures ended early.
 
 ghost use Rattle.std.specs.Prelude.{◌≡◌};
 ghost use Rattle.napt_dispatch.specs.declared.stopped.Stopped.TheVariants.{Run};
 
 use napt_sequential::RunFault;
 
-/// Why a run ends before the end of its arrivals was told, or before all outcomes have left.
+/// Why a run ended before its arrivals did, or before every outcome had left.
 #[derive(Drop)]
 pub enum Stopped<A, D> {
-    /// The run itself ended early.
+    /// The run itself failed.
     Run(RunFault),
-    /// The arrivals told a fault.
+    /// The arrivals failed.
     Arrival(A),
-    /// The departures told a fault.
+    /// The departures failed.
     Departure(D),
 }
 

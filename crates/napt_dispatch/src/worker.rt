@@ -1,4 +1,4 @@
-//! The translator of one external address as the machine of a worker.
+//! The translator of one external address, as the machine of a worker.
 
 ghost use Rattle.std.specs.Prelude.{◌≡◌, IfOk};
 ghost use Rattle.napt_dispatch.specs.Dispatch.{rows_after};
@@ -9,7 +9,7 @@ use napt_translate::{Answer, Leg, Translator};
 use std::alloc::{AllocError, Global};
 use std::marker::Model;
 
-/// Answers legs by a translator. Contracts see it as that.
+/// Answers legs with a translator. Contracts see the state of the translator.
 #[derive(Drop)]
 pub struct Worker {
     pub translator: Translator,
@@ -24,7 +24,7 @@ impl Model for Worker {
 }
 
 impl Worker {
-    /// The bindings that live at a time, in ns.
+    /// Returns the bindings that are live at a time, in ns.
     pub(crate) fn bindings(&self, alloc: Global, now: u64) -> Result<Vec<Row>, AllocError>
         ensures { IfOk result (λ made. made.items ≡ rows_after now self.now) }
     {

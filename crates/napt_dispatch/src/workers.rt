@@ -1,4 +1,4 @@
-//! The run over workers on threads of their own.
+//! Runs over workers on threads of their own.
 
 ghost use Rattle.std.specs.Prelude.{◌≡◌, ◌↔◌, ◌^◌, ◌≤◌, ◌++◌, [], length, map, flat_map, replicate, vec_len, AllPairs, IfOk, IfErr, OnOk, Ok, Err, true, false};
 ghost use Rattle.napt_config.specs.Rules.{KeepsRules};
@@ -25,7 +25,7 @@ use std::alloc::{AllocError, Global};
 use std::sync::{Arc, Wait};
 use std::thread::Threads;
 
-/// The workers of all external addresses before any leg, in the order of the pool.
+/// Makes the workers of all external addresses, in the order of the pool.
 fn workers(alloc: Global, config: &Config) -> Result<Vec<Worker>, AllocError>
     ensures kept { KeepsRules config.now }
     ensures made { IfOk result (λ made. made.items ≡ started config.now (length config.now.pool)) }
@@ -40,7 +40,7 @@ fn workers(alloc: Global, config: &Config) -> Result<Vec<Worker>, AllocError>
     Ok(made)
 }
 
-/// The bindings that live at a time, in ns, address by address.
+/// Returns the bindings that are live at a time, in ns, address by address.
 fn bindings(alloc: Global, ended: &[Ended<Worker>], now: u64) -> Result<Vec<Row>, AllocError>
     ensures { IfOk result (λ made. made.items ≡ flat_map (λ e. rows_after now e.machine)
         ended.now) }
@@ -70,7 +70,7 @@ fn start<R: Threads + Wait + Copy + Send + 'static, G: Gate + Send + Sync + Drop
     Ok(Pool::start(rt, alloc, machines, config.ring(), gate)?)
 }
 
-/// What dispatching and closing come to: a fault of dispatching is told before one of the pool.
+/// Joins the results of dispatching and of closing. A fault of dispatching is reported before one of the pool.
 fn first_fault<D: Drop>(
     dispatched: Result<D, RunFault>,
     closed: Result<Vec<Ended<Worker>>, PoolFault>,
@@ -81,8 +81,8 @@ fn first_fault<D: Drop>(
     Ok((dispatched, closed?))
 }
 
-/// Closes the pool whatever dispatching came to, and gives what it gave beside the workers as they ended. A fault of
-/// dispatching is told before one of the pool.
+/// Closes the pool, also if dispatching failed. Returns the result of dispatching and the workers as they ended. A fault of
+/// dispatching is reported before one of the pool.
 fn close<R: Threads, G: Gate, D: Drop>(
     rt: &R,
     alloc: Global,
@@ -106,12 +106,12 @@ fn close<R: Threads, G: Gate, D: Drop>(
     first_fault(dispatched, closed)
 }
 
-/// Runs over the inputs with a worker on a thread of its own for each external address, and gives exactly what `run_plain`
-/// gives, whatever the gate, the size of the rings and the schedule are. The gate is asked by each worker before each leg.
+/// Runs over the inputs with a worker on a thread of its own for each external address. Returns exactly what `run_plain`
+/// returns, whatever the gate, the size of the rings and the schedule. Each worker asks the gate before each leg.
 ///
-/// `RunFault::TooMany` comes exactly where there are more than 4,294,967,295 inputs. `RunFault::Pool` tells why a worker
-/// stopped or could not be started; `GateShut` never comes under a gate that promises yes. Before any refusal is told the
-/// workers are closed and joined.
+/// Fails with `RunFault::TooMany` exactly if there are more than 4,294,967,295 inputs. `RunFault::Pool` says why a worker
+/// stopped or could not be started; `GateShut` never comes under a gate that promises to stay open. The workers are closed
+/// and joined before an error is returned.
 pub fn run_workers<
     R: Threads + Wait + Copy + Send + 'static,
     G: Gate + Send + Sync + Drop + 'static,
@@ -123,6 +123,7 @@ pub fn run_workers<
     ensures gate { G.is_open ≡ true → IfErr result (λ fault. is_gate_fault fault ≡ false) }
 {
     runs_are_sound();
+    // called for its clause alone: a configuration keeps its rules
     let _pool = config.pool();
     if inputs.len() > 4_294_967_295 {
         return Err(RunFault::TooMany);
@@ -138,21 +139,21 @@ pub fn run_workers<
     })
 }
 
-/// What a run leaves beside the outcomes of its inputs.
+/// The result of a run, besides the outcomes of its inputs.
 #[derive(Drop)]
 pub struct Passed {
-    /// The bindings that live at the last clock, in the order of `Run`.
+    /// The bindings that are live at the last clock, in the order of `Run`.
     pub bindings: Vec<Row>,
-    /// How many legs acted at each external address, in the order of the pool.
+    /// The number of legs that acted at each external address, in the order of the pool.
     pub legs: Vec<u64>,
 }
 
-/// The run of `run_workers` over inputs that come until an end or a fault is told, and whose outcomes leave in the order of
-/// the inputs, each as soon as it is known. It keeps at most 131,072 inputs and 65,536 legs.
+/// The run of `run_workers` over inputs that come one at a time until their end or a fault. The outcomes leave in the order
+/// of the inputs, each as soon as it is known. At most 131,072 inputs and 65,536 legs are kept.
 ///
-/// Before a device is asked for an input, the outcomes of all inputs before it have left and are settled; so it is at the
-/// end, and where the arrivals told a fault. Before any refusal is told the workers are closed and joined: a fault of the run
-/// is told before one of the departures, and that before one of the arrivals.
+/// Before a device is asked for an input, the outcome of every input before it has left and is settled. The same holds at
+/// the end, and if the arrivals fail. The workers are closed and joined before an error is returned. A fault of the run is
+/// reported before one of the departures, and that before one of the arrivals.
 pub fn run_through<
     R: Threads + Wait + Copy + Send + 'static,
     G: Gate + Send + Sync + Drop + 'static,
@@ -188,16 +189,16 @@ pub fn run_through<
     }
 }
 
-/// A run, with the arrival time of each of its inputs, in ns.
+/// A run, with the arrival time of each input, in ns.
 #[derive(Drop)]
 pub struct TimedRun {
     pub run: Run,
     pub times: Vec<u64>,
 }
 
-/// The run of `run_workers` over inputs that cannot fail, which it takes as it needs them. Memory is reserved for so many.
+/// The run of `run_workers` over inputs that cannot fail, taken as they are needed. Memory is reserved for `many` inputs.
 ///
-/// A refusal is told as by `run_workers`; `RunFault::TooMany` never comes.
+/// The errors are those of `run_workers`, except that `RunFault::TooMany` never comes.
 pub fn run_on_pool<
     R: Threads + Wait + Copy + Send + 'static,
     G: Gate + Send + Sync + Drop + 'static,

@@ -4,7 +4,7 @@ use napt_collections::Due;
 use std::alloc::{AllocError, Global};
 use std::test::Fail;
 
-fn queue_of(alloc: Global, entries: &[(u64, u16)]) -> Result<Due, AllocError> {
+fn queue_of(alloc: Global, entries: &[(u64, u16)]) -> Result<Due<u16>, AllocError> {
     let mut due = Due::new(alloc);
     for (time, number) in entries {
         due.reserve()?;
@@ -14,7 +14,7 @@ fn queue_of(alloc: Global, entries: &[(u64, u16)]) -> Result<Due, AllocError> {
 }
 
 /// The first entry, as a look and a take find it.
-fn taken(due: &mut Due) -> [Option<(u64, u16)>; 2] {
+fn taken(due: &mut Due<u16>) -> [Option<(u64, u16)>; 2] {
     [due.first(), due.take_first()]
 }
 
@@ -31,7 +31,7 @@ fn the_least_time_first(rt: HostRuntime) -> Result<(), Fail> {
 }
 
 /// The numbers of three entries of one time, in order.
-fn three_of(due: &mut Due, time: u64) -> Result<[u16; 3], Fail> {
+fn three_of(due: &mut Due<u16>, time: u64) -> Result<[u16; 3], Fail> {
     let mut numbers = [0; 3];
     for place in numbers.iter_mut() {
         match due.take_first() {

@@ -23,7 +23,7 @@ IsFaultOf W Fault.NoThread = ⊥
 IsFaultOf W (Fault.GateShut w) = W w
 IsFaultOf W Fault.Ring = ⊤
 
--- the fault that was told of worker w, or one of a worker before it
+-- the fault that was reported for worker w, or one of a worker before it
 abbrev pub IsFaultUpTo : ℕ → PoolFault → PoolFault → Type 0
 IsFaultUpTo w told fault = (fault ≡ told) ⊎ ((0 < w) × IsFaultOf (λ v. v < w) fault)
 
@@ -46,7 +46,7 @@ fault_of Memory w = Fault.Memory
 fault_of GateShut w = Fault.GateShut w
 fault_of Ring w = Fault.Ring
 
--- whether a reply tells that the gate was shut
+-- whether a reply says that the gate was shut
 abbrev pub tells_shut : {A : Type 0} → Reply A → Bool
 tells_shut (Done x) = false
 tells_shut (Stopped s) = is_gate_shut s

@@ -32,7 +32,7 @@ accepted p = items_of (sent p)
 abbrev pub taken : {A H P : Type 0} → Consumer (Reply A) H P → List A
 taken c = answers_of (received c)
 
--- a worker told why it stops; or it could not, and its end says that the ends of a ring do not agree
+-- a worker reported why it stops; or it could not, and its end says that the ends of a ring do not agree
 abbrev pub Told : {A : Type 0} → Stop → List (Reply A) → List (Reply A) → Type 0
 Told stop before after = (after ≡ before ++ Stopped stop ∷ []) ⊎ ((stop ≡ Ring) × (after ≡ before))
 
@@ -60,7 +60,7 @@ module _ {M I A : Type 0} (g : Ghosts M I A) where
     pub sent_is : sends ≡ map Done (replies m seen)
     pub machine_is : n ≡ after m seen
 
-  -- the same of a worker that stopped: it met no Close, answered the first of the items that it received, and told why
+  -- the same of a worker that stopped: it met no Close, answered the first of the items that it received, and said why
   -- it stopped
   pub record HasStopped (m : M) (stop : Stop) (messages : List (Message I)) (sends : List (Reply A)) : Type 0 where
     pub seen : List I

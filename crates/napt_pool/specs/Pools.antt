@@ -41,7 +41,7 @@ module _ {M G I A : Type 0} where
   abbrev pub thread_states : Pool M G I A → List (ThreadState M G I A)
   thread_states p = map thread_state_of p.workers.items
 
-  -- the word that worker w stopped came out of its answer ring: `take` told this fault
+  -- the message that worker w stopped came out of its answer ring: `take` returned this fault
   abbrev pub HasTold : Pool M G I A → ℕ → PoolFault → Type 0
   HasTold p w fault = (stop : Stop) × Contains (slice_index_or (heard p) w []) (Stopped stop)
       × (fault ≡ fault_of stop w)

@@ -11,7 +11,7 @@ use Rattle.napt_pool.specs.Faults.{is_gate_shut}
 use Rattle.napt_pool.specs.Histories.{HasMetClose, HasStopped}
 
 -- The ring ends are those with which it began. A worker that met Close stepped on all items and answered each; where
--- one stopped, its end is what it told last, and it met no Close. None tells that a gate was shut which promises yes
+-- one stopped, its end is what it reported last, and it met no Close. None reports a shut gate that promises yes
 module _ {M G I A : Type 0} (g : Ghosts M I A) (open_gate : Bool) where
   pub record HasRun (initial : ThreadState M G I A) (thread_end : ThreadEnd M G I A) : Type 0 where
     pub items : SameConsumer initial.items thread_end.state.items

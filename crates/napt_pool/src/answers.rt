@@ -1,4 +1,5 @@
-// The pool's end of an answer ring, and of an item ring.
+//! The pool's end of an answer ring, and of an item ring.
+
 ghost use Rattle.std.specs.Prelude.{◌≡◌, ◌+◌, ◌≤◌, true, false, ◌∷◌, [], ◌++◌, map, length, IfOk, IfErr, OnErr, MatchOption, vec_len, vec_capacity};
 ghost use Rattle.rtrb.specs.Ring.{sent, received, known_items, SameProducer, SameConsumer};
 ghost use Rattle.napt_pool.specs.Faults.{is_gate_shut};
@@ -48,10 +49,7 @@ pub(crate) fn pop_all<A: Drop, G: Gate>(
         let Reply::Done(answer) = answers.pop_known() else {
             unreachable!();
         };
-        match into.push(answer) {
-            Ok(()) => {}
-            Err(_refused) => unreachable!(),
-        }
+        into.push_reserved(answer);
     }
     into
 }

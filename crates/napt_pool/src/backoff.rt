@@ -1,4 +1,5 @@
-// How a thread waits for another thread.
+//! How a thread waits for another thread.
+
 ghost use Rattle.std.specs.Prelude.{◌≡◌, ◌+◌, ◌≤◌, ◌<◌};
 ghost use Rattle.napt_pool.specs.declared.backoff.Pause.TheVariants.{Spin, Yield, Park};
 

@@ -1,4 +1,5 @@
-// The buffers that closing a pool fills.
+//! The buffers that closing a pool fills.
+
 ghost use Rattle.std.specs.Prelude.{◌≡◌, ◌≤◌, [], vec_capacity, IfOk};
 
 use crate::closing::{Closing, Ended};

@@ -1,4 +1,5 @@
-// One worker that takes no more items.
+//! One worker that takes no more items.
+
 ghost use Rattle.std.specs.Prelude.{◌≡◌, ◌+◌, ◌≤◌, true, [], ◌∷◌, ◌++◌, map, length, vec_capacity};
 ghost use Rattle.rtrb.specs.Ring.{sent, IsPair};
 ghost use Rattle.napt_pool.specs.Histories.{accepted, taken};

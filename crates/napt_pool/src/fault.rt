@@ -1,4 +1,5 @@
-// Why an item, a worker or a pool was refused.
+//! Why an item, a worker or a pool was refused.
+
 ghost use Rattle.std.specs.Prelude.{◌≡◌, ℕ, Some};
 ghost use Rattle.napt_pool.specs.Faults.{fault_of};
 ghost use Rattle.napt_pool.specs.Messages.{fault_message, refusal_message};

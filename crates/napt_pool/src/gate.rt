@@ -1,4 +1,5 @@
-// What a worker asks before each step.
+//! What a worker asks before each step.
+
 ghost use Rattle.std.specs.Prelude.{◌≡◌, Bool, true, false, IsTrue};
 
 /// The most times a worker asks for one item.
@@ -14,7 +15,7 @@ pub trait Gate {
     fn enter(&self, worker: u32, turn: u64) -> bool
         ensures { is_open ≡ true → IsTrue result };
 
-    /// Is told the size of the worker's machine after each of its steps (`Machine::size`), for people who watch a run.
+    /// Receives the size of the worker's machine (`Machine::size`) after each of its steps, for people who watch a run.
     fn observe(&self, _worker: u32, _size: u64) {}
 }
 

@@ -1,4 +1,5 @@
-// Closing and joining a list of workers.
+//! Closing and joining a list of workers.
+
 ghost use Rattle.std.specs.Prelude.{◌≡◌, ◌≤◌, ◌<◌, ◌^◌, vec_len, vec_capacity, [], map, IfOk, IfErr};
 ghost use Rattle.napt_pool.specs.Faults.{IsLeastFault};
 ghost use Rattle.napt_pool.specs.Workers.{machine_of, thread_state_of, accepted_of, taken_of, heard_of, closing_machine, closing_thread_state, closing_accepted, closing_taken, closing_heard, AreEnds, AreJoined};
@@ -65,10 +66,7 @@ pub(crate) fn close_all<M: Machine, G: Gate>(
 {
     let mut into = into;
     for worker in workers {
-        match into.push(worker.close()) {
-            Ok(()) => {}
-            Err(_refused) => unreachable!(),
-        }
+        into.push_reserved(worker.close());
     }
     into
 }
@@ -86,10 +84,7 @@ pub(crate) fn join_all<M: Machine, G: Gate, R: Threads>(
 {
     let mut into = into;
     for worker in workers {
-        match into.push(worker.join(rt)) {
-            Ok(()) => {}
-            Err(_refused) => unreachable!(),
-        }
+        into.push_reserved(worker.join(rt));
     }
     into
 }
@@ -109,10 +104,10 @@ pub(crate) fn all_ended<M: Machine>(
     let mut number = 0u32;
     for end in ends {
         match end {
-            Ok(ended) => match into.push(ended) {
-                Ok(()) => number += 1,
-                Err(_refused) => unreachable!(),
-            },
+            Ok(ended) => {
+                into.push_reserved(ended);
+                number += 1;
+            }
             Err(stop) => return Err(stop.of_worker(number)),
         }
     }

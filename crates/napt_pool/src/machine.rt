@@ -1,4 +1,5 @@
-// What a worker runs.
+//! What a worker runs.
+
 ghost use Rattle.std.specs.Prelude.{◌≡◌, MatchResult};
 
 use std::alloc::{AllocError, Global};
@@ -20,7 +21,7 @@ pub trait Machine: Send + Drop {
         ensures { MatchResult result (λ answer. (answer ≡ reply self.old item)
             × (self.new ≡ stepped self.old item)) (λ _. self.new ≡ self.old) };
 
-    /// How much it holds, for people who watch a run: contracts do not speak of it.
+    /// How much it holds, for people who watch a run. No contract speaks of it.
     fn size(&self) -> u64 {
         0
     }

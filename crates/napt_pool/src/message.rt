@@ -1,4 +1,5 @@
-// What goes through the rings.
+//! What goes through the rings.
+
 ghost use Rattle.std.specs.Prelude.{◌≡◌, true, false};
 ghost use Rattle.napt_pool.specs.Faults.{tells_shut};
 

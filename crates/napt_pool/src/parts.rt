@@ -1,4 +1,5 @@
-// What a worker is made of.
+//! What a worker is made of.
+
 ghost use Rattle.std.specs.Prelude.{◌≡◌, ◌≤◌, [], vec_capacity, IfOk};
 ghost use Rattle.rtrb.specs.Ring.{sent, received, IsPair};
 

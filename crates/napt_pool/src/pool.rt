@@ -1,4 +1,5 @@
-// A list of workers.
+//! A list of workers.
+
 ghost use Rattle.std.specs.Prelude.{◌≡◌, ◌≤◌, ◌<◌, ℕ, slice_index_or, vec_len};
 
 use crate::close_buffers::CloseBuffers;

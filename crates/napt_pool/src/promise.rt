@@ -1,4 +1,5 @@
-// The start of a worker's thread, and what is promised of its end.
+//! The start of a worker's thread, and what is promised of its end.
+
 ghost use Rattle.std.specs.Prelude.{◌≡◌, [], IfOk, IfErr};
 ghost use Rattle.rtrb.specs.Ring.{sent, received};
 ghost use Rattle.napt_pool.specs.Faults.{IsStartFault};

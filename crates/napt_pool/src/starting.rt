@@ -1,4 +1,5 @@
-// Starting a list of workers.
+//! Starting a list of workers.
+
 ghost use Rattle.std.specs.Prelude.{◌≡◌, ◌≤◌, vec_len, IfOk, IfErr};
 ghost use Rattle.napt_pool.specs.Faults.{IsStartFault};
 ghost use Rattle.napt_pool.specs.Workers.{AreNew, AreGivenUp};
@@ -48,10 +49,7 @@ where
             Ok(worker) => worker,
             Err(fault) => return Err(give_up(rt, fault, workers, buffers)),
         };
-        match workers.push(worker) {
-            Ok(()) => {}
-            Err(_refused) => unreachable!(),
-        }
+        workers.push_reserved(worker);
         number += 1;
     }
     Ok((workers, buffers))

@@ -1,4 +1,5 @@
-// What a worker's thread does.
+//! What a worker's thread does.
+
 ghost use Rattle.std.specs.Prelude.{◌≡◌, true, false};
 ghost use Rattle.rtrb.specs.Ring.{sent, SameProducer};
 ghost use Rattle.napt_pool.specs.Faults.{is_gate_shut};

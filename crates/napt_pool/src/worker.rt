@@ -1,4 +1,5 @@
-// One worker, as the pool sees it.
+//! One worker, as the pool sees it.
+
 ghost use Rattle.std.specs.Prelude.{◌≡◌, ◌+◌, ◌≤◌, true, false, [], ◌∷◌, ◌++◌, map, length, vec_capacity};
 ghost use Rattle.rtrb.specs.Ring.{sent, IsPair};
 ghost use Rattle.napt_pool.specs.Histories.{accepted, taken};

@@ -9,7 +9,7 @@ use Rattle.napt_capture.specs.declared.watched.Watched.{Watched}
 use Rattle.napt_program.specs.declared.devices.Devices.{Devices}
 use Rattle.napt_program.specs.declared.files.RunFiles.{RunFiles}
 
--- the bytes that a device has to tell, or shows
+-- the bytes that a device has left to read, or shows as written
 abbrev pub Bytes : Type 0
 Bytes = Option (List ℕ)
 

@@ -1,7 +1,7 @@
 -- Which places are one file.
-use Rattle.std.specs.Prelude.{◌≡◌, ◌==◌, ◌&&◌, ℕ, Bool, false, List, Some, bytes_eq}
+use Rattle.std.specs.Prelude.{◌≡◌, ◌==◌, ◌&&◌, ℕ, Bool, false, List, Option, Some, bytes_eq, codes, if◌then◌else◌, length, option_map}
 use Rattle.std.specs.Fs.{IsFile}
-use Rattle.std.specs.Path.{path_file_name}
+use Rattle.std.specs.Path.{path_file_name, path_parent}
 use Rattle.std.specs.declared.fs.attrs.FileType.{FileType}
 use Rattle.napt_program.specs.declared.place.Node.{Node}
 use Rattle.napt_program.specs.declared.place.Place.{Place}
@@ -24,9 +24,13 @@ IsOfPath path (New folder name) = path_file_name path ≡ Some name.now
 IsOfPath path (Words words) = words.now ≡ path
 IsOfPath path Aside = Unit {0}
 
--- of what is there a file has a place of its own, and all else stands aside
+-- of what exists, a file has a place of its own, and all else is `Aside`
 abbrev pub IsOfKind : FileType → Place → Type 0
 IsOfKind kind (There node) = IsFile kind
 IsOfKind kind (New folder name) = ⊥
 IsOfKind kind (Words words) = Unit {0}
 IsOfKind kind Aside = ¬ IsFile kind
+
+-- the folder of a path, "." if the path is a name alone
+abbrev pub folder_of : List ℕ → Option (List ℕ)
+folder_of path = option_map (λ folder. if length folder == 0 then codes "." else folder) (path_parent path)

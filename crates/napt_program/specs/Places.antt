@@ -23,7 +23,7 @@ abbrev pub is_again : Places → Option Place → Option Place → Option Place 
 is_again p None first second = false
 is_again p (Some file) first second = is_input p file || is_there file first || is_there file second
 
--- the first output that is a file which stands before it in the order of the options
+-- the first output that is a file of an earlier option
 abbrev pub output_named_again : Places → Option Role
 output_named_again p =
     if is_again p p.to_outside None None then Some role.ToOutside

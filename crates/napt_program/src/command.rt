@@ -1,9 +1,11 @@
 //! The arguments of a program, and everything that it opens for its run.
 
-ghost use Rattle.std.specs.Prelude.{◌≡◌, ◌⊎◌, IfErr, IfOk};
+ghost use Rattle.std.specs.Prelude.{◌≡◌, ◌≢◌, ◌⊎◌, Err, IfErr, IfOk, IfSome};
+ghost use Rattle.std.specs.IoError.{error_kind};
 ghost use Rattle.napt_program.specs.CommandLine.{files_of};
 ghost use Rattle.napt_program.specs.Command.{IsRunStop};
 ghost use Rattle.napt_program.specs.Devices.{AreFresh};
+ghost use Rattle.napt_program.specs.Streams.{closed_stream};
 
 use crate::config_file::configuration;
 use crate::devices::{Devices, buffered};
@@ -12,10 +14,10 @@ use crate::options::Options;
 use crate::stop::Stop;
 use crate::streams::{Streams, closed_stream};
 use napt_config::Config;
-use std::env;
 use std::env::Env;
 use std::io::{ErrorKind, Printer, Write};
 use std::rt::Files;
+use std::{env, io};
 
 /// The command line's arguments. Fails with `Stop::Usage` if one is not UTF-8.
 pub fn words<R: Env + AllocGlobal>(rt: &R) -> Result<Vec<String>, Stop>
@@ -23,8 +25,19 @@ pub fn words<R: Env + AllocGlobal>(rt: &R) -> Result<Vec<String>, Stop>
 {
     match env::args(rt) {
         Ok(args) => args.collect(rt.alloc()).map_err(|_| Stop::LineMemory),
-        Err(error) if error.kind() == ErrorKind::OutOfMemory => Err(Stop::LineMemory),
-        Err(_) => Err(Stop::Usage),
+        Err(error) => Err(unread_words(&error)),
+    }
+}
+
+/// Why the arguments could not be read: memory ran out, or one is not UTF-8.
+fn unread_words(error: &io::Error) -> Stop
+    ensures memory { error_kind error.now ≡ ErrorKind.OutOfMemory → result ≡ Stop.LineMemory }
+    ensures usage { error_kind error.now ≢ ErrorKind.OutOfMemory → result ≡ Stop.Usage }
+    ensures either { (result ≡ Stop.Usage) ⊎ (result ≡ Stop.LineMemory) }
+{
+    match error.kind() {
+        ErrorKind::OutOfMemory => Stop::LineMemory,
+        _ => Stop::Usage,
     }
 }
 
@@ -47,6 +60,8 @@ pub fn open<'r, R: Files + Input + Print + AllocGlobal>(
 ) -> Result<Opened<R::Reader, Printer<'r, R>, R::File>, Stop>
     ensures fresh { IfOk result (λ opened. AreFresh opened.devices) }
     ensures stop { IfErr result (IsRunStop streams (files_of options.now)) }
+    ensures closed { IfSome (closed_stream streams options.now) (λ role.
+        result ≡ Err (Stop.File role)) }
 {
     if let Some(role) = closed_stream(streams, options) {
         return Err(Stop::File(role));

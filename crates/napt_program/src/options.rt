@@ -235,6 +235,7 @@ fn fault_of(alloc: Global, error: &Error) -> Result<LineFault, AllocError>
     ensures help { IfOk result (λ fault. IsHelp fault → kind_of error.now ≡ ErrorKind.DisplayHelp) }
     ensures usage { result ≡ Ok LineFault.Usage
         → (kind_of error.now ≢ ErrorKind.DisplayHelp) × (kind_of error.now ≢ ErrorKind.OutOfMemory) }
+    ensures memory { result ≡ Ok LineFault.Memory → kind_of error.now ≡ ErrorKind.OutOfMemory }
 {
     match error.kind() {
         ErrorKind::DisplayHelp => Ok(LineFault::Help(error.to_string(alloc)?)),

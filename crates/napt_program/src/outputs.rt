@@ -4,6 +4,7 @@ ghost use Rattle.std.specs.Prelude.{◌≡◌, IfErr, IsSome};
 ghost use Rattle.napt_program.specs.Files.{IsFileStop};
 
 use crate::options::Options;
+use crate::place::folder_of;
 use crate::role::Role;
 use crate::stop::Stop;
 use std::fs::{FileType, OpenOptions};
@@ -58,9 +59,6 @@ fn missing_folder<R: Files>(rt: &R, path: &str, error: io::Error) -> Option<io::
     if path.is_empty() || path.ends_with('/') {
         return Some(error);
     }
-    let folder = match Path::new(path).parent() {
-        Some(folder) if folder != Path::new("") => folder,
-        _ => Path::new("."),
-    };
+    let folder = folder_of(path).unwrap_or(Path::new("."));
     fs::metadata(rt, folder).err()
 }

@@ -1,7 +1,8 @@
 //! Identifies files, so that one file is recognized under several paths.
-ghost use Rattle.std.specs.Prelude.{◌≡◌};
+ghost use Rattle.std.specs.Prelude.{◌≡◌, ◌==◌, None, Some, if◌then◌else◌, option_map};
 ghost use Rattle.std.specs.Fs.{file_type};
-ghost use Rattle.napt_program.specs.Place.{IsOfKind, IsOfPath, is_same, is_same_node};
+ghost use Rattle.std.specs.Path.{path_bytes};
+ghost use Rattle.napt_program.specs.Place.{IsOfKind, IsOfPath, folder_of, is_same, is_same_node};
 
 use std::fs;
 use std::fs::Metadata;
@@ -31,8 +32,19 @@ pub enum Place<'a> {
 
 /// The node, if the system gives one.
 fn node_of(known: &Metadata) -> Option<Node> {
-    let (device, number) = (known.dev(), known.ino());
-    (number != 0).then_some(Node { device, number })
+    node_at(known.dev(), known.ino())
+}
+
+/// The node of a device and an inode number, which is 0 if the system has none.
+fn node_at(device: u64, number: u64) -> Option<Node>
+    ensures { result ≡ (if number == 0 then None
+        else Some (record { device = device; number = number })) }
+{
+    if number == 0 {
+        None
+    } else {
+        Some(Node { device, number })
+    }
 }
 
 /// The place of the file at this path. Links are followed, except one to a file that does not exist yet.
@@ -61,14 +73,8 @@ fn place_there<'a>(known: &Metadata, path: &'a str) -> Place<'a>
 fn place_of_new<'a, R: Files>(rt: &R, path: &'a str) -> Place<'a>
     ensures { IsOfPath path.now result }
 {
-    let whole = Path::new(path);
-    let (Some(folder), Some(name)) = (whole.parent(), whole.file_name()) else {
+    let (Some(folder), Some(name)) = (folder_of(path), Path::new(path).file_name()) else {
         return Place::Words(path);
-    };
-    let folder = if folder == Path::new("") {
-        Path::new(".")
-    } else {
-        folder
     };
     let Ok(known) = fs::metadata(rt, folder) else {
         return Place::Words(path);
@@ -76,6 +82,18 @@ fn place_of_new<'a, R: Files>(rt: &R, path: &'a str) -> Place<'a>
     match node_of(&known) {
         Some(node) => Place::New(node, name),
         None => Place::Words(path),
+    }
+}
+
+/// The folder of a path, `.` if the path is a name alone; `None` if it has no folder.
+pub(crate) fn folder_of<'a>(path: &'a str) -> Option<Path<'a>>
+    ensures { option_map path_bytes result ≡ folder_of path.now }
+{
+    let folder = Path::new(path).parent()?;
+    if folder.as_str().is_empty() {
+        Some(Path::new("."))
+    } else {
+        Some(folder)
     }
 }
 

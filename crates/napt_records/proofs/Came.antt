@@ -12,7 +12,7 @@ use Rattle.napt_capture.specs.declared.fault.CaptureFault.TheVariants.{NoHeader,
 use Rattle.napt_capture.specs.Capture.{HasLink, HasMagic, HasVersion, IsCapture, IsFileHeader, IsRefusedFile}
 use Rattle.napt_capture.specs.Reading.{RefusesFile, StopsBy}
 use Rattle.napt_capture.specs.Records.{left_of}
-use Rattle.napt_capture.specs.Stream.{EndsAs, HasRecords, IsStream, number_at}
+use Rattle.napt_capture.specs.Stream.{EndsAs, HasRecords, IsStream, number_after}
 use Rattle.napt_capture.specs.Text.{IsWritable}
 use Rattle.napt_capture.proofs.OneAnswer.{IsCapture-one, front_same, magic-one, rest_same}
 use Rattle.napt_rules.specs.Prelude.{Arrival}
@@ -321,7 +321,7 @@ ends_small s number text (header, behind, split, inr (good, may, never)) = never
 
 pub never_too_large : (bytes : List ℕ) (rest : Rest) → Holds bytes rest → rest.end ≡ Err TooLarge → ⊥
 never_too_large bytes rest (inl q) end =
-    let number = number_at 1 q.has.stored in
+    let number = number_after 1 q.has.stored in
     ends_small q.spelling number q.has.rest (subst (EndsAs q.spelling number q.has.rest) end q.has.ends)
 never_too_large bytes rest (inr q) end =
     let faults : Err q.fault ≡ Err TooLarge = sym (ap (λ (r : Rest). r.end) q.rest_is) ∙ end in

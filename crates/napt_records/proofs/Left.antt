@@ -10,7 +10,7 @@ use Rattle.napt_capture.specs.declared.reading.Next.TheVariants.{Whole, End}
 use Rattle.napt_capture.specs.declared.records.Records.{Records}
 use Rattle.napt_capture.specs.Contents.{Entry}
 use Rattle.napt_capture.specs.Capture.{IsStored, Stored, entry_of, stored_text}
-use Rattle.napt_capture.specs.Records.{Tells, TellsEnd, counted}
+use Rattle.napt_capture.specs.Records.{Tells, TellsEnd, next_number}
 use Rattle.napt_capture.specs.Stream.{HasRecords, number_behind}
 use Rattle.napt_capture.proofs.OneStream.{HasRecords-first, HasRecords-last}
 use Rattle.napt_records.specs.Rests.{HasRest}
@@ -37,14 +37,14 @@ taken old new text (Some left) r entry more end good is consumed number spelling
     }
 
 pub HasRest-whole : (old new : Records) (before after : Option (List ℕ)) (entry : Entry) (rest : Rest) →
-    Tells old before after (Whole entry) → new.number ≡ counted (Whole entry) old.number →
+    Tells old before after (Whole entry) → new.number ≡ next_number (Whole entry) old.number →
     new.spelling ≡ old.spelling → HasRest old before None [] rest → HasRest new after None (entry ∷ []) rest
 HasRest-whole old new before after entry rest (r, good, is, may, consumed) number spelling p =
     subst (λ l. HasRest new after None (entry ∷ []) (record { records = l; end = rest.end })) (sym p.records_are)
     (taken old new p.text after r entry p.more rest.end good is (subst (λ o. Consumes o after (stored_text r)) p.left_is
     consumed) number spelling p.has)
 
--- the end was told
+-- the end was reached
 ended : (old : Records) (before : Option (List ℕ)) (end : Result Bool CaptureFault) (rest : Rest) →
     TellsEnd old end before → (p : HasRest old before None [] rest) → (p.more ≡ []) × (rest.end ≡ end)
 ended old before end rest told p =
@@ -59,7 +59,7 @@ kept : (before after : Option (List ℕ)) (text : List ℕ) → before ≡ Some 
 kept before after text is keeps = kept_some after text (subst (λ o. Keeps o after) is keeps)
 
 pub HasRest-end : (old new : Records) (before after : Option (List ℕ)) (cut : Bool) (rest : Rest) →
-    Tells old before after (End cut) → new.number ≡ counted (End cut) old.number → new.spelling ≡ old.spelling
+    Tells old before after (End cut) → new.number ≡ next_number (End cut) old.number → new.spelling ≡ old.spelling
     → HasRest old before None [] rest → HasRest new after (Some cut) [] rest
 HasRest-end old new before after cut rest (told, keeps) number spelling p = record {
   text = p.text;
@@ -116,9 +116,6 @@ StopsBy-then Memory f p = tt
 pub no_items : {X : Type 0} (xs : List X) → length xs ≡ 0 → xs ≡ []
 no_items [] none = refl
 no_items (x ∷ xs) none = absurd (omega (arith, none))
-
-pub some_items : {X : Type 0} (xs : List X) → 0 < length xs → xs ≡ [] → ⊥
-some_items xs some none = omega (arith, some, ap length none)
 
 pub untold : (cut : Option Bool) → false ≡ is_some cut → cut ≡ None
 untold None is = refl

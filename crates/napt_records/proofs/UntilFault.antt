@@ -27,16 +27,6 @@ front_of old last [] p = ap all_of (sym p)
 front_of old last (input ∷ inputs) (mid, step, more) =
     first_of old mid input step ∙ ap (λ l. input ∷ l) (front_of mid last inputs more)
 
-pub IsMergedUntil-front : (inside outside : Rest) (inputs : List Arrival) (stop : Option (Side × CaptureFault)) →
-    IsMergedUntil inside outside inputs stop
-    → (left : List Arrival) × IsMerged inside.records outside.records (inputs ++ left)
-IsMergedUntil-front inside outside inputs stop (last, taken, stops) =
-    let begin : Sides = record { clock = 0; inside = inside; outside = outside } in (
-      all_of last,
-      subst (IsMerged inside.records outside.records) (front_of begin last inputs taken)
-          (comes inside.records outside.records),
-    )
-
 none_left : (last : Sides) → Stops last None → all_of last ≡ []
 none_left last stops = rw (stops.0.0, stops.0.1) refl
 

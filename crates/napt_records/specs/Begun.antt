@@ -1,4 +1,4 @@
--- Captures of which the headers were read, and nothing behind them.
+-- Captures of which only the headers were read.
 use Rattle.std.specs.Prelude.{◌≡◌, ℕ, List, [], Option, None, Some}
 use Rattle.napt_capture.specs.declared.device.Source.{Ghosts}
 use Rattle.napt_capture.specs.Reading.{ReadsFileHeader}

@@ -38,7 +38,7 @@ clock_at place inputs = latest (take (place + 1) inputs)
 abbrev pub reach : Side → ℕ → List Arrival → ℕ
 reach side place inputs = latest (filter (is_from side) (take (place + 1) inputs))
 
--- an inside input stands before an outside one exactly where the greatest time of the inside up to the one is at most
+-- an inside input comes before an outside one exactly if the greatest time of the inside up to the one is at most
 -- that of the outside up to the other
 abbrev pub AreInOrder : List Arrival → Type 0
 AreInOrder inputs =

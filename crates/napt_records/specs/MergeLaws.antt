@@ -29,7 +29,7 @@ abbrev pub MergesBefore : Type 0
 MergesBefore = (both : Both) (inputs : List Arrival) (side : Side) (fault : CaptureFault) →
     IsMergedUntil both.inside both.outside inputs (Some (side, fault)) → AreBefore side fault both inputs
 
--- and of two that are next the inside's is told
+-- and of two that are next the inside's is returned
 abbrev pub TellsInsideFirst : Type 0
 TellsInsideFirst = (both : Both) (inputs : List Arrival) (fault its : CaptureFault) →
     IsMergedUntil both.inside both.outside inputs (Some (Outside, fault)) → both.inside.end ≡ Err its

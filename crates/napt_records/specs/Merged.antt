@@ -56,7 +56,7 @@ abbrev pub NoneFailedIf : {R : Type 0} {G : Ghosts R} → (R → ℕ) → Option
 NoneFailedIf failed (Some old) (Some new) = NoneFailed failed old new
 NoneFailedIf failed old new = Unit {0}
 
--- its end was told
+-- its end was reached
 abbrev pub IsToldIf : {R : Type 0} {G : Ghosts R} → Option (Stream R G) → Type 0
 IsToldIf None = Unit {0}
 IsToldIf (Some stream) = IsSome stream.cut
@@ -177,7 +177,7 @@ abbrev pub HandsOut : {R Q : Type 0} {G : Ghosts R} {H : Ghosts Q} → (R → Op
 HandsOut inside outside in_failed out_failed old inputs new =
     AreSame old new × (AreLive old → Goes inside outside in_failed out_failed old inputs new)
 
--- the end was told: nothing is left
+-- the end was reached: nothing is left
 pub record Finishes {R Q : Type 0} {G : Ghosts R} {H : Ghosts Q} (inside : R → Option (List ℕ))
     (outside : Q → Option (List ℕ))
     (in_failed : R → ℕ) (out_failed : Q → ℕ) (old new : MergedStreams R Q G H) : Type 0 where
@@ -187,7 +187,7 @@ pub record Finishes {R Q : Type 0} {G : Ghosts R} {H : Ghosts Q} (inside : R →
   pub inside_cut : (sides : Sides) → Has inside outside old sides → sides.inside.end ≡ Ok (cut_of new.inside)
   pub outside_cut : (sides : Sides) → Has inside outside old sides → sides.outside.end ≡ Ok (cut_if new.outside)
 
--- the end was told, or a fault
+-- the end was reached, or a fault was returned
 abbrev pub EndsWith : {R Q : Type 0} {G : Ghosts R} {H : Ghosts Q} → (R → Option (List ℕ)) → (Q → Option (List ℕ)) →
     (R → ℕ) → (Q → ℕ) → MergedStreams R Q G H → Option SideFault → MergedStreams R Q G H → Type 0
 EndsWith inside outside in_failed out_failed old None new =

@@ -36,21 +36,21 @@ causes =
     ∷ OverQuota ∷ NoPort ∷ []
 
 -- the place of a cause among them, from 0
-abbrev pub place_of : Cause → ℕ
-place_of Truncated = 0
-place_of NotIpv4 = 1
-place_of BadHeader = 2
-place_of BadChecksum = 3
-place_of Fragment = 4
-place_of Unsupported = 5
-place_of BadInner = 6
-place_of BadPort = 7
-place_of Spoofed = 8
-place_of NotOurs = 9
-place_of NoBinding = 10
-place_of Filtered = 11
-place_of OverQuota = 12
-place_of NoPort = 13
+abbrev pub cause_place : Cause → ℕ
+cause_place Truncated = 0
+cause_place NotIpv4 = 1
+cause_place BadHeader = 2
+cause_place BadChecksum = 3
+cause_place Fragment = 4
+cause_place Unsupported = 5
+cause_place BadInner = 6
+cause_place BadPort = 7
+cause_place Spoofed = 8
+cause_place NotOurs = 9
+cause_place NoBinding = 10
+cause_place Filtered = 11
+cause_place OverQuota = 12
+cause_place NoPort = 13
 
 abbrev pub cause_name : Cause → Text
 cause_name Truncated = codes "truncated"
@@ -69,7 +69,7 @@ cause_name OverQuota = codes "over-quota"
 cause_name NoPort = codes "no-port"
 
 abbrev pub is_dropped : Cause → Outcome → Bool
-is_dropped cause (Dropped given) = place_of given == place_of cause
+is_dropped cause (Dropped given) = cause_place given == cause_place cause
 is_dropped cause other = false
 
 abbrev pub drop_line : List Outcome → Cause → Text

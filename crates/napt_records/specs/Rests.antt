@@ -8,8 +8,8 @@ use Rattle.napt_capture.specs.Stream.{HasRecords}
 use Rattle.napt_records.specs.declared.stream.Stream.{Stream}
 use Rattle.napt_records.specs.Streams.{Rest}
 
--- a reader with this text left, that read these records and did not hand them on, and told this end or none, has so
--- much left
+-- what is left of a reader with this text left, that read these records and did not hand them on, and reached this
+-- end or none
 pub record HasRest (records : Records) (left : Option (List ℕ)) (cut : Option Bool) (firsts : List Entry)
     (rest : Rest) :
     Type 0 where

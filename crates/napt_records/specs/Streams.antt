@@ -16,7 +16,7 @@ pub record Rest : Type 0 where
 abbrev pub no_rest : Rest
 no_rest = record { records = []; end = Ok false }
 
--- what stands in the place of the next record has this fault
+-- the header in the place of the next record has this fault
 abbrev pub IsAtFault : Rest → CaptureFault → Type 0
 IsAtFault rest fault = (rest.records ≡ []) × (rest.end ≡ Err fault)
 

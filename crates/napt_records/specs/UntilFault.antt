@@ -62,7 +62,7 @@ AreFront both inputs =
 abbrev pub HaveAll : Side → Both → List Arrival → Type 0
 HaveAll side both inputs = map of_input (filter (is_from side) inputs) ≡ map of_record (rest_of side both).records
 
--- the least front that has all records of a side at fault: merging needs what stands behind them
+-- the least front that has all records of a side at fault: merging needs what follows them
 pub record AreBefore (side : Side) (fault : CaptureFault) (both : Both) (inputs : List Arrival) : Type 0 where
   pub front : AreFront both inputs
   pub ends : (rest_of side both).end ≡ Err fault

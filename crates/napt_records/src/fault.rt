@@ -7,7 +7,7 @@ use napt_capture::{CaptureFault, WriteFault};
 use napt_sequential::RunFault;
 use napt_wire::Side;
 
-/// What a run over captures writes, in the order in which it does.
+/// The outputs of a run over captures, in the order in which they are written.
 #[derive(Clone, Copy, Debug, PartialEq, Eq)]
 pub enum Which {
     /// The capture that goes to the outside.
@@ -18,15 +18,15 @@ pub enum Which {
     Report,
 }
 
-/// Why a run over captures ends early. `run_captures` of `napt_run` writes nothing where the fault is of a capture or of
-/// the run; what `run_streams` of `napt_stream` has written by then, it says.
+/// Why a run over captures ends early. If the fault is of a capture or of the run, `run_captures` of `napt_run` has
+/// written nothing; the docs of `run_streams` there say what it has written by then.
 #[derive(Clone, Copy, Debug, PartialEq, Eq)]
 pub enum Fault {
     /// The capture of this side is refused, or reading it failed.
     Capture(Side, CaptureFault),
     /// The run failed, or memory ran out for what it is given or what it writes.
     Run(RunFault),
-    /// Writing this output failed. Of `run_captures`, those before it are whole, and those after it have nothing.
+    /// Writing this output failed. After `run_captures`, those before it are whole, and nothing is in those after it.
     Write(Which, WriteFault),
 }
 

@@ -9,7 +9,7 @@ pub fn merge_is_one()
 {}
 
 /// Merging two captures of which one may end by a fault hands out the least front of the merged list that has all records
-/// of a side at fault; where both are, the inside's fault is told.
+/// of a side at fault; if both are, the inside's fault is returned.
 pub fn merge_until_fault()
     ensures whole { MergesWhole }
     ensures before { MergesBefore }

@@ -21,7 +21,7 @@ pub struct SideFault {
     pub fault: CaptureFault,
 }
 
-/// Whether each capture ends inside a record. No outside capture is one that doesn't.
+/// Whether each capture ends inside a record. A missing outside capture does not.
 #[derive(Clone, Copy, Debug, PartialEq, Eq)]
 pub struct Cuts {
     pub inside: bool,
@@ -74,7 +74,7 @@ impl<'a, 'b, R: Source, Q: Source> MergedStreams<'a, 'b, R, Q> {
     ghost use Rattle.std.specs.Prelude.{◌≡◌, []};
     ghost use Rattle.napt_records.specs.Merged.{AreLive, AreSame, LooksOrMeets, TakesAny, cut_if, cut_of};
 
-    /// Of these captures, of which only the headers were read.
+    /// Merges these captures, of which only the headers were read.
     pub fn new(
         alloc: Global,
         inside: Stream<'a, R>,
@@ -96,7 +96,7 @@ impl<'a, 'b, R: Source, Q: Source> MergedStreams<'a, 'b, R, Q> {
         }
     }
 
-    /// Whether each capture ends inside a record, once the end was told.
+    /// Whether each capture ends inside a record; false until its end was reached.
     pub fn cuts(&self) -> Cuts
         ensures inside { result.inside ≡ cut_of self.now.inside }
         ensures outside { result.outside ≡ cut_if self.now.outside }
@@ -111,7 +111,7 @@ impl<'a, 'b, R: Source, Q: Source> MergedStreams<'a, 'b, R, Q> {
         }
     }
 
-    /// The captures again.
+    /// Gives the captures back.
     pub fn into_streams(self) -> (Stream<'a, R>, Option<Stream<'b, Q>>)
         ensures inside { result.0 ≡ self.entry.inside }
         ensures outside { result.1 ≡ self.entry.outside }
@@ -119,7 +119,7 @@ impl<'a, 'b, R: Source, Q: Source> MergedStreams<'a, 'b, R, Q> {
         (self.inside, self.outside)
     }
 
-    /// Sees to it that the next record of each side is known. The first one read has the room of the spare vector.
+    /// Reads until the next record of each side is known. The first one read reuses the room of the spare vector.
     fn look(&mut self, spare: &mut Vec<u8>) -> Result<(), SideFault>
         ensures same { AreSame self.old self.new }
         ensures looks { AreLive self.old → LooksOrMeets R.remaining Q.remaining R.failed Q.failed
@@ -145,7 +145,7 @@ impl<'a, 'b, R: Source, Q: Source> MergedStreams<'a, 'b, R, Q> {
         }
     }
 
-    /// Takes the next one of the records that were read.
+    /// Takes the next of the records that were read.
     fn take(&mut self) -> Option<Input>
         ensures takes { TakesAny self.old.inside_first.items self.old.outside_first.items
             self.old.clock result self.new.inside_first.items self.new.outside_first.items
@@ -165,6 +165,7 @@ impl<'a, 'b, R: Source, Q: Source> MergedStreams<'a, 'b, R, Q> {
 }
 
 impl<'a, 'b, R: Source, Q: Source> Arrivals for MergedStreams<'a, 'b, R, Q> {
+    ghost use Rattle.std.specs.Prelude.{◌≡◌, false, true};
     ghost use Rattle.napt_records.specs.Merged.{AsksDevice, EndsWith, HandsOut};
     ghost use Rattle.napt_records.specs.HandedLaws.{HandsOut-more, HandsOut-none};
 
@@ -183,7 +184,10 @@ impl<'a, 'b, R: Source, Q: Source> Arrivals for MergedStreams<'a, 'b, R, Q> {
     ghost hands_more = { λ x y z xs ys first second. HandsOut-more R.remaining Q.remaining
         R.failed Q.failed x y z xs ys first second };
 
-    fn asks_device(&self) -> bool {
+    fn asks_device(&self) -> bool
+        ensures quiet { result ≡ false → ¬ AsksDevice self.now }
+        ensures needed { result ≡ true → AsksDevice self.now }
+    {
         if self.inside.asks_device(&self.inside_first) {
             return true;
         }

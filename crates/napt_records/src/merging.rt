@@ -26,7 +26,7 @@ fn is_outside_next(inside: &VecDeque<Record>, outside: &VecDeque<Record>) -> boo
     other.time < first.time
 }
 
-/// Takes the next record, with its side; none where both sides are at their ends.
+/// Takes the next record, with its side; `None` if both sides are at their ends.
 pub(crate) fn take_next(
     inside: &mut VecDeque<Record>,
     outside: &mut VecDeque<Record>,
@@ -42,7 +42,7 @@ pub(crate) fn take_next(
 }
 
 /// The records of both captures, which become the inputs of a run as it asks for them. Neither list is sorted: a record
-/// that is earlier than one before it stands where that one does. At a tie the inside goes first.
+/// that is earlier than one before it in its capture still follows that one. At a tie the inside goes first.
 #[derive(Drop)]
 pub struct Merged {
     inside: VecDeque<Record>,
@@ -62,7 +62,7 @@ impl Model for Merged {
 }
 
 impl Merged {
-    /// Of the records of both captures. Their bytes move.
+    /// Merges the records of both captures. Their bytes move.
     pub fn new(inside: Vec<Record>, outside: Vec<Record>) -> Merged
         ensures merged { IsMerged inside.items outside.items result }
         ensures timely { All IsWritable inside.items → All IsWritable outside.items →
@@ -100,7 +100,7 @@ impl Merged {
 }
 
 impl Arrivals for Merged {
-    ghost use Rattle.std.specs.Prelude.{refl};
+    ghost use Rattle.std.specs.Prelude.{◌≡◌, false, refl};
     ghost use Rattle.napt_sequential.specs.Inputs.{fronts_join};
 
     type Fault = NoFault;
@@ -115,7 +115,9 @@ impl Arrivals for Merged {
 
     ghost hands_more = { λ x y z xs ys first second. fronts_join x y z xs ys first second };
 
-    fn asks_device(&self) -> bool {
+    fn asks_device(&self) -> bool
+        ensures { result ≡ false }
+    {
         false
     }
 
@@ -125,7 +127,7 @@ impl Arrivals for Merged {
 }
 
 /// Merges the records of both captures into the inputs of a run, by their arrival times, as `Merged` hands them out. The
-/// bytes of the records move. Fails only where memory runs out.
+/// bytes of the records move. Fails only if memory runs out.
 pub fn merge(
     alloc: Global,
     inside: Vec<Record>,

@@ -1,4 +1,4 @@
-//! The names of causes, protocols and endpoints, in the report and wherever else a run is told.
+//! The names of causes, protocols and endpoints, in the report and in other accounts of a run.
 ghost use Rattle.std.specs.Prelude.{◌≡◌, Some};
 ghost use Rattle.napt_records.specs.Report as model;
 

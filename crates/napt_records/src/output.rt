@@ -24,7 +24,7 @@ fn packet_to(side: Side, outcome: &Outcome) -> Option<&[u8]>
     Some(bytes)
 }
 
-/// Writes the record of the packet that an outcome sends to a side, behind what is written; where it sends none, nothing.
+/// Appends the record of the packet that an outcome sends to a side, if it sends one.
 fn put_outcome<W: Sink>(
     writer: &mut W,
     written: Written,
@@ -49,8 +49,8 @@ fn put_outcome<W: Sink>(
 /// Writes the capture of the packets that leave to a side, of inputs that arrived at these times, in ns, and flushes it.
 /// It takes no memory.
 ///
-/// A fault comes where a write failed or took nothing, or the flush failed: exactly the first `written` bytes of the
-/// capture are written then.
+/// Fails if a write failed or took nothing, or the flush failed: then exactly the first `written` bytes of the capture
+/// are written.
 pub fn write_packets<W: Sink>(
     writer: &mut W,
     side: Side,

@@ -12,7 +12,7 @@ use std::alloc::{AllocError, Global};
 
 /// The place of a cause's line among those of the drops, from 0: that of the cause in `Cause::ALL`.
 fn place_of(cause: Cause) -> usize
-    ensures place { result ≡ model.place_of cause }
+    ensures place { result ≡ model.cause_place cause }
     ensures below { result < 14 }
 {
     match cause {
@@ -44,7 +44,7 @@ pub struct Counts {
 }
 
 impl Counts {
-    /// Of no inputs.
+    /// The counts of no inputs.
     pub fn new() -> Counts
         ensures { AreCountsOf [] result }
     {
@@ -64,7 +64,7 @@ impl Counts {
         self.packets
     }
 
-    /// Counts what became of one input more. A number stops at the greatest one.
+    /// Counts one more input by its outcome. Each count saturates.
     pub fn count(&mut self, outcome: &Outcome)
         ensures { (outcomes : List Outcome) → length outcomes < 2 ^ 64 - 1 →
             AreCountsOf outcomes self.old → AreCountsOf (outcomes ++ outcome.now ∷ []) self.new }
@@ -109,7 +109,7 @@ fn push_drops(
 ) -> Result<(), AllocError>
     ensures { OnOk result (string_bytes report.new ≡ string_bytes report.old ++ flat_map (λ cause.
         codes "drop " ++ model.count_line (model.cause_name cause)
-        (slice_index dropped.now (model.place_of cause))) causes.now) }
+        (slice_index dropped.now (model.cause_place cause))) causes.now) }
 {
     for cause in causes {
         report.push_str("drop ")?;
@@ -172,7 +172,7 @@ fn push_cuts(report: &mut String, cut_inside: bool, cut_outside: bool) -> Result
 /// bindings.
 ///
 /// Each line ends with a line feed. The lines of the bindings stand in their order, as
-/// `udp 10.0.0.2:5000 203.0.113.1:5000`, with ` fixed` behind a redirect. Fails only where memory runs out.
+/// `udp 10.0.0.2:5000 203.0.113.1:5000`, with ` fixed` after a redirect. Fails only if memory runs out.
 pub fn report_of(
     alloc: Global,
     counts: &Counts,
@@ -191,7 +191,7 @@ pub fn report_of(
     Ok(report)
 }
 
-/// The report of a run, as [`report_of`] writes it over the counts of the outcomes. Fails only where memory runs out.
+/// The report of a run, as [`report_of`] writes it over the counts of the outcomes. Fails only if memory runs out.
 #[tactic(auto, unfolding(crate::specs::Report::report_text))]
 pub fn report_text(
     alloc: Global,

@@ -6,11 +6,11 @@ use std::alloc::Global;
 use std::collections::VecDeque;
 use std::mem;
 
-/// What a capture is read from, until reading it failed.
+/// The source of a capture, and the fault that ended reading it.
 #[derive(Drop)]
 struct Live<'a, R: Source> {
     source: &'a mut R,
-    /// Why reading ended, if it did.
+    /// Why reading ended early, if it did.
     fault: Option<CaptureFault>,
     ghost can_fail: { fault ≡ None → R.failed source.now < 2 ^ 64 - 1 },
 }
@@ -20,7 +20,7 @@ struct Live<'a, R: Source> {
 pub struct Stream<'a, R: Source> {
     live: Live<'a, R>,
     records: Records,
-    /// Whether it ends inside a record, once its end was told.
+    /// Whether it ends inside a record, once its end was reached.
     cut: Option<bool>,
 }
 
@@ -28,20 +28,23 @@ impl<'a, R: Source> Live<'a, R> {
     ghost use Rattle.std.specs.Prelude.{◌≡◌, ◌+◌, ◌^◌, ◌-◌, ◌<◌, None, IfOk, IfErr, Err, OnErr, OnOk};
     ghost use Rattle.napt_capture.specs.Capture.{failed_reads};
     ghost use Rattle.napt_capture.specs.Reading.{IsWritableNext, StopsBy};
-    ghost use Rattle.napt_capture.specs.Records.{Asks, Tells, TellsEnd, counted, left_of};
+    ghost use Rattle.napt_capture.specs.Records.{Asks, KeepsLeft, Tells, TellsEnd, next_number, left_of};
 
-    /// Reads the next record. After a fault nothing is read, and the fault is told again.
+    /// Reads the next record. After a fault nothing is read, and the same fault is returned.
     fn next(&mut self, records: &mut Records, vector: Vec<u8>) -> Result<Next, CaptureFault>
         ensures name { self.new.source.ghost_name ≡ self.old.source.ghost_name }
         ensures next { self.old.fault ≡ None → IfOk result (Tells records.old
             (left_of records.old (R.remaining self.old.source.now))
             (left_of records.new (R.remaining self.new.source.now))) }
         ensures number { self.old.fault ≡ None →
-            IfOk result (λ next. records.new.number ≡ counted next records.old.number) }
+            IfOk result (λ next. records.new.number ≡ next_number next records.old.number) }
         ensures fault { self.old.fault ≡ None → IfErr result (λ fault. StopsBy fault
             (TellsEnd records.old (Err fault) (left_of records.old (R.remaining self.old.source.now)))) }
         ensures spelling { records.new.spelling ≡ records.old.spelling }
         ensures live { OnOk result (self.new.fault ≡ self.old.fault) }
+        ensures kept { self.old.fault ≡ None → OnErr result (KeepsLeft
+            records.old (R.remaining self.old.source.now)
+            records.new (R.remaining self.new.source.now)) }
         ensures writable { IfOk result IsWritableNext }
         ensures count { self.old.fault ≡ None →
             R.failed self.new.source.now ≡ R.failed self.old.source.now + failed_reads result }
@@ -61,15 +64,16 @@ impl<'a, R: Source> Live<'a, R> {
 }
 
 impl<'a, R: Source> Stream<'a, R> {
-    ghost use Rattle.std.specs.Prelude.{◌≡◌, ◌+◌, ◌^◌, ◌-◌, ◌<◌, None, All, IfErr, OnOk, IsSome, [], false};
+    ghost use Rattle.std.specs.Prelude.{◌≡◌, ◌+◌, ◌^◌, ◌-◌, ◌<◌, None, All, IfErr, OnErr, OnOk, IsSome, [], false, true};
     ghost use Rattle.napt_capture.specs.Capture.{failed_reads};
     ghost use Rattle.napt_capture.specs.Reading.{StopsBy};
     ghost use Rattle.napt_capture.specs.Text.{IsWritable};
+    ghost use Rattle.napt_capture.specs.Records.{KeepsLeft};
     ghost use Rattle.napt_records.specs.Merged.{AsksSource};
     ghost use Rattle.napt_records.specs.Streams.{IsAtFault, IsLooked, Rest};
     ghost use Rattle.napt_records.specs.Rests.{StreamHas};
 
-    /// Of a source whose header was read.
+    /// The capture of a source whose header was read.
     pub fn new(source: &'a mut R, records: Records) -> Stream<'a, R>
         requires { R.failed source.old < 2 ^ 64 - 1 }
         ensures name { result.live.source.ghost_name ≡ source.entry.ghost_name }
@@ -88,8 +92,8 @@ impl<'a, R: Source> Stream<'a, R> {
         }
     }
 
-    /// Reads the next record into the list, where it is empty and the end was not told. The record has the room of the spare
-    /// vector, in whose place a new one stands then.
+    /// Reads the next record into the list, if the list is empty and the end was not reached. The record reuses the
+    /// room of the spare vector, which a new one replaces. A fault loses nothing of what is left.
     pub fn look(
         &mut self,
         alloc: Global,
@@ -106,6 +110,11 @@ impl<'a, R: Source> Stream<'a, R> {
             ((rest : Rest) → StreamHas R.remaining self.old firsts.old.items rest →
             IsAtFault rest fault)) }
         ensures told { OnOk result (firsts.new.items ≡ [] → IsSome self.new.cut) }
+        ensures kept { self.old.live.fault ≡ None → OnErr result (KeepsLeft
+            self.old.records (R.remaining self.old.live.source.now)
+            self.new.records (R.remaining self.new.live.source.now)) }
+        ensures unchanged { OnErr result ((self.new.cut ≡ self.old.cut)
+            × (firsts.new.items ≡ firsts.old.items)) }
         ensures writable { OnOk result (All IsWritable firsts.old.items →
             All IsWritable firsts.new.items) }
         ensures count { self.old.live.fault ≡ None →
@@ -118,29 +127,32 @@ impl<'a, R: Source> Stream<'a, R> {
         if !firsts.is_empty() || self.cut.is_some() {
             return Ok(());
         }
+        firsts.reserve(1)?;
         let vector = mem::replace(spare, Vec::new(alloc));
         match self.live.next(&mut self.records, vector)? {
-            Next::Whole(record) => firsts.push_back(record)?,
+            Next::Whole(record) => firsts.push_back_reserved(record),
             Next::End(cut) => self.cut = Some(cut),
         }
         Ok(())
     }
 
     /// Whether `look` asks the source.
+    #[tactic(auto, using(crate::proofs::Left::none_of))]
     pub fn asks_device(&self, firsts: &VecDeque<Record>) -> bool
-        ensures { result ≡ false → ¬ AsksSource self.now firsts.now.items }
+        ensures quiet { result ≡ false → ¬ AsksSource self.now firsts.now.items }
+        ensures needed { result ≡ true → AsksSource self.now firsts.now.items }
     {
         firsts.is_empty() && self.cut.is_none() && !self.records.has_whole()
     }
 
-    /// Whether the capture ends inside a record, once its end was told.
+    /// Whether the capture ends inside a record; `None` until its end was reached.
     pub fn cut(&self) -> Option<bool>
         ensures { result ≡ self.now.cut }
     {
         self.cut
     }
 
-    /// The source again.
+    /// Gives the source back.
     pub fn into_source(self) -> &'a mut R
         ensures name { result.ghost_name ≡ self.entry.live.source.ghost_name }
         ensures value { result.now ≡ self.entry.live.source.now }

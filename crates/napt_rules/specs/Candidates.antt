@@ -30,10 +30,11 @@ abbrev pub candidate : Class → ℕ → ℕ → ℕ
 candidate class first k = class.least + class.apart * (((first - class.least) / class.apart + k) % class.many)
 
 -- the numbers from first on, so many of them
-abbrev pub counted : ℕ → ℕ → List ℕ
-counted first zero = []
-counted first (suc many) = first ∷ counted (first + 1) many
+abbrev pub numbers_from : ℕ → ℕ → List ℕ
+numbers_from first zero = []
+numbers_from first (suc many) = first ∷ numbers_from (first + 1) many
 
 -- the class of the number, beginning with the number itself and wrapping, each once
 abbrev pub candidates : Protocol → ℕ → List ℕ
-candidates protocol number = let class = class_of protocol number in map (candidate class number) (counted 0 class.many)
+candidates protocol number =
+    let class = class_of protocol number in map (candidate class number) (numbers_from 0 class.many)

@@ -1,3 +1,14 @@
-pub mod Devices
+pub mod Received
 pub mod OutputsAreOne
 pub mod TooMany
+pub mod Breaks
+pub mod Fronts
+pub mod Behind
+pub mod Begun
+pub mod Headers
+pub mod Headed
+pub mod Streamed
+pub mod Endings
+pub mod Outputs
+pub mod Leaves
+pub mod SameAsCaptures

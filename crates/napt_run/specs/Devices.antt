@@ -1,6 +1,6 @@
 -- Devices that are handed in or not.
 use Rattle.std.proofs.Common.{inl, inr}
-use Rattle.std.specs.Prelude.{◌≡◌, ◌⊎◌, ℕ, ◌+◌, List, Option, Some, None, option_map}
+use Rattle.std.specs.Prelude.{◌≡◌, ◌⊎◌, ℕ, ◌+◌, Bool, true, false, List, Option, Some, None, option_map}
 use Rattle.std.specs.Borrow.{MutBor}
 
 -- a `&mut` that may be there, as a call leaves it
@@ -22,6 +22,11 @@ GrowsBy failed (Some device) other more = ⊥
 -- the bytes that a reader has left, where they are known or there is no reader
 abbrev pub some_bytes : List ℕ → Option (List ℕ)
 some_bytes bytes = Some bytes
+
+-- and of an outside capture, by whether there is one
+abbrev pub bytes_if : Bool → Option (List ℕ) → Option (Option (List ℕ))
+bytes_if false known = Some None
+bytes_if true known = option_map some_bytes known
 
 abbrev pub bytes_in : {D : Type 0} → (D → Option (List ℕ)) → Option (MutBor D) → Option (Option (List ℕ))
 bytes_in remaining None = Some None

@@ -1,8 +1,8 @@
 pub use Rattle.napt_rules.specs.Prelude
 pub use Rattle.napt_sequential.specs.Inputs
 pub use Rattle.napt_sequential.specs.Faults
-pub use Rattle.napt_sequential.specs.Dispatching
-pub use Rattle.napt_sequential.specs.Places
+pub use Rattle.napt_laws.specs.Dispatching
+pub use Rattle.napt_laws.specs.Places
 pub use Rattle.napt_dispatch.specs.Dispatch
 pub use Rattle.napt_records.specs.Merge
 pub use Rattle.napt_records.specs.MergeLaws
@@ -11,3 +11,11 @@ pub use Rattle.napt_records.specs.Report
 pub mod Devices
 pub mod Captures
 pub mod Replay
+pub mod Absent
+pub mod Outputs
+pub mod Leaving
+pub mod LeavingLaws
+pub mod Passed
+pub mod Streams
+pub mod Runs
+pub mod StreamLaws

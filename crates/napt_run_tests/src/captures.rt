@@ -1,5 +1,6 @@
-// What no contract says: that a run over captures comes to its end on threads, of which one may be slow. The bytes of worked
-// captures are in tests/runs, at the top of the repository, and those of long ones are in tests/hairpins.
+//! What no contract says: that a run over captures comes to its end on threads, of which one may be slow. The bytes of worked
+//! captures are in tests/runs, at the top of the repository, and those of long ones are in tests/hairpins.
+
 ghost use Rattle.std.specs.Prelude.{◌<◌};
 
 use crate::gates::{Hold, Way};

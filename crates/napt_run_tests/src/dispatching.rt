@@ -1,4 +1,5 @@
-// Dispatching to a pool, and what its workers are left with.
+//! Dispatching to a pool, and what its workers are left with.
+
 ghost use Rattle.std.specs.Prelude.{◌≡◌, length, vec_len, IfOk};
 ghost use Rattle.napt_config.specs.Rules.{KeepsRules};
 ghost use Rattle.napt_dispatch.specs.Dispatch.{started};

@@ -1,5 +1,5 @@
-// What no contract says: that the run over workers comes to its end, on threads that step at the same time, and that they ask the
-// gate that it is given.
+//! What no contract says: that the run over workers comes to its end, on threads that step at the same time, and that they ask the
+//! gate that it is given.
 
 use crate::calls::workers_run;
 use crate::gates::{Hold, MOST_ASKS, Way};

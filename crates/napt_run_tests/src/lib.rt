@@ -35,4 +35,6 @@ pub mod sample_inputs;
 #[cfg(test)]
 mod steps;
 #[cfg(test)]
+mod taking;
+#[cfg(test)]
 mod worked;

@@ -1,4 +1,4 @@
-// What no contract says: that answers come, that workers step at the same time and unasked, and how often a gate is asked.
+//! What no contract says: that answers come, that workers step at the same time and unasked, and how often a gate is asked.
 
 mod checked;
 mod keeper;

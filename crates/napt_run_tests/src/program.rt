@@ -1,4 +1,4 @@
-// What no contract says: the words of fault lines, and where a file of the configuration ends.
+//! What no contract says: the words of fault lines, and where a file of the configuration ends.
 
 mod config_file;
 mod options;

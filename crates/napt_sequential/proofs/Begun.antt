@@ -1,14 +1,14 @@
 -- The translators before any leg.
 use Rattle.std.proofs.Common.{◌≡◌, ℕ, ◌+◌, ◌<◌, List, [], ◌∷◌, ◌++◌, length, Some, refl, sym, ◌∙◌, ap, arith, get_or, length-append, inl, inr}
 use Rattle.std.specs.List.{slice_get}
-use Rattle.std.proofs.lemmas.Option.{slice_get_within, get_or_from_slice_get}
+use Rattle.std.proofs.lemmas.Option.{slice_get_within, get_or_from_slice_get, same_Some}
 use Rattle.std.proofs.lemmas.Bool.{cases_lt}
 use Rattle.napt_config.specs.Rules.{Rules}
 use Rattle.napt_rules.specs.Prelude.{of, opening, Kept}
 use Rattle.napt_translate.specs.Translators.{begun, with_kept}
 use Rattle.napt_sequential.specs.declared.counted_translator.CountedTranslator.{CountedTranslator}
 use Rattle.napt_sequential.specs.CountedTranslators.{AreCountedTranslators, state_of}
-use Rattle.napt_sequential.proofs.Lists.{get_before, get_last, same_some}
+use Rattle.napt_sequential.proofs.Lists.{get_before, get_last}
 
 abbrev pub fresh : Rules → ℕ → CountedTranslator
 fresh rules place = record { translator = begun place rules; legs = 0 }
@@ -30,7 +30,7 @@ fresh_more rules translators place many are counted is = λ i s is_there.
       | inl old ↦ are i s (sym (get_before translators counted i old) ∙ is_there)
       | inr new ↦
           let here : i ≡ length translators = omega arith in
-          sym (same_some counted s (sym (get_last translators counted i here) ∙ is_there))
+          sym (same_Some counted s (sym (get_last translators counted i here) ∙ is_there))
           ∙ (is ∙ ap (fresh rules) (sym (here ∙ many)))
     ]
 

@@ -3,15 +3,15 @@ use Rattle.std.proofs.Common.{◌≡◌, ◌≢◌, ℕ, suc, ◌+◌, ◌≤◌
 use Rattle.std.specs.List.{slice_get}
 use Rattle.std.proofs.lemmas.Bool.{ne_eqb, eqb-true, eqb-false}
 use Rattle.std.proofs.lemmas.List.Elements.{filter-append}
-use Rattle.std.proofs.lemmas.Option.{slice_get_within, get_or_from_slice_get}
+use Rattle.std.proofs.lemmas.Option.{slice_get_within, get_or_from_slice_get, same_Some}
 use Rattle.napt_config.specs.Rules.{Rules, KeepsRules}
 use Rattle.napt_rules.specs.declared.Leg.{Leg}
 use Rattle.napt_rules.specs.Prelude.{act, Act, acts_at, legs_at, kept_act, kept_after}
 use Rattle.napt_translate.specs.Translators.{TranslatorState, begun, with_kept, left_by}
 use Rattle.napt_sequential.specs.declared.counted_translator.CountedTranslator.{CountedTranslator}
 use Rattle.napt_sequential.specs.CountedTranslators.{RunState, IsCountedTranslator, AreCountedTranslators, state_after, end_at, counted_after}
-use Rattle.napt_sequential.proofs.Lists.{get_set, get_set_other, long_set, same_some}
-use Rattle.napt_sequential.proofs.RunsLocal.{StaysAtOnce, leg_at_once, other_at_once}
+use Rattle.napt_sequential.proofs.Lists.{get_set, get_set_other, long_set}
+use Rattle.napt_laws.proofs.RunsLocal.{StaysAtOnce, leg_at_once, other_at_once}
 
 -- one leg more, at its address and at another
 legs_more : (address : ℕ) (acts : List Act) (a : Act) → a.address ≡ address → length (legs_at address (acts ++ a ∷ []))
@@ -130,10 +130,10 @@ module _ (rules : Rules) (keeps : KeepsRules rules) (state : RunState) (translat
       IsCountedTranslator rules other there (state_after rules address leg state) s) [
         | true ↦ λ e.
             let here : other ≡ place = eqb-true other place e in
-            let same : there ≡ address = same_some there address (sym (ap (slice_get rules.pool) (sym here) ∙ at_other)
+            let same : there ≡ address = same_Some there address (sym (ap (slice_get rules.pool) (sym here) ∙ at_other)
             ∙ at) in
             let new : s ≡ counted_after leg counted =
-            same_some s (counted_after leg counted)
+            same_Some s (counted_after leg counted)
             (sym (ap (slice_get (set translators place (counted_after leg counted))) (sym here) ∙ other_is_there)
             ∙ get_set translators place (counted_after leg counted)
             (slice_get_within translators place counted is_there)) in

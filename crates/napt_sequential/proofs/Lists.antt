@@ -1,11 +1,7 @@
--- Lists: what is at a place, and what holds of each item.
+-- Lists: what is at a place.
 use Rattle.std.proofs.Common.{◌≡◌, ◌≢◌, ℕ, zero, suc, ◌<◌, List, [], ◌∷◌, ◌++◌, length, map, Some, refl, ◌∙◌, ap, arith, set}
 use Rattle.std.specs.Prelude.{flat_map}
 use Rattle.std.specs.List.{slice_get}
-use Rattle.napt_rules.specs.Prelude.{Each}
-
-pub same_some : {X : Type 0} (x y : X) → Some x ≡ Some y → x ≡ y
-same_some x y e = cc
 
 pub get_before : {X : Type 0} (xs : List X) (y : X) (i : ℕ) → i < length xs →
     slice_get (xs ++ y ∷ []) i ≡ slice_get xs i
@@ -35,10 +31,6 @@ pub long_set : {X : Type 0} (xs : List X) (i : ℕ) (y : X) → length (set xs i
 long_set [] i y = refl
 long_set (x ∷ xs) zero y = refl
 long_set (x ∷ xs) (suc i) y = ap suc (long_set xs i y)
-
-pub each_append : {X : Type 0} (P : X → Type 0) (xs ys : List X) → Each P xs → Each P ys → Each P (xs ++ ys)
-each_append P [] ys h g = g
-each_append P (x ∷ xs) ys h g = (h.0, each_append P xs ys h.1 g)
 
 -- LISTS OF ONE LENGTH, PLACE BY PLACE
 

@@ -12,8 +12,8 @@ use Rattle.napt_wire.specs.declared.Way.TheVariants.{Incoming}
 use Rattle.napt_wire.specs.Fields.{destination}
 use Rattle.napt_config.specs.Rules.{Rules}
 use Rattle.napt_rules.specs.Prelude.{Binding, same_protocol, same_endpoint, is_at, is_of_inside, has_number, purge, opening, by_inside, by_number, Acted, act, Arrival, Course, ahead, outcome_of, once, follow_by, refused, admitted, step, run_from, last_clock}
-use Rattle.napt_binding.proofs.Lists.{find_filter}
-use Rattle.napt_binding.proofs.Purges.{of_purge}
+use Rattle.napt_laws.proofs.Lists.{find_filter}
+use Rattle.napt_laws.proofs.Purges.{of_purge}
 use Rattle.napt_table.specs.TimedRows.{timed}
 use Rattle.napt_rules.specs.declared.Leg.{Leg}
 use Rattle.napt_rules.specs.declared.End.{End}
@@ -29,10 +29,11 @@ use Rattle.napt_sequential.specs.declared.passage.Seen.{Seen}
 use Rattle.napt_sequential.specs.declared.passage.Trace.{Trace}
 use Rattle.napt_sequential.specs.declared.passage.Went.{Went}
 use Rattle.napt_sequential.specs.declared.passage.Went.TheVariants as ways
-use Rattle.napt_sequential.specs.CountedTranslators.{Agrees, RunState, IsCountedTranslator, AreCountedTranslators, Follows, Steps, passage_seen, state_after, state_of}
+use Rattle.napt_laws.specs.Agreeing.{Agrees}
+use Rattle.napt_sequential.specs.CountedTranslators.{RunState, IsCountedTranslator, AreCountedTranslators, Follows, Steps, passage_seen, state_after, state_of}
 use Rattle.napt_sequential.specs.Traces.{seen_of, out_through, in_through, went_by, passage_by, passage_at, trace_of, traces_from, traces}
-use Rattle.napt_sequential.proofs.LegsLocal.{agrees_later}
-use Rattle.napt_sequential.proofs.RunsLocal.{latest}
+use Rattle.napt_laws.proofs.LegsLocal.{agrees_later}
+use Rattle.napt_laws.proofs.RunsLocal.{latest}
 use Rattle.napt_sequential.proofs.Steps.{follows_once, follows_twice, follows_none}
 
 -- LOOK-UPS, in the list of one address and in the whole

@@ -8,9 +8,8 @@ use Rattle.napt_translate.specs.Translators.{TranslatorState}
 use Rattle.napt_rules.specs.declared.Outcome.{Outcome}
 use Rattle.napt_sequential.specs.declared.counted_translator.CountedTranslator.{CountedTranslator}
 use Rattle.napt_sequential.specs.CountedTranslators.{RunState, IsCountedTranslator, AreCountedTranslators, rows_at, state_of}
-use Rattle.napt_sequential.proofs.Grown.{outcomes_long}
 use Rattle.napt_sequential.proofs.Lists.{map_alike, flat_alike}
-use Rattle.napt_sequential.proofs.RunsLocal.{latest}
+use Rattle.napt_laws.proofs.RunsLocal.{latest}
 
 counted_rows : (rules : Rules) (place address : ℕ) (state : RunState) (counted : CountedTranslator) →
     IsCountedTranslator rules place address state counted → (now : ℕ) → now ≡ state.clock → rows_at now counted
@@ -46,7 +45,3 @@ run_shown rules inputs outcomes last translators bindings legs told clock are sh
     (λ place counted address is_there at. let is : IsCountedTranslator rules place address state counted =
     are.each place address counted at is_there in is.legs) in
     rw (told, shown, legs_are, all, counts) refl
-
-pub ran_long : (rules : Rules) (inputs : List Arrival) → length (ran rules inputs).outcomes ≡ length inputs
-unfolding ran
-ran_long rules inputs = outcomes_long rules 0 0 inputs (opening rules)

@@ -3,7 +3,7 @@
 use Rattle.std.specs.Prelude.{◌≡◌, ℕ, ◌+◌, ◌<◌, ◌≤◌, ◌^◌, max, length, List, [], ◌∷◌, ◌++◌, Some}
 use Rattle.std.specs.List.{slice_get}
 use Rattle.napt_config.specs.Rules.{Rules}
-use Rattle.napt_rules.specs.Prelude.{Binding, of, purge, opening, Acted, act, Arrival, rows, Act, Course, run, last_clock, legs_at, Kept, kept_answer}
+use Rattle.napt_rules.specs.Prelude.{Binding, opening, Acted, act, Arrival, rows, Act, Course, run, last_clock, legs_at, Kept, kept_answer}
 use Rattle.napt_rules.specs.declared.Row.{Row}
 use Rattle.napt_rules.specs.declared.Leg.{Leg}
 use Rattle.napt_rules.specs.declared.End.{End}
@@ -15,21 +15,13 @@ use Rattle.napt_sequential.specs.declared.passage.Seen.{Seen}
 use Rattle.napt_sequential.specs.declared.passage.Went.{Went}
 use Rattle.napt_sequential.specs.declared.outcome.Stepped.{Stepped}
 use Rattle.napt_sequential.specs.Traces.{passage_at, trace_of}
+use Rattle.napt_laws.specs.Agreeing.{IsAtOnce}
 
 -- a run at some time: the time of the last leg, the legs that acted, and the bindings
 pub record RunState : Type 0 where
   pub clock : ℕ
   pub acts : List Act
   pub list : List Binding
-
--- a list of one address that is, purged from a time on, the whole list's at that address
-pub record Agrees (rules : Rules) (address now : ℕ) (own list : List Binding) : Type 0 where
-  pub same : purge rules.timers now own ≡ purge rules.timers now (of address list)
-
--- a translator of an address that agrees with the whole list from a clock on, and took no leg past it
-pub record IsAtOnce (rules : Rules) (address clock : ℕ) (own : Kept) (list : List Binding) : Type 0 where
-  pub agrees : Agrees rules address clock own.list list
-  pub past : own.at ≤ clock
 
 -- the translator at a place of the pool, whose legs are counted
 pub record IsCountedTranslator (rules : Rules) (place address : ℕ) (state : RunState)

@@ -10,11 +10,11 @@ ghost use Rattle.napt_sequential.specs.Traces.{passage_at, traces};
 ghost use Rattle.napt_sequential.specs.Faults.{IsOneThreadFault};
 
 use crate::counted_translator::CountedTranslator;
-use crate::laws::runs_are_sound;
 use crate::outcome::{Stepped, Traced};
 use crate::passage::{Passage, Seen, Trace, Went};
 use crate::{Input, Run, RunFault};
 use napt_config::Config;
+use napt_laws::runs_are_sound;
 use napt_rules::{End, Leg, Outcome, Row};
 use napt_translate::{Translator, route, way_from};
 use napt_wire::{Packet, Way};

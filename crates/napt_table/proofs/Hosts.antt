@@ -8,9 +8,9 @@ use Rattle.napt_config.specs.declared.settings.Timers.{Timers}
 use Rattle.napt_rules.specs.Prelude.{Binding, same_protocol, is_at, has_number, is_live, with_live_flows, counts_for, count_for, row, Apart}
 use Rattle.napt_table.specs.Held.{seen, Shows}
 use Rattle.napt_table.specs.Hosts.{held_for, count_below, count_held, CountIsHeld}
-use Rattle.napt_binding.proofs.Lists.{find_nowhere}
-use Rattle.napt_binding.proofs.Finds.{Once}
-use Rattle.napt_table.proofs.Seen.{protocol_is, same_itself, has_it, number_of_it, not_has, once_number}
+use Rattle.napt_laws.proofs.Lists.{find_nowhere}
+use Rattle.napt_laws.proofs.Finds.{Once}
+use Rattle.napt_laws.proofs.Endpoints.{protocol_is, same_itself, has_it, number_of_it, not_has, once_number}
 
 -- one where the test passes
 abbrev one : Bool → ℕ

@@ -1,21 +1,17 @@
-pub mod Quotas
+mod Choices
 pub mod QuotaKept
-pub mod StepsLocal
-pub mod Live
-mod Passes
-pub mod Sound
-pub mod Named
 pub mod Tables
 pub mod Opened
-pub mod Orders
 pub mod Seen
+pub mod Hosts
+pub mod Keys
+pub mod Ends
 pub mod Queues
-pub mod Changes
+pub mod Steps
 pub mod Sends
 pub mod Enters
-pub mod PartSteps
 pub mod Granted
+pub mod LiveNumbers
 pub mod TableSteps
-pub mod Opening
 pub mod Listed
-pub mod Hosts
+pub mod Opening

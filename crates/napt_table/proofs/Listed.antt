@@ -1,35 +1,34 @@
 -- What is held, sorted, are the rows of the list.
-use Rattle.std.proofs.Common.{◌≡◌, ℕ, ◌+◌, ◌-◌, ◌*◌, ◌<◌, ◌≤◌, Bool, true, false, not, ◌&&◌, cond, All, List, [], ◌∷◌, ◌++◌, map, filter, Option, Some, None, refl, sym, ◌∙◌, ap, arith, eqb, eqb-true, nat_eq}
+use Rattle.std.proofs.Common.{◌≡◌, ℕ, ◌+◌, ◌-◌, ◌*◌, ◌<◌, ◌≤◌, Bool, true, false, not, ◌&&◌, cond, All, List, [], ◌∷◌, map, filter, Option, Some, None, refl, sym, ◌∙◌, ap, arith, eqb, eqb-true}
 use Rattle.std.specs.Prelude.{find, nat_lt}
-use Rattle.std.specs.Cmp.{nat_eq_equiv}
 use Rattle.std.specs.List.{IsDistinct}
 use Rattle.std.specs.Map.{lookup, keys_of, values_of}
 use Rattle.std.specs.Option.{option_map}
-use Rattle.std.proofs.lemmas.Bool.{eq-eqb}
+use Rattle.std.proofs.lemmas.Bool.{and_from, and_parts, eq-eqb}
 use Rattle.std.proofs.lemmas.Bool.Decides.{nat_tests}
 use Rattle.std.proofs.lemmas.Map.{lookup-none}
 use Rattle.std.proofs.lemmas.Map.Entries.{lookup_head, lookup_tail, none_past_head}
 use Rattle.std.proofs.lemmas.Map.Keys.{IsDistinct-tail}
-use Rattle.std.proofs.lemmas.List.{append-nil}
-use Rattle.std.proofs.lemmas.List.Elements.{filter-append, filter_agree, All-head, All-tail, All-append}
+use Rattle.std.proofs.lemmas.List.Elements.{filter_agree, All-head, All-tail}
 use Rattle.napt_wire.specs.declared.Endpoint.{Endpoint}
 use Rattle.napt_wire.specs.declared.Protocol.{Protocol}
 use Rattle.napt_wire.specs.declared.Protocol.TheVariants.{Icmp, Tcp, Udp}
 use Rattle.napt_config.specs.declared.settings.Timers.{Timers}
 use Rattle.napt_rules.specs.Prelude.{Binding, Each, same_protocol, has_number, is_live, with_live_flows, row, protocol_rank, rank, in_order, rows, IsPaired}
 use Rattle.napt_rules.specs.declared.Row.{Row}
-use Rattle.napt_table.specs.declared.part.Part.{Part}
+use Rattle.napt_table.specs.declared.bindings.keys.ExternalKey.{ExternalKey}
 use Rattle.napt_table.specs.Held.{seen}
-use Rattle.napt_table.specs.Listing.{part_rows, IsSmall, AreRead}
-use Rattle.napt_table.specs.Part.{held, IsPart}
-use Rattle.napt_table.specs.Parts.{part_of}
+use Rattle.napt_table.specs.Keys.{key_eq, external_key}
+use Rattle.napt_table.specs.Listing.{held_rows, IsSmall, AreRead}
+use Rattle.napt_table.specs.Holdings.{held_at, IsNamed}
 use Rattle.napt_table.specs.Shown.{list_of, KeepsItsList}
 use Rattle.napt_table.specs.declared.table.Table.TheInside.{Inside}
 use Rattle.napt_table.proofs.TableSteps.{live, live_sound, show_now}
-use Rattle.napt_table.proofs.Seen.{once_number}
-use Rattle.napt_binding.proofs.Finds.{Once}
-use Rattle.napt_binding.proofs.Lists.{find_nowhere}
-use Rattle.napt_table.proofs.Orders.{same_rank, same_rank_is, in_order_alike}
+use Rattle.napt_laws.proofs.Endpoints.{once_number, protocol_is, same_itself}
+use Rattle.napt_table.proofs.Keys.{key_is, key_itself, key_differs, key_equiv}
+use Rattle.napt_laws.proofs.Finds.{Once}
+use Rattle.napt_laws.proofs.Lists.{find_nowhere}
+use Rattle.napt_laws.proofs.Orders.{same_rank, same_rank_is, in_order_alike}
 
 -- FILTERS
 
@@ -83,7 +82,7 @@ is_row protocol number row = same_protocol protocol row.protocol && eqb row.exte
 
 is_row_itself : (r : Row) → is_row r.protocol r.external.number r ≡ true
 is_row_itself r =
-    ap (λ v. v && eqb r.external.number r.external.number) (Rattle.napt_table.proofs.Seen.same_itself r.protocol)
+    ap (λ v. v && eqb r.external.number r.external.number) (same_itself r.protocol)
     ∙ eq-eqb r.external.number r.external.number refl
 
 -- beyond 16 bits
@@ -199,141 +198,111 @@ module _ (timers : Timers) (now address : ℕ) (p : Protocol) (n : ℕ) where
         | false ↦ λ e. list_rows list each.1 once.1
       ] refl
 
--- A PART
+-- WHAT IS HELD
 
-each_entry : (P : ℕ × Binding → Type 0) (es : List (ℕ × Binding)) → IsDistinct nat_eq (keys_of es) →
-    ((n : ℕ) (b : Binding) → lookup (nat_eq n) es ≡ Some b → P (n, b)) → Each P es
+each_entry : (P : ExternalKey × Binding → Type 0) (es : List (ExternalKey × Binding)) →
+    IsDistinct key_eq (keys_of es) →
+    ((k : ExternalKey) (b : Binding) → lookup (key_eq k) es ≡ Some b → P (k, b)) → Each P es
 each_entry P [] distinct holds = tt
 each_entry P (e ∷ es) distinct holds = (
-  holds e.0 e.1 (lookup_head (nat_eq e.0) e es (eq-eqb e.0 e.0 refl)),
-  each_entry P es (IsDistinct-tail nat_eq e.0 (keys_of es) distinct) (λ n b h.
-      elim (nat_eq n e.0) as (λ v. nat_eq n e.0 ≡ v → P (n, b)) [
-        | true ↦ λ k. let none : lookup (nat_eq n) es ≡ None =
-            lookup-none (nat_eq n) es (none_past_head nat_eq_equiv n e es distinct k) in let clash : None ≡ Some b =
+  holds e.0 e.1 (lookup_head (key_eq e.0) e es (key_itself e.0)),
+  each_entry P es (IsDistinct-tail key_eq e.0 (keys_of es) distinct) (λ k b h.
+      elim (key_eq k e.0) as (λ v. key_eq k e.0 ≡ v → P (k, b)) [
+        | true ↦ λ t. let none : lookup (key_eq k) es ≡ None =
+            lookup-none (key_eq k) es (none_past_head key_equiv k e es distinct t) in let clash : None ≡ Some b =
             sym none ∙ h in cc
-        | false ↦ λ k. holds n b (lookup_tail (nat_eq n) e es k ∙ h)
+        | false ↦ λ t. holds k b (lookup_tail (key_eq k) e es t ∙ h)
       ] refl),
 )
 
 -- a binding of the protocol, with its number
-abbrev IsEntry : Protocol → ℕ × Binding → Type 0
-IsEntry q e = (e.1.protocol ≡ q) × (e.1.external.number ≡ e.0)
+abbrev IsEntry : ExternalKey × Binding → Type 0
+IsEntry e = (e.1.protocol ≡ e.0.protocol) × (e.1.external.number ≡ e.0.number)
 
-module _ (timers : Timers) (now : ℕ) (p q : Protocol) (n : ℕ) where
+module _ (timers : Timers) (now : ℕ) (p : Protocol) (n : ℕ) where
+  abbrev key : ExternalKey
+  key = external_key p n
+
   abbrev told : Option Binding → List Row
-  told o = cond (same_protocol p q) (few (option_map row (seen timers now o))) []
+  told o = few (option_map row (seen timers now o))
 
-  none_told : told None ≡ []
-  none_told = elim (same_protocol p q) as (λ v. cond v (few (option_map row (seen timers now None))) [] ≡ [])
-      [ true ↦ refl | false ↦ refl ]
+  entry_here : (e : ExternalKey × Binding) → IsEntry e → key_eq key e.0 ≡ true → is_row p n (row e.1) ≡ true
+  entry_here e is t =
+      let k : key ≡ e.0 = key_is key e.0 t in
+      let q : p ≡ e.1.protocol = ap (λ (x : ExternalKey). x.protocol) k ∙ sym is.0 in
+      let m : e.1.external.number ≡ n = is.1 ∙ sym (ap (λ (x : ExternalKey). x.number) k) in
+      and_from (same_protocol p e.1.protocol) (eqb e.1.external.number n)
+      (ap (same_protocol p) (sym q) ∙ same_itself p) (eq-eqb e.1.external.number n m)
 
-  entry_rows : (es : List (ℕ × Binding)) → Each (IsEntry q) es → IsDistinct nat_eq (keys_of es) →
-      filter (is_row p n) (map row (filter (is_live timers now) (values_of es))) ≡ told (lookup (nat_eq n) es)
-  entry_rows [] each distinct = sym none_told
+  entry_away : (e : ExternalKey × Binding) → IsEntry e → key_eq key e.0 ≡ false → is_row p n (row e.1) ≡ false
+  entry_away e is t = elim (is_row p n (row e.1)) as (λ v. is_row p n (row e.1) ≡ v → v ≡ false) [
+    | true ↦ λ h.
+        let parts = and_parts (same_protocol p e.1.protocol) (eqb e.1.external.number n) h in
+        let q : p ≡ e.0.protocol = protocol_is p e.1.protocol parts.0 ∙ is.0 in
+        let m : n ≡ e.0.number = sym (eqb-true e.1.external.number n parts.1) ∙ is.1 in
+        let k : key ≡ e.0 = λ i. record { number = m i; protocol = q i } in
+        absurd (key_differs key e.0 t k)
+    | false ↦ λ h. refl
+  ] refl
+
+  entry_rows : (es : List (ExternalKey × Binding)) → Each IsEntry es → IsDistinct key_eq (keys_of es) →
+      filter (is_row p n) (map row (filter (is_live timers now) (values_of es))) ≡ told (lookup (key_eq key) es)
+  entry_rows [] each distinct = refl
   entry_rows (e ∷ es) each distinct =
-      let made : List Row = map row (filter (is_live timers now) (values_of es)) in
-      let rest : List Row = filter (is_row p n) made in
-      let again : rest ≡ told (lookup (nat_eq n) es) =
-      entry_rows es each.1 (IsDistinct-tail nat_eq e.0 (keys_of es) distinct) in
-      let tests : is_row p n (row e.1) ≡ (same_protocol p q && eqb e.0 n) =
-      ap (λ (x : Protocol). same_protocol p x && eqb e.1.external.number n) each.0.0
-      ∙ ap (λ (m : ℕ). same_protocol p q && eqb m n) each.0.1 in
-      elim (nat_eq n e.0) as (λ v. nat_eq n e.0 ≡ v →
+      let rest : List Row = filter (is_row p n) (map row (filter (is_live timers now) (values_of es))) in
+      let again : rest ≡ told (lookup (key_eq key) es) =
+      entry_rows es each.1 (IsDistinct-tail key_eq e.0 (keys_of es) distinct) in
+      elim (key_eq key e.0) as (λ v. key_eq key e.0 ≡ v →
       filter (is_row p n) (map row (cond (is_live timers now e.1) (e.1 ∷ filter (is_live timers now) (values_of es))
-      (filter (is_live timers now) (values_of es)))) ≡ told (cond v (Some e.1) (lookup (nat_eq n) es))) [
+      (filter (is_live timers now) (values_of es)))) ≡ told (cond v (Some e.1) (lookup (key_eq key) es))) [
         | true ↦ λ k.
-            let none : lookup (nat_eq n) es ≡ None =
-            lookup-none (nat_eq n) es (none_past_head nat_eq_equiv n e es distinct k) in
-            let empty : rest ≡ [] = again ∙ (ap told none ∙ none_told) in
-            let passes : is_row p n (row e.1) ≡ same_protocol p q = tests ∙ ap (λ v. same_protocol p q && v)
-            (eq-eqb e.0 n (sym (eqb-true n e.0 k))) ∙ and_true (same_protocol p q) in
+            let none : lookup (key_eq key) es ≡ None =
+            lookup-none (key_eq key) es (none_past_head key_equiv key e es distinct k) in
+            let empty : rest ≡ [] = again ∙ ap told none in
             elim (is_live timers now e.1) as (λ v.
             filter (is_row p n)
             (map row (cond v (e.1 ∷ filter (is_live timers now) (values_of es))
-            (filter (is_live timers now) (values_of es)))) ≡ cond (same_protocol p q)
-            (few (option_map row (cond v (Some (with_live_flows timers now e.1)) None))) []) [
-              | true ↦ ap (λ v. cond v (row e.1 ∷ rest) rest) passes
-                  ∙ ap (λ (l : List Row). cond (same_protocol p q) (row e.1 ∷ l) l) empty
-              | false ↦ empty ∙ sym none_told
+            (filter (is_live timers now) (values_of es))))
+            ≡ few (option_map row (cond v (Some (with_live_flows timers now e.1)) None))) [
+              | true ↦ ap (λ v. cond v (row e.1 ∷ rest) rest) (entry_here e each.0 k)
+                  ∙ ap (λ (l : List Row). row e.1 ∷ l) empty
+              | false ↦ empty
             ]
         | false ↦ λ k.
-            let apart : eqb e.0 n ≡ false = grind (arith, nat_tests) in
-            let fails : is_row p n (row e.1) ≡ false = tests ∙ ap (λ v. same_protocol p q && v) apart
-            ∙ and_false (same_protocol p q) in
             elim (is_live timers now e.1) as (λ v.
             filter (is_row p n)
             (map row (cond v (e.1 ∷ filter (is_live timers now) (values_of es))
-            (filter (is_live timers now) (values_of es)))) ≡ told (lookup (nat_eq n) es)) [
-              | true ↦ ap (λ v. cond v (row e.1 ∷ rest) rest) fails ∙ again
+            (filter (is_live timers now) (values_of es)))) ≡ told (lookup (key_eq key) es)) [
+              | true ↦ ap (λ v. cond v (row e.1 ∷ rest) rest) (entry_away e each.0 k) ∙ again
               | false ↦ again
             ]
       ] refl
 
--- the rows of a part, at a number of a protocol
-part_told : (part : Part) (now : ℕ) → IsPart part → AreRead now part → (p q : Protocol) (n : ℕ) → part.numbers.protocol
-    ≡ q →
-    filter (is_row p n) (part_rows now part) ≡ told part.timers now p q n (held part n)
-part_told part now is read p q n protocol =
-    entry_rows part.timers now p q n part.by_number.entries
-    (each_entry (IsEntry q) part.by_number.entries read.unique (λ m b h.
-    (is.protocol_is m b h ∙ protocol, ap (λ (x : Endpoint). x.number) (is.external_is m b h))))
-    read.unique
-
 -- THE TABLE
 
-module _ (table : Inside) (is : KeepsItsList table) (now : ℕ) (later : table.at ≤ now) (read : (q : Protocol) →
-    AreRead now (part_of table.parts q)) where
+module _ (table : Inside) (is : KeepsItsList table) (now : ℕ) (later : table.bindings.at ≤ now)
+    (named : IsNamed table.bindings.held) (read : AreRead table.bindings.timers now table.bindings.held) where
   abbrev pub made : List Row
-  made = (part_rows now table.parts.icmp ++ part_rows now table.parts.tcp) ++ part_rows now table.parts.udp
+  made = held_rows table.bindings.timers now table.bindings.held
 
   -- what is told at a number of a protocol
   abbrev seen_at : Protocol → ℕ → List Row
-  seen_at p n = few (option_map row (seen table.timers now (held (part_of table.parts p) n)))
-
-  of_part : (p q : Protocol) (n : ℕ) → filter (is_row p n) (part_rows now (part_of table.parts q))
-      ≡ cond (same_protocol p q) (few (option_map row (seen table.timers now (held (part_of table.parts q) n)))) []
-  of_part p q n =
-      let of = is.parts_are q in
-      part_told (part_of table.parts q) now of.is (read q) p q n of.protocol_is
-      ∙ ap (λ (t : Timers). told t now p q n (held (part_of table.parts q) n)) of.timers_is
-
-  one_of : (p : Protocol) (n : ℕ) → (told table.timers now p Icmp n (held table.parts.icmp n)
-      ++ told table.timers now p Tcp n (held table.parts.tcp n)) ++ told table.timers now p Udp n
-      (held table.parts.udp n) ≡ seen_at p n
-  one_of Icmp n = append-nil (seen_at Icmp n ++ []) ∙ append-nil (seen_at Icmp n)
-  one_of Tcp n = append-nil (seen_at Tcp n)
-  one_of Udp n = refl
+  seen_at p n = few (option_map row (seen table.bindings.timers now (held_at table.bindings.held p n)))
 
   made_told : (p : Protocol) (n : ℕ) → filter (is_row p n) made ≡ seen_at p n
-  made_told p n =
-      let t : Row → Bool = is_row p n in
-      let icmp : List Row = part_rows now table.parts.icmp in
-      let tcp : List Row = part_rows now table.parts.tcp in
-      let udp : List Row = part_rows now table.parts.udp in
-      filter-append t (icmp ++ tcp) udp
-      ∙ (ap (λ (l : List Row). l ++ filter t udp) (filter-append t icmp tcp)
-      ∙ (ap (λ (l : List Row). (l ++ filter t tcp) ++ filter t udp) (of_part p Icmp n)
-      ∙ (ap (λ (l : List Row). (told table.timers now p Icmp n (held table.parts.icmp n) ++ l) ++ filter t udp)
-      (of_part p Tcp n)
-      ∙ (ap (λ (l : List Row). (told table.timers now p Icmp n (held table.parts.icmp n)
-      ++ told table.timers now p Tcp n (held table.parts.tcp n)) ++ l) (of_part p Udp n)
-      ∙ one_of p n))))
+  made_told p n = entry_rows table.bindings.timers now p n table.bindings.held.entries
+      (each_entry IsEntry table.bindings.held.entries read.unique (λ k b h.
+      (named.protocol_is k b h, ap (λ (x : Endpoint). x.number) (named.external_is k b h)))) read.unique
 
   list_told : (p : Protocol) (n : ℕ) → filter (is_row p n) (map row (live table is now later)) ≡ seen_at p n
   list_told p n =
       let sound = live_sound table is now later in
-      list_rows table.timers now table.address p n (live table is now later) sound.each
-      (once_number table.address p n (live table is now later) sound.apart)
+      list_rows table.bindings.timers now table.bindings.held.address p n (live table is now later) sound.each
+      (once_number table.bindings.held.address p n (live table is now later) sound.apart)
       ∙ ap (λ (o : Option Binding). few (option_map row o)) (show_now table is now later p n)
 
-  all_small : All IsSmall made
-  all_small = All-append IsSmall (part_rows now table.parts.icmp ++ part_rows now table.parts.tcp)
-      (part_rows now table.parts.udp)
-      (All-append IsSmall (part_rows now table.parts.icmp) (part_rows now table.parts.tcp) (read Icmp).small
-      (read Tcp).small) (read Udp).small
-
   -- sorted, they are the rows of the list
-  pub made_in_order : in_order made ≡ rows table.timers now (list_of table)
+  pub made_in_order : in_order made ≡ rows table.bindings.timers now (list_of table)
   made_in_order =
       sym (in_order_same (map row (live table is now later)) made (λ p n. list_told p n ∙ sym (made_told p n))
-      (none_big made all_small))
+      (none_big made read.small))

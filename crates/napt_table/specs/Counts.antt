@@ -1,5 +1,5 @@
 -- Counts by inside host.
-use Rattle.std.specs.Prelude.{ℕ, ◌<◌, Bool, Option, Some, None, IfSome}
+use Rattle.std.specs.Prelude.{ℕ, Bool, Option, Some, None}
 use Rattle.std.specs.Option.{is_some}
 use Rattle.napt_binding.specs.declared.addresses.Addresses.{Addresses}
 use Rattle.napt_binding.specs.Counts.{count_at, room_of}
@@ -17,6 +17,10 @@ count_by (Some counts) host = count_at counts host
 abbrev pub count_in : HostCounts → ℕ → ℕ
 count_in hosts host = count_by hosts.counts host
 
--- there is room for one more host, where they are counted
-abbrev pub HasPlace : HostCounts → Type 0
-HasPlace hosts = IfSome hosts.counts (λ counts. 0 < room_of counts)
+-- how many more hosts fit without a growth; where none is counted, one at any time
+abbrev pub place_by : Option Addresses → ℕ
+place_by None = 1
+place_by (Some counts) = room_of counts
+
+abbrev pub place_of : HostCounts → ℕ
+place_of hosts = place_by hosts.counts

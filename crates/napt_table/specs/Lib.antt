@@ -1,11 +1,15 @@
 pub mod Tables
 pub mod Held
 pub mod Hosts
-pub mod Part
-pub mod Parts
+pub mod Keys
+pub mod InUse
+pub mod Holdings
+pub mod HeldShown
+pub mod Bindings
 pub mod Events
 pub mod QuotaKept
 pub mod Shown
 pub mod Listing
 pub mod Counts
 pub mod TimedRows
+pub mod Places

@@ -1,19 +1,22 @@
--- The rows of what a part of a table holds, in no order.
-use Rattle.std.specs.Prelude.{ℕ, ◌<◌, ◌^◌, All, List, map, filter, nat_eq}
-use Rattle.std.specs.HashMap.{IsUnique, values}
+-- The rows of what is held, in no order.
+use Rattle.std.specs.Prelude.{ℕ, ◌<◌, ◌^◌, All, List, map, filter}
+use Rattle.std.specs.List.{IsDistinct}
+use Rattle.std.specs.Map.{keys_of, values_of}
+use Rattle.napt_config.specs.declared.settings.Timers.{Timers}
 use Rattle.napt_rules.specs.declared.Row.{Row}
-use Rattle.napt_table.specs.declared.part.Part.{Part}
 use Rattle.napt_rules.specs.Prelude.{is_live, row}
+use Rattle.napt_table.specs.Holdings.{Holdings}
+use Rattle.napt_table.specs.Keys.{key_eq}
 
 -- those of the bindings that are live at the time
-abbrev pub part_rows : ℕ → Part → List Row
-part_rows now part = map row (filter (is_live part.timers now) (values part.by_number))
+abbrev pub held_rows : Timers → ℕ → Holdings → List Row
+held_rows timers now all = map row (filter (is_live timers now) (values_of all.entries))
 
 -- an external number has 16 bits
 abbrev pub IsSmall : Row → Type 0
 IsSmall row = row.external.number < 2 ^ 16
 
--- what can be said of the rows of a part once all of them were read
-pub record AreRead (now : ℕ) (part : Part) : Type 0 where
-  pub unique : IsUnique nat_eq part.by_number
-  pub small : All IsSmall (part_rows now part)
+-- what can be said of the rows once all of them were read
+pub record AreRead (timers : Timers) (now : ℕ) (all : Holdings) : Type 0 where
+  pub unique : IsDistinct key_eq (keys_of all.entries)
+  pub small : All IsSmall (held_rows timers now all)

@@ -1,6 +1,6 @@
-//! How many bindings each inside host has under one protocol (RFC 6888, REQ-4).
+//! How many bindings each inside host has over all protocols (RFC 6888, REQ-4).
 
-ghost use Rattle.std.specs.Prelude.{◌≡◌, ℕ, ◌+◌, ◌-◌, ◌^◌, ◌<◌, true, cond, Some, OnOk};
+ghost use Rattle.std.specs.Prelude.{◌≡◌, ℕ, ◌+◌, ◌-◌, ◌^◌, ◌<◌, ◌≤◌, true, cond, Some, OnOk};
 ghost use Rattle.napt_table.specs.Hosts.{held_for};
 
 use napt_binding::{Addresses, Binding};
@@ -13,7 +13,7 @@ pub(crate) struct HostCounts {
 }
 
 impl HostCounts {
-    ghost use Rattle.napt_table.specs.Counts.{are_counted, count_in, HasPlace};
+    ghost use Rattle.napt_table.specs.Counts.{are_counted, count_in, place_of};
 
     /// No host has any. It takes no memory.
     pub(crate) fn new(alloc: Global, counted: bool) -> HostCounts
@@ -32,7 +32,7 @@ impl HostCounts {
     pub(crate) fn reserve(&mut self) -> Result<(), AllocError>
         ensures counted { are_counted self.new ≡ are_counted self.old }
         ensures counts { (host : ℕ) → count_in self.new host ≡ count_in self.old host }
-        ensures room { OnOk result (HasPlace self.new) }
+        ensures room { OnOk result (0 < place_of self.new) }
     {
         match &mut self.counts {
             Some(counts) => counts.reserve(),
@@ -52,7 +52,7 @@ impl HostCounts {
 
     /// Counts the binding, for whose host there is room. A redirect does not count.
     pub(crate) fn put(&mut self, binding: &Binding)
-        requires room { HasPlace self.old }
+        requires room { 0 < place_of self.old }
         requires fits { count_in self.old binding.now.inside.address + 1 < 2 ^ 64 }
         ensures counted { are_counted self.new ≡ are_counted self.old }
         ensures counts { are_counted self.old ≡ true →
@@ -69,7 +69,7 @@ impl HostCounts {
         ensures counted { are_counted self.new ≡ are_counted self.old }
         ensures counts { (host : ℕ) →
             count_in self.new host ≡ count_in self.old host - cond {A = ℕ} (held_for host (Some binding.now)) 1 0 }
-        ensures room { HasPlace self.old → HasPlace self.new }
+        ensures room { place_of self.old ≤ place_of self.new }
     {
         match &mut self.counts {
             Some(counts) if !binding.fixed => counts.take(binding.inside.address),

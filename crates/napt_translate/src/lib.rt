@@ -5,11 +5,10 @@
 //! inside to an external address has two legs: out at its host's address, and in at the other (RFC 4787, REQ-9).
 #![tactic(auto)]
 
-mod laws;
 mod sides;
 mod translator;
 
-pub use laws::legs_keep_to_their_way;
+pub use napt_laws::legs_keep_to_their_way;
 pub use napt_rules::{Answer, End, Leg};
 pub use sides::{onward, route, way_from};
 pub use translator::Translator;

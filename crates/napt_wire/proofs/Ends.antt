@@ -7,7 +7,7 @@ use Rattle.napt_wire.specs.Bytes.{word_at, words}
 use Rattle.napt_wire.specs.Checksum.{canon}
 use Rattle.napt_wire.specs.Fields.{transport, form_at, number_place, end_at}
 use Rattle.napt_wire.specs.Rewriting.{changed, address_words, address_changes, checksum_changes, number_changes, end_changes}
-use Rattle.napt_wire.specs.Room.{HasRoom, AreThere}
+use Rattle.napt_wire.specs.Room.{HasHeaders, AreThere}
 use Rattle.napt_wire.specs.declared.Endpoint.{Endpoint}
 use Rattle.napt_wire.specs.declared.rewrite.Change.{Change}
 use Rattle.napt_wire.specs.declared.form.Form.{Form}
@@ -132,7 +132,7 @@ number-there Error Source start old new bytes h = tt
 number-there Error Destination start old new bytes h = tt
 
 -- every word that is replaced is there
-pub end-there : (at : ℕ) (end : End) (new : Endpoint) (bytes : List ℕ) → HasRoom at bytes →
+pub end-there : (at : ℕ) (end : End) (new : Endpoint) (bytes : List ℕ) → HasHeaders at bytes →
     AreThere (end_changes at end new bytes) bytes
 unfolding end_changes
 end-there at end new bytes room =

@@ -6,7 +6,7 @@ use Rattle.napt_wire.specs.Bytes.{byte_at}
 use Rattle.napt_wire.specs.Fields.{version, header_length, total_length, transport, form_at}
 use Rattle.napt_wire.specs.Reading.{refusal, reading, read_unless, datagram, length_checks, header_checks, body_checks, message_checks, has_bad_transport, is_translated}
 use Rattle.napt_wire.specs.Packet.{IsPacket}
-use Rattle.napt_wire.specs.Room.{HasRoom}
+use Rattle.napt_wire.specs.Room.{HasHeaders}
 use Rattle.std.proofs.lemmas.List.{length-take-le}
 use Rattle.std.proofs.Math.Seq.{take-length}
 use Rattle.napt_wire.specs.declared.Cause.{Cause}
@@ -227,7 +227,7 @@ long_transport Request payload h = grind (arith, nat_tests, h)
 long_transport Reply payload h = grind (arith, nat_tests, h)
 long_transport Error payload h = grind (arith, nat_tests, h)
 
-pub room_of : (side : Side) (bytes : List ℕ) → Passes side bytes → HasRoom 0 bytes
+pub room_of : (side : Side) (bytes : List ℕ) → Passes side bytes → HasHeaders 0 bytes
 room_of side bytes p =
     let good = first_passed (has_bad_transport (form_at 0 bytes) (drop (transport 0 bytes) bytes)) BadHeader
     ((not (is_translated side (form_at 0 bytes) (byte_at (transport 0 bytes) bytes)), Unsupported)
@@ -238,5 +238,5 @@ room_of side bytes p =
       transport_start = omega (arith, long, length-drop (transport 0 bytes) bytes);
     }
 
-pub room_of_packet : (bytes : List ℕ) → IsPacket bytes → HasRoom 0 bytes
+pub room_of_packet : (bytes : List ℕ) → IsPacket bytes → HasHeaders 0 bytes
 room_of_packet bytes (side, h) = room_of side bytes (passes_of_read side bytes bytes h)

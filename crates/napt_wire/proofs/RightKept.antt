@@ -14,7 +14,7 @@ use Rattle.napt_wire.specs.Checksum.{canon, canon_udp, is_right}
 use Rattle.napt_wire.specs.Fields.{address, protocol_number, transport, form_at, number_place, number_at, inner_at}
 use Rattle.napt_wire.specs.Right.{pseudo_words, message_length, covered_by, transport_right}
 use Rattle.napt_wire.specs.Rewriting.{change, changed, olds, news, end_words, address_changes, number_changes, end_changes, reverted_changes, inner_end, outer_end}
-use Rattle.napt_wire.specs.Room.{HasRoom}
+use Rattle.napt_wire.specs.Room.{HasHeaders}
 use Rattle.napt_wire.specs.declared.Endpoint.{Endpoint}
 use Rattle.napt_wire.specs.declared.rewrite.Change.{Change}
 use Rattle.napt_wire.specs.declared.form.Form.{Form}
@@ -59,7 +59,7 @@ same_length at old new keeps =
     rw (first_byte at old new keeps, keeps.first 2 (omega arith), next) refl
 
 -- words before the datagram change nothing
-pub right_beyond : (at low high : ℕ) (changes : List Change) (bytes : List ℕ) → HasRoom at bytes →
+pub right_beyond : (at low high : ℕ) (changes : List Change) (bytes : List ℕ) → HasHeaders at bytes →
     AreWithin low high changes → high ≤ at → form_at at (changed changes bytes) ≡ form_at at bytes →
     transport_right at (changed changes bytes) ≡ transport_right at bytes
 unfolding transport_right
@@ -251,7 +251,7 @@ is_there : (a b : ℕ) → a ≤ b → nat_le a b ≡ true
 is_there a b h = grind (arith, nat_tests)
 
 -- the pseudo-header where an address is replaced
-address_before : (at : ℕ) (end : End) (behind : List Change) (bytes : List ℕ) → HasRoom at bytes →
+address_before : (at : ℕ) (end : End) (behind : List Change) (bytes : List ℕ) → HasHeaders at bytes →
     AreWithin (transport at bytes) (length bytes) behind → address at end (changed behind bytes) ≡ address at end bytes
 address_before at Source behind bytes room within =
     long_other (transport at bytes) (length bytes) (at + 12) behind bytes within (inl (omega (arith, room.header)))
@@ -270,7 +270,7 @@ pseudo_of at Source new size old bytes same read protocol =
 pseudo_of at Destination new size old bytes same read protocol =
     rw (read, source_stays at new old bytes, same Source, protocol) (omega arith)
 
-pseudo_sum : (at : ℕ) (end : End) (new size : ℕ) (behind : List Change) (bytes : List ℕ) → HasRoom at bytes →
+pseudo_sum : (at : ℕ) (end : End) (new size : ℕ) (behind : List Change) (bytes : List ℕ) → HasHeaders at bytes →
     AreWithin (transport at bytes) (length bytes) behind →
     protocol_number at (changed (address_changes at end new bytes) (changed behind bytes)) ≡ protocol_number at bytes →
     sum (pseudo_words at size (changed (address_changes at end new bytes) (changed behind bytes)))
@@ -303,7 +303,7 @@ after_end form end at new bytes = changed (address_changes at end new.address by
     (changed (numbers_of form end at new bytes) bytes)
 
 udp_end : (at k : ℕ) (end : End) (new : Endpoint) (bytes : List ℕ) → number_place Udp end ≡ Some (2 * k) → k < 2 →
-    HasRoom at bytes → KeepsHeader at bytes (after_end Udp end at new bytes) →
+    HasHeaders at bytes → KeepsHeader at bytes (after_end Udp end at new bytes) →
     option_map is_right (covered_by Udp at (after_end Udp end at new bytes))
     ≡ option_map is_right (covered_by Udp at bytes)
 udp_end at k end new bytes place small room keeps =
@@ -341,7 +341,7 @@ udp_end at k end new bytes place small room keeps =
     (inl room.header)))
 
 tcp_end : (at k : ℕ) (end : End) (new : Endpoint) (bytes : List ℕ) → number_place Tcp end ≡ Some (2 * k) → k < 2 →
-    HasRoom at bytes → KeepsHeader at bytes (after_end Tcp end at new bytes) →
+    HasHeaders at bytes → KeepsHeader at bytes (after_end Tcp end at new bytes) →
     option_map is_right (covered_by Tcp at (after_end Tcp end at new bytes))
     ≡ option_map is_right (covered_by Tcp at bytes)
 tcp_end at k end new bytes place small room keeps =
@@ -367,7 +367,7 @@ tcp_end at k end new bytes place small room keeps =
     (is_there (begin + 18) (length bytes) there))))
 
 -- an echo with another identifier, and one whose identifier stays
-echo_end : (at : ℕ) (end : End) (new : Endpoint) (bytes after : List ℕ) → HasRoom at bytes →
+echo_end : (at : ℕ) (end : End) (new : Endpoint) (bytes after : List ℕ) → HasHeaders at bytes →
     after ≡ changed (address_changes at end new.address bytes)
     (changed (numbers_of Request Source at new bytes) bytes) →
     KeepsHeader at bytes after →
@@ -380,7 +380,7 @@ echo_end at end new bytes after room after_is keeps =
     ∙ part-changed_other (transport at bytes) (message_length at bytes) (at + 10) (at + 20)
     (address_changes at end new.address bytes) _ (address-within at end new.address bytes) (inl room.header)))
 
-echo_stays : (at : ℕ) (end : End) (new : Endpoint) (bytes after : List ℕ) → HasRoom at bytes →
+echo_stays : (at : ℕ) (end : End) (new : Endpoint) (bytes after : List ℕ) → HasHeaders at bytes →
     after ≡ changed (address_changes at end new.address bytes) bytes → KeepsHeader at bytes after →
     option_map is_right (covered_by Request at after) ≡ option_map is_right (covered_by Request at bytes)
 echo_stays at end new bytes after room after_is keeps =
@@ -392,7 +392,7 @@ echo_stays at end new bytes after room after_is keeps =
     rw (same_start at bytes after keeps, same_length at bytes after keeps, keeps.long, same) refl
 
 -- the transport checksum where an end of a datagram is replaced, by its form
-right_of_form : (form : Form) (end : End) (at : ℕ) (new : Endpoint) (bytes : List ℕ) → HasRoom at bytes →
+right_of_form : (form : Form) (end : End) (at : ℕ) (new : Endpoint) (bytes : List ℕ) → HasHeaders at bytes →
     KeepsHeader at bytes (after_end form end at new bytes) →
     option_map is_right (covered_by form at (after_end form end at new bytes))
     ≡ option_map is_right (covered_by form at bytes)
@@ -410,7 +410,7 @@ right_of_form Reply Destination at new bytes room keeps =
     echo_end at Destination new bytes (after_end Reply Destination at new bytes) room refl keeps
 right_of_form Error end at new bytes room keeps = refl
 
-pub end_right : (at : ℕ) (end : End) (new : Endpoint) (bytes : List ℕ) → HasRoom at bytes →
+pub end_right : (at : ℕ) (end : End) (new : Endpoint) (bytes : List ℕ) → HasHeaders at bytes →
     form_at at (changed (end_changes at end new bytes) bytes) ≡ form_at at bytes →
     transport_right at (changed (end_changes at end new bytes) bytes) ≡ transport_right at bytes
 unfolding transport_right end_changes
@@ -447,7 +447,7 @@ error_right side way new bytes p carries =
     form_kept at bytes between (first_byte at bytes between keeps) (keeps.first 9 (omega arith)) body in
     let form_after : form_at at (changed (c ∷ outer) between) ≡ form_at at between = ap (form_at at) (sym first)
     ∙ (error_kept side way new bytes p carries).inner_form ∙ sym form_between in
-    let room_between : HasRoom at between = record {
+    let room_between : HasHeaders at between = record {
       header = rw (same_start at bytes between keeps) quoted_room.header;
       transport_start = rw (same_start at bytes between keeps, keeps.long) quoted_room.transport_start;
     } in

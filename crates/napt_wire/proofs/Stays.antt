@@ -9,14 +9,14 @@ use Rattle.napt_wire.specs.Checksum.{canon}
 use Rattle.napt_wire.specs.Fields.{address, destination, end_at, form_at, inner_at, is_error, kind, number_place, transport}
 use Rattle.napt_wire.specs.Reading.{reading}
 use Rattle.napt_wire.specs.Rewriting.{address_changes, change, changed, end_changes, news, number_changes, olds, reverted, reverted_changes, with_source}
-use Rattle.napt_wire.specs.Room.{HasRoom}
+use Rattle.napt_wire.specs.Room.{HasHeaders}
 use Rattle.napt_wire.specs.declared.Side.{Side}
 use Rattle.napt_wire.specs.declared.Way.TheVariants.{Outgoing}
 use Rattle.napt_wire.specs.declared.Endpoint.{Endpoint}
 use Rattle.napt_wire.specs.declared.rewrite.Change.{Change}
 use Rattle.napt_wire.specs.declared.form.End.TheVariants.{Source, Destination}
 
-source_leaves : (source : Endpoint) (bytes : List ℕ) → HasRoom 0 bytes →
+source_leaves : (source : Endpoint) (bytes : List ℕ) → HasHeaders 0 bytes →
     address 0 Destination (changed (end_changes 0 Source source bytes) bytes) ≡ address 0 Destination bytes
 unfolding end_changes
 source_leaves source bytes room =
@@ -41,8 +41,8 @@ error_leaves side end bytes p =
     let quoted : List Change = end_changes (inner_at bytes) Destination end bytes in
     let checksum : ℕ = transport 0 bytes + 2 in
     let c : Change = change bytes checksum (canon (word_at checksum bytes) (olds quoted) (news quoted)) in
-    let inner : HasRoom (inner_at bytes) bytes = inner_room side (inner_at bytes) bytes p.inner_good in
-    let outer : HasRoom 0 bytes = room_of side bytes p.passes in
+    let inner : HasHeaders (inner_at bytes) bytes = inner_room side (inner_at bytes) bytes p.inner_good in
+    let outer : HasHeaders 0 bytes = room_of side bytes p.passes in
     let within : AreWithin 20 (length bytes) (quoted ++ c ∷ []) =
     within-append 20 (length bytes) quoted (c ∷ [])
     (within-wider (inner_at bytes + 10) (length bytes) 20 (length bytes) quoted (omega (arith, outer.header))

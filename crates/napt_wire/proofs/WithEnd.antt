@@ -13,7 +13,7 @@ use Rattle.napt_wire.specs.Reading.{refusal, datagram, header, header_checks, me
 use Rattle.napt_wire.specs.Rewriting.{changed, address_changes, checksum_changes, number_changes, end_changes}
 use Rattle.napt_wire.specs.Packet.{IsFound, body_of}
 use Rattle.napt_wire.specs.declared.packet.Body.{Body}
-use Rattle.napt_wire.specs.Room.{HasRoom}
+use Rattle.napt_wire.specs.Room.{HasHeaders}
 use Rattle.napt_wire.specs.declared.Cause.{Cause}
 use Rattle.napt_wire.specs.declared.Cause.TheVariants.{BadHeader, BadChecksum, Fragment, Unsupported, BadPort}
 use Rattle.napt_wire.specs.declared.Side.{Side}
@@ -385,7 +385,7 @@ message_passes side bytes p =
     ∷ message_checks (form_at 0 bytes) side bytes) p.bodies)
 
 -- the header is kept where an address of the datagram is replaced, and words behind the header
-pub header_keeps : (at : ℕ) (end : End) (new : ℕ) (behind : List Change) (bytes : List ℕ) → HasRoom at bytes →
+pub header_keeps : (at : ℕ) (end : End) (new : ℕ) (behind : List Change) (bytes : List ℕ) → HasHeaders at bytes →
     AreWithin (transport at bytes) (length bytes) behind →
     KeepsHeader at bytes (changed (address_changes at end new bytes) (changed behind bytes))
 header_keeps at end new behind bytes room in_transport =
@@ -409,7 +409,7 @@ header_keeps at end new behind bytes room in_transport =
           (length bytes) behind bytes in_transport (inr (omega arith)));
     }
 
-pub end_keeps_header : (at : ℕ) (end : End) (new : Endpoint) (bytes : List ℕ) → HasRoom at bytes →
+pub end_keeps_header : (at : ℕ) (end : End) (new : Endpoint) (bytes : List ℕ) → HasHeaders at bytes →
     KeepsHeader at bytes (changed (end_changes at end new bytes) bytes)
 unfolding end_changes
 end_keeps_header at end new bytes room =
@@ -420,7 +420,7 @@ end_keeps_header at end new bytes room =
     (header_keeps at end new.address numbers bytes room (number-there (form_at at bytes) end start
     (end_at at end bytes) new bytes room.transport_start))
 
-pub end_keeps_body : (at : ℕ) (end : End) (new : Endpoint) (bytes : List ℕ) → HasRoom at bytes →
+pub end_keeps_body : (at : ℕ) (end : End) (new : Endpoint) (bytes : List ℕ) → HasHeaders at bytes →
     Carries (form_at at bytes) new.number → has_zero_port (form_at at bytes) (transport at bytes) bytes ≡ false →
     KeepsBody (form_at at bytes) (transport at bytes) bytes (changed (end_changes at end new bytes) bytes)
 unfolding end_changes

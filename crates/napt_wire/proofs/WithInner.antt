@@ -15,7 +15,7 @@ use Rattle.napt_wire.specs.Reading.{reading, refusal, message_checks, error_chec
 use Rattle.napt_wire.specs.declared.Cause.TheVariants.{BadChecksum, BadInner, BadPort}
 use Rattle.napt_wire.specs.Rewriting.{change, changed, olds, news, address_words, address_changes, number_changes, end_changes, reverted_changes, inner_end, outer_end}
 use Rattle.napt_wire.specs.Packet.{IsFound, body_of, quoted_of}
-use Rattle.napt_wire.specs.Room.{HasRoom, AreThere}
+use Rattle.napt_wire.specs.Room.{HasHeaders, AreThere}
 use Rattle.napt_wire.specs.declared.packet.Body.{Body}
 use Rattle.napt_wire.specs.declared.packet.Body.TheVariants as bodies
 use Rattle.napt_wire.specs.declared.packet.Quoted.{Quoted}
@@ -109,7 +109,7 @@ inner_good side at bytes good =
       good.ours,
     ) refl
 
-pub inner_room : (side : Side) (at : ℕ) (bytes : List ℕ) → GoodInner side at bytes → HasRoom at bytes
+pub inner_room : (side : Side) (at : ℕ) (bytes : List ℕ) → GoodInner side at bytes → HasHeaders at bytes
 inner_room side at bytes good =
     let long : 20 ≤ header_length at bytes = grind (arith, nat_tests, good.long) in
     record {
@@ -328,7 +328,7 @@ destination_stays at new old bytes =
     (inr (omega arith)) (inr (omega arith)) (inr (omega arith)))
 
 -- the words of the quoted datagram that are replaced
-pub quoted_within : (at : ℕ) (end : End) (new : Endpoint) (bytes : List ℕ) → HasRoom at bytes →
+pub quoted_within : (at : ℕ) (end : End) (new : Endpoint) (bytes : List ℕ) → HasHeaders at bytes →
     AreWithin (at + 10) (length bytes) (end_changes at end new bytes)
 unfolding end_changes
 quoted_within at end new bytes room =
@@ -350,7 +350,7 @@ quoted_of_bytes at end new bytes =
     (number-of (form_at at bytes) end (transport at bytes) (end_at at end bytes) new bytes)
     (address-of at end new.address bytes)
 
-quoted_apart : (at : ℕ) (end : End) (new : Endpoint) (bytes : List ℕ) → HasRoom at bytes →
+quoted_apart : (at : ℕ) (end : End) (new : Endpoint) (bytes : List ℕ) → HasHeaders at bytes →
     AreApart (end_changes at end new bytes)
 unfolding end_changes
 quoted_apart at end new bytes room =
@@ -363,7 +363,7 @@ quoted_apart at end new bytes room =
     (number-there (form_at at bytes) end (transport at bytes) (end_at at end bytes) new bytes room.transport_start)
     (address-within at end new.address bytes) (inr room.header)
 
-quoted_words : (begin n k at : ℕ) (end : End) (new : Endpoint) (bytes : List ℕ) → HasRoom at bytes →
+quoted_words : (begin n k at : ℕ) (end : End) (new : Endpoint) (bytes : List ℕ) → HasHeaders at bytes →
     at ≡ begin + 2 * k → begin + n ≡ length bytes → AreWords begin n (end_changes at end new bytes)
 unfolding end_changes
 quoted_words begin n k at end new bytes room here all =
@@ -385,7 +385,7 @@ sum-map-append : (f : Change → ℕ) (xs : List Change) (c : Change) → sum (m
 sum-map-append f xs c = ap sum (map-append f xs (c ∷ [])) ∙ sum-append (map f xs) (f c ∷ [])
     ∙ ap (λ (n : ℕ). sum (map f xs) + n) (sum-cons (f c) [] ∙ omega arith)
 
-pub message_residue : (begin n at k : ℕ) (end : End) (new : Endpoint) (bytes : List ℕ) → HasRoom at bytes →
+pub message_residue : (begin n at k : ℕ) (end : End) (new : Endpoint) (bytes : List ℕ) → HasHeaders at bytes →
     at ≡ begin + 2 * k → 4 ≤ k → begin + n ≡ length bytes →
     sum (words (part begin n (changed (end_changes at end new bytes
     ++ change bytes (begin + 2) (canon (word_at (begin + 2) bytes) (olds (end_changes at end new bytes))
@@ -471,7 +471,7 @@ outer_last quoted address c bytes = changed-append quoted (c ∷ address) bytes
     ∙ sym (ap (changed address) (changed-append quoted (c ∷ []) bytes))
 
 -- the ICMP checksum and the words of the error's own header stand before the quoted datagram
-pub outer_within : (end : End) (new : ℕ) (c : Change) (bytes : List ℕ) → HasRoom 0 bytes →
+pub outer_within : (end : End) (new : ℕ) (c : Change) (bytes : List ℕ) → HasHeaders 0 bytes →
     transport 0 bytes + 2 ≤ c.place → c.place + 2 ≤ transport 0 bytes + 4 →
     AreWithin 10 (transport 0 bytes + 4) (c ∷ address_changes 0 end new bytes)
 outer_within end new c bytes room low high = (
@@ -482,8 +482,8 @@ outer_within end new c bytes room low high = (
 )
 
 -- the quoted datagram's source stays the error's destination
-ours_kept : (side : Side) (way : Way) (new : Endpoint) (c : Change) (bytes : List ℕ) → HasRoom 0 bytes →
-    HasRoom (inner_at bytes) bytes →
+ours_kept : (side : Side) (way : Way) (new : Endpoint) (c : Change) (bytes : List ℕ) → HasHeaders 0 bytes →
+    HasHeaders (inner_at bytes) bytes →
     transport 0 bytes + 2 ≤ c.place → c.place + 2 ≤ transport 0 bytes + 4 →
     address (inner_at bytes) Source bytes ≡ address 0 Destination bytes →
     address (inner_at bytes) Source (changed (end_changes (inner_at bytes) (inner_end way) new bytes ++ c
@@ -548,7 +548,7 @@ pub record KeepsError (side : Side) (old new : List ℕ) : Type 0 where
   pub same_start : transport 0 new ≡ transport 0 old
   pub inner_form : form_at (inner_at old) new ≡ form_at (inner_at old) old
   pub inner_start : transport (inner_at old) new ≡ transport (inner_at old) old
-  pub inner_room : HasRoom (inner_at old) new
+  pub inner_room : HasHeaders (inner_at old) new
 
 pub first_byte : (at : ℕ) (old new : List ℕ) → KeepsHeader at old new → slice_index new at ≡ slice_index old at
 first_byte at old new keeps =

@@ -26,7 +26,7 @@ header_length at bytes = 4 * bit_and (byte_at at bytes) 15
 abbrev pub total_length : ℕ → List ℕ → ℕ
 total_length at bytes = word_at (at + 2) bytes
 
--- how far into its datagram a fragment stands, in units of eight bytes
+-- the offset of a fragment in its datagram, in units of eight bytes
 abbrev pub fragment_offset : ℕ → List ℕ → ℕ
 fragment_offset at bytes = bit_and (word_at (at + 6) bytes) 8191
 

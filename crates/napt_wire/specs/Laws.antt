@@ -1,4 +1,4 @@
--- Laws of packets, for whoever stands above them.
+-- Laws of packets, for the crates above.
 use Rattle.std.specs.Prelude.{◌≡◌, true, false, ℕ, List, Ok}
 use Rattle.napt_wire.specs.Fields.{source, destination, kind, is_error, CanCarry}
 use Rattle.napt_wire.specs.Reading.{reading}

@@ -1,4 +1,4 @@
--- Reading a packet: the checks in order, of which the first that fails names the cause.
+-- Reading a packet: the checks in order. The first that fails names the cause.
 use Rattle.std.specs.Prelude.{ℕ, ◌+◌, ◌*◌, ◌/◌, Bool, true, false, not, ◌&&◌, ◌||◌, List, [], ◌∷◌, ◌++◌, length, take, drop, Option, Some, None, Result, Ok, Err, nat_lt, ◌==◌, if◌then◌else◌}
 use Rattle.napt_wire.specs.Bytes.{byte_at, word_at, words}
 use Rattle.napt_wire.specs.Checksum.{is_right}

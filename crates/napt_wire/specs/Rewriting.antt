@@ -79,7 +79,7 @@ with_source source bytes = changed (end_changes 0 Source source bytes) bytes
 unfoldable pub with_destination : Endpoint → List ℕ → List ℕ
 with_destination destination bytes = changed (end_changes 0 Destination destination bytes) bytes
 
--- the end of the quoted datagram that stands for the inside of the translator, and the end of the error
+-- the end of the quoted datagram that is inside the translator, and the end of the error
 -- itself that is translated with it
 abbrev pub inner_end : Way → End
 inner_end Incoming = Source

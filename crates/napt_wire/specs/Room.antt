@@ -4,7 +4,7 @@ use Rattle.napt_wire.specs.Fields.{transport}
 use Rattle.napt_wire.specs.declared.rewrite.Change.{Change}
 
 -- the datagram at a place has a whole IPv4 header and the first eight bytes of a transport header
-pub record HasRoom (at : ℕ) (bytes : List ℕ) : Type 0 where
+pub record HasHeaders (at : ℕ) (bytes : List ℕ) : Type 0 where
   pub header : at + 20 ≤ transport at bytes
   pub transport_start : transport at bytes + 8 ≤ length bytes
 

@@ -2,7 +2,7 @@
 
 ghost use Rattle.std.specs.Prelude.{◌≡◌, ◌+◌, ◌≤◌, length};
 ghost use Rattle.napt_wire.specs.Fields.{address_place, end_at, form_at, icmp_form, inner_of, number_place, protocol_of, transport};
-ghost use Rattle.napt_wire.specs.Room.{HasRoom};
+ghost use Rattle.napt_wire.specs.Room.{HasHeaders};
 
 use crate::bytes::{read_long, read_word};
 use crate::{Endpoint, Inner, Protocol};
@@ -92,7 +92,7 @@ impl End {
 
 /// An end of the datagram at `at`, whose transport header has this form and begins at `start`.
 pub(crate) fn read_end(bytes: &[u8], at: usize, start: usize, form: Form, end: End) -> Endpoint
-    requires room { HasRoom at bytes.now }
+    requires room { HasHeaders at bytes.now }
     requires start { start ≡ transport at bytes.now }
     requires form { form ≡ form_at at bytes.now }
     ensures { result ≡ end_at at end bytes.now }
@@ -108,7 +108,7 @@ pub(crate) fn read_end(bytes: &[u8], at: usize, start: usize, form: Form, end: E
 /// The protocol and ends of the datagram at `at`, whose transport header has this form and begins at
 /// `start`.
 pub(crate) fn read_ends(bytes: &[u8], at: usize, start: usize, form: Form) -> Inner
-    requires room { HasRoom at bytes.now }
+    requires room { HasHeaders at bytes.now }
     requires start { start ≡ transport at bytes.now }
     requires form { form ≡ form_at at bytes.now }
     ensures { result ≡ inner_of at bytes.now }

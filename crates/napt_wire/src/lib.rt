@@ -35,7 +35,7 @@ pub enum Way {
 }
 
 /// The protocols that are translated: 1, 6 and 17 in an IPv4 header (RFC 792, 9293, 768).
-#[derive(Clone, Copy, Debug, PartialEq, Eq)]
+#[derive(Clone, Copy, Debug, PartialEq, Eq, PartialOrd, Ord, Hash)]
 pub enum Protocol {
     Icmp,
     Tcp,

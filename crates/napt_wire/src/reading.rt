@@ -7,7 +7,7 @@ ghost use Rattle.napt_wire.specs.Checksum.{is_right};
 ghost use Rattle.napt_wire.specs.Fields.{flags_of, form_at, fragment_offset, has_more, header_length, inner_at, total_length, transport};
 ghost use Rattle.napt_wire.specs.Packet.{IsFound, body_of, quoted_of};
 ghost use Rattle.napt_wire.specs.Reading.{body_checks, error_checks, has_bad_inner, has_bad_transport, has_zero_port, header_checks, is_known, is_quoted, is_translated, length_checks, reading, refusal};
-ghost use Rattle.napt_wire.specs.Room.{HasRoom};
+ghost use Rattle.napt_wire.specs.Room.{HasHeaders};
 
 use crate::bytes::{read_long, read_word};
 use crate::checksum::is_right;
@@ -241,7 +241,7 @@ fn read_inner(side: Side, bytes: &[u8], at: usize) -> Option<(usize, Form)>
     ensures bad { is_none result ≡ has_bad_inner side at bytes.now }
     ensures start { IfSome result (λ found. found.0 ≡ transport at bytes.now) }
     ensures form { IfSome result (λ found. found.1 ≡ form_at at bytes.now) }
-    ensures room { IfSome result (λ found. HasRoom at bytes.now) }
+    ensures room { IfSome result (λ found. HasHeaders at bytes.now) }
 {
     if bytes.len() < at + 20 || bytes[at] >> 4 != 4 {
         return None;

@@ -6,7 +6,7 @@ ghost use Rattle.napt_wire.specs.Fields.{end_at, form_at, inner_at, transport};
 ghost use Rattle.napt_wire.specs.Rewrite.{address_changes_of, changes_of, error_changes_of};
 ghost use Rattle.napt_wire.specs.Rewriting.{address_changes, change, changed, checksum_changes, end_changes, inner_end, outer_end, reverted_changes, olds, news, address_words, end_words};
 ghost use Rattle.napt_wire.specs.Checksum.{canon, canon_udp};
-ghost use Rattle.napt_wire.specs.Room.{AreThere, HasRoom};
+ghost use Rattle.napt_wire.specs.Room.{AreThere, HasHeaders};
 
 use crate::bytes::{read_long, read_word, write_word};
 use crate::checksum::{fix_address, fix_check, fix_end, fix_end_udp};
@@ -147,7 +147,7 @@ impl Rewrite {
         end: End,
         new: Endpoint,
     ) -> Rewrite
-        requires room { HasRoom at bytes.now }
+        requires room { HasHeaders at bytes.now }
         requires start { start ≡ transport at bytes.now }
         requires form { form ≡ form_at at bytes.now }
         ensures { changes_of result ≡ end_changes at end new bytes.now }
@@ -223,9 +223,9 @@ impl ErrorRewrite {
         way: Way,
         end: Endpoint,
     ) -> ErrorRewrite
-        requires room { HasRoom 0 bytes.now }
+        requires room { HasHeaders 0 bytes.now }
         requires start { start ≡ transport 0 bytes.now }
-        requires inner_room { HasRoom (inner_at bytes.now) bytes.now }
+        requires inner_room { HasHeaders (inner_at bytes.now) bytes.now }
         requires inner { inner ≡ transport (inner_at bytes.now) bytes.now }
         requires form { form ≡ form_at (inner_at bytes.now) bytes.now }
         ensures { error_changes_of result ≡ reverted_changes way end bytes.now }

@@ -8,15 +8,15 @@ use std::time::Clock;
 /// What the next bytes of a capture are.
 #[derive(Clone, Copy)]
 enum Part {
-    /// The first four bytes, which tell the order of all others.
+    /// The first four bytes, which give the byte order of the rest.
     Magic,
     /// The rest of the capture's header.
     FileHeader,
     /// The time of a record.
     Time,
-    /// How many bytes of a packet it has.
+    /// Its captured length.
     Captured,
-    /// The rest of it.
+    /// Its original length and its bytes.
     Record,
 }
 
@@ -24,7 +24,7 @@ enum Part {
 #[derive(Clone, Copy)]
 struct Tally {
     part: Part,
-    /// How many bytes of the part are to come.
+    /// How many bytes of the part are still to come.
     left: u64,
     /// The last four bytes of a magic or a length, as a little-endian number.
     word: u32,
@@ -32,7 +32,7 @@ struct Tally {
 }
 
 impl Tally {
-    /// Of a capture whose first byte is to come.
+    /// Before the first byte of a capture.
     const BEGIN: Tally = Tally {
         part: Part::Magic,
         left: 4,
@@ -40,7 +40,7 @@ impl Tally {
         is_big: false,
     };
 
-    /// How many records end in the next bytes.
+    /// Takes the next bytes, and returns how many records end in them.
     fn pass(&mut self, bytes: &[u8]) -> u64 {
         let mut records = 0u64;
         let mut rest = bytes;
@@ -65,7 +65,7 @@ impl Tally {
         records
     }
 
-    /// Goes on to the next part, and says whether a record has ended.
+    /// Goes on to the next part, and returns whether a record has ended.
     fn next_part(&mut self) -> bool {
         let has_ended = matches!(self.part, Part::Record);
         (self.part, self.left) = match self.part {
@@ -80,7 +80,7 @@ impl Tally {
         has_ended
     }
 
-    /// The length that the last four bytes tell.
+    /// The length in the last four bytes.
     fn captured(self) -> u32 {
         if self.is_big {
             self.word.swap_bytes()
@@ -90,7 +90,7 @@ impl Tally {
     }
 }
 
-/// A device of a capture whose packets are counted as they are read, where somebody waits for the run.
+/// The device of a capture. Its packets are counted as they are read, if progress is reported.
 #[derive(Drop)]
 pub struct Counted<'p, S, R> {
     device: S,
@@ -99,7 +99,7 @@ pub struct Counted<'p, S, R> {
 }
 
 impl<'p, S, R> Counted<'p, S, R> {
-    /// Over a device of which nothing was read.
+    /// Over a device, before anything is read.
     pub fn over(device: S, progress: &'p Progress<'p, R>) -> Counted<'p, S, R>
         ensures { result.device ≡ device }
     {
@@ -110,7 +110,7 @@ impl<'p, S, R> Counted<'p, S, R> {
         }
     }
 
-    /// The same, where there is a device.
+    /// The same, if there is a device.
     pub fn over_given(device: Option<S>, progress: &'p Progress<'p, R>) -> Option<Counted<'p, S, R>>
         ensures { option_map (λ counted. counted.device) result ≡ device }
     {

@@ -1,4 +1,4 @@
-//! The program `stream`: what `napt` does, while the packets come and in bounded memory.
+//! The program `stream`: what `napt` does, but as the packets come in, and in bounded memory.
 #![tactic(auto)]
 
 mod counted;
@@ -22,7 +22,7 @@ fn main(rt: HostRuntime) -> ExitCode {
     ended(&rt, streams, &answer)
 }
 
-/// Writes the fault line, if there is one and standard error is open, and answers the exit status.
+/// Writes the fault line, if there is one and standard error is open, and returns the exit status.
 fn ended(rt: &impl Eprint, streams: Streams, answer: &Result<(), Stop>) -> ExitCode
     ensures { exit_status result ≡ status_at_end answer.now }
 {

@@ -1,4 +1,4 @@
-//! What the program does: it reads its words and its configuration, opens the files in a fixed order, and runs over
+//! What the program does: it reads its arguments and its configuration, opens the files in a fixed order, and runs over
 //! them.
 
 ghost use Rattle.std.specs.Prelude.{◌≡◌, IfErr, OnOk, map, string_bytes};
@@ -12,19 +12,19 @@ use crate::watched::Watched;
 use napt_program::{
     Devices, LineFault, MEMORY, Opened, Options, Stop, Streams, open, parse_words_of, words,
 };
-use napt_stream::run_streams;
+use napt_run::run_streams;
 use std::env::Env;
 use std::rt::Files;
 use std::sync::{Arc, Wait};
 use std::thread::Threads;
 use std::time::Clock;
 
-/// Does what the words of the command line ask for: runs over the files that they name, with a worker thread for each
-/// external address, or writes help to standard output. Where somebody waits at standard error, it is told how far it is.
+/// Does what the command line asks for: runs over the files that it names, with a worker thread for each external address,
+/// or writes help to standard output. If `is_told`, it reports its progress on standard error.
 ///
-/// Fails, before any capture is opened, where the words are not understood, where memory runs out for them, where a
-/// standard stream that stands for a file is closed, or where the configuration is refused; else where a file cannot
-/// be opened or created, or the run fails. A shut gate is never told.
+/// Fails, before any capture is opened, if the arguments are not understood, if memory runs out for them, if a standard
+/// stream that stands for a file is closed, or if the configuration is refused; after that, if a file cannot be opened or
+/// created, or if the run fails. A shut gate is never reported.
 pub fn serve<
     R: Env
         + Files
@@ -44,7 +44,7 @@ pub fn serve<
     serve_words(rt, streams, words(rt)?, is_told)
 }
 
-/// The same for these words, the program's name first: where it ends well they are understood, and it stops only by
+/// The same for these arguments, the program's name first: if it succeeds, they were understood, and it fails only by
 /// what they name.
 pub fn serve_words<
     R: Files
@@ -71,7 +71,7 @@ pub fn serve_words<
     }
 }
 
-/// Runs over all that the options name, and tells how far it is, if somebody waits.
+/// Runs over all that the options name. If `is_told`, it reports its progress.
 fn run<
     R: Files
         + Input

@@ -1,14 +1,14 @@
-//! How far a run is, for whoever waits at a terminal.
+//! How far a run is, for people at a terminal.
 
 use crate::watched::Watched;
 use std::cell::Cell;
 use std::sync::Arc;
 use std::time::{Clock, Instant};
 
-/// A run of fewer milliseconds tells nothing.
+/// A run shorter than this many milliseconds reports nothing.
 const FIRST_AFTER: u64 = 2_000;
 
-/// After so many milliseconds the line is told anew.
+/// The line is written again after this many milliseconds.
 const EACH: u64 = 1_000;
 
 /// How many packets were read up to a time.
@@ -33,20 +33,20 @@ impl Mark {
     }
 }
 
-/// How far a run is, in one line on standard error that stands in place of the one before.
+/// How far a run is, in one line on standard error that replaces the one before.
 #[derive(Drop)]
 pub struct Progress<'r, R> {
     rt: &'r R,
     gate: Arc<Watched>,
-    /// When the run began; none where nobody is told.
+    /// When the run began; none if progress is not reported.
     began: Option<Instant>,
     packets: Cell<u64>,
-    /// What the line says; the beginning where none was told.
+    /// What the last line said; the beginning if there was none.
     told: Cell<Mark>,
 }
 
 impl<'r, R: Eprint + Clock> Progress<'r, R> {
-    /// Of a run that begins now, for somebody who waits or for nobody.
+    /// Of a run that begins now. If not `is_told`, nothing is reported.
     pub fn of(rt: &'r R, gate: Arc<Watched>, is_told: bool) -> Progress<'r, R> {
         let began = if is_told { Instant::now(rt).ok() } else { None };
         Progress {
@@ -58,7 +58,7 @@ impl<'r, R: Eprint + Clock> Progress<'r, R> {
         }
     }
 
-    /// Whether somebody waits.
+    /// Whether progress is reported.
     pub fn is_told(&self) -> bool {
         self.began.is_some()
     }
@@ -68,8 +68,8 @@ impl<'r, R: Eprint + Clock> Progress<'r, R> {
         self.packets.set(self.packets.get().saturating_add(more));
     }
 
-    /// Says how many packets were read, how many a second since the line before, and how many bindings there are, where it is
-    /// time for that.
+    /// If it is time for another line, writes how many packets were read, how many a second since the last line, and how many
+    /// bindings there are.
     pub fn tell(&self) {
         let Some(now) = self.mark() else {
             return;
@@ -87,8 +87,7 @@ impl<'r, R: Eprint + Clock> Progress<'r, R> {
         self.told.set(now);
     }
 
-    /// Says how many packets were read in the whole run and how many bindings it leaves, and ends the line, where there is
-    /// one.
+    /// Ends the line, if there is one, with how many packets were read in the whole run, and how many bindings it leaves.
     pub fn tell_end(&self) {
         if self.told.get().millis == 0 {
             return;
@@ -104,7 +103,7 @@ impl<'r, R: Eprint + Clock> Progress<'r, R> {
         );
     }
 
-    /// How far the run is now; none where nobody is told, or the clock does not tell.
+    /// How far the run is now; none if progress is not reported, or the clock fails.
     fn mark(&self) -> Option<Mark> {
         let elapsed = self.began?.elapsed(self.rt).ok()?;
         Some(Mark {

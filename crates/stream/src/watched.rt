@@ -4,7 +4,7 @@ use napt_pool::Gate;
 use std::alloc::{AllocError, Global};
 use std::sync::atomic::{AtomicU64, Ordering};
 
-/// A count that has a cache line to itself, so that workers do not wait for one another.
+/// A count on a cache line of its own, so that workers do not slow one another down.
 #[derive(Drop)]
 struct Count {
     many: AtomicU64,
@@ -14,12 +14,12 @@ struct Count {
 /// A gate that always says yes, and counts the bindings of all workers.
 #[derive(Drop)]
 pub struct Watched {
-    /// Of each worker.
+    /// One for each worker.
     counts: Vec<Count>,
 }
 
 impl Watched {
-    /// Of a run over so many workers.
+    /// For this many workers.
     pub fn new(alloc: Global, workers: usize) -> Result<Watched, AllocError> {
         let mut counts = Vec::with_capacity(alloc, workers)?;
         for _ in 0..workers {
@@ -31,7 +31,7 @@ impl Watched {
         Ok(Watched { counts })
     }
 
-    /// How many bindings all workers held, each after its latest packet.
+    /// How many bindings all workers hold, each after its latest packet.
     pub fn bindings(&self) -> u64 {
         let mut many = 0u64;
         for count in &self.counts {

@@ -8,7 +8,7 @@ use crate::refused::run::{INSIDE, OUTSIDE, configuration, end_of_run};
 use napt_capture::{CaptureFault, Faulty, Plan, Trouble, Watched};
 use napt_config::Config;
 use napt_records::{Fault, Which};
-use napt_stream::run_streams;
+use napt_run::run_streams;
 use napt_wire::Side;
 use std::alloc::Global;
 use std::rt::Files;

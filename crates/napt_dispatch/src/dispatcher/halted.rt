@@ -8,7 +8,7 @@ ghost use Rattle.napt_sequential.specs.declared.fault.RunFault.TheVariants.{Pool
 use napt_pool::PoolFault;
 use napt_sequential::RunFault;
 
-/// An answer, or a number of answers, that no worker gives.
+/// An answer, or a number of answers, that no worker gives. It is reported as `RunFault::Pool(PoolFault::Ring)`.
 #[derive(Clone, Copy)]
 pub(crate) struct ImpossibleAnswer;
 
@@ -20,11 +20,11 @@ impl From<ImpossibleAnswer> for RunFault {
     }
 }
 
-/// Why dispatching ends before all outcomes have left.
+/// Why dispatching ended before every outcome had left.
 #[derive(Drop)]
 pub(crate) enum Halted<D> {
     Run(RunFault),
-    /// The departures told a fault.
+    /// The departures failed.
     Departure(D),
 }
 
@@ -33,5 +33,13 @@ impl<D> From<RunFault> for Halted<D> {
 
     fn from(fault: RunFault) -> Halted<D> {
         Halted::Run(fault)
+    }
+}
+
+impl<D> From<ImpossibleAnswer> for Halted<D> {
+    ghost from_gives = { λ _ halted. halted ≡ Run (Pool Ring) };
+
+    fn from(answer: ImpossibleAnswer) -> Halted<D> {
+        Halted::Run(RunFault::from(answer))
     }
 }

@@ -1,42 +1,40 @@
-//! What a dispatcher keeps of each worker, and what it notes.
+//! The first leg or placeholder held for a worker, and the progress of the inputs.
 
-ghost use Rattle.std.specs.Prelude.{◌≡◌, ◌+◌, ◌^◌, ◌<◌, ℕ, true, [], length, slice_set, slice_index, IfOk, OnOk};
+ghost use Rattle.std.specs.Prelude.{◌≡◌, ◌↔◌, ◌^◌, ◌<◌, true, [], length, IfOk, IsOk, OnOk};
 ghost use Rattle.napt_dispatch.specs.Dispatch.{of_worker};
-ghost use Rattle.napt_dispatch.specs.Standing.{parts_of, IsSized, Noted, IsFirst, first_waits, waits, IsDone};
+ghost use Rattle.napt_dispatch.specs.Standing.{parts_of, Noted, IsFirst, first_waits, waits, IsDone};
 
 use crate::dispatcher::Dispatcher;
 use crate::dispatcher::halted::ImpossibleAnswer;
 use crate::dispatcher::held::Held;
 use crate::dispatcher::progress::{Progress, Second};
-use crate::dispatcher::queues::{are_empty, len_at, pop_front};
 use napt_translate::{Answer, Leg};
 use std::alloc::AllocError;
 
-/// What stands first for a worker.
+/// The first leg or placeholder held for a worker.
 #[derive(Drop)]
 pub(super) enum First {
-    /// Nothing, or a place that waits: it still stands there.
+    /// Nothing is held, or a placeholder that still waits. It stays first.
     Waits,
-    /// A place that stood for no leg: it is gone.
+    /// A placeholder whose input has no second leg. It was removed.
     Gone,
     Next(Leg),
 }
 
 impl Dispatcher {
-    /// Takes out what stands first for worker `w`, where it can be offered.
+    /// Takes out the first leg held for worker `w`, if it can be offered.
     pub(super) fn first(&mut self, w: u32) -> Result<First, AllocError>
-        requires place { w < length (parts_of self.old).held }
-        ensures sized { OnOk result ((count : ℕ) → IsSized count (parts_of self.old) →
-            IsSized count (parts_of self.new)) }
+        requires place { w < length self.old.queues }
+        ensures many { length self.new.queues ≡ length self.old.queues }
         ensures ring { self.new.ring ≡ self.old.ring }
         ensures first { IfOk result (IsFirst w (parts_of self.old) (parts_of self.new)) }
     {
-        match self.held.pop(w) {
+        match self.queues.release(w) {
             None => Ok(First::Waits),
             Some(Held::Ready(leg)) => Ok(First::Next(leg)),
             Some(Held::Place(number)) => match self.progress.second_leg(number) {
                 Second::Unknown => {
-                    self.held.put_back(w, Held::Place(number))?;
+                    self.queues.put_back(w, Held::Place(number))?;
                     Ok(First::Waits)
                 }
                 Second::Never => Ok(First::Gone),
@@ -45,49 +43,35 @@ impl Dispatcher {
         }
     }
 
-    /// Whether nothing that is held for worker `w` can be offered: there is nothing, or a place that waits stands first.
+    /// Returns whether nothing held for worker `w` can be offered: nothing is held, or a placeholder that waits is first.
     fn first_waits(&self, w: u32) -> bool
-        requires { w < length (parts_of self.now).held }
+        requires { w < length self.now.queues }
         ensures { result ≡ first_waits (parts_of self.now).progress
             (of_worker (parts_of self.now).held w) }
     {
-        match self.held.first(w) {
+        match self.queues.first(w) {
             None => true,
             Some(Held::Ready(_)) => false,
             Some(Held::Place(number)) => self.progress.is_unknown(*number),
         }
     }
 
-    /// Whether nothing can be offered to worker `w` now: its ring is full, nothing is held for it, or a place that waits
-    /// stands first.
+    /// Returns whether nothing can be offered to worker `w` now: its ring is full, nothing is held for it, or a placeholder
+    /// that waits is first.
     pub(super) fn waits(&self, w: u32) -> bool
-        requires held { w < length (parts_of self.now).held }
-        requires owed { w < length (parts_of self.now).owed }
+        requires { w < length self.now.queues }
         ensures { result ≡ waits self.now.ring (parts_of self.now) w }
     {
-        self.ring <= len_at(&self.owed, w) || self.first_waits(w)
+        self.ring <= self.queues.many_owed(w) || self.first_waits(w)
     }
 
-    /// Counts a leg that was offered to worker `w`. A count is at most `u64::MAX`.
-    pub(super) fn count_offer(&mut self, w: u32) -> Result<(), ImpossibleAnswer>
-        requires { w < length self.old.offered.items }
-        ensures ring { self.new.ring ≡ self.old.ring }
-        ensures counted { OnOk result (parts_of self.new ≡ record (parts_of self.old) {
-          counts =
-              slice_set self.old.offered.items w (slice_index self.old.offered.items w + 1);
-        }) }
-    {
-        let count = &mut self.offered[w as usize];
-        *count = count.checked_add(1).ok_or(ImpossibleAnswer)?;
-        Ok(())
-    }
-
-    /// Notes an answer that was taken of worker `w`.
+    /// Notes an answer taken from worker `w`.
     pub(super) fn note(&mut self, w: u32, answer: Answer) -> Result<(), ImpossibleAnswer>
-        requires { w < length (parts_of self.old).owed }
-        ensures { OnOk result (Noted w answer (parts_of self.old) (parts_of self.new)) }
+        requires { w < length self.old.queues }
+        ensures many { length self.new.queues ≡ length self.old.queues }
+        ensures noted { OnOk result (Noted w answer (parts_of self.old) (parts_of self.new)) }
     {
-        let Some(owed) = pop_front(&mut self.owed, w) else {
+        let Some(owed) = self.queues.note_answer(w) else {
             return Err(ImpossibleAnswer);
         };
         let Answer { number, end } = answer;
@@ -96,16 +80,16 @@ impl Dispatcher {
         Ok(())
     }
 
-    /// Whether nothing is held and nothing owed.
+    /// Returns whether nothing is held, and every worker has answered every leg.
     pub(super) fn is_done(&self) -> bool
-        ensures { result ≡ true → IsDone (parts_of self.now) }
+        ensures { (result ≡ true) ↔ IsDone (parts_of self.now) }
     {
-        self.held.is_empty() && are_empty(&self.owed)
+        self.queues.none_held() && self.queues.none_owed()
     }
 
-    /// Checks that all outcomes have left, as they have where nothing is held and nothing owed.
+    /// Checks that every outcome has left. It has once nothing is held and every leg is answered.
     pub(super) fn check_left(&self) -> Result<(), ImpossibleAnswer>
-        ensures none { OnOk result (self.now.progress.under_way ≡ []) }
+        ensures none { IsOk result ↔ (self.now.progress.under_way ≡ []) }
         ensures few { OnOk result (length self.now.progress.left < 2 ^ 64) }
     {
         if self.progress.is_empty() {

@@ -1,27 +1,24 @@
-//! Offering what is held to the workers.
+//! Offering legs to the workers.
 
-ghost use Rattle.std.specs.Prelude.{◌≡◌, ◌+◌, ◌≤◌, ◌<◌, ℕ, length, IfOk, IfErr, OnOk, MatchBool};
+ghost use Rattle.std.specs.Prelude.{◌≡◌, ◌+◌, ◌<◌, length, IfOk, IfErr, OnOk, MatchBool};
 ghost use Rattle.napt_pool.specs.Pools.{starts};
 ghost use Rattle.napt_dispatch.specs.Dispatch.{of_worker, IsDispatchFault};
 ghost use Rattle.napt_dispatch.specs.Queues.{many_in};
-ghost use Rattle.napt_dispatch.specs.Standing.{parts_of, state_of, IsSizedFor, Keeps, ContinuesUnlessFault, with_first, Offers, PutsBack, HasOffered, OffersOnlyTo};
+ghost use Rattle.napt_dispatch.specs.Standing.{parts_of, state_of, IsSizedFor, Keeps, ContinuesUnlessFault, with_first, Offers, PutsBack, HasOffered, HasOfferedAll, OffersOnlyTo};
 
 use crate::Worker;
 use crate::dispatcher::Dispatcher;
 use crate::dispatcher::halted::ImpossibleAnswer;
 use crate::dispatcher::held::{Held, Owed};
 use crate::dispatcher::holding::First;
-use crate::dispatcher::queues::push_back;
 use napt_pool::{Gate, OfferRefused, Pool};
 use napt_sequential::RunFault;
 use napt_translate::Leg;
-use std::alloc::Global;
 
 impl Dispatcher {
-    /// Offers a leg to worker `w`, or puts it back to the front where its ring is full. Says whether it was offered.
+    /// Offers a leg to worker `w`, or puts it back in front if the ring is full. Returns whether it was offered.
     pub(super) fn offer<G: Gate>(
         &mut self,
-        alloc: Global,
         pool: &mut Pool<Worker, G>,
         w: u32,
         leg: Leg,
@@ -43,14 +40,13 @@ impl Dispatcher {
             way: leg.way,
             now: leg.now,
         };
-        match pool.offer(alloc, w, leg) {
+        match pool.offer(self.alloc, w, leg) {
             Ok(()) => {
-                self.count_offer(w)?;
-                push_back(&mut self.owed, w, owed)?;
+                self.queues.note_offer(w, owed)?;
                 Ok(true)
             }
             Err(OfferRefused::Full(leg)) => {
-                self.held.put_back(w, Held::Ready(leg))?;
+                self.queues.put_back(w, Held::Ready(leg))?;
                 Ok(false)
             }
             Err(OfferRefused::Memory(_)) => Err(RunFault::Memory),
@@ -58,13 +54,9 @@ impl Dispatcher {
         }
     }
 
-    /// Offers what stands first for worker `w`. Says whether anything went; nothing goes where nothing more can.
-    fn offer_first<G: Gate>(
-        &mut self,
-        alloc: Global,
-        pool: &mut Pool<Worker, G>,
-        w: u32,
-    ) -> Result<bool, RunFault>
+    /// Offers the first leg held for worker `w`, or removes a placeholder without a leg. Returns `false` if neither is
+    /// possible.
+    fn offer_first<G: Gate>(&mut self, pool: &mut Pool<Worker, G>, w: u32) -> Result<bool, RunFault>
         requires place { w < length (starts pool.old) }
         requires sized { IsSizedFor pool.old self.old }
         ensures state { ContinuesUnlessFault G.is_open pool.old self.old pool.new self.new result }
@@ -81,48 +73,38 @@ impl Dispatcher {
             First::Waits => Ok(false),
             First::Gone => Ok(true),
             First::Next(leg) => {
-                let went = self.offer(alloc, pool, w, leg)?;
+                let went = self.offer(pool, w, leg)?;
                 Ok(went)
             }
         }
     }
 
-    /// Offers what is held for worker `w`, until its ring is full or a place waits.
-    fn offer_held<G: Gate>(
-        &mut self,
-        alloc: Global,
-        pool: &mut Pool<Worker, G>,
-        w: u32,
-    ) -> Result<(), RunFault>
+    /// Offers the legs held for worker `w`, until none is left, its ring is full, or a placeholder waits.
+    fn offer_held<G: Gate>(&mut self, pool: &mut Pool<Worker, G>, w: u32) -> Result<(), RunFault>
         requires place { w < length (starts pool.old) }
         requires sized { IsSizedFor pool.old self.old }
         ensures state { ContinuesUnlessFault G.is_open pool.old self.old pool.new self.new result }
         ensures alone { OnOk result (OffersOnlyTo w pool.old self.old pool.new self.new) }
         ensures offered { OnOk result (HasOffered pool.new self.new w) }
     {
-        let many = self.held.len_at(w);
+        let many = self.queues.many_held(w);
         for _ in 0..many {
-            if !self.offer_first(alloc, pool, w)? {
+            if !self.offer_first(pool, w)? {
                 return Ok(());
             }
         }
         Ok(())
     }
 
-    /// Offers what is held for all workers.
-    pub(super) fn offer_all<G: Gate>(
-        &mut self,
-        alloc: Global,
-        pool: &mut Pool<Worker, G>,
-        count: u32,
-    ) -> Result<(), RunFault>
-        requires count { count ≤ length (starts pool.old) }
+    /// Offers the legs held for all workers, as far as each can be offered now.
+    pub(super) fn offer_all<G: Gate>(&mut self, pool: &mut Pool<Worker, G>) -> Result<(), RunFault>
         requires sized { IsSizedFor pool.old self.old }
         ensures state { ContinuesUnlessFault G.is_open pool.old self.old pool.new self.new result }
-        ensures offered { OnOk result ((w : ℕ) → w < count → HasOffered pool.new self.new w) }
+        ensures offered { OnOk result (HasOfferedAll pool.new self.new) }
     {
-        for w in 0..count {
-            self.offer_held(alloc, pool, w)?;
+        let workers = self.queues.count();
+        for w in 0..workers {
+            self.offer_held(pool, w)?;
         }
         Ok(())
     }

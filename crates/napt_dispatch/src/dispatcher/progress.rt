@@ -1,6 +1,7 @@
-//! What a dispatcher knows of an input.
+//! The progress of an input.
 
-ghost use Rattle.std.specs.Prelude.{◌≡◌, Some, IfOk};
+ghost use Rattle.std.specs.Prelude.{◌≡◌, Some, IfOk, IfErr};
+ghost use Rattle.napt_wire.specs.declared.Way.TheVariants.{Incoming};
 ghost use Rattle.napt_dispatch.specs.Standing.{ended, IsSecondOf, IsToldBy};
 ghost use Rattle.napt_dispatch.specs.Windows.{has_ended, outcome_in, is_unknown};
 
@@ -11,19 +12,21 @@ use napt_translate::{End, Leg};
 use napt_wire::{Packet, Way};
 use std::mem;
 
-/// What is known of an input.
+/// The progress of an input.
 #[derive(Drop)]
 pub(crate) enum Progress {
+    /// The answer to a leg is awaited.
     Awaited,
-    /// Its packet went onward at this time, in ns, and is to come in again.
+    /// The answer to the first leg was onward. The packet enters again by a second leg, at this time in ns.
     Onward(u64, Packet),
-    /// Its last leg was one on its way out.
+    /// The last leg was outgoing.
     EndedOut(Outcome),
-    /// Its last leg was one on its way in, or it had none.
+    /// The last leg was incoming, or there was none.
     EndedIn(Outcome),
 }
 
 impl Progress {
+    /// Returns the progress of an input after its last leg.
     fn ended(way: Way, outcome: Outcome) -> Progress
         ensures { result ≡ ended way outcome }
     {
@@ -33,9 +36,10 @@ impl Progress {
         }
     }
 
-    /// What the end of a leg tells of its input. No leg on its way in goes onward.
+    /// Returns the progress of an input after the answer to one of its legs. Fails if an incoming leg goes onward.
     pub(crate) fn told_by(owed: Owed, end: End) -> Result<Progress, ImpossibleAnswer>
-        ensures { IfOk result (IsToldBy owed end) }
+        ensures ok { IfOk result (IsToldBy owed end) }
+        ensures err { IfErr result (λ _. owed.way ≡ Incoming) }
     {
         match end {
             End::ToOutside(packet) => Ok(Progress::ended(owed.way, Outcome::ToOutside(packet))),
@@ -48,21 +52,21 @@ impl Progress {
         }
     }
 
-    /// Whether its outcome is known.
+    /// Returns whether the outcome is known.
     pub(crate) fn has_ended(&self) -> bool
         ensures { result ≡ has_ended self.now }
     {
         matches!(self, Progress::EndedOut(_) | Progress::EndedIn(_))
     }
 
-    /// Whether nothing is known of its second leg.
+    /// Returns whether it is not known yet if there is a second leg.
     pub(crate) fn is_unknown(&self) -> bool
         ensures { result ≡ is_unknown (Some self.now) }
     {
         matches!(self, Progress::Awaited | Progress::EndedIn(_))
     }
 
-    /// The outcome, where it is known.
+    /// Returns the outcome, if it is known.
     pub(crate) fn into_outcome(self) -> Option<Outcome>
         ensures { result ≡ outcome_in self }
     {
@@ -73,10 +77,12 @@ impl Progress {
     }
 }
 
-/// The second leg of an input (RFC 4787, REQ-9), as far as it is known.
+/// The second leg of an input (RFC 4787, REQ-9).
 #[derive(Drop)]
 pub(crate) enum Second {
+    /// It is not known yet if there is one.
     Unknown,
+    /// There is none.
     Never,
     Known(Leg),
 }
@@ -84,15 +90,16 @@ pub(crate) enum Second {
 /// An input that was read and whose outcome has not left.
 #[derive(Drop)]
 pub(crate) struct OpenInput {
-    /// When it arrived, in ns.
+    /// The arrival time, in ns.
     pub(crate) time: u64,
     pub(crate) progress: Progress,
-    /// Whether a place is held for its second leg. Until that is gone its outcome does not leave.
+    /// Whether a placeholder is held for the second leg. The outcome does not leave while there is one.
     pub(crate) has_place: bool,
 }
 
 impl OpenInput {
-    /// The second leg of the input of a number, taken out where it is known. Its place is gone then, or where there is none.
+    /// Takes out the second leg, if it is known, for the input with this number. Notes that the placeholder is gone if the leg
+    /// is known, or if there is none.
     pub(crate) fn second_leg(&mut self, number: u64) -> Second
         ensures { IsSecondOf number self.old self.new result }
     {

@@ -14,9 +14,9 @@ ghost use Rattle.napt_dispatch.specs.declared.dispatcher.held.Held.TheVariants.{
 ghost use Rattle.napt_dispatch.specs.declared.dispatcher.progress.Progress.TheVariants.{EndedIn};
 ghost use Rattle.napt_dispatch.specs.Dispatch.{of_worker, IsDispatchFault};
 ghost use Rattle.napt_dispatch.specs.Offers.{with_offer, with_offered};
-ghost use Rattle.napt_dispatch.specs.Passing.{LetsGoUnlessFault, Serves, ReadsToEnd, ReadsAll, ReadsHalted};
+ghost use Rattle.napt_dispatch.specs.Passing.{LetsGoUnlessFault, Serves, Begins, ReadsToEnd, ReadsAll, ReadsHalted};
 ghost use Rattle.napt_dispatch.specs.Queues.{pushed, many_in};
-ghost use Rattle.napt_dispatch.specs.Standing.{parts_of, state_of, IsSized, Keeps, IsSizedFor, HasRoom, with_held, with_progress, Admits};
+ghost use Rattle.napt_dispatch.specs.Standing.{parts_of, state_of, Keeps, IsSizedFor, HasRoom, with_held, with_progress, Admits};
 
 use crate::Worker;
 use crate::departures::Departures;
@@ -24,7 +24,7 @@ use crate::dispatcher::Dispatcher;
 use crate::dispatcher::halted::{Halted, ImpossibleAnswer};
 use crate::dispatcher::held::{Held, Offer};
 use crate::dispatcher::progress::Progress;
-use crate::dispatcher::queues::len_at;
+use crate::dispatcher::taking::Until;
 use napt_config::Config;
 use napt_pool::{Gate, Pool};
 use napt_sequential::{
@@ -32,19 +32,20 @@ use napt_sequential::{
 };
 use napt_translate::{Leg, onward, route};
 use napt_wire::{Cause, Packet, Side};
-use std::alloc::{AllocError, Global};
+use std::alloc::AllocError;
 use std::sync::Wait;
 
-/// After so many inputs the answers of one worker are looked at, of each in its turn. Each look may fetch what another
-/// processor wrote, so fewer looks cost less.
+/// The number of inputs between two looks at a worker's answers. The workers take turns. A look may fetch a cache line that
+/// another processor wrote, so fewer looks cost less.
 const LOOK_EACH: u64 = 16;
 
 impl Dispatcher {
-    /// Holds a place at worker `to`, where there is one, for the second leg of the input of a number.
+    /// Holds a placeholder at worker `to`, if there is one, for the second leg of the input with this number.
     fn hold_place(&mut self, to: Option<u32>, number: u64) -> Result<(), AllocError>
-        requires to { IfSome to (λ v. v < length (parts_of self.old).held) }
+        requires to { IfSome to (λ v. v < length self.old.queues) }
         requires room { many_in (parts_of self.old).held < 65536 }
-        ensures { OnOk result (MatchOption to (parts_of self.new ≡ parts_of self.old) (λ v.
+        ensures many { length self.new.queues ≡ length self.old.queues }
+        ensures placed { OnOk result (MatchOption to (parts_of self.new ≡ parts_of self.old) (λ v.
             parts_of self.new
             ≡ with_held (pushed v (Place number) (parts_of self.old).held) (parts_of self.old))) }
     {
@@ -52,39 +53,36 @@ impl Dispatcher {
             None => Ok(()),
             Some(v) => {
                 self.progress.note_place(number);
-                self.held.push(v, Held::Place(number))
+                self.queues.hold(v, Held::Place(number))
             }
         }
     }
 
-    /// Whether worker `w` takes a leg at once: nothing is held for it, and its ring has room.
+    /// Returns whether worker `w` can be offered a leg at once: nothing is held for it, and its ring has room.
     fn is_free(&self, w: u32) -> bool
-        requires held { w < length (parts_of self.now).held }
-        requires owed { w < length (parts_of self.now).owed }
+        requires { w < length self.now.queues }
         ensures { (result ≡ true) ↔ ((of_worker (parts_of self.now).held w ≡ [])
             × (length (of_worker (parts_of self.now).owed w) < self.now.ring)) }
     {
-        self.held.is_empty_at(w) && len_at(&self.owed, w) < self.ring
+        self.queues.holds_none(w) && self.queues.many_owed(w) < self.ring
     }
 
-    /// Gives back a first leg for worker `w` where it may be offered at once, and else holds it. Either way a place is held
-    /// where it may be answered onward.
+    /// Returns a first leg for worker `w` if it can be offered at once, and holds it otherwise. Either way holds a placeholder
+    /// at worker `to`, if there is one.
     fn place_first(
         &mut self,
         w: u32,
         leg: Leg,
         to: Option<u32>,
     ) -> Result<Option<Offer>, AllocError>
-        requires place { w < length (parts_of self.old).held }
-        requires owed { w < length (parts_of self.old).owed }
-        requires to { IfSome to (λ v. v < length (parts_of self.old).held) }
+        requires place { w < length self.old.queues }
+        requires to { IfSome to (λ v. v < length self.old.queues) }
         requires room { many_in (parts_of self.old).held + 2 ≤ 65536 }
         ensures free { IfOk result (λ found. IsSome found
             ↔ ((of_worker (parts_of self.old).held w ≡ [])
             × (length (of_worker (parts_of self.old).owed w) < self.old.ring))) }
         ensures worker { IfOk result (λ found. IfSome found (λ o. o.worker ≡ w)) }
-        ensures sized { OnOk result ((count : ℕ) → IsSized count (parts_of self.old) →
-            IsSized count (parts_of self.new)) }
+        ensures many { length self.new.queues ≡ length self.old.queues }
         ensures room { IfOk result (λ found.
             IfSome found (λ o. many_in (parts_of self.new).held < 65536)) }
         ensures journal { OnOk result ((parts_of self.new).journal ≡ (parts_of self.old).journal) }
@@ -100,14 +98,15 @@ impl Dispatcher {
             self.hold_place(to, number)?;
             return Ok(Some(Offer { worker: w, leg }));
         }
-        self.held.push(w, Held::Ready(leg))?;
+        self.queues.hold(w, Held::Ready(leg))?;
         self.hold_place(to, number)?;
         Ok(None)
     }
 
-    /// Notes that the input of a number is dropped before any leg.
+    /// Notes that the input with this number is dropped and has no leg.
     fn note_dropped(&mut self, number: u64, cause: Cause) -> Result<(), ImpossibleAnswer>
-        ensures { OnOk result (parts_of self.new ≡ with_progress
+        ensures many { length self.new.queues ≡ length self.old.queues }
+        ensures noted { OnOk result (parts_of self.new ≡ with_progress
             (slice_set (parts_of self.old).progress number (EndedIn (Dropped cause)))
             (parts_of self.old)) }
     {
@@ -116,7 +115,7 @@ impl Dispatcher {
         Ok(())
     }
 
-    /// Reads an input of a number, at a time in ns, and gives its first leg where that may be offered at once.
+    /// Reads the input with this number, at a time in ns. Returns its first leg if that can be offered at once.
     fn admit(
         &mut self,
         config: &Config,
@@ -125,9 +124,9 @@ impl Dispatcher {
         input: Input,
     ) -> Result<Option<Offer>, RunFault>
         requires keeps { KeepsRules config.now }
-        requires sized { IsSized (length config.now.pool) (parts_of self.old) }
+        requires sized { length self.old.queues ≡ length config.now.pool }
         requires room { many_in (parts_of self.old).held + 2 ≤ 65536 }
-        ensures sized { OnOk result (IsSized (length config.now.pool) (parts_of self.new)) }
+        ensures many { length self.new.queues ≡ length self.old.queues }
         ensures room { IfOk result (λ found.
             IfSome found (λ o. many_in (parts_of self.new).held < 65536)) }
         ensures place { IfOk result (λ found.
@@ -161,7 +160,6 @@ impl Dispatcher {
     /// Offers a leg, if there is one.
     fn offer_admitted<G: Gate>(
         &mut self,
-        alloc: Global,
         pool: &mut Pool<Worker, G>,
         found: Option<Offer>,
     ) -> Result<(), RunFault>
@@ -178,17 +176,17 @@ impl Dispatcher {
         match found {
             None => Ok(()),
             Some(Offer { worker, leg }) => {
-                self.offer(alloc, pool, worker, leg)?;
+                self.offer(pool, worker, leg)?;
                 Ok(())
             }
         }
     }
 
-    /// Reads an input at a time in ns, offers what may then be offered, and looks at the answers of one worker.
+    /// Reads an input at a time in ns, offers its first leg if that can be offered at once, and looks at the answers of the
+    /// worker whose turn it is.
     fn serve<R: Wait, G: Gate>(
         &mut self,
         rt: &R,
-        alloc: Global,
         pool: &mut Pool<Worker, G>,
         config: &Config,
         now: u64,
@@ -203,26 +201,23 @@ impl Dispatcher {
         ensures fault { IfErr result (λ fault. (starts pool.new ≡ starts pool.old)
             × IsDispatchFault G.is_open fault) }
     {
-        let count = config.pool().len();
         let number = self.progress.expect(input.time)?;
         let found = self.admit(config, number, now, input)?;
-        self.offer_admitted(alloc, pool, found)?;
-        let turn = turn_after(number, count as u64);
-        self.look_at(rt, alloc, pool, turn, count as u32)?;
+        self.offer_admitted(pool, found)?;
+        if let Some(w) = turn_after(number, self.queues.count()) {
+            self.look_at(rt, pool, w)?;
+        }
         Ok(())
     }
 
-    /// Makes room for one input more. Before a device is asked for it all outcomes leave and are settled.
+    /// Makes room for one more input. If a device is asked for it, lets every outcome leave and settles them first.
     fn make_ready<R: Wait, G: Gate, D: Departures>(
         &mut self,
         rt: &R,
-        alloc: Global,
         pool: &mut Pool<Worker, G>,
         departures: &mut D,
-        count: u32,
         asks_device: bool,
     ) -> Result<(), Halted<D::Fault>>
-        requires count { count ≤ length (starts pool.old) }
         requires sized { IsSizedFor pool.old self.old }
         ensures state { LetsGoUnlessFault G.is_open D.takes D.fails
             pool.old self.old departures.old pool.new self.new departures.new result }
@@ -231,14 +226,14 @@ impl Dispatcher {
             × D.is_settled departures.new) }
     {
         if asks_device {
-            self.settle(rt, alloc, pool, departures, count)
+            self.settle(rt, pool, departures)
         } else {
-            self.make_room(rt, alloc, pool, departures, count)
+            self.go_on_until(rt, pool, departures, Until::Room)
         }
     }
 
-    /// The next input, which may have the room of the vector of a packet that left. A device is asked for it only where all
-    /// outcomes have left and are settled.
+    /// Returns the next input, which may use the buffer of a packet that has left. A device is asked for it only if every
+    /// outcome has left and is settled: the departures stand here for that clause alone.
     fn next_input<A: Arrivals, D: Departures>(
         &mut self,
         arrivals: &mut A,
@@ -253,37 +248,30 @@ impl Dispatcher {
         arrivals.next(spare)
     }
 
-    /// Reads all inputs, in their order, until the end or a fault is told; their bytes move. Between them the answers of one
-    /// worker after the other are taken.
+    /// Reads the inputs in their order until their end or a fault, and takes answers in between. Their bytes are moved.
     fn read_all<R: Wait, G: Gate, A: Arrivals, D: Departures>(
         &mut self,
         rt: &R,
-        alloc: Global,
         pool: &mut Pool<Worker, G>,
         config: &Config,
         arrivals: &mut A,
         departures: &mut D,
     ) -> Result<EndOfInputs<A::Fault>, Halted<D::Fault>>
-        requires keeps { KeepsRules config.now }
-        requires count { length (starts pool.old) ≡ length config.now.pool }
-        requires sized { IsSizedFor pool.old self.old }
-        requires left { self.old.progress.left ≡ [] }
-        requires under_way { self.old.progress.under_way ≡ [] }
+        requires { Begins config.now pool.old self.old }
         ensures { MatchResult result
             (ReadsToEnd config.now A.hands A.ends D.takes D.fails D.is_settled pool.old self.old
             arrivals.old departures.old pool.new self.new arrivals.new departures.new)
             (ReadsHalted config.now A.hands A.ends D.takes D.fails D.is_settled pool.old self.old
             arrivals.old departures.old pool.new self.new arrivals.new departures.new G.is_open) }
     {
-        let count = config.pool().len() as u32;
         let mut clock = 0u64;
         for _ in rt.forever() {
             let asks_device = arrivals.asks_device();
-            self.make_ready(rt, alloc, pool, departures, count, asks_device)?;
+            self.make_ready(rt, pool, departures, asks_device)?;
             match self.next_input(arrivals, departures) {
                 Ok(Some(input)) => {
                     clock = clock.max(input.clock);
-                    self.serve(rt, alloc, pool, config, clock, input)?;
+                    self.serve(rt, pool, config, clock, input)?;
                 }
                 Ok(None) => return Ok(EndOfInputs::new(clock, None)),
                 Err(fault) => return Ok(EndOfInputs::new(clock, Some(fault))),
@@ -292,40 +280,34 @@ impl Dispatcher {
         unreachable!()
     }
 
-    /// Reads all inputs, and lets all their outcomes leave.
+    /// Reads the inputs until their end or a fault, and lets every outcome leave.
     pub(super) fn pass_all<R: Wait, G: Gate, A: Arrivals, D: Departures>(
         &mut self,
         rt: &R,
-        alloc: Global,
         pool: &mut Pool<Worker, G>,
         config: &Config,
         arrivals: &mut A,
         departures: &mut D,
     ) -> Result<EndOfInputs<A::Fault>, Halted<D::Fault>>
-        requires keeps { KeepsRules config.now }
-        requires count { length (starts pool.old) ≡ length config.now.pool }
-        requires sized { IsSizedFor pool.old self.old }
-        requires left { self.old.progress.left ≡ [] }
-        requires under_way { self.old.progress.under_way ≡ [] }
+        requires { Begins config.now pool.old self.old }
         ensures { MatchResult result
             (ReadsAll config.now A.hands A.ends D.takes D.fails D.is_settled pool.old self.old
             arrivals.old departures.old pool.new self.new arrivals.new departures.new)
             (ReadsHalted config.now A.hands A.ends D.takes D.fails D.is_settled pool.old self.old
             arrivals.old departures.old pool.new self.new arrivals.new departures.new G.is_open) }
     {
-        let count = config.pool().len() as u32;
-        let end = self.read_all(rt, alloc, pool, config, arrivals, departures)?;
-        self.settle(rt, alloc, pool, departures, count)?;
+        let end = self.read_all(rt, pool, config, arrivals, departures)?;
+        self.settle(rt, pool, departures)?;
         Ok(end)
     }
 }
 
-/// What arrivals told at their end.
+/// How the inputs ended.
 #[derive(Drop)]
 pub(crate) struct EndOfInputs<F> {
-    /// The greatest clock of the inputs, in ns; 0 where there are none.
+    /// The greatest clock of the inputs, in ns. 0 if there were none.
     pub(crate) clock: u64,
-    /// The fault that was told, if it was one.
+    /// The fault of the arrivals, if they failed.
     pub(crate) fault: Option<F>,
 }
 
@@ -339,19 +321,19 @@ impl<F> EndOfInputs<F> {
     }
 }
 
-/// The worker whose answers are looked at after the input of a number.
-fn turn_after(number: u64, count: u64) -> Option<u32>
-    requires { (0 < count) × (count < 2 ^ 32) }
+/// Returns the worker whose answers are looked at after the input with this number, if it is anyone's turn.
+fn turn_after(number: u64, count: u32) -> Option<u32>
+    requires { 0 < count }
     ensures turn { result ≡ cond (number % 16 == 0) (Some (number / 16 % count)) None }
     ensures place { IfSome result (λ w. w < count) }
 {
     if number % LOOK_EACH > 0 {
         return None;
     }
-    Some((number / LOOK_EACH % count) as u32)
+    Some((number / LOOK_EACH % count as u64) as u32)
 }
 
-/// The place in the pool at which a first leg may be answered onward.
+/// Returns the place in the pool of the address that a first leg may be answered onward to.
 fn second_place(config: &Config, side: Side, packet: &Packet) -> Option<u32>
     ensures some { IfSome result (λ place. (side ≡ InsideSide)
         × (place_of config.now (destination packet.now).address ≡ Some place)) }
@@ -359,6 +341,7 @@ fn second_place(config: &Config, side: Side, packet: &Packet) -> Option<u32>
         place_of config.now (destination packet.now).address ≡ None }
     ensures reads { IsPacket packet.now }
 {
+    // called for its clause alone: the packet is one
     let _bytes = packet.bytes();
     match side {
         Side::Outside => None,
@@ -366,7 +349,8 @@ fn second_place(config: &Config, side: Side, packet: &Packet) -> Option<u32>
     }
 }
 
-/// The packet that an input from a side is and the place in the pool where it is served, or why it is dropped.
+/// Reads a packet from a side. Returns the place in the pool of the address that serves it and the packet, or why it is
+/// dropped.
 fn read_and_route(config: &Config, side: Side, bytes: Vec<u8>) -> Result<(u32, Packet), Cause>
     requires keeps { KeepsRules config.now }
     ensures admitted { IfOk result (λ first.

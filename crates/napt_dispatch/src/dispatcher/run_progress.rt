@@ -1,4 +1,4 @@
-//! What a dispatcher knows of the inputs that it read.
+//! The progress of the inputs that were read.
 
 ghost use Rattle.std.specs.Prelude.{◌≡◌, ◌↔◌, ◌+◌, ◌^◌, ◌<◌, Bool, [], length, slice_get, true, IfOk, IfErr, OnOk, MatchOption, MatchResult};
 ghost use Rattle.napt_dispatch.specs.Dispatch.{IsDispatchFault};
@@ -16,19 +16,19 @@ use std::alloc::Global;
 use std::collections::VecDeque;
 use std::marker::Model;
 
-/// The most inputs that were read and whose outcomes have not left. No input is read while there are so many.
+/// The most inputs that were read and whose outcomes have not left. No input is read while there are this many.
 const WINDOW: usize = 131_072;
 
-/// What is known of the inputs that were read: of at most 131,072, whose outcomes have not left, how far they have come. Of
-/// the others only how many there are is kept; contracts see their outcomes.
+/// The progress of the open inputs: those that were read and whose outcomes have not left, at most 131,072. Only the number
+/// of the others is kept; contracts see their outcomes.
 #[derive(Drop)]
 pub(crate) struct RunProgress {
-    /// How many outcomes have left: the number of the first open input.
+    /// The number of outcomes that have left. It is the number of the first open input.
     first: u64,
     under_way: VecDeque<OpenInput>,
-    /// The outcomes that left. It takes no memory: only proofs read it.
+    /// The outcomes that have left. It takes no memory: only proofs read it.
     past: Log<u64, Outcome>,
-    /// The vectors of packets that left.
+    /// The buffers of packets that have left.
     spares: Spares,
 }
 
@@ -49,7 +49,7 @@ impl Model for RunProgress {
 }
 
 impl RunProgress {
-    /// Before the first input.
+    /// The progress before the first input.
     pub(crate) fn new(alloc: Global) -> RunProgress
         ensures left { result.left ≡ [] }
         ensures under_way { result.under_way ≡ [] }
@@ -62,37 +62,36 @@ impl RunProgress {
         }
     }
 
-    /// Whether one input more may be read.
+    /// Returns whether one more input may be read.
     pub(crate) fn has_room(&self) -> bool
         ensures { (result ≡ true) ↔ (length self.now.under_way < 131072) }
     {
         self.under_way.len() < WINDOW
     }
 
-    /// Keeps the vector of a packet that left, if there is one.
+    /// Keeps the buffer of a packet that has left, if there is one.
     fn keep_spare(&mut self, vector: Option<Vec<u8>>)
         ensures { self.new ≡ self.old }
     {
         self.spares.keep(vector);
     }
 
-    /// A vector whose room an input to come may have.
+    /// Returns a buffer for an input to come.
     pub(crate) fn spare(&mut self) -> Vec<u8>
         ensures { self.new ≡ self.old }
     {
         self.spares.take()
     }
 
-    /// Whether the outcome of each input that was read has left.
+    /// Returns whether the outcome of every input that was read has left.
     pub(crate) fn is_empty(&self) -> bool
-        ensures none { result ≡ true → self.now.under_way ≡ [] }
+        ensures none { (result ≡ true) ↔ (self.now.under_way ≡ []) }
         ensures few { length self.now.left < 2 ^ 64 }
     {
         self.under_way.is_empty()
     }
 
-    /// Makes a place for the next input, which arrived at a time in ns: nothing is known of it yet. Gives its number, which is
-    /// below `u64::MAX`.
+    /// Opens the next input, which arrived at a time in ns. Returns its number, which is below `u64::MAX`.
     pub(crate) fn expect(&mut self, time: u64) -> Result<u64, RunFault>
         requires { length self.old.under_way < 131072 }
         ensures number { IfOk result (λ number. number ≡ length (progress_in self.old)) }
@@ -114,7 +113,7 @@ impl RunProgress {
         }
     }
 
-    /// Where the input of a number stands, if its outcome has not left.
+    /// Returns the index of the open input with this number. `None` if its outcome has left or it was not read.
     fn place_of(&self, number: u64) -> Option<usize>
         ensures { MatchOption result (is_unknown (slice_get (progress_in self.now) number) ≡ true)
             (λ place. (number ≡ length self.now.left + place)
@@ -131,9 +130,11 @@ impl RunProgress {
         }
     }
 
-    /// Writes down what is known of an open input. A number that none has makes an impossible answer.
+    /// Sets the progress of the open input with this number. Fails if there is none, since no worker answers for it.
     pub(crate) fn write(&mut self, number: u64, progress: Progress) -> Result<(), ImpossibleAnswer>
-        ensures { OnOk result (IsWritten number progress self.old self.new) }
+        ensures ok { OnOk result (IsWritten number progress self.old self.new) }
+        ensures err { IfErr result (λ _.
+            is_unknown (slice_get (progress_in self.old) number) ≡ true) }
     {
         let Some(place) = self.place_of(number) else {
             return Err(ImpossibleAnswer);
@@ -142,7 +143,7 @@ impl RunProgress {
         Ok(())
     }
 
-    /// Notes that a place is held for the second leg of the input of a number.
+    /// Notes that a placeholder is held for the second leg of the input with this number.
     pub(crate) fn note_place(&mut self, number: u64)
         ensures { self.new ≡ self.old }
     {
@@ -151,7 +152,7 @@ impl RunProgress {
         }
     }
 
-    /// Whether nothing is known of the second leg of the input of a number.
+    /// Returns whether it is not known yet if the input with this number has a second leg.
     pub(crate) fn is_unknown(&self, number: u64) -> bool
         ensures { result ≡ is_unknown (slice_get (progress_in self.now) number) }
     {
@@ -161,7 +162,8 @@ impl RunProgress {
         }
     }
 
-    /// The second leg of the input of a number, taken out where it is known. Its place is gone then, or where there is none.
+    /// Takes out the second leg of the input with this number, if it is known. The caller drops the placeholder if it is, or
+    /// if there is no second leg.
     pub(crate) fn second_leg(&mut self, number: u64) -> Second
         ensures { IsSecond number self.old self.new result }
     {
@@ -171,7 +173,7 @@ impl RunProgress {
         self.under_way[place].second_leg(number)
     }
 
-    /// Whether the first open input has ended, and no place is held for its second leg.
+    /// Returns whether the first open input has ended, and no placeholder is held for its second leg.
     fn may_leave(&self) -> bool
         ensures { result ≡ true → FirstHasEnded self.now.under_way }
     {
@@ -195,7 +197,7 @@ impl RunProgress {
         Some((time, outcome))
     }
 
-    /// Lets the outcomes of the first open inputs leave, as far as these have ended.
+    /// Lets the outcomes of the first open inputs leave, up to the first input that has not ended.
     pub(crate) fn hand_over<D: Departures>(&mut self, departures: &mut D) -> Result<(), D::Fault>
         ensures { MatchResult result
             (λ _. HandsOver D.takes departures.old self.old departures.new self.new)

@@ -1,14 +1,14 @@
-//! Vectors of packets that have left, whose room serves inputs to come.
+//! Buffers of packets that have left, for inputs to come.
 
 use std::alloc::Global;
 
-/// The most vectors that are kept.
+/// The most buffers kept.
 const MOST_SPARES: usize = 16_384;
 
-/// The most bytes that a vector that is kept has room for.
+/// The largest capacity of a buffer that is kept, in bytes.
 const MOST_ROOM: usize = 1_536;
 
-/// At most 16,384 vectors, each with room for at most 1,536 bytes, so that no packet needs one of its own.
+/// At most 16,384 buffers of at most 1,536 bytes each. An input that uses one needs no allocation.
 #[derive(Drop)]
 pub(crate) struct Spares {
     alloc: Global,
@@ -16,7 +16,7 @@ pub(crate) struct Spares {
 }
 
 impl Spares {
-    /// None.
+    /// No buffers.
     pub(crate) fn new(alloc: Global) -> Spares {
         Spares {
             alloc,
@@ -24,7 +24,7 @@ impl Spares {
         }
     }
 
-    /// Keeps a vector, where there is one and it is of use. It is freed otherwise, also where memory is refused.
+    /// Keeps a buffer, if there is one and it is of use. Otherwise it is freed, as it is if memory is refused.
     pub(crate) fn keep(&mut self, vector: Option<Vec<u8>>) {
         let Some(vector) = vector else {
             return;
@@ -34,7 +34,7 @@ impl Spares {
         }
     }
 
-    /// A vector that was kept, or an empty one.
+    /// Returns a kept buffer, or an empty one.
     pub(crate) fn take(&mut self) -> Vec<u8> {
         match self.vectors.pop() {
             Some(vector) => vector,

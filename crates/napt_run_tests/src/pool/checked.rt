@@ -1,4 +1,5 @@
-// A pool for tests, whose calls check what their caller owes.
+//! A pool for tests, whose calls check what their caller owes.
+
 ghost use Rattle.std.specs.Prelude.{◌≡◌, length};
 ghost use Rattle.napt_pool.specs.Pools.{starts};
 

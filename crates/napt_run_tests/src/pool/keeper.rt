@@ -1,4 +1,5 @@
-// A machine that keeps what comes.
+//! A machine that keeps what comes.
+
 ghost use Rattle.std.specs.Prelude.{◌≡◌, []};
 
 use napt_pool::Machine;

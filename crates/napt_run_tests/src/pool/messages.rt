@@ -1,4 +1,5 @@
-// Faults and refusals can be told: a message that always gives up meets its contract too.
+//! Faults and refusals can be told: a message that always gives up meets its contract too.
+
 use napt_pool::{OfferRefused, PoolFault};
 use std::test::Fail;
 

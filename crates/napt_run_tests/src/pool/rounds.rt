@@ -1,4 +1,5 @@
-// Pools that are filled and emptied.
+//! Pools that are filled and emptied.
+
 ghost use Rattle.std.specs.Prelude.{◌≡◌, [], ◌∷◌, map, IfOk};
 
 use super::checked::CheckedPool;

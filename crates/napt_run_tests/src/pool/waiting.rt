@@ -1,4 +1,5 @@
-// A wait ends once what it waits for is there, however long it took, and sleeps only where it takes long.
+//! A wait ends once what it waits for is there, however long it took, and sleeps only where it takes long.
+
 use napt_pool::Backoff;
 use std::rt::Files;
 use std::sync::Arc;

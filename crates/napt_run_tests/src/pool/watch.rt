@@ -1,4 +1,4 @@
-// What tests see of the threads of a pool: a gate, and machines that count what they do.
+//! What tests see of the threads of a pool: a gate, and machines that count what they do.
 
 use super::MOST_LOOKS;
 use napt_pool::{Gate, Machine};
@@ -28,9 +28,12 @@ pub(crate) struct Watch {
     steps: Vec<AtomicU64>,
     /// How many steps saw that all machines had begun as many.
     met: AtomicU64,
-    /// How often the gate was asked, and how often with another turn than that of the worker's next step.
+    /// How often the gate was asked, and how often it was told what is not so: another turn than that of the worker's next step, or
+    /// another size.
     asks: AtomicU64,
     strange: AtomicU64,
+    /// How often the gate was shown a size; that of one worker's machine is then the number of its steps.
+    shown: AtomicU64,
     /// How many machines were dropped.
     drops: AtomicU64,
 }
@@ -54,6 +57,7 @@ impl Watch {
             met: AtomicU64::new(0),
             asks: AtomicU64::new(0),
             strange: AtomicU64::new(0),
+            shown: AtomicU64::new(0),
             drops: AtomicU64::new(0),
         };
         Ok(Arc::new(alloc, watch)?)
@@ -69,6 +73,10 @@ impl Watch {
 
     pub(crate) fn strange(&self) -> u64 {
         self.strange.load(Ordering::SeqCst)
+    }
+
+    pub(crate) fn shown(&self) -> u64 {
+        self.shown.load(Ordering::SeqCst)
     }
 
     pub(crate) fn drops(&self) -> u64 {
@@ -106,12 +114,15 @@ impl Watch {
         }
     }
 
-    /// Whether a worker has begun as many steps as it tells.
+    /// How many steps a machine has begun.
+    fn begun(&self, place: usize) -> Option<u64> {
+        let steps = self.steps.get(place)?;
+        Some(steps.load(Ordering::SeqCst))
+    }
+
+    /// Whether a worker has begun as many steps as it says.
     fn is_turn(&self, worker: u32, turn: u64) -> bool {
-        match self.steps.get(worker as usize) {
-            Some(steps) => steps.load(Ordering::SeqCst) == turn,
-            None => false,
-        }
+        self.begun(worker as usize) == Some(turn)
     }
 }
 
@@ -131,9 +142,17 @@ impl Gate for Watch {
             Says::NoFirst => asks % 2 == 1,
         }
     }
+
+    fn observe(&self, _worker: u32, size: u64) {
+        let before = self.shown.fetch_add(1, Ordering::SeqCst);
+        if size != before.saturating_add(1) {
+            self.strange.fetch_add(1, Ordering::SeqCst);
+        }
+    }
 }
 
-/// Answers each item with itself, or refuses it as where there is no memory. Its steps and its drop are counted.
+/// Answers each item with itself, or refuses it as where there is no memory. Its steps and its drop are counted, and its size
+/// is the number of its steps.
 pub(crate) struct Echo {
     place: usize,
     refuses: bool,
@@ -166,6 +185,10 @@ impl Machine for Echo {
             return Err(AllocError);
         }
         Ok(item)
+    }
+
+    fn size(&self) -> u64 {
+        self.watch.begun(self.place).unwrap_or(0)
     }
 }
 

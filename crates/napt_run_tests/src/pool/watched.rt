@@ -1,4 +1,4 @@
-// What threads do: they step at the same time and unasked, ask the gate before each step, stop, and drop their machines.
+//! What threads do: they step at the same time and unasked, ask the gate before each step, stop, and drop their machines.
 
 use super::checked::CheckedPool;
 use super::watch::{Echo, Says, Watch};
@@ -68,7 +68,8 @@ fn steps_unasked(rt: HostRuntime) -> Result<(), Fail> {
     Ok(())
 }
 
-/// One worker takes three items in order, and asks the gate so often, each time with the number of the steps that it has made.
+/// One worker takes three items in order, asks the gate so often, each time with the number of the steps that it has made, and shows
+/// it the size of its machine after each step.
 fn take_turns<R: Threads + Wait + Abort + AllocGlobal + Copy + Send + 'static>(
     rt: &R,
     says: Says,
@@ -82,6 +83,7 @@ fn take_turns<R: Threads + Wait + Abort + AllocGlobal + Copy + Send + 'static>(
     assert_eq!(rt; ended.len(), 1);
     assert_eq!(rt; ended[0].answers.as_slice(), [7, 8, 9].as_slice());
     assert_eq!(rt; watch.asks(), asks);
+    assert_eq!(rt; watch.shown(), 3);
     assert_eq!(rt; watch.strange(), 0);
     Ok(())
 }

@@ -4,7 +4,7 @@ use Rattle.std.specs.List.{fold}
 use Rattle.std.proofs.lemmas.Bool.{cases_lt}
 use Rattle.napt_config.specs.Rules.{Rules}
 use Rattle.napt_rules.specs.Prelude.{opening, Arrival}
-use Rattle.napt_sequential.proofs.Shown.{ran_long}
+use Rattle.napt_laws.proofs.Grown.{ran_long}
 use Rattle.napt_account.specs.declared.log.Entry.{Entry}
 use Rattle.napt_account.specs.declared.log.Shortage.{Shortage}
 use Rattle.napt_account.specs.Book.{after_trace, lost_by, uses_told}

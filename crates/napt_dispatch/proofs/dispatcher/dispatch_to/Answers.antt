@@ -1,15 +1,26 @@
-use Rattle.std.proofs.Common.{List, [], length, refl, ap}
+use Rattle.std.proofs.Common.{◌≡◌, List, [], length, refl, ap, ◌∙◌}
+use Rattle.std.proofs.lemmas.List.{length-replicate}
 use Rattle.napt_config.specs.Rules.{Rules}
 use Rattle.napt_rules.specs.Prelude.{Arrival}
+use Rattle.napt_pool.specs.Pools.{starts}
+use Rattle.napt_dispatch.specs.QueueStates.{unused}
 use Rattle.napt_dispatch.specs.Standing.{state_of, Stands}
 use Rattle.napt_dispatch.proofs.Ended.{length_started}
 use Rattle.napt_dispatch.proofs.Ending.{begun, ends_with, ends_early, ends_by}
 use Rattle.napt_dispatch.proofs.dispatcher.dispatch_to.Goals as goal
 
-pub pass_all-requires-clause-sized : goal.pass_all-requires-clause-sized
-pass_all-requires-clause-sized g c =
-    rw (c.requires.started, length_started c.args.config.now (length c.args.config.now.pool))
-    (rw c.pool-count.ensures.addresses at c.in_ok-dispatcher.ensures.sized)
+pub pass_all-requires : goal.pass_all-requires
+pass_all-requires g c =
+    let workers : length (starts c.args.pool.now) ≡ length c.args.config.now.pool =
+    rw c.requires.started (length_started c.args.config.now (length c.args.config.now.pool)) in
+    record {
+      keeps = c.pool.ensures.kept;
+      count = workers;
+      sized = rw (c.in_ok-dispatcher.ensures.queues, workers)
+          (length-replicate _ unused ∙ ap length c.pool.ensures.addresses);
+      left = c.in_ok-dispatcher.ensures.left;
+      under_way = c.in_ok-dispatcher.ensures.under_way;
+    }
 
 pub returns-in-Ok-clause-ends : goal.returns-in-Ok-clause-ends
 returns-in-Ok-clause-ends g c =
@@ -17,15 +28,15 @@ returns-in-Ok-clause-ends g c =
     let first = c.in_ok-dispatcher.ensures in
     let begins : (inputs : List Arrival) → Stands rules [] inputs (state_of c.args.pool.now
     c.in_ok-dispatcher.dispatcher)
-    = begun rules c.args.pool.now c.in_ok-dispatcher.dispatcher _ (ap length c.pool-count.ensures.addresses) first.sized
-    first.counts first.idle first.left first.under_way c.requires.unoffered c.requires.untaken in
+    = begun rules c.args.pool.now c.in_ok-dispatcher.dispatcher _ (ap length c.pool.ensures.addresses) first.queues
+    first.left first.under_way c.requires.unoffered c.requires.untaken in
     ends_by rules g.A.Arrivals.hands g.A.Arrivals.ends g.D.Departures.takes g.D.Departures.fails
     g.D.Departures.is_settled c.args.arrivals.now c.args.departures.now c.pass_all.new.pool c.pass_all.new.arrivals
     c.pass_all.new.departures _ c.in-Ok.field-0.fault c.of.result c.of.ensures
     (ends_with rules g.A.Arrivals.hands g.A.Arrivals.ends g.D.Departures.takes g.D.Departures.fails
     g.D.Departures.is_settled c.args.pool.now c.in_ok-dispatcher.dispatcher c.args.arrivals.now c.args.departures.now
     c.pass_all.new.pool c.pass_all.new.self c.pass_all.new.arrivals c.pass_all.new.departures begins c.in-Ok.field-0 _
-    c.in-Ok.ensures refl refl)
+    c.in-Ok.ensures c.in_ok-counts-in-Ok.ensures refl)
 
 pub returns-in-Err-Departure-clause-ends : goal.returns-in-Err-Departure-clause-ends
 returns-in-Err-Departure-clause-ends g c =
@@ -33,8 +44,8 @@ returns-in-Err-Departure-clause-ends g c =
     let first = c.in_ok-dispatcher.ensures in
     let begins : (inputs : List Arrival) → Stands rules [] inputs (state_of c.args.pool.now
     c.in_ok-dispatcher.dispatcher)
-    = begun rules c.args.pool.now c.in_ok-dispatcher.dispatcher _ (ap length c.pool-count.ensures.addresses) first.sized
-    first.counts first.idle first.left first.under_way c.requires.unoffered c.requires.untaken in
+    = begun rules c.args.pool.now c.in_ok-dispatcher.dispatcher _ (ap length c.pool.ensures.addresses) first.queues
+    first.left first.under_way c.requires.unoffered c.requires.untaken in
     ends_early rules g.A.Arrivals.hands g.A.Arrivals.ends g.D.Departures.takes g.D.Departures.fails
     g.D.Departures.is_settled c.args.pool.now c.in_ok-dispatcher.dispatcher c.args.arrivals.now c.args.departures.now
     c.pass_all.new.pool c.pass_all.new.self c.pass_all.new.arrivals c.pass_all.new.departures begins

@@ -4,8 +4,8 @@ use Rattle.std.proofs.lemmas.Result.{IfOk-at_ok}
 use Rattle.napt_config.specs.Rules.{Rules}
 use Rattle.napt_rules.specs.Prelude.{Arrival, Ran, AreRowsApart}
 use Rattle.napt_pool.specs.Pools.{starts, accepts}
-use Rattle.napt_sequential.proofs.Rows.{rows_apart}
-use Rattle.napt_sequential.proofs.Shown.{ran_long}
+use Rattle.napt_laws.proofs.Rows.{rows_apart}
+use Rattle.napt_laws.proofs.Grown.{ran_long}
 use Rattle.napt_dispatch.specs.Dispatch.{started}
 use Rattle.napt_dispatch.specs.contracts.worker.WorkerMachine.TheImpl.{ghosts}
 use Rattle.napt_dispatch.proofs.Closed.{on_ok_at, rows_shown, workers_shown}

@@ -10,8 +10,8 @@ loop-worker-preserved g c =
     let closed = c.close.ensures in
     let next : into_iter_items c.loop-worker.worker-iterator ≡ c.in-Some.worker ∷ into_iter_items c.next.new.self =
     c.in-Some.ensures.steps.0 in
-    let pushed : vec_items c.push.new.self ≡ vec_items c.loop-worker.into ++ c.close.result ∷ [] =
-    c.in-Ok.ensures.items in
+    let pushed : vec_items c.push_reserved.new.self ≡ vec_items c.loop-worker.into ++ c.close.result ∷ [] =
+    c.push_reserved.ensures.items in
     record {
       room = search rules;
       machines = map-split-step closing_machine _ _ _ _ _ _ _ pushed closed.machine (ap (map machine_of) next)

@@ -6,8 +6,8 @@ use Rattle.napt_pool.proofs.joining.join_all.Goals as goal
 pub loop-worker-preserved : goal.loop-worker-preserved
 loop-worker-preserved g c =
     let was = c.loop-worker.invariant in
-    let pushed : vec_items c.push.new.self ≡ vec_items c.loop-worker.into ++ c.join.result ∷ [] =
-    c.in-Ok.ensures.items in
+    let pushed : vec_items c.push_reserved.new.self ≡ vec_items c.loop-worker.into ++ c.join.result ∷ [] =
+    c.push_reserved.ensures.items in
     let next : into_iter_items c.loop-worker.worker-iterator ≡ c.in-Some.worker ∷ into_iter_items c.next.new.self =
     c.in-Some.ensures.steps.0 in
     record {

@@ -1,4 +1,5 @@
-use Rattle.std.proofs.Common.{rules, arith, ◌≡◌, ◌++◌, ◌∷◌, [], map, vec_items, vec_len, ◌+◌, below_more, ap, sym, append-nil, ◌∙◌}
+use Rattle.std.proofs.Common.{rules, arith, ◌≡◌, ◌++◌, ◌∷◌, [], map, vec_items, vec_len, ◌+◌, below_more, ap, sym, append-nil, ◌∙◌, length}
+use Rattle.std.proofs.lemmas.List.{get_or_append_left, get_or_push}
 use Rattle.std.specs.Prelude.{slice_index_or, replicate}
 use Rattle.std.specs.Vec.Iter.{into_iter_items}
 use Rattle.napt_pool.specs.Workers.{machine_of, accepted_of, taken_of, heard_of}
@@ -9,9 +10,10 @@ pub loop-machine-preserved : goal.loop-machine-preserved
 loop-machine-preserved g c =
     let was = c.loop-machine.invariant in
     let started = c.in-Ok-start.ensures in
-    let pushed : vec_items c.push.new.self ≡ vec_items c.loop-machine.workers ++ c.in-Ok-start.worker ∷ [] =
+    let pushed : vec_items c.push_reserved.new.self ≡ vec_items c.loop-machine.workers ++ c.in-Ok-start.worker ∷ [] =
     search rules in
-    let grown : vec_len c.push.new.self ≡ vec_len c.loop-machine.workers + 1 = search rules in
+    let long : length (vec_items c.loop-machine.workers) ≡ vec_len c.loop-machine.workers = search rules in
+    let grown : vec_len c.push_reserved.new.self ≡ vec_len c.loop-machine.workers + 1 = search rules in
     record {
       count = search rules;
       room = search rules;
@@ -20,10 +22,12 @@ loop-machine-preserved g c =
       accepted = all-push accepted_of _ _ _ _ _ _ pushed grown started.empty.0 was.accepted;
       taken = all-push taken_of _ _ _ _ _ _ pushed grown started.empty.1 was.taken;
       heard = all-push heard_of _ _ _ _ _ _ pushed grown started.empty.2 was.heard;
-      capacity = λ k d low. below_more (λ i. (slice_index_or (vec_items c.push.new.self) i d).capacity
+      capacity = λ k d low. below_more (λ i. (slice_index_or (vec_items c.push_reserved.new.self) i d).capacity
           ≡ c.args.capacity) (vec_len c.loop-machine.workers)
-          (λ i less. ap (λ w. w.capacity) (c.push.ensures.by_index.0 i d less) ∙ was.capacity i d less)
-          (ap (λ w. w.capacity) (c.push.ensures.by_index.1 d (search rules)) ∙ started.capacity) k (omega arith);
+          (λ i less. ap (λ ws. (slice_index_or ws i d).capacity) pushed
+          ∙ ap (λ w. w.capacity) (get_or_append_left _ _ d i (rw long less)) ∙ was.capacity i d less)
+          (ap (λ ws. (slice_index_or ws (vec_len c.loop-machine.workers) d).capacity) pushed
+          ∙ ap (λ w. w.capacity) (get_or_push _ _ d _ long) ∙ started.capacity) k (omega arith);
     }
 
 pub returns-clause-started : goal.returns-clause-started

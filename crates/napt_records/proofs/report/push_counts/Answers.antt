@@ -7,10 +7,10 @@ use Rattle.napt_records.proofs.report.push_counts.Goals as goal
 pub returns : goal.returns
 returns c outcomes are =
     let drop_lines : flat_map (λ cause. codes "drop " ++ model.count_line (model.cause_name cause)
-    (slice_index c.args.counts.now.dropped (model.place_of cause))) model.causes
+    (slice_index c.args.counts.now.dropped (model.cause_place cause))) model.causes
     ≡ flat_map (model.drop_line outcomes) model.causes =
     same_pieces (λ cause. codes "drop " ++ model.count_line (model.cause_name cause)
-    (slice_index c.args.counts.now.dropped (model.place_of cause))) (model.drop_line outcomes)
+    (slice_index c.args.counts.now.dropped (model.cause_place cause))) (model.drop_line outcomes)
     (λ (cause : Cause). ap (λ (count : ℕ). codes "drop " ++ model.count_line (model.cause_name cause) count)
     (are.dropped cause)) model.causes in
     four_pieces (string_bytes c.args.report.now)

@@ -7,4 +7,4 @@ abbrev pub invariant-loop-cause : goal.invariant-loop-cause
 invariant-loop-cause l =
     string_bytes l.report
     ≡ string_bytes l.fn.report ++ flat_map (λ cause. codes "drop " ++ model.count_line (model.cause_name cause)
-    (slice_index l.dropped (model.place_of cause))) (take l.cause-index l.causes)
+    (slice_index l.dropped (model.cause_place cause))) (take l.cause-index l.causes)

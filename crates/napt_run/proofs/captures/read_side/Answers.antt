@@ -1,4 +1,4 @@
-use Rattle.napt_run.proofs.Devices.{own_readings, unread}
+use Rattle.napt_run.proofs.Received.{own_readings, unread}
 use Rattle.napt_run.proofs.captures.read_side.Goals as goal
 
 pub returns-in-Err-clause-err : goal.returns-in-Err-clause-err

@@ -6,7 +6,7 @@ use Rattle.napt_records.specs.declared.Fault.TheVariants.{Run}
 use Rattle.napt_records.specs.declared.Which.{Which}
 use Rattle.napt_records.specs.declared.Which.TheVariants.{Outside, Inside, Report}
 use Rattle.napt_run.specs.Captures.{Gets, IsReadAsOutside, Receives, Share, TooManyAreTold, whole}
-use Rattle.napt_run.proofs.Devices.{at_device, before_inside, before_report, read_none, read_some, received, refused, text_made}
+use Rattle.napt_run.proofs.Received.{at_device, before_inside, before_report, read_none, read_some, received, refused, text_made}
 use Rattle.napt_run.proofs.TooMany.{err_is, fault_told, few_told, too_many_told}
 use Rattle.napt_run.proofs.captures.run_captures.Given.{Over}
 use Rattle.napt_run.proofs.captures.run_captures.Goals as goal

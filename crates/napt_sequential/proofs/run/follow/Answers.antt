@@ -10,7 +10,8 @@ use Rattle.napt_rules.specs.Prelude.{act, outcome_of}
 use Rattle.napt_rules.specs.declared.Outcome.TheVariants as outcomes
 use Rattle.napt_sequential.specs.CountedTranslators.{RunState, AreCountedTranslators, state_after}
 use Rattle.napt_sequential.specs.Traces.{went_by}
-use Rattle.napt_sequential.proofs.Steps.{stands_at, onward_place}
+use Rattle.napt_laws.proofs.Pools.{stands_at}
+use Rattle.napt_laws.proofs.Onward.{onward_place}
 use Rattle.napt_sequential.proofs.Passed.{passage_of_end, steps_once, steps_twice}
 use Rattle.napt_sequential.proofs.run.follow.Goals as goal
 

@@ -1,5 +1,5 @@
-use Rattle.napt_sequential.proofs.Shown.{ran_long}
-use Rattle.napt_sequential.proofs.Rows.{rows_apart}
+use Rattle.napt_laws.proofs.Grown.{ran_long}
+use Rattle.napt_laws.proofs.Rows.{rows_apart}
 use Rattle.napt_sequential.proofs.run.run_plain.Goals as goal
 
 pub returns-clause-one_each : goal.returns-clause-one_each

@@ -6,7 +6,8 @@ use Rattle.napt_wire.specs.declared.Side.{Side}
 use Rattle.napt_wire.specs.declared.Way.{Way}
 use Rattle.napt_rules.specs.Prelude.{refusal, way_from, served_at, route, Arrival, Course, refused, admitted, step}
 use Rattle.napt_sequential.specs.CountedTranslators.{Steps}
-use Rattle.napt_sequential.proofs.Steps.{arrival_of, route_ok, route_err, step_unread, step_refused, step_admitted, reads_as, side_as}
+use Rattle.napt_sequential.proofs.Steps.{arrival_of, reads_as, side_as}
+use Rattle.napt_laws.proofs.Routes.{route_ok, route_err, step_unread, step_refused, step_admitted}
 use Rattle.napt_sequential.proofs.Passed.{steps_none}
 use Rattle.napt_sequential.proofs.run.step.Goals as goal
 

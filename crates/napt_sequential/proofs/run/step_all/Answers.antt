@@ -6,7 +6,8 @@ use Rattle.napt_sequential.specs.CountedTranslators.{Follows, Steps, state_of}
 use Rattle.napt_sequential.specs.declared.passage.Trace.{Trace}
 use Rattle.napt_sequential.specs.Traces.{traces}
 use Rattle.napt_sequential.proofs.Passed.{traces_next}
-use Rattle.napt_sequential.proofs.Grown.{RunSoFar, outcomes_long, after_next, can_take}
+use Rattle.napt_sequential.proofs.SoFar.{RunSoFar, after_next, can_take}
+use Rattle.napt_laws.proofs.Grown.{outcomes_long}
 use Rattle.napt_sequential.proofs.run.step_all.Goals as goal
 
 pub step-requires-clause-can_take : goal.step-requires-clause-can_take

@@ -1,6 +1,6 @@
 use Rattle.std.proofs.Common.{◌≡◌, true, take}
 use Rattle.napt_sequential.specs.Traces.{traces}
-use Rattle.napt_sequential.proofs.Grown.{RunSoFar}
+use Rattle.napt_sequential.proofs.SoFar.{RunSoFar}
 use Rattle.napt_sequential.proofs.run.step_all.Given as goal
 
 -- what stands after the inputs so far

@@ -3,7 +3,7 @@ use Rattle.napt_wire.specs.declared.Endpoint.{Endpoint}
 use Rattle.napt_wire.specs.Fields.{destination}
 use Rattle.napt_config.specs.Rules.{place_of}
 use Rattle.napt_rules.specs.Prelude.{Foresees}
-use Rattle.napt_translate.proofs.Foreseen.{foresees}
+use Rattle.napt_laws.proofs.Foreseen.{foresees}
 use Rattle.napt_translate.proofs.sides.onward.Goals as goal
 
 pub returns-clause-foresees : goal.returns-clause-foresees

@@ -4,7 +4,7 @@ use Rattle.napt_wire.specs.declared.Cause.TheVariants.{NotOurs}
 use Rattle.napt_wire.specs.declared.Way.{Way}
 use Rattle.napt_config.specs.Rules.{place_of}
 use Rattle.napt_rules.specs.Sides as sides
-use Rattle.napt_translate.proofs.Places.{place_has}
+use Rattle.napt_laws.proofs.Pools.{place_has}
 use Rattle.napt_translate.proofs.sides.route.Goals as goal
 
 pub returns-clause-in_pool : goal.returns-clause-in_pool

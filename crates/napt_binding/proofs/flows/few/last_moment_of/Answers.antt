@@ -3,7 +3,8 @@ use Rattle.std.specs.List.{list_any}
 use Rattle.std.proofs.lemmas.Bool.Decides.{nat_tests}
 use Rattle.napt_rules.specs.Life as life
 use Rattle.napt_binding.proofs.Lists.{any_index}
-use Rattle.napt_binding.proofs.Purges.{any_weaker, lived_flow}
+use Rattle.napt_rules.proofs.Lists.{any_weaker}
+use Rattle.napt_rules.proofs.Life.{lived_flow}
 use Rattle.napt_binding.proofs.flows.few.last_moment_of.Goals as goal
 
 pub loop-flow-init : goal.loop-flow-init

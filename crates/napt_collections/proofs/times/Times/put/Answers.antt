@@ -9,9 +9,9 @@ mend-requires-clause-others c =
     omega (arith, c.len-place.ensures, c.self.inside.times.ok.0) in
     rw (
       c.deref.ensures.value,
-      c.in-Ok.ensures.items,
+      c.push_reserved.ensures.items,
       c.deref_mut.ensures.value,
-      c.in-Ok-push.ensures.items,
+      c.push_reserved-2.ensures.items,
       c.no_times.ensures,
     )
     (λ i ne. pushed c.self.inside.times.items c.self.inside.spans.items c.args.time c.self.invariant.right i
@@ -19,19 +19,19 @@ mend-requires-clause-others c =
 
 pub invariant_of-self : goal.invariant_of-self
 invariant_of-self c =
-    let kept : length c.mend.new.spans ≡ c.push-2.new.self.len =
+    let kept : length c.mend.new.spans ≡ c.push_reserved-2.new.self.len =
     omega (arith, c.mend.auto.spans, c.deref_mut.ensures.len) in record {
-      lengths = rw (with_items_is c.push-2.new.self c.mend.new.spans kept)
+      lengths = rw (with_items_is c.push_reserved-2.new.self c.mend.new.spans kept)
           (omega (
             arith,
             kept,
-            c.push.new.self.ok.0,
-            c.in-Ok.ensures.len,
-            c.in-Ok-push.ensures.len,
+            c.push_reserved.new.self.ok.0,
+            c.push_reserved.ensures.len,
+            c.push_reserved-2.ensures.len,
             c.self.inside.times.ok.0,
             c.self.inside.spans.ok.0,
             c.self.invariant.lengths,
           ));
-      right = λ i. rw (with_items_is c.push-2.new.self c.mend.new.spans kept, ← c.deref.ensures.value)
+      right = λ i. rw (with_items_is c.push_reserved-2.new.self c.mend.new.spans kept, ← c.deref.ensures.value)
           (c.mend.ensures i);
     }

@@ -31,4 +31,4 @@ returns-in_ok-note_dropped-in-Err-clause-admits c =
     rw (← c.input.view_is)
     (refused_admits c.args.config.now c.args.number c.args.now _ (parts_of c.args.self.now)
     (parts_of c.note_dropped.new.self) c.in-Err.cause c.requires.keeps.pool.distinct c.in-Err.ensures.refused
-    c.in_ok-note_dropped-in-Err.ensures)
+    c.in_ok-note_dropped-in-Err.ensures.noted)

@@ -8,7 +8,7 @@ returns-in-Ok g c =
     let later : Dispatcher = record c.args.self.now { progress = c.hand_over.new.self } in
     record {
       went = c.in-Ok.ensures.went;
-      goes = goes_over c.args.pool.now c.args.self.now later c.in-Ok.ensures.went c.requires.sized refl refl refl
+      goes = goes_over c.args.pool.now c.args.self.now later c.in-Ok.ensures.went c.requires.sized refl
           c.in-Ok.ensures.handed;
       took = c.in-Ok.ensures.took;
     }
@@ -18,7 +18,7 @@ returns-in-Err g c =
     let later : Dispatcher = record c.args.self.now { progress = c.hand_over.new.self } in
     record {
       went = c.in-Err.ensures.went;
-      goes = goes_over c.args.pool.now c.args.self.now later c.in-Err.ensures.went c.requires.sized refl refl refl
+      goes = goes_over c.args.pool.now c.args.self.now later c.in-Err.ensures.went c.requires.sized refl
           c.in-Err.ensures.handed;
       failed = c.in-Err.ensures.failed;
     }

@@ -1,5 +1,5 @@
 use Rattle.std.proofs.Common.{refl, sym, ◌∙◌}
-use Rattle.napt_sequential.proofs.Steps.{route_ok, route_err}
+use Rattle.napt_laws.proofs.Routes.{route_ok, route_err}
 use Rattle.napt_dispatch.proofs.dispatcher.reading.read_and_route.Goals as goal
 
 pub returns-in-Ok-route-clause-admitted : goal.returns-in-Ok-route-clause-admitted

@@ -26,7 +26,7 @@ returns-then-not-is_empty-clause-rest g c live rest has =
 
 pub returns-in_err-record-clause-fault : goal.returns-in_err-record-clause-fault
 returns-in_err-record-clause-fault g c live =
-    let p = err_from_is_err_and c.from_residual.result c.from_residual.ensures.1 in
+    let p = err_from_is_err_and c.from_residual-in_err-record.result c.from_residual-in_err-record.ensures.1 in
     let r = c.args.self.now in
     let none : c.args.firsts.now.items ≡ [] =
     none_of c.args.firsts.now.items (deque_len c.args.firsts.now) c.is_empty.result c.is_empty.ensures
@@ -38,8 +38,8 @@ returns-in_err-record-clause-fault g c live =
     HasRest-refused r.records left fault rest told
     (rw (none, untold r.cut c.if-is_some.ensures) at has)) (c.in_err-record.ensures.fault live))
 
-pub returns-in_ok-push_back-in-Whole-clause-rest : goal.returns-in_ok-push_back-in-Whole-clause-rest
-returns-in_ok-push_back-in-Whole-clause-rest g c live rest has =
+pub returns-in-Whole-clause-rest : goal.returns-in-Whole-clause-rest
+returns-in-Whole-clause-rest g c live rest has =
     let none : c.args.firsts.now.items ≡ [] =
     none_of c.args.firsts.now.items (deque_len c.args.firsts.now) c.is_empty.result c.is_empty.ensures
     c.if-not-is_empty.false (omega (arith, c.args.firsts.now.ok)) in
@@ -49,7 +49,8 @@ returns-in_ok-push_back-in-Whole-clause-rest g c live rest has =
     let begun = rw (none, cut) at has in
     let now = HasRest-whole _ c.next.new.records _ _ c.in-Whole.record rest told number
     c.in_ok-record.ensures.spelling begun in
-    rw (cut, c.in_ok-push_back-in-Whole.ensures.items, none) (now, IsLooked-first _ _ _ c.in-Whole.record rest now)
+    rw (cut, c.push_back_reserved.ensures.items, c.reserve.ensures.items, none)
+    (now, IsLooked-first _ _ _ c.in-Whole.record rest now)
 
 pub returns-in-End-clause-rest : goal.returns-in-End-clause-rest
 returns-in-End-clause-rest g c live rest has =
@@ -62,11 +63,11 @@ returns-in-End-clause-rest g c live rest has =
     let begun = rw (none, cut) at has in
     let now = HasRest-end _ c.next.new.records _ _ c.in-End.cut rest told number c.in_ok-record.ensures.spelling
     begun in
-    rw none (now, IsLooked-end _ _ c.in-End.cut [] rest now)
+    rw (c.reserve.ensures.items, none) (now, IsLooked-end _ _ c.in-End.cut [] rest now)
 
-pub returns-in_ok-push_back-in-Whole-clause-writable : goal.returns-in_ok-push_back-in-Whole-clause-writable
-returns-in_ok-push_back-in-Whole-clause-writable g c all =
-    rw c.in_ok-push_back-in-Whole.ensures.items
+pub returns-in-Whole-clause-writable : goal.returns-in-Whole-clause-writable
+returns-in-Whole-clause-writable g c all =
+    rw (c.push_back_reserved.ensures.items, c.reserve.ensures.items)
     (All-push IsWritable c.args.firsts.now.items c.in-Whole.record all (rw c.in-Whole.is at
     c.in_ok-record.ensures.writable))
 
@@ -77,15 +78,8 @@ returns-in_err-record-clause-asks g c asked =
     c.if-not-is_empty.false (omega (arith, c.args.firsts.now.ok)) in
     c.next.ensures.asks (λ partial. asked ((none, untold c.args.self.now.cut c.if-is_some.ensures), partial))
 
-pub returns-in_err-push_back-in-Whole-clause-asks : goal.returns-in_err-push_back-in-Whole-clause-asks
-returns-in_err-push_back-in-Whole-clause-asks g c asked =
-    let none : c.args.firsts.now.items ≡ [] =
-    none_of c.args.firsts.now.items (deque_len c.args.firsts.now) c.is_empty.result c.is_empty.ensures
-    c.if-not-is_empty.false (omega (arith, c.args.firsts.now.ok)) in
-    c.next.ensures.asks (λ partial. asked ((none, untold c.args.self.now.cut c.if-is_some.ensures), partial))
-
-pub returns-in_ok-push_back-in-Whole-clause-asks : goal.returns-in_ok-push_back-in-Whole-clause-asks
-returns-in_ok-push_back-in-Whole-clause-asks g c asked =
+pub returns-in-Whole-clause-asks : goal.returns-in-Whole-clause-asks
+returns-in-Whole-clause-asks g c asked =
     let none : c.args.firsts.now.items ≡ [] =
     none_of c.args.firsts.now.items (deque_len c.args.firsts.now) c.is_empty.result c.is_empty.ensures
     c.if-not-is_empty.false (omega (arith, c.args.firsts.now.ok)) in

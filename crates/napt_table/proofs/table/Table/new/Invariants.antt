@@ -1,8 +1,6 @@
 use Rattle.std.proofs.Common.{◌≡◌, []}
 use Rattle.napt_rules.specs.Prelude.{inbound_of}
 use Rattle.napt_table.specs.Events.{played_all}
-use Rattle.std.specs.Option.{is_some}
-use Rattle.napt_table.specs.Parts.{AreOf, AreCounted}
 use Rattle.napt_table.proofs.Opening.{begun, AreHeld}
 use Rattle.napt_table.proofs.table.Table.new.Given as goal
 
@@ -11,7 +9,9 @@ abbrev pub invariant-loop-redirect : goal.invariant-loop-redirect
 invariant-loop-redirect l = record {
   played : played_all l.config.timers l.config.quota (inbound_of l.config) l.address l.past.items []
       ≡ begun l.config l.address l.redirect-index;
-  all : AreOf l.address l.config.timers 0 l.parts;
-  are : AreHeld l.address l.parts (begun l.config l.address l.redirect-index);
-  counted : AreCounted (is_some l.config.quota) l.parts;
+  timers : l.bindings.timers ≡ l.config.timers;
+  at : l.bindings.at ≡ 0;
+  address : l.bindings.held.address ≡ l.address;
+  quota : l.bindings.held.quota ≡ l.config.quota;
+  are : AreHeld l.address l.bindings.held (begun l.config l.address l.redirect-index);
 }

@@ -6,6 +6,7 @@ use Rattle.napt_table.proofs.table.Table.timed_by_number.Goals as goal
 pub returns : goal.returns
 returns c =
     let t = c.self.inside in
-    let le : t.at ≤ c.args.now = subst (λ (s : TableState). s.at ≤ c.args.now) (sym c.self.view_is) c.requires.later in
+    let le : t.bindings.at ≤ c.args.now =
+    subst (λ (s : TableState). s.at ≤ c.args.now) (sym c.self.view_is) c.requires.later in
     rw (← c.self.view_is) (c.timed.ensures ∙ timed_number t c.self.invariant c.args.now le c.args.protocol
     c.args.number)

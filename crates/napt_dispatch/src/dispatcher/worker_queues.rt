@@ -1,0 +1,206 @@
+//! The queues of all workers.
+
+ghost use Rattle.std.specs.Prelude.{◌≡◌, ◌↔◌, ◌+◌, ◌<◌, ◌≤◌, ℕ, Bool, [], length, replicate, true, IfOk, IfErr, OnOk, IfSome, MatchOption};
+ghost use Rattle.napt_dispatch.specs.Dispatch.{of_worker, IsDispatchFault};
+ghost use Rattle.napt_dispatch.specs.Queues.{pushed, put_first, BeginsWith, many_in};
+ghost use Rattle.napt_dispatch.specs.QueueStates.{unused, counts_in, owed_in, held_in, Holds, Releases, Owes, Settles};
+
+use crate::dispatcher::held::{Held, Owed};
+use crate::dispatcher::worker_queue::WorkerQueue;
+use napt_sequential::RunFault;
+use std::alloc::{AllocError, Global};
+use std::marker::Model;
+
+/// The most legs and placeholders held for all workers together. No input is read while fewer than two more would fit.
+const MOST_HELD: u64 = 65_536;
+
+/// The queues of 1 to 4,294,967,295 workers, which hold at most 65,536 legs and placeholders together. Contracts see the
+/// queues in the order of the workers.
+#[derive(Drop)]
+pub(crate) struct WorkerQueues {
+    queues: Vec<WorkerQueue>,
+    /// The number of legs and placeholders held in all queues.
+    many: u64,
+}
+
+impl Model for WorkerQueues {
+    ghost use Rattle.std.specs.Prelude.{List};
+    ghost use Rattle.napt_dispatch.specs.QueueStates.{QueueState, AreCounted};
+
+    ghost Value = { List QueueState };
+
+    ghost view = { λ all. all.queues.items };
+
+    ghost invariant = { λ all. AreCounted all.many all.queues.items };
+}
+
+impl WorkerQueues {
+    /// Empty queues for a number of workers.
+    pub(crate) fn new(alloc: Global, workers: u32) -> Result<WorkerQueues, AllocError>
+        requires { 0 < workers }
+        ensures { IfOk result (λ all. all ≡ replicate workers unused) }
+    {
+        let mut queues = Vec::with_capacity(alloc, workers as usize)?;
+        for _ in 0..workers {
+            queues.push(WorkerQueue::new(alloc))?;
+        }
+        Ok(WorkerQueues { queues, many: 0 })
+    }
+
+    /// Returns the number of workers.
+    pub(crate) fn count(&self) -> u32
+        ensures count { result ≡ length self.now }
+        ensures some { 0 < result }
+    {
+        self.queues.len() as u32
+    }
+
+    /// Returns whether two more legs or placeholders may be held.
+    pub(crate) fn has_room(&self) -> bool
+        ensures { (result ≡ true) ↔ (many_in (held_in self.now) + 2 ≤ 65536) }
+    {
+        self.many + 2 <= MOST_HELD
+    }
+
+    /// Holds a leg or a placeholder for worker `w`, behind everything held for it.
+    pub(crate) fn hold(&mut self, w: u32, held: Held) -> Result<(), AllocError>
+        requires place { w < length self.old }
+        requires room { many_in (held_in self.old) < 65536 }
+        ensures many { length self.new ≡ length self.old }
+        ensures holds { OnOk result
+            (Holds (pushed w held (held_in self.old)) self.old self.new) }
+    {
+        let queue = &mut self.queues[w as usize];
+        queue.hold(held)?;
+        self.many += 1;
+        Ok(())
+    }
+
+    /// Holds a leg or a placeholder for worker `w`, in front of everything held for it.
+    pub(crate) fn put_back(&mut self, w: u32, held: Held) -> Result<(), AllocError>
+        requires place { w < length self.old }
+        requires room { many_in (held_in self.old) < 65536 }
+        ensures many { length self.new ≡ length self.old }
+        ensures holds { OnOk result
+            (Holds (put_first w held (held_in self.old)) self.old self.new) }
+    {
+        let queue = &mut self.queues[w as usize];
+        queue.put_back(held)?;
+        self.many += 1;
+        Ok(())
+    }
+
+    /// Takes out the first leg or placeholder held for worker `w`, if there is one.
+    pub(crate) fn release(&mut self, w: u32) -> Option<Held>
+        requires { w < length self.old }
+        ensures many { length self.new ≡ length self.old }
+        ensures first { MatchOption result
+            ((self.new ≡ self.old) × (of_worker (held_in self.old) w ≡ []))
+            (λ held. Releases w held self.old self.new) }
+        ensures room { IfSome result (λ held. many_in (held_in self.new) < 65536) }
+    {
+        let queue = &mut self.queues[w as usize];
+        let held = queue.release()?;
+        self.many -= 1;
+        Some(held)
+    }
+
+    /// Returns the first leg or placeholder held for worker `w`, if there is one.
+    pub(crate) fn first(&self, w: u32) -> Option<&Held>
+        requires { w < length self.now }
+        ensures { MatchOption result (of_worker (held_in self.now) w ≡ []) (λ held.
+            BeginsWith held.now (of_worker (held_in self.now) w)) }
+    {
+        self.queues[w as usize].first()
+    }
+
+    /// Returns whether nothing is held for worker `w`.
+    pub(crate) fn holds_none(&self, w: u32) -> bool
+        requires { w < length self.now }
+        ensures { (result ≡ true) ↔ (of_worker (held_in self.now) w ≡ []) }
+    {
+        self.queues[w as usize].holds_none()
+    }
+
+    /// Returns the number of legs and placeholders held for worker `w`.
+    pub(crate) fn many_held(&self, w: u32) -> usize
+        requires { w < length self.now }
+        ensures { result ≡ length (of_worker (held_in self.now) w) }
+    {
+        self.queues[w as usize].many_held()
+    }
+
+    /// Returns whether nothing is held for any worker.
+    pub(crate) fn none_held(&self) -> bool
+        ensures { (result ≡ true) ↔ ((w : ℕ) → of_worker (held_in self.now) w ≡ []) }
+    {
+        self.many == 0
+    }
+
+    /// Counts a leg offered to worker `w`, and notes it as not answered yet.
+    pub(crate) fn note_offer(&mut self, w: u32, owed: Owed) -> Result<(), RunFault>
+        requires { w < length self.old }
+        ensures many { length self.new ≡ length self.old }
+        ensures owes { OnOk result (Owes w owed self.old self.new) }
+        ensures fault { (open_gate : Bool) → IfErr result (IsDispatchFault open_gate) }
+    {
+        let queue = &mut self.queues[w as usize];
+        queue.note_offer(owed)
+    }
+
+    /// Takes out the oldest leg that worker `w` has not answered yet, if there is one.
+    pub(crate) fn note_answer(&mut self, w: u32) -> Option<Owed>
+        requires { w < length self.old }
+        ensures many { length self.new ≡ length self.old }
+        ensures first { MatchOption result (of_worker (owed_in self.old) w ≡ [])
+            (λ owed. Settles w owed self.old self.new) }
+    {
+        let queue = &mut self.queues[w as usize];
+        queue.note_answer()
+    }
+
+    /// Returns the number of legs that worker `w` has not answered yet.
+    pub(crate) fn many_owed(&self, w: u32) -> usize
+        requires { w < length self.now }
+        ensures { result ≡ length (of_worker (owed_in self.now) w) }
+    {
+        self.queues[w as usize].many_owed()
+    }
+
+    /// Returns whether every worker has answered every leg offered to it.
+    pub(crate) fn none_owed(&self) -> bool
+        ensures { (result ≡ true) ↔ ((w : ℕ) → of_worker (owed_in self.now) w ≡ []) }
+    {
+        none_owed(&self.queues)
+    }
+
+    /// Returns the number of legs offered to each worker.
+    pub(crate) fn counts(&self, alloc: Global) -> Result<Vec<u64>, AllocError>
+        ensures { IfOk result (λ counts. counts.items ≡ counts_in self.now) }
+    {
+        counts_of(alloc, &self.queues)
+    }
+}
+
+/// Returns whether no queue has a leg that is not answered yet.
+fn none_owed(queues: &[WorkerQueue]) -> bool
+    ensures { (result ≡ true) ↔ ((w : ℕ) → of_worker (owed_in queues.now) w ≡ []) }
+{
+    for queue in queues {
+        if queue.many_owed() > 0 {
+            return false;
+        }
+    }
+    true
+}
+
+/// Returns the number of offers of each queue.
+fn counts_of(alloc: Global, queues: &[WorkerQueue]) -> Result<Vec<u64>, AllocError>
+    ensures { IfOk result (λ counts. counts.items ≡ counts_in queues.now) }
+{
+    let mut counts = Vec::with_capacity(alloc, queues.len())?;
+    for queue in queues {
+        counts.push(queue.offered())?;
+    }
+    Ok(counts)
+}

@@ -1,0 +1,19 @@
+//! A picture of a run over time in SVG: the bindings of each external address as bars, packets as strokes on them, hairpins
+//! as arrows between them, and dropped packets below. With many bindings it shows counts instead: live bindings at each
+//! address, and packets.
+//!
+//! The caller says what to show (`Scene`), in its own words and with times in ns; `drawing_of` lays it out and draws it.
+
+mod bars;
+mod counts;
+mod frame;
+mod layout;
+mod lives;
+mod scene;
+mod shapes;
+mod span;
+mod svg;
+mod tallies;
+
+pub use crate::picture::scene::{Binding, BindingKind, Pass, Scene};
+pub use crate::picture::svg::{MOST_BARS, drawing_of};

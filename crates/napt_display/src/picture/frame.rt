@@ -1,0 +1,179 @@
+//! What both pictures have: the page, the legend, the lanes with their names, and the axis.
+
+use crate::picture::shapes::{Area, Point, draw_area, draw_words, open_words};
+use crate::picture::span::{HEAD, LEFT, MICROSECOND, MILLISECOND, RIGHT, SECOND, Span, TIME_WIDTH};
+use std::alloc::AllocError;
+
+const STYLE: &str = "<style>
+  text { font: 11px 'DejaVu Sans Mono', monospace; fill: #222 }
+  .head { font-size: 14px; font-weight: bold }
+  .name { stroke: #f3f5f7; stroke-width: 3; stroke-linejoin: round; paint-order: stroke }
+  .side { font-weight: bold; text-anchor: end }
+  .most { text-anchor: end; fill: #555 }
+  .time { text-anchor: middle; fill: #555 }
+  .unit { text-anchor: start }
+  .page { fill: #fff }
+  .lane { fill: #f3f5f7 }
+  .grid { stroke: #d5dae0 }
+  .udp { fill: #2f6fb5 }
+  .tcp { fill: #2e8b57 }
+  .icmp { fill: #c9781e }
+  .redirect { fill: #8a63ad }
+  .rest { opacity: 0.35 }
+  .packet { stroke: #222; stroke-width: 1.5 }
+  .hairpin { stroke: #b3261e; stroke-width: 1.5; fill: none; marker-end: url(#tip) }
+  .tip { fill: #b3261e; stroke: #fff; stroke-width: 0.8 }
+  .drop { stroke: #b3261e; stroke-width: 2; fill: none }
+  .live, .all, .hairpins, .drops { shape-rendering: crispEdges }
+  .live { fill: #82a9d3 }
+  .all { fill: #8b939c }
+  .hairpins { fill: #c9781e }
+  .drops { fill: #b3261e }
+</style>
+<defs><marker id=\"tip\" viewBox=\"-1 -1 10 10\" refX=\"8\" refY=\"4\" markerWidth=\"10\" markerHeight=\"10\" orient=\"auto\" \
+markerUnits=\"userSpaceOnUse\"><path class=\"tip\" d=\"M0 0L8 4L0 8z\"/></marker></defs>
+";
+
+/// The first line of the legend.
+const LEGEND_TOP: u64 = 48;
+
+/// The whole width of a drawing.
+const WIDTH: u64 = RIGHT + 30;
+
+/// The space below all lanes, for the axis.
+const FOOT: u64 = 36;
+
+/// The space below a lane.
+pub const LANE_PAD: u64 = 3;
+
+/// The column where the names of lanes and rows end.
+pub const NAME_END: u64 = LEFT - 10;
+
+/// A lane, from a line to a line.
+#[derive(Clone, Copy)]
+pub struct Lane {
+    pub top: u64,
+    pub bottom: u64,
+}
+
+/// The page, whose lanes end at `bottom`, with its head.
+pub fn draw_page(text: &mut String, head: &str, bottom: u64) -> Result<(), AllocError> {
+    let height = bottom.saturating_add(FOOT);
+    write!(
+        text,
+        "xmlns=\"http://www.w3.org/2000/svg\" width=\"{WIDTH}\" height=\"{height}\""
+    )?;
+    writeln!(text, " viewBox=\"0 0 {WIDTH} {height}\">")?;
+    text.push_str(STYLE)?;
+    let page = Area {
+        left: 0,
+        top: 0,
+        width: WIDTH,
+        height,
+    };
+    draw_area(text, "page", page)?;
+    let at = Point {
+        column: 16,
+        line: 28,
+    };
+    draw_words(text, "head", at, head)
+}
+
+/// The words above the lanes.
+pub fn draw_legend(text: &mut String, lines: &[&str]) -> Result<(), AllocError> {
+    let mut line = LEGEND_TOP;
+    for words in lines {
+        let at = Point { column: 16, line };
+        draw_words(text, "legend", at, *words)?;
+        line = line.saturating_add(16);
+    }
+    Ok(())
+}
+
+pub fn draw_lanes(text: &mut String, names: &[String], lanes: &[Lane]) -> Result<(), AllocError> {
+    for (name, lane) in names.iter().zip(lanes.iter()) {
+        draw_lane(text, name, *lane)?;
+    }
+    Ok(())
+}
+
+/// A lane with its name at its top.
+pub fn draw_lane(text: &mut String, name: &str, lane: Lane) -> Result<(), AllocError> {
+    let height = lane.bottom.saturating_sub(lane.top);
+    let area = Area {
+        left: LEFT,
+        top: lane.top,
+        width: RIGHT - LEFT,
+        height: height.saturating_sub(LANE_PAD),
+    };
+    draw_area(text, "lane", area)?;
+    draw_words(text, "side", name_at(lane.top), name)
+}
+
+/// Where the name of a lane or row with this top ends.
+pub fn name_at(top: u64) -> Point {
+    Point {
+        column: NAME_END,
+        line: top.saturating_add(14),
+    }
+}
+
+/// The times since the first packet, above and below, with a line through all lanes at each.
+pub fn draw_axis(text: &mut String, span: Span, bottom: u64) -> Result<(), AllocError> {
+    let apart = span.time_between();
+    let begin = span.start.saturating_sub(span.zero);
+    let mut time = begin.div_ceil(apart.max(1)).saturating_mul(apart);
+    for line in [HEAD - 12, bottom.saturating_add(16)] {
+        draw_words(text, "time unit", Point { column: 16, line }, "seconds")?;
+    }
+    for _ in 0..=(RIGHT - LEFT) / TIME_WIDTH {
+        let moment = span.zero.saturating_add(time);
+        if moment <= span.end {
+            let column = span.column_of(moment);
+            draw_line(text, column, bottom)?;
+            draw_time(text, above(column), time, apart)?;
+            draw_time(text, below(column, bottom), time, apart)?;
+        }
+        time = time.saturating_add(apart);
+    }
+    Ok(())
+}
+
+/// Where a time stands above the lanes.
+fn above(column: u64) -> Point {
+    Point {
+        column,
+        line: HEAD - 12,
+    }
+}
+
+/// Where a time stands below the lanes, which end at a line.
+fn below(column: u64, bottom: u64) -> Point {
+    Point {
+        column,
+        line: bottom.saturating_add(16),
+    }
+}
+
+/// A time of the axis in seconds, with the decimals that the times have.
+fn draw_time(text: &mut String, at: Point, time: u64, apart: u64) -> Result<(), AllocError> {
+    open_words(text, "time", at)?;
+    let (seconds, rest) = (time / SECOND, time % SECOND);
+    if apart % SECOND == 0 {
+        writeln!(text, "{seconds}</text>")
+    } else if apart % MILLISECOND == 0 {
+        writeln!(text, "{seconds}.{:03}</text>", rest / MILLISECOND)
+    } else {
+        writeln!(text, "{seconds}.{:06}</text>", rest / MICROSECOND)
+    }
+}
+
+/// A line through all lanes.
+fn draw_line(text: &mut String, column: u64, bottom: u64) -> Result<(), AllocError> {
+    writeln!(
+        text,
+        "<path class=\"grid\" d=\"M{column} {}V{}\"/>",
+        HEAD - 6,
+        bottom.saturating_add(4)
+    )
+}

@@ -1,0 +1,326 @@
+//! Where the bars, packets and drops of a picture are, in pixels.
+
+use crate::picture::frame::Lane;
+use crate::picture::scene::{Binding, BindingKind, Pass, Scene};
+use crate::picture::span::{HEAD, LEFT, RIGHT, Span};
+use std::alloc::{AllocError, Global};
+use std::collections::BTreeMap;
+
+/// The height of a bar with its label.
+const ROW: u64 = 26;
+
+/// How far apart arrows of the same column are, and how many may be beside the first.
+const BESIDE: u64 = 8;
+
+const MOST_BESIDE: u64 = 8;
+
+/// The last column of an arrow, right of the time that is shown.
+const LAST_ARROW: u64 = RIGHT + 24;
+
+/// The height of the row of a cause.
+const CAUSE_ROW: u64 = 20;
+
+/// The space above a lane's first row and below its last.
+const PAD: u64 = 5;
+
+/// The width of a letter of a label.
+const LETTER: u64 = 7;
+
+/// The bar of a binding.
+#[derive(Clone, Copy)]
+pub struct Bar {
+    /// The binding's place in the scene.
+    pub place: usize,
+    /// The column where the label begins.
+    pub label_at: u64,
+    /// The columns of its making, its last packet and its end.
+    pub made: u64,
+    pub used: u64,
+    pub end: u64,
+    pub top: u64,
+}
+
+/// What a mark says of a packet, in the order of drawing.
+#[derive(Clone, Copy, PartialEq, Eq, PartialOrd, Ord)]
+pub enum MarkKind {
+    /// It went out at the bar of the mark's top.
+    Out,
+    /// It came in there.
+    Into,
+    /// It went out there and came in at the bar of another top.
+    Hairpin,
+    /// It was dropped for the cause of the row of the mark's top.
+    Dropped,
+}
+
+/// What a packet leaves in the picture. Packets at one place leave one mark.
+#[derive(Clone, Copy, PartialEq, Eq, PartialOrd, Ord)]
+pub struct Mark {
+    pub kind: MarkKind,
+    pub column: u64,
+    pub top: u64,
+    /// The top of the bar where a hairpin comes in; else the mark's own.
+    pub into: u64,
+}
+
+/// The packets of a mark: how many, and the times of the first and the last of them.
+#[derive(Clone, Copy)]
+pub struct Packets {
+    pub many: u64,
+    pub first: u64,
+    pub last: u64,
+}
+
+/// The row of a cause, with how many packets were dropped for it.
+#[derive(Clone, Copy)]
+pub struct Cause {
+    pub top: u64,
+    pub many: u64,
+}
+
+/// Where everything in a picture is.
+#[derive(Drop)]
+pub struct Layout {
+    pub span: Span,
+    /// One for each lane of the scene.
+    pub lanes: Vec<Lane>,
+    /// The bars, lane by lane.
+    pub bars: Vec<Bar>,
+    /// The top of the row of each cause, and how many of the packets that are shown were dropped for it.
+    pub causes: Vec<Cause>,
+    /// The packets of each mark.
+    pub marks: BTreeMap<Mark, Packets>,
+    /// The line below all lanes and rows.
+    pub bottom: u64,
+    /// The tops of the bars, by the places of their bindings.
+    tops: BTreeMap<usize, u64>,
+    /// The tops of the arrow in each column.
+    arrows: BTreeMap<u64, (u64, u64)>,
+}
+
+/// The bar of the binding at a place of the scene, at the top of the picture.
+fn bar_of(span: Span, place: usize, binding: &Binding) -> Bar {
+    let made = span.column_of(binding.made);
+    let widest = RIGHT.saturating_sub(label_width(&binding.label));
+    let mut bar = Bar {
+        place,
+        label_at: made.min(widest),
+        made,
+        used: span.column_of(binding.used),
+        end: span.column_of(binding.end),
+        top: 0,
+    };
+    if binding.kind == BindingKind::Redirect {
+        (bar.made, bar.used, bar.end) = (LEFT, RIGHT, RIGHT);
+        bar.label_at = LEFT.min(widest);
+    }
+    bar
+}
+
+fn label_width(label: &str) -> u64 {
+    (label.len() as u64).saturating_mul(LETTER)
+}
+
+/// The columns that a bar takes with its label and the space to the next bar.
+fn columns_of(bar: Bar, label: &str) -> (u64, u64) {
+    let label_end = bar.label_at.saturating_add(label_width(label));
+    (
+        bar.made.min(bar.label_at),
+        bar.end.max(label_end).saturating_add(LETTER),
+    )
+}
+
+/// The first row that is free at `from`, where each is taken up to its column in `taken`; it is then taken up to `to`.
+fn row_for(taken: &mut Vec<u64>, from: u64, to: u64) -> Result<usize, AllocError> {
+    let at = match taken.iter().position(|end| *end <= from) {
+        Some(at) => at,
+        None => taken.len(),
+    };
+    match taken.get_mut(at) {
+        Some(end) => *end = to,
+        None => taken.push(to)?,
+    }
+    Ok(at)
+}
+
+impl Layout {
+    /// The places of what a scene shows.
+    pub fn of(alloc: Global, span: Span, scene: &Scene) -> Result<Layout, AllocError> {
+        let mut layout = Layout {
+            span,
+            lanes: Vec::new(alloc),
+            bars: Vec::new(alloc),
+            causes: Vec::new(alloc),
+            marks: BTreeMap::new(alloc),
+            bottom: HEAD,
+            tops: BTreeMap::new(alloc),
+            arrows: BTreeMap::new(alloc),
+        };
+        layout.add_all(alloc, scene)?;
+        Ok(layout)
+    }
+
+    fn add_all(&mut self, alloc: Global, scene: &Scene) -> Result<(), AllocError> {
+        self.add_lanes(alloc, scene.lanes.len(), &scene.bindings)?;
+        self.add_causes(scene.causes.len())?;
+        self.add_marks(&scene.passes)
+    }
+
+    /// `many` lanes, with the bars of their bindings.
+    fn add_lanes(
+        &mut self,
+        alloc: Global,
+        many: usize,
+        bindings: &[Binding],
+    ) -> Result<(), AllocError> {
+        for lane in 0..many {
+            self.add_lane(alloc, lane, bindings)?;
+        }
+        Ok(())
+    }
+
+    /// A lane, with the bars of its bindings.
+    fn add_lane(
+        &mut self,
+        alloc: Global,
+        lane: usize,
+        bindings: &[Binding],
+    ) -> Result<(), AllocError> {
+        let top = self.bottom;
+        let mut taken = Vec::new(alloc);
+        for (place, binding) in bindings.iter().enumerate() {
+            if binding.lane == lane && self.span.shows(binding) {
+                self.add_bar(&mut taken, top, place, binding)?;
+            }
+        }
+        let rows = ROW.saturating_mul((taken.len() as u64).max(1));
+        let bottom = top.saturating_add(rows).saturating_add(PAD + PAD);
+        self.bottom = bottom;
+        self.lanes.push(Lane { top, bottom })?;
+        Ok(())
+    }
+
+    /// The bar of a binding in the first row of its lane that is free for it; `taken` is up to where each row is taken.
+    fn add_bar(
+        &mut self,
+        taken: &mut Vec<u64>,
+        lane_top: u64,
+        place: usize,
+        binding: &Binding,
+    ) -> Result<(), AllocError> {
+        let mut bar = bar_of(self.span, place, binding);
+        let (from, to) = columns_of(bar, &binding.label);
+        let row = row_for(taken, from, to)?;
+        let above = ROW.saturating_mul(row as u64);
+        bar.top = lane_top.saturating_add(PAD).saturating_add(above);
+        self.tops.insert(place, bar.top)?;
+        self.bars.push(bar)?;
+        Ok(())
+    }
+
+    /// A row for each of `many` causes.
+    fn add_causes(&mut self, many: usize) -> Result<(), AllocError> {
+        for _ in 0..many {
+            self.causes.push(Cause {
+                top: self.bottom,
+                many: 0,
+            })?;
+            self.bottom = self.bottom.saturating_add(CAUSE_ROW);
+        }
+        Ok(())
+    }
+
+    fn add_marks(&mut self, passes: &[Pass]) -> Result<(), AllocError> {
+        for pass in passes {
+            if self.span.has(pass.clock) {
+                self.add_pass(*pass)?;
+            }
+        }
+        Ok(())
+    }
+
+    /// The marks of a packet that was dropped, went out through a binding, came in through one, or did both.
+    fn add_pass(&mut self, pass: Pass) -> Result<(), AllocError> {
+        let out = self.top_of(pass.out);
+        let into = self.top_of(pass.into);
+        let dropped = self.count_drop(pass.dropped);
+        self.add_mark(MarkKind::Dropped, pass.clock, dropped)?;
+        self.add_mark(MarkKind::Out, pass.clock, out)?;
+        self.add_mark(MarkKind::Into, pass.clock, into)?;
+        match (out, into) {
+            (Some(out), Some(into)) => self.add_arrow(pass.clock, out, into),
+            _ => Ok(()),
+        }
+    }
+
+    /// The arrow of a hairpin at a time, beside others in its column.
+    fn add_arrow(&mut self, clock: u64, top: u64, into: u64) -> Result<(), AllocError> {
+        let column = self.column_beside(self.span.column_of(clock), (top, into));
+        self.arrows.insert(column, (top, into))?;
+        let mark = Mark {
+            kind: MarkKind::Hairpin,
+            column,
+            top,
+            into,
+        };
+        self.count_packet(mark, clock)
+    }
+
+    /// The first column, of this one and those beside it, without an arrow between other bars; the last one if there is
+    /// none.
+    fn column_beside(&self, first: u64, tops: (u64, u64)) -> u64 {
+        let mut column = first;
+        for beside in 0..=MOST_BESIDE {
+            column = first.saturating_add(beside * BESIDE).min(LAST_ARROW);
+            match self.arrows.get(&column) {
+                Some(taken) if *taken != tops => {}
+                _ => return column,
+            }
+        }
+        column
+    }
+
+    /// A mark at a time, if it has a top.
+    fn add_mark(&mut self, kind: MarkKind, clock: u64, top: Option<u64>) -> Result<(), AllocError> {
+        let Some(top) = top else {
+            return Ok(());
+        };
+        let mark = Mark {
+            kind,
+            column: self.span.column_of(clock),
+            top,
+            into: top,
+        };
+        self.count_packet(mark, clock)
+    }
+
+    /// One more packet of a mark; those before it came earlier.
+    fn count_packet(&mut self, mark: Mark, clock: u64) -> Result<(), AllocError> {
+        let packets = match self.marks.get(&mark) {
+            Some(before) => Packets {
+                many: before.many.saturating_add(1),
+                first: before.first,
+                last: clock,
+            },
+            None => Packets {
+                many: 1,
+                first: clock,
+                last: clock,
+            },
+        };
+        self.marks.insert(mark, packets)?;
+        Ok(())
+    }
+
+    /// One more packet that was dropped for the cause at a place, and the top of the cause's row.
+    fn count_drop(&mut self, place: Option<usize>) -> Option<u64> {
+        let cause = self.causes.get_mut(place?)?;
+        cause.many = cause.many.saturating_add(1);
+        Some(cause.top)
+    }
+
+    /// The top of the bar of the binding at a place, if the picture shows it.
+    fn top_of(&self, place: Option<usize>) -> Option<u64> {
+        self.tops.get(&place?).copied()
+    }
+}

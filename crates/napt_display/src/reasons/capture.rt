@@ -1,0 +1,159 @@
+//! What a refused capture seems to be, and the command that makes the two captures that napt reads from it.
+
+ghost use Rattle.std.specs.Prelude.{◌≤◌, ◌+◌, IfOk, OnOk, vec_len};
+
+use crate::reasons::reason::{Reason, add};
+use napt_capture::CaptureFault;
+use std::alloc::{AllocError, Global};
+
+/// What some bytes seem to be.
+#[derive(Clone, Copy)]
+enum Form {
+    Empty,
+    Pcapng,
+    Gzip,
+    /// A libpcap capture of this spelling and link type.
+    Pcap(Spelling, u32),
+    /// It could not be read.
+    Unread,
+    /// None of these, or a libpcap capture that ends within its header.
+    Unknown,
+}
+
+/// The four spellings of a libpcap capture.
+#[derive(Clone, Copy)]
+struct Spelling {
+    is_big: bool,
+    is_nano: bool,
+}
+
+/// The first four bytes, 0 if there are fewer.
+fn first_four(bytes: &[u8]) -> [u8; 4] {
+    match bytes.first_chunk::<4>() {
+        Some(four) => *four,
+        None => [0; 4],
+    }
+}
+
+fn form_of(bytes: &[u8], fault: CaptureFault) -> Form {
+    if fault == CaptureFault::Read {
+        return Form::Unread;
+    }
+    if bytes.is_empty() {
+        return Form::Empty;
+    }
+    match first_four(bytes) {
+        [0x0a, 0x0d, 0x0d, 0x0a] => Form::Pcapng,
+        [0x1f, 0x8b, _, _] => Form::Gzip,
+        [0xd4, 0xc3, 0xb2, 0xa1] => pcap(bytes, false, false),
+        [0x4d, 0x3c, 0xb2, 0xa1] => pcap(bytes, false, true),
+        [0xa1, 0xb2, 0xc3, 0xd4] => pcap(bytes, true, false),
+        [0xa1, 0xb2, 0x3c, 0x4d] => pcap(bytes, true, true),
+        _ => Form::Unknown,
+    }
+}
+
+/// A libpcap capture, with its link type at 20.
+fn pcap(bytes: &[u8], is_big: bool, is_nano: bool) -> Form {
+    let link = match bytes.get(20..24) {
+        Some(rest) => first_four(rest),
+        None => return Form::Unknown,
+    };
+    let link = if is_big {
+        u32::from_be_bytes(link)
+    } else {
+        u32::from_le_bytes(link)
+    };
+    Form::Pcap(Spelling { is_big, is_nano }, link)
+}
+
+/// The name of a link type whose headers `./split` cuts.
+fn link_name(link: u32) -> Option<&'static str> {
+    match link {
+        0 => Some("BSD loopback"),
+        1 => Some("Ethernet"),
+        9 => Some("PPP"),
+        12 | 14 => Some("raw IP"),
+        50 => Some("PPP with HDLC framing"),
+        51 => Some("PPPoE"),
+        104 => Some("Cisco HDLC"),
+        108 => Some("OpenBSD loopback"),
+        113 => Some("Linux cooked, version 1"),
+        276 => Some("Linux cooked, version 2"),
+        _ => None,
+    }
+}
+
+/// Why `read_capture` refuses some bytes with this fault: the fault in words, what the bytes seem to be, and what to do
+/// if that is known. There are at least two reasons. Fails only if memory runs out.
+pub fn capture_reasons(
+    alloc: Global,
+    bytes: &[u8],
+    fault: CaptureFault,
+) -> Result<Vec<Reason>, AllocError>
+    ensures { IfOk result (λ reasons. 2 ≤ vec_len reasons) }
+{
+    let mut reasons = Vec::new(alloc);
+    add(&mut reasons, "why", format!(in alloc; "{fault}"))?;
+    add_form(alloc, &mut reasons, form_of(bytes, fault))?;
+    Ok(reasons)
+}
+
+/// Adds what some bytes seem to be, and the command that makes captures for napt from them, if known.
+fn add_form(alloc: Global, reasons: &mut Vec<Reason>, form: Form) -> Result<(), AllocError>
+    ensures { OnOk result (vec_len reasons.old + 1 ≤ vec_len reasons.new) }
+{
+    add(reasons, "it is", form_text(alloc, form))?;
+    match form {
+        Form::Empty | Form::Unread => Ok(()),
+        Form::Unknown => {
+            let text = "save it as pcap or pcapng; ./split makes of it what napt reads";
+            add(reasons, "do", String::from_str(alloc, text))
+        }
+        Form::Pcapng => add_split(alloc, reasons, "in.pcapng"),
+        Form::Gzip => add_split(alloc, reasons, "in.pcap.gz"),
+        Form::Pcap(_, link) => match link_name(link) {
+            Some(_) => add_split(alloc, reasons, "in.pcap"),
+            None => Ok(()),
+        },
+    }
+}
+
+/// Adds the command that makes the two captures that napt reads from a named one.
+fn add_split(alloc: Global, reasons: &mut Vec<Reason>, name: &str) -> Result<(), AllocError>
+    ensures { OnOk result (vec_len reasons.old ≤ vec_len reasons.new) }
+{
+    let command = format!(in alloc; "./split {name} --inside 10.0.0.0/8 --out DIR");
+    add(reasons, "do", command)?;
+    let more = "DIR/inside.pcap and DIR/outside.pcap are then what napt reads (docs/CAPTURES.md)";
+    add(reasons, "", String::from_str(alloc, more))
+}
+
+/// A form in words.
+fn form_text(alloc: Global, form: Form) -> Result<String, AllocError> {
+    match form {
+        Form::Empty => String::from_str(alloc, "empty"),
+        Form::Pcapng => String::from_str(alloc, "pcapng"),
+        Form::Gzip => String::from_str(alloc, "compressed by gzip"),
+        Form::Unread => String::from_str(alloc, "a folder, or a file or device that failed"),
+        Form::Unknown => String::from_str(alloc, "no capture that is known here"),
+        Form::Pcap(spelling, link) => pcap_text(alloc, spelling, link),
+    }
+}
+
+fn pcap_text(alloc: Global, spelling: Spelling, link: u32) -> Result<String, AllocError> {
+    let order = match spelling.is_big {
+        true => "big-endian",
+        false => "little-endian",
+    };
+    let unit = match spelling.is_nano {
+        true => "nanoseconds",
+        false => "microseconds",
+    };
+    match link_name(link) {
+        Some(name) => {
+            format!(in alloc; "a libpcap capture of {name} (link type {link}), {order}, {unit}")
+        }
+        None => format!(in alloc; "a libpcap capture of link type {link}, {order}, {unit}"),
+    }
+}

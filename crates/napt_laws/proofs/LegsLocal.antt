@@ -1,0 +1,122 @@
+-- A leg at one address, on all bindings and on that address's own.
+use Rattle.std.proofs.Common.{◌≡◌, ◌≢◌, ℕ, ◌≤◌, ◌&&◌, List, refl, sym, ◌∙◌, ap, arith, eqb}
+use Rattle.std.specs.Prelude.{find}
+use Rattle.napt_wire.specs.declared.Protocol.{Protocol}
+use Rattle.napt_wire.specs.declared.Protocol.TheVariants as protocols
+use Rattle.napt_wire.specs.declared.Way.{Way}
+use Rattle.napt_wire.specs.declared.Way.TheVariants.{Outgoing, Incoming}
+use Rattle.napt_wire.specs.declared.Flags.{Flags}
+use Rattle.napt_wire.specs.declared.Kind.{Kind}
+use Rattle.napt_wire.specs.declared.Kind.TheVariants.{Udp, Tcp, Echo, ErrorOf}
+use Rattle.napt_wire.specs.Fields.{kind}
+use Rattle.napt_config.specs.Rules.{Rules}
+use Rattle.napt_rules.specs.Prelude.{Binding, same_protocol, same_endpoint, is_at, of, is_of_inside, has_number, purge, inbound_of, Out, out_purged, step_out, In, in_purged, step_in, no_flags, Acted, end_out, end_in, error_out, error_in, sent_of, received_of, act_out, act_in, act_by, act}
+use Rattle.napt_rules.specs.declared.Sent.{Sent}
+use Rattle.napt_rules.specs.declared.Received.{Received}
+use Rattle.napt_laws.proofs.Lists.{find_filter}
+use Rattle.napt_laws.proofs.Purges.{of_purge, purge_purge}
+use Rattle.napt_laws.proofs.StepsLocal.{out_local, out_other, in_local, in_other}
+use Rattle.napt_rules.specs.declared.Leg.{Leg}
+use Rattle.napt_laws.specs.Agreeing.{Agrees}
+use Rattle.napt_laws.proofs.Acts.{of_act}
+
+-- what a leg gives on the one and on the other
+pub record ActsAlike (rules : Rules) (address now : ℕ) (own whole : Acted) : Type 0 where
+  pub end : own.end ≡ whole.end
+  pub list : Agrees rules address now own.list whole.list
+
+module _ (rules : Rules) (address : ℕ) (leg : Leg) (own list : List Binding) (same : purge rules.timers leg.now own
+    ≡ of address (purge rules.timers leg.now list)) where
+  alike_out : (protocol : Protocol) (flags : Flags) → ActsAlike rules address leg.now
+      (act_out rules address leg own protocol flags) (act_out rules address leg list protocol flags)
+  alike_out protocol flags =
+      let packet : Sent = sent_of protocol flags leg.now leg.packet in
+      let whole : Out = step_out rules.timers rules.quota address packet list in
+      let e : step_out rules.timers rules.quota address packet own
+      ≡ record { number = whole.number; list = of address whole.list } =
+      ap (out_purged rules.quota address packet) same
+      ∙ out_local rules.quota address packet (purge rules.timers leg.now list) in
+      record {
+        end = ap (λ (o : Out). end_out rules address leg.packet o.number) e;
+        list = record { same = ap (λ (o : Out). purge rules.timers leg.now o.list) e };
+      }
+
+  alike_in : (protocol : Protocol) (flags : Flags) → ActsAlike rules address leg.now
+      (act_in rules address leg own protocol flags) (act_in rules address leg list protocol flags)
+  alike_in protocol flags =
+      let packet : Received = received_of protocol flags leg.now leg.packet in
+      let whole : In = step_in rules.timers (inbound_of rules) address packet list in
+      let e : step_in rules.timers (inbound_of rules) address packet own
+      ≡ record { inside = whole.inside; list = of address whole.list } =
+      ap (in_purged (inbound_of rules) address packet) same
+      ∙ in_local (inbound_of rules) address packet (purge rules.timers leg.now list) in
+      record {
+        end = ap (λ (o : In). end_in leg.packet o.inside) e;
+        list = record { same = ap (λ (o : In). purge rules.timers leg.now o.list) e };
+      }
+
+  alike_by : (way : Way) (kind : Kind) → ActsAlike rules address leg.now (act_by rules address leg own way kind)
+      (act_by rules address leg list way kind)
+  alike_by Outgoing Udp = alike_out protocols.Udp no_flags
+  alike_by Outgoing (Tcp flags) = alike_out protocols.Tcp flags
+  alike_by Outgoing Echo = alike_out protocols.Icmp no_flags
+  alike_by Incoming Udp = alike_in protocols.Udp no_flags
+  alike_by Incoming (Tcp flags) = alike_in protocols.Tcp flags
+  alike_by Incoming Echo = alike_in protocols.Icmp no_flags
+  alike_by Outgoing (ErrorOf inner) = record {
+    end = ap (error_out rules leg.packet)
+        (ap (find (is_of_inside address inner.protocol inner.destination)) same ∙ find_filter (is_at address) (λ b.
+        same_protocol inner.protocol b.protocol && same_endpoint inner.destination b.inside)
+        (purge rules.timers leg.now list));
+    list = record { same = same ∙ of_purge rules.timers leg.now address list };
+  }
+  alike_by Incoming (ErrorOf inner) = record {
+    end = ap (error_in leg.packet)
+        (ap (find (has_number address inner.protocol inner.source.number)) same ∙ find_filter (is_at address) (λ b.
+        same_protocol inner.protocol b.protocol && eqb b.external.number inner.source.number)
+        (purge rules.timers leg.now list));
+    list = record { same = same ∙ of_purge rules.timers leg.now address list };
+  }
+
+-- later on they still agree
+pub agrees_later : (rules : Rules) (address n m : ℕ) → n ≤ m → (own list : List Binding) →
+    Agrees rules address n own list → Agrees rules address m own list
+agrees_later rules address n m le own list agrees = record {
+  same = sym (purge_purge rules.timers n m le own) ∙ (ap (purge rules.timers m) agrees.same
+      ∙ purge_purge rules.timers n m le (of address list));
+}
+
+-- a leg at the address
+pub alike : (rules : Rules) (address n : ℕ) (own list : List Binding) → Agrees rules address n own list → (leg : Leg) →
+    n ≤ leg.now → ActsAlike rules address leg.now (act rules address leg own) (act rules address leg list)
+alike rules address n own list agrees leg le =
+    alike_by rules address leg own list
+    ((agrees_later rules address n leg.now le own list agrees).same ∙ sym (of_purge rules.timers leg.now address list))
+    leg.way (kind leg.packet)
+
+-- a leg at another address
+module _ (rules : Rules) (address : ℕ) (leg : Leg) (list : List Binding) (other : ℕ) (differ : other ≢ address) where
+  abbrev IsKept : Acted → Type 0
+  IsKept acted = purge rules.timers leg.now (of other acted.list) ≡ purge rules.timers leg.now (of other list)
+
+  kept_from : (new : List Binding) → of other new ≡ of other (purge rules.timers leg.now list) →
+      purge rules.timers leg.now (of other new) ≡ purge rules.timers leg.now (of other list)
+  kept_from new e = ap (purge rules.timers leg.now) (e ∙ of_purge rules.timers leg.now other list)
+      ∙ purge_purge rules.timers leg.now leg.now (omega arith) (of other list)
+
+  kept_out : (protocol : Protocol) (flags : Flags) → IsKept (act_out rules address leg list protocol flags)
+  kept_out protocol flags = kept_from _ (out_other rules.quota address
+      (sent_of protocol flags leg.now leg.packet) other differ (purge rules.timers leg.now list))
+
+  kept_in : (protocol : Protocol) (flags : Flags) → IsKept (act_in rules address leg list protocol flags)
+  kept_in protocol flags = kept_from _ (in_other (inbound_of rules) address
+      (received_of protocol flags leg.now leg.packet) other differ (purge rules.timers leg.now list))
+
+pub kept : (rules : Rules) (address n : ℕ) (own list : List Binding) → Agrees rules address n own list → (at : ℕ) →
+    address ≢ at → (leg : Leg) → n ≤ leg.now → Agrees rules address leg.now own (act rules at leg list).list
+kept rules address n own list agrees at differ leg le = record {
+  same = (agrees_later rules address n leg.now le own list agrees).same
+      ∙ sym (of_act rules at leg list (IsKept rules at leg list address differ)
+      (kept_out rules at leg list address differ) (kept_in rules at leg list address differ) (λ end. refl) leg.way
+      (kind leg.packet));
+}

@@ -1,0 +1,43 @@
+-- LISTS
+
+pub mod Lists
+pub mod Finds
+-- ONE BINDING, AND ITS NUMBER
+
+pub mod Purges
+pub mod Fresh
+pub mod Ports
+pub mod Classes
+pub mod Endpoints
+-- STEPS: how a list of bindings begins, and what a packet does to it
+
+pub mod Passes
+pub mod Quotas
+pub mod StepsLocal
+pub mod StepsLive
+pub mod StepsSound
+pub mod StepsQuota
+pub mod Named
+pub mod Opened
+pub mod Orders
+-- LEGS
+
+pub mod Pools
+pub mod Acts
+pub mod LegLaws
+pub mod Foreseen
+pub mod Onward
+pub mod LegsLocal
+-- RUNS
+
+pub mod AnyStep
+pub mod Routes
+pub mod RunsLocal
+pub mod Alone
+pub mod RunsSound
+pub mod RunsQuota
+pub mod Rows
+pub mod Grown
+pub mod Dispatched
+pub mod OneInput
+pub mod Places

@@ -1,0 +1,112 @@
+-- The numbers that a sound list of bindings tells are numbers of their protocol.
+use Rattle.std.proofs.Common.{◌≡◌, ℕ, Bool, true, false, List, [], ◌∷◌, map, Option, Some, None, Result, Ok, Err, refl, eqb-true}
+use Rattle.std.specs.Prelude.{find, IfOk, IfSome}
+use Rattle.std.specs.Option.{option_map}
+use Rattle.std.proofs.lemmas.Bool.{and_parts}
+use Rattle.napt_wire.specs.declared.Protocol.{Protocol}
+use Rattle.napt_wire.specs.declared.Protocol.TheVariants.{Icmp, Tcp, Udp}
+use Rattle.napt_wire.specs.declared.Cause.{Cause}
+use Rattle.napt_wire.specs.declared.Endpoint.{Endpoint}
+use Rattle.napt_rules.specs.declared.Inbound.{Inbound}
+use Rattle.napt_rules.specs.Prelude.{Binding, Each, same_protocol, is_of_inside, has_number, permits, granted, of_source, out_made, out_found, out_purged, of_destination, in_found, in_purged, row, IsNumber, IsPaired, IsSound}
+use Rattle.napt_rules.specs.declared.Sent.{Sent}
+use Rattle.napt_rules.specs.declared.Received.{Received}
+use Rattle.napt_rules.specs.declared.Row.{Row}
+use Rattle.napt_laws.proofs.Passes.{in_passed}
+use Rattle.napt_laws.proofs.Quotas.{granted_is_chosen}
+use Rattle.napt_laws.proofs.Lists.{find_passes}
+use Rattle.napt_laws.proofs.StepsSound.{chosen}
+
+number_of : (p q : Protocol) (n : ℕ) → same_protocol p q ≡ true → IsNumber q n → IsNumber p n
+number_of Icmp q n e h = tt
+number_of Tcp Icmp n e h = cc
+number_of Tcp Tcp n e h = h
+number_of Tcp Udp n e h = cc
+number_of Udp Icmp n e h = cc
+number_of Udp Tcp n e h = cc
+number_of Udp Udp n e h = h
+
+of_rows : (P : Row → Type 0) (list : List Binding) → Each P (map row list) → Each (λ b. P (row b)) list
+of_rows P [] h = tt
+of_rows P (b ∷ list) h = (h.0, of_rows P list h.1)
+
+-- FOUND BINDINGS
+
+module _ (pair : ℕ → ℕ) (address : ℕ) (protocol : Protocol) where
+  found_number : (number : ℕ) (list : List Binding) → IsSound pair list → (b : Binding) →
+      find (has_number address protocol number) list ≡ Some b → IsNumber protocol b.inside.number
+  found_number number list s b e =
+      let found = find_passes (has_number address protocol number) (λ b. IsPaired pair (row b)) list b
+      (of_rows (IsPaired pair) list s.each) e in
+      let tests = and_parts _ _ (and_parts _ _ found.0).1 in
+      number_of protocol b.protocol b.inside.number tests.0 found.1.inside
+
+  found_inside : (inside : Endpoint) (list : List Binding) → IsSound pair list → (b : Binding) →
+      find (is_of_inside address protocol inside) list ≡ Some b → IsNumber protocol b.external.number
+      × (b.external.address ≡ address)
+  found_inside inside list s b e =
+      let found = find_passes (is_of_inside address protocol inside) (λ b. IsPaired pair (row b)) list b
+      (of_rows (IsPaired pair) list s.each) e in
+      let at = and_parts _ _ found.0 in
+      let tests = and_parts _ _ at.1 in
+      (number_of protocol b.protocol b.external.number tests.0 found.1.external, eqb-true _ _ at.0)
+
+  -- LOOK-UPS
+
+  number_named : (number : ℕ) (list : List Binding) → IsSound pair list → (found : Option Binding) →
+      find (has_number address protocol number) list ≡ found →
+      IfSome (option_map (λ b. b.inside) found) (λ inside. IsNumber protocol inside.number)
+  number_named number list s None e = tt
+  number_named number list s (Some b) e = found_number number list s b e
+
+  pub by_number_named : (number : ℕ) (list : List Binding) → IsSound pair list →
+      IfSome (option_map (λ b. b.inside) (find (has_number address protocol number) list)) (λ inside.
+      IsNumber protocol inside.number)
+  by_number_named number list s = number_named number list s (find (has_number address protocol number) list) refl
+
+  inside_named : (inside : Endpoint) (list : List Binding) → IsSound pair list → (found : Option Binding) →
+      find (is_of_inside address protocol inside) list ≡ found →
+      IfSome (option_map (λ b. b.external.number) found) (IsNumber protocol) × IfSome found (λ b. b.external.address
+      ≡ address)
+  inside_named inside list s None e = (tt, tt)
+  inside_named inside list s (Some b) e = found_inside inside list s b e
+
+  pub by_inside_named : (inside : Endpoint) (list : List Binding) → IsSound pair list →
+      IfSome (option_map (λ b. b.external.number) (find (is_of_inside address protocol inside) list))
+      (IsNumber protocol) × IfSome (find (is_of_inside address protocol inside) list) (λ b. b.external.address
+      ≡ address)
+  by_inside_named inside list s = inside_named inside list s (find (is_of_inside address protocol inside) list) refl
+
+-- STEPS
+
+module _ (pair : ℕ → ℕ) (address : ℕ) where
+  module _ (inbound : Inbound) (packet : Received) (list : List Binding) (s : IsSound pair list) where
+    entered_named : (b : Binding) (passes : Bool) → IsNumber packet.protocol b.inside.number →
+        IfOk (in_passed inbound list address packet b passes).inside (λ inside. IsNumber packet.protocol inside.number)
+    entered_named b true h = h
+    entered_named b false h = tt
+
+    found_named : (found : Option Binding) → find (of_destination address packet) list ≡ found →
+        IfOk (in_found inbound list address packet found).inside (λ inside. IsNumber packet.protocol inside.number)
+    found_named None e = tt
+    found_named (Some b) e = entered_named b (permits inbound b packet.remote)
+        (found_number pair address packet.protocol packet.number list s b e)
+
+    pub in_named : IfOk (in_purged inbound address packet list).inside (λ inside.
+        IsNumber packet.protocol inside.number)
+    in_named = found_named (find (of_destination address packet) list) refl
+
+  module _ (quota : Option ℕ) (packet : Sent) (list : List Binding) (s : IsSound pair list) where
+    made_named : (number : Result ℕ Cause) → granted quota list address packet ≡ number →
+        IfOk (out_made list address packet number).number (IsNumber packet.protocol)
+    made_named (Err cause) e = tt
+    made_named (Ok n) e = (chosen list packet.protocol address packet.inside.number n
+        (granted_is_chosen quota list address packet n e)).1
+
+    left_named : (found : Option Binding) → find (of_source address packet) list ≡ found →
+        IfOk (out_found quota list address packet found).number (IsNumber packet.protocol)
+    left_named (Some b) e = (found_inside pair address packet.protocol packet.inside list s b e).0
+    left_named None e = made_named (granted quota list address packet) refl
+
+    pub out_named : IfOk (out_purged quota address packet list).number (IsNumber packet.protocol)
+    out_named = left_named (find (of_source address packet) list) refl

@@ -1,0 +1,58 @@
+-- One input more.
+use Rattle.std.proofs.Common.{◌≡◌, ℕ, zero, suc, ◌+◌, ◌<◌, max, List, [], ◌∷◌, ◌++◌, length, Some, Result, refl, sym, ◌∙◌, ap, arith, get_or, take, drop, length-take}
+use Rattle.std.proofs.lemmas.List.{take_more, take-append-drop}
+use Rattle.std.specs.Prelude.{slice_get}
+use Rattle.napt_wire.specs.declared.Cause.{Cause}
+use Rattle.napt_config.specs.Rules.{Rules}
+use Rattle.napt_rules.specs.Prelude.{Binding, opening, Arrival, admission, Course, ahead, first_leg, step_as, step, run_from, run, last_clock}
+use Rattle.napt_rules.specs.declared.Outcome.{Outcome}
+use Rattle.napt_laws.specs.Dispatching.{IsFront}
+use Rattle.napt_laws.proofs.Grown.{run_append, clock_more}
+use Rattle.napt_laws.proofs.Dispatched.{runs_grow}
+
+-- A RUN BEGINS AS THAT OF ITS FIRST INPUTS
+
+pub acts_begin : (rules : Rules) (number clock : ℕ) (xs ys : List Arrival) (list : List Binding) →
+    IsFront (run_from rules number clock xs list).acts (run_from rules number clock (xs ++ ys) list).acts
+acts_begin rules number clock xs ys list =
+    (_, sym (ap (λ (r : Course). r.acts) (run_append rules number clock xs ys list _ refl)))
+
+pub outcomes_begin : (rules : Rules) (number clock : ℕ) (xs ys : List Arrival) (list : List Binding) →
+    IsFront (run_from rules number clock xs list).outcomes (run_from rules number clock (xs ++ ys) list).outcomes
+outcomes_begin rules number clock xs ys list =
+    (_, sym (ap (λ (r : Course). r.outcomes) (run_append rules number clock xs ys list _ refl)))
+
+pub get_at : (xs : List Outcome) (o : Outcome) (rest : List Outcome) (n : ℕ) → length xs ≡ n →
+    slice_get ((xs ++ o ∷ []) ++ rest) n ≡ Some o
+get_at [] o rest zero e = refl
+get_at [] o rest (suc n) e = absurd (omega arith)
+get_at (x ∷ xs) o rest zero e = absurd (omega arith)
+get_at (x ∷ xs) o rest (suc n) e = get_at xs o rest n (omega arith)
+
+module _ (rules : Rules) (done rest : List Arrival) (input : Arrival) (number now : ℕ) (long : length done ≡ number)
+    (clock : max (last_clock 0 done) input.clock ≡ now) where
+  -- the run of one input more
+  pub grown : (admitted_as : Result (List ℕ) Cause) → admission rules input ≡ admitted_as →
+      run rules (done ++ input ∷ []) (opening rules) ≡ ahead (run rules done (opening rules))
+      (step_as rules (first_leg number now input.side) admitted_as (run rules done (opening rules)).list)
+  grown admitted_as is =
+      let r : Course = run rules done (opening rules) in
+      runs_grow rules done input (opening rules)
+      ∙ (ap (λ (n : ℕ). ahead r (step rules n (max (last_clock 0 done) input.clock) input r.list)) long
+      ∙ (ap (λ (t : ℕ). ahead r (step rules number t input r.list)) clock
+      ∙ ap (λ (a : Result (List ℕ) Cause). ahead r (step_as rules (first_leg number now input.side) a r.list)) is))
+
+-- A STEP OF THE LOOP
+
+module _ (inputs : List Arrival) (n : ℕ) (lt : n < length inputs) (none : Arrival) where
+  pub whole : (take n inputs ++ get_or inputs n none ∷ []) ++ drop (n + 1) inputs ≡ inputs
+  whole = ap (λ (l : List Arrival). l ++ drop (n + 1) inputs) (sym (take_more inputs n none lt))
+      ∙ take-append-drop (n + 1) inputs
+
+  pub clock_taken : (now : ℕ) → max (last_clock 0 (take n inputs)) (get_or inputs n none).clock ≡ now →
+      last_clock 0 (take (n + 1) inputs) ≡ now
+  clock_taken now e = ap (last_clock 0) (take_more inputs n none lt)
+      ∙ (clock_more 0 (take n inputs) (get_or inputs n none) ∙ e)
+
+  pub long_taken : length (take n inputs) ≡ n
+  long_taken = simp length-take (omega arith)

@@ -1,0 +1,230 @@
+-- Second legs by the number of their input.
+use Rattle.std.proofs.Common.{◌≡◌, ◌≢◌, ℕ, ◌+◌, ◌≤◌, ◌==◌, max, Bool, true, false, cond, List, [], ◌∷◌, ◌++◌, length, map, Ok, refl, sym, ◌∙◌, ap, subst, arith, append_assoc, append-nil}
+use Rattle.std.proofs.lemmas.Bool.{eq-eqb, ne_eqb}
+use Rattle.std.proofs.lemmas.List.{map-append}
+use Rattle.std.proofs.lemmas.List.Elements.{filter-append}
+use Rattle.napt_wire.specs.declared.Way.{Way}
+use Rattle.napt_wire.specs.declared.Way.TheVariants.{Outgoing}
+use Rattle.napt_wire.specs.Fields.{destination}
+use Rattle.napt_wire.specs.Packet.{IsPacket}
+use Rattle.napt_config.specs.Rules.{Rules}
+use Rattle.napt_rules.specs.Prelude.{Binding, Each, opening, way_from, served_at, Acted, act, Arrival, admission, Act, Course, follow_by, first_leg, step, run_from, run, last_clock, acts_at, legs_at}
+use Rattle.napt_laws.proofs.Lists.{each_weaker, each_append}
+use Rattle.napt_rules.specs.declared.Leg.{Leg}
+use Rattle.napt_rules.specs.declared.End.{End}
+use Rattle.napt_rules.specs.declared.End.TheVariants.{ToOutside, ToInside, Onward, Dropped}
+use Rattle.napt_laws.specs.Dispatching.{IsFront, OnwardIsForetold}
+use Rattle.napt_laws.specs.Places.{first_act, acts_of, numbered, all_but_first, second_legs, second_of, IsSeconded, AnswersFillPlaces, PlacesStandForLegs}
+use Rattle.napt_laws.proofs.AnyStep.{of_step}
+use Rattle.napt_laws.proofs.OneInput.{acts_begin, grown}
+
+-- the legs of an address in acts, and in more
+pub legs_append : (address : ℕ) (xs ys : List Act) → legs_at address (xs ++ ys) ≡ legs_at address xs
+    ++ legs_at address ys
+legs_append address xs ys = ap (map (λ (a : Act). a.leg)) (filter-append (λ (a : Act). a.address == address) xs ys)
+    ∙ map-append (λ (a : Act). a.leg) (acts_at address xs) (acts_at address ys)
+
+numbered_all : (k : ℕ) (P : Act → Type 0) → ((a : Act) → P a → a.leg.number ≡ k) → (acts : List Act) → Each P acts →
+    numbered k acts ≡ acts
+numbered_all k P is [] h = refl
+numbered_all k P is (a ∷ acts) h =
+    ap (λ b. cond b (a ∷ numbered k acts) (numbered k acts)) (eq-eqb a.leg.number k (is a h.0))
+    ∙ ap (λ (xs : List Act). a ∷ xs) (numbered_all k P is acts h.1)
+
+numbered_none : (k : ℕ) (P : Act → Type 0) → ((a : Act) → P a → a.leg.number ≢ k) → (acts : List Act) → Each P acts →
+    numbered k acts ≡ []
+numbered_none k P isnt [] h = refl
+numbered_none k P isnt (a ∷ acts) h =
+    ap (λ b. cond b (a ∷ numbered k acts) (numbered k acts)) (ne_eqb a.leg.number k (isnt a h.0))
+    ∙ numbered_none k P isnt acts h.1
+
+-- ONE INPUT
+
+-- the acts of one input have its number, and one that goes out tells the others
+abbrev SecondsHere : ℕ → List Act → Act → Type 0
+SecondsHere number acts a = (a.leg.number ≡ number) × (a.leg.way ≡ Outgoing →
+    map (λ (x : Act). x.leg) (all_but_first acts) ≡ second_of a.leg a.end)
+
+follow_seconds : (rules : Rules) (address : ℕ) (leg : Leg) (list : List Binding) (end : End) →
+    (let first : Acted = record { end = end; list = list } in
+    Each (SecondsHere leg.number (follow_by rules address leg first end).acts)
+    (follow_by rules address leg first end).acts)
+follow_seconds rules address leg list (ToOutside packet) = ((refl, λ way. refl), tt)
+follow_seconds rules address leg list (ToInside packet) = ((refl, λ way. refl), tt)
+follow_seconds rules address leg list (Dropped cause) = ((refl, λ way. refl), tt)
+follow_seconds rules address leg list (Onward place packet) = ((refl, λ way. refl), ((refl, λ way. cc), tt))
+
+-- A RUN
+
+-- of acts whose numbers begin at one
+abbrev SecondsFrom : ℕ → List Act → Act → Type 0
+SecondsFrom number acts a = (number ≤ a.leg.number) × IsSeconded acts a
+
+module _ (number : ℕ) (firsts rests : List Act) (here : Each (SecondsHere number firsts) firsts)
+    (later : Each (SecondsFrom (number + 1) rests) rests) where
+  of_first : numbered number (firsts ++ rests) ≡ firsts
+  of_first =
+      filter-append (λ (a : Act). a.leg.number == number) firsts rests
+      ∙ (ap (λ (xs : List Act). numbered number firsts ++ xs) (numbered_none number (SecondsFrom (number + 1) rests)
+      (λ a h. let le : number + 1 ≤ a.leg.number = h.0 in λ e. absurd (omega arith)) rests later)
+      ∙ (append-nil (numbered number firsts) ∙ numbered_all number (SecondsHere number firsts) (λ a h.
+      h.0) firsts here))
+
+  of_rest : (k : ℕ) → number + 1 ≤ k → numbered k (firsts ++ rests) ≡ numbered k rests
+  of_rest k le =
+      filter-append (λ (a : Act). a.leg.number == k) firsts rests
+      ∙ ap (λ (xs : List Act). xs ++ numbered k rests) (numbered_none k (SecondsHere number firsts) (λ a h.
+      let e : a.leg.number ≡ number = h.0 in λ same. absurd (omega arith)) firsts here)
+
+  first_seconded : (a : Act) → SecondsHere number firsts a → SecondsFrom number (firsts ++ rests) a
+  first_seconded a h =
+      let e : a.leg.number ≡ number = h.0 in (
+        omega arith,
+        λ way. ap (λ (k : ℕ). second_legs k (firsts ++ rests)) e
+            ∙ (ap (λ (xs : List Act). map (λ (x : Act). x.leg) (all_but_first xs)) of_first ∙ h.1 way),
+      )
+
+  rest_seconded : (a : Act) → SecondsFrom (number + 1) rests a → SecondsFrom number (firsts ++ rests) a
+  rest_seconded a h =
+      let le : number + 1 ≤ a.leg.number = h.0 in (
+        omega arith,
+        λ way. ap (λ (xs : List Act). map (λ (x : Act). x.leg) (all_but_first xs)) (of_rest a.leg.number le) ∙ h.1 way,
+      )
+
+  pub seconds_more : Each (SecondsFrom number (firsts ++ rests)) (firsts ++ rests)
+  seconds_more =
+      each_append (SecondsFrom number (firsts ++ rests)) firsts rests
+      (each_weaker (SecondsHere number firsts) (SecondsFrom number (firsts ++ rests)) first_seconded firsts here)
+      (each_weaker (SecondsFrom (number + 1) rests) (SecondsFrom number (firsts ++ rests)) rest_seconded rests later)
+
+seconds_from : (rules : Rules) (number clock : ℕ) (inputs : List Arrival) (list : List Binding) →
+    Each (SecondsFrom number (run_from rules number clock inputs list).acts)
+    (run_from rules number clock inputs list).acts
+seconds_from rules number clock [] list = tt
+seconds_from rules number clock (input ∷ inputs) list =
+    let now : ℕ = max clock input.clock in
+    let first : Course = step rules number now input list in
+    let rest : Course = run_from rules (number + 1) now inputs first.list in
+    seconds_more number first.acts rest.acts
+    (of_step rules number now list (λ (s : Course). Each (SecondsHere number s.acts) s.acts) (λ cause. tt)
+    (λ address side packet. let leg : Leg = first_leg number now side packet in
+    let acted : Acted = act rules address leg list in follow_seconds rules address leg acted.list acted.end) input)
+    (seconds_from rules (number + 1) now inputs first.list)
+
+pub answers_fill : AnswersFillPlaces
+answers_fill rules inputs list =
+    let course : Course = run rules inputs list in
+    each_weaker (SecondsFrom 0 course.acts) (IsSeconded course.acts) (λ a h. h.1) course.acts
+    (seconds_from rules 0 0 inputs list)
+
+-- ONE INPUT MORE
+
+pub cond_map : (b : Bool) (a : Act) → map (λ (x : Act). x.leg) (cond b (a ∷ []) []) ≡ cond b (a.leg ∷ []) []
+cond_map true a = refl
+cond_map false a = refl
+
+cond_none : (b : Bool) → cond b (let ls : List Leg = [] in ls) [] ≡ []
+cond_none true = refl
+cond_none false = refl
+
+cond_two : (b c : Bool) (x y : Act) → map (λ (a : Act). a.leg) (cond b (x ∷ cond c (y ∷ []) []) (cond c (y ∷ []) []))
+    ≡ cond b (x.leg ∷ []) [] ++ cond c (y.leg ∷ []) []
+cond_two true true x y = refl
+cond_two true false x y = refl
+cond_two false true x y = refl
+cond_two false false x y = refl
+
+module _ (rules : Rules) (first_at : ℕ) (leg : Leg) (first : Acted) (to address : ℕ) where
+  abbrev Both : End → Type 0
+  Both e = legs_at address (follow_by rules first_at leg first e).acts ≡ cond (first_at == address) (leg ∷ []) []
+      ++ cond (to == address) (second_of leg e) []
+
+  single : cond (first_at == address) (leg ∷ []) [] ≡ cond (first_at == address) (leg ∷ []) []
+      ++ cond (to == address) [] []
+  single = sym (append-nil (cond (first_at == address) (leg ∷ []) []))
+      ∙ ap (λ (ls : List Leg). cond (first_at == address) (leg ∷ []) [] ++ ls) (sym (cond_none (to == address)))
+
+  legs_here : (e : End) → ((place : ℕ) (packet : List ℕ) → e ≡ Onward place packet → (destination packet).address
+      ≡ to) → Both e
+  legs_here (ToOutside packet) f = cond_map (first_at == address) _ ∙ single
+  legs_here (ToInside packet) f = cond_map (first_at == address) _ ∙ single
+  legs_here (Dropped cause) f = cond_map (first_at == address) _ ∙ single
+  legs_here (Onward place packet) f =
+      cond_two (first_at == address) ((destination packet).address == address) _ _
+      ∙ ap (λ (d : ℕ). cond (first_at == address) (leg ∷ []) []
+      ++ cond (d == address) (second_of leg (Onward place packet)) []) (f place packet refl)
+
+at_seam : {X : Type 0} (P : X → Type 0) (xs : List X) (x : X) (rest : List X) → Each P (xs ++ x ∷ rest) → P x
+at_seam P [] x rest h = h.0
+at_seam P (y ∷ xs) x rest h = at_seam P xs x rest h.1
+
+-- a first leg comes first
+head_by : (rules : Rules) (address : ℕ) (leg : Leg) (first : Acted) (e : End) → (tail : List Act)
+    × ((follow_by rules address leg first e).acts ≡ record { address = address; leg = leg; end = first.end } ∷ tail)
+head_by rules address leg first (ToOutside packet) = ([], refl)
+head_by rules address leg first (ToInside packet) = ([], refl)
+head_by rules address leg first (Dropped cause) = ([], refl)
+head_by rules address leg first (Onward place packet) = (_, refl)
+
+module _ (rules : Rules) (done rest : List Arrival) (input : Arrival) (number now : ℕ) (long : length done ≡ number)
+    (clock : max (last_clock 0 done) input.clock ≡ now)
+    (packet : List ℕ) (admitted : admission rules input ≡ Ok packet) where
+  abbrev whole : List Act
+  whole = (run rules ((done ++ input ∷ []) ++ rest) (opening rules)).acts
+
+  abbrev before : Course
+  before = run rules done (opening rules)
+
+  abbrev leg_of : Leg
+  leg_of = record { number = number; now = now; way = way_from input.side; packet = packet }
+
+  abbrev at_first : ℕ
+  at_first = served_at rules (way_from input.side) packet
+
+  pub acts_grow : (run rules (done ++ input ∷ []) (opening rules)).acts ≡ before.acts
+      ++ acts_of rules at_first leg_of before.list
+  acts_grow = ap (λ (r : Course). r.acts) (grown rules done rest input number now long clock (Ok packet) admitted)
+
+  -- the run over all inputs tells the second legs by the end of the first
+  filled : way_from input.side ≡ Outgoing → second_legs number whole
+      ≡ second_of leg_of (act rules at_first leg_of before.list).end
+  filled way =
+      let first : Acted = act rules at_first leg_of before.list in
+      let head : (tail : List Act) × (acts_of rules at_first leg_of before.list
+      ≡ first_act rules at_first leg_of before.list ∷ tail) = head_by rules at_first leg_of first first.end in
+      let front : IsFront (run rules (done ++ input ∷ []) (opening rules)).acts whole =
+      acts_begin rules 0 0 (done ++ input ∷ []) rest (opening rules) in
+      let is : whole ≡ before.acts ++ (first_act rules at_first leg_of before.list ∷ (head.0 ++ front.0)) =
+      sym front.1 ∙ (ap (λ (xs : List Act). xs ++ front.0)
+      (acts_grow ∙ ap (λ (xs : List Act). before.acts ++ xs) head.1) ∙ append_assoc before.acts
+      (first_act rules at_first leg_of before.list ∷ head.0) front.0) in
+      at_seam (IsSeconded whole) before.acts (first_act rules at_first leg_of before.list) (head.0 ++ front.0)
+      (subst (Each (IsSeconded whole)) is (answers_fill rules ((done ++ input ∷ []) ++ rest) (opening rules))) way
+
+  pub place_stands : OnwardIsForetold → IsPacket packet → way_from input.side ≡ Outgoing → (address : ℕ) →
+      legs_at address (run rules (done ++ input ∷ []) (opening rules)).acts
+      ≡ legs_at address before.acts ++ (cond (at_first == address) (leg_of ∷ []) []
+      ++ cond ((destination packet).address == address) (second_legs number whole) [])
+  place_stands foretold is way address =
+      let first : Acted = act rules at_first leg_of before.list in
+      let goes : (place : ℕ) (q : List ℕ) → first.end ≡ Onward place q → (destination q).address
+      ≡ (destination packet).address = λ place q h.
+      (foretold rules at_first leg_of before.list place q is.0 is.1 h).kept in
+      ap (legs_at address) acts_grow
+      ∙ (legs_append address before.acts (acts_of rules at_first leg_of before.list)
+      ∙ ap (λ (ls : List Leg). legs_at address before.acts ++ ls)
+      (legs_here rules at_first leg_of first (destination packet).address address first.end goes
+      ∙ ap (λ (ls : List Leg). cond (at_first == address) (leg_of ∷ []) []
+      ++ cond ((destination packet).address == address) ls []) (sym (filled way))))
+
+pub places_stand : OnwardIsForetold → PlacesStandForLegs
+places_stand foretold rules done rest input packet side admitted is address =
+    let number : ℕ = length done in
+    let now : ℕ = max (last_clock 0 done) input.clock in
+    let all : List Act = (run rules ((done ++ input ∷ []) ++ rest) (opening rules)).acts in
+    let way : way_from input.side ≡ Outgoing = ap way_from side in
+    subst (λ (w : Way). legs_at address (run rules (done ++ input ∷ []) (opening rules)).acts
+    ≡ legs_at address (run rules done (opening rules)).acts
+    ++ (cond (served_at rules w packet == address) (record { number = number; now = now; way = w; packet = packet }
+    ∷ []) [] ++ cond ((destination packet).address == address) (second_legs number all) [])) way
+    (place_stands rules done rest input number now refl refl packet admitted foretold is way address)

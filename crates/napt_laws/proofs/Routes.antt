@@ -1,0 +1,86 @@
+-- Where a packet is routed to, and the step of an input by that.
+use Rattle.std.proofs.Common.{◌≡◌, ℕ, Bool, true, false, List, cond, Option, Some, None, Result, Ok, Err, IsSome, refl, ◌∙◌, ap}
+use Rattle.std.specs.Prelude.{ok_or, is_some, not}
+use Rattle.napt_wire.specs.declared.Side.{Side}
+use Rattle.napt_wire.specs.declared.Side.TheVariants.{Inside, Outside}
+use Rattle.napt_wire.specs.declared.Way.TheVariants.{Outgoing}
+use Rattle.napt_wire.specs.declared.Cause.{Cause}
+use Rattle.napt_wire.specs.declared.Cause.TheVariants.{Spoofed, NotOurs, Unsupported}
+use Rattle.napt_wire.specs.Fields.{destination, local_end}
+use Rattle.napt_config.specs.Rules.{Rules, KeepsRules, pair_of, place_of}
+use Rattle.napt_config.proofs.Pools.{paired_in_pool, position_of_member}
+use Rattle.napt_rules.specs.Prelude.{Binding, is_spoofed, is_not_ours, is_unsupported, refusal, way_from, served_at, routed, route, Arrival, judged_by, admission_as, refused, admitted, first_leg, step_as, step}
+use Rattle.napt_wire.specs.Reading.{reading}
+
+-- ROUTES
+
+-- a host's external address is in the pool
+pair_in_pool : (rules : Rules) → KeepsRules rules → (host : ℕ) → IsSome (place_of rules (pair_of rules host))
+pair_in_pool rules keeps host = position_of_member rules.pool (pair_of rules host)
+    (paired_in_pool rules.pool rules.pairs host keeps.pool.some keeps.pairs.externals)
+
+no_cause : (a b c : Bool) → cond a (Some Spoofed) (cond b (Some NotOurs) (cond c (Some Unsupported) None)) ≡ None →
+    b ≡ false
+no_cause true b c h = cc
+no_cause false true c h = cc
+no_cause false false c h = refl
+
+some_is : (o : Option ℕ) → not (is_some o) ≡ false → IsSome o
+some_is (Some x) h = refl
+some_is None h = cc
+
+-- the address that serves a packet that is not refused is in the pool
+served_in_pool : (rules : Rules) → KeepsRules rules → (side : Side) (packet : List ℕ) → refusal rules side packet
+    ≡ None → IsSome (place_of rules (served_at rules (way_from side) packet))
+served_in_pool rules keeps Inside packet h = pair_in_pool rules keeps (local_end Outgoing packet).address
+served_in_pool rules keeps Outside packet h = some_is (place_of rules (destination packet).address)
+    (no_cause (is_spoofed rules Outside packet) (is_not_ours rules Outside packet) (is_unsupported rules Outside packet)
+    h)
+
+routed_ok : (rules : Rules) (address : ℕ) (refused : Option Cause) (place : ℕ) → routed rules address refused
+    ≡ Ok place → refused ≡ None
+routed_ok rules address (Some cause) place h = cc
+routed_ok rules address None place h = refl
+
+placed : (o : Option ℕ) (cause : Cause) → IsSome o → ok_or o NotOurs ≡ Err cause → ⊥
+placed (Some place) cause some h = cc
+placed None cause some h = cc
+
+routed_err : (rules : Rules) (address : ℕ) (refused : Option Cause) (cause : Cause) →
+    (refused ≡ None → IsSome (place_of rules address)) → routed rules address refused ≡ Err cause → refused ≡ Some cause
+routed_err rules address (Some other) cause served h = cc
+routed_err rules address None cause served h = absurd (placed (place_of rules address) cause (served refl) h)
+
+pub route_ok : (rules : Rules) (side : Side) (packet : List ℕ) (place : ℕ) → route rules side packet ≡ Ok place →
+    refusal rules side packet ≡ None
+unfolding route
+route_ok rules side packet place h = routed_ok rules (served_at rules (way_from side) packet)
+    (refusal rules side packet) place h
+
+pub route_err : (rules : Rules) → KeepsRules rules → (side : Side) (packet : List ℕ) (cause : Cause) →
+    route rules side packet ≡ Err cause → refusal rules side packet ≡ Some cause
+unfolding route
+route_err rules keeps side packet cause h = routed_err rules (served_at rules (way_from side) packet)
+    (refusal rules side packet) cause (served_in_pool rules keeps side packet) h
+
+-- ONE INPUT
+
+pub step_unread : (rules : Rules) (number now : ℕ) (input : Arrival) (list : List Binding) (cause : Cause) →
+    reading input.side input.bytes ≡ Err cause → step rules number now input list ≡ refused cause list
+step_unread rules number now input list cause reads = ap (λ (r : Result (List ℕ) Cause).
+    step_as rules (first_leg number now input.side) (admission_as rules input.side r) list) reads
+
+module _ (rules : Rules) (number now : ℕ) (input : Arrival) (list : List Binding) (packet : List ℕ)
+    (reads : reading input.side input.bytes ≡ Ok packet) where
+  judged : (cause : Option Cause) → refusal rules input.side packet ≡ cause → step rules number now input list
+      ≡ step_as rules (first_leg number now input.side) (judged_by packet cause) list
+  judged cause is = ap (λ (r : Result (List ℕ) Cause). step_as rules (first_leg number now input.side) r list)
+      (ap (admission_as rules input.side) reads ∙ ap (judged_by packet) is)
+
+  pub step_refused : (cause : Cause) → refusal rules input.side packet ≡ Some cause →
+      step rules number now input list ≡ refused cause list
+  step_refused cause against = judged (Some cause) against
+
+  pub step_admitted : refusal rules input.side packet ≡ None → step rules number now input list
+      ≡ admitted rules (served_at rules (way_from input.side) packet) (first_leg number now input.side packet) list
+  step_admitted free = judged None free

@@ -1,0 +1,11 @@
+use Rattle.napt_laws.proofs.Classes.{candidates_begin, candidates_are_those, candidates_differ}
+use Rattle.napt_laws.proofs.numbers.candidates_are_the_class.Goals as goal
+
+pub returns-clause-begin : goal.returns-clause-begin
+returns-clause-begin c = candidates_begin
+
+pub returns-clause-those : goal.returns-clause-those
+returns-clause-those c = candidates_are_those
+
+pub returns-clause-differ : goal.returns-clause-differ
+returns-clause-differ c = candidates_differ

@@ -1,0 +1,5 @@
+use Rattle.napt_laws.proofs.Opened.{opening_sound}
+use Rattle.napt_laws.proofs.steps.opening_is_sound.Goals as goal
+
+pub returns : goal.returns
+returns c = opening_sound

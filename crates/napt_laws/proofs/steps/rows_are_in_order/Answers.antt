@@ -1,0 +1,5 @@
+use Rattle.napt_laws.proofs.Orders.{rows_in_order}
+use Rattle.napt_laws.proofs.steps.rows_are_in_order.Goals as goal
+
+pub returns : goal.returns
+returns c = rows_in_order

@@ -1,0 +1,64 @@
+-- Laws of runs for a dispatcher, which hands each leg to the translator of its address and takes the answers one by
+-- one.
+use Rattle.std.specs.Prelude.{◌≡◌, ℕ, max, List, [], ◌∷◌, ◌++◌, length, Option, Some, None, IfSome, Ok}
+use Rattle.std.specs.List.{slice_get}
+use Rattle.napt_wire.specs.declared.Side.{Side}
+use Rattle.napt_wire.specs.declared.Way.TheVariants.{Outgoing}
+use Rattle.napt_wire.specs.Fields.{destination}
+use Rattle.napt_wire.specs.Reading.{reading}
+use Rattle.napt_config.specs.Rules.{Rules, place_of}
+use Rattle.napt_rules.specs.Prelude.{Binding, Each, of, act, Arrival, Act, Course, ahead, step, run, last_clock, legs_at, kept_replies, answers_at}
+use Rattle.napt_rules.specs.declared.Leg.{Leg}
+use Rattle.napt_rules.specs.declared.Answer.{Answer}
+use Rattle.napt_rules.specs.declared.End.{End}
+use Rattle.napt_rules.specs.declared.End.TheVariants.{ToOutside, ToInside, Onward, Dropped}
+use Rattle.napt_rules.specs.declared.Outcome.{Outcome}
+use Rattle.napt_rules.specs.declared.Outcome.TheVariants as outcomes
+
+-- xs begins ys
+abbrev pub IsFront : {X : Type 0} → List X → List X → Type 0
+IsFront {X} xs ys = (rest : List X) × (xs ++ rest ≡ ys)
+
+-- where a translator was given a front of its address's legs, and answered some of them as it does, these are the run's
+-- answers
+abbrev pub RightAnswersAreTheRuns : Type 0
+RightAnswersAreTheRuns = (rules : Rules) (inputs : List Arrival) (list : List Binding) (address : ℕ) (given : List Leg)
+    (taken : List Answer) →
+    let course : Course = run rules inputs list in
+    IsFront given (legs_at address course.acts) →
+    IsFront taken (kept_replies rules address given (record { list = of address list; at = 0 })) →
+    IsFront taken (answers_at address course.acts)
+
+-- a run over one input more is the run, and the step of that input
+abbrev pub RunsGrow : Type 0
+RunsGrow = (rules : Rules) (inputs : List Arrival) (input : Arrival) (list : List Binding) →
+    let course : Course = run rules inputs list in
+    run rules (inputs ++ input ∷ []) list
+    ≡ ahead course (step rules (length inputs) (max (last_clock 0 inputs) input.clock) input course.list)
+
+-- the outcome that the end of a leg tells, where it is the last
+abbrev pub outcome_told : End → Option Outcome
+outcome_told (ToOutside packet) = Some (outcomes.ToOutside packet)
+outcome_told (ToInside packet) = Some (outcomes.ToInside packet)
+outcome_told (Onward place packet) = None
+outcome_told (Dropped cause) = Some (outcomes.Dropped cause)
+
+-- each leg that does not go onward tells the outcome of its input
+abbrev pub IsTold : List Outcome → Act → Type 0
+IsTold all a = IfSome (outcome_told a.end) (λ outcome. slice_get all a.leg.number ≡ Some outcome)
+
+abbrev pub AnswersTellOutcomes : Type 0
+AnswersTellOutcomes = (rules : Rules) (inputs : List Arrival) (list : List Binding) →
+    let course : Course = run rules inputs list in
+    Each (IsTold course.outcomes) course.acts
+
+-- a leg goes onward only on its way out, and to the place of its packet's destination (RFC 4787, REQ-9)
+pub record IsForetold (rules : Rules) (leg : Leg) (place : ℕ) (packet : List ℕ) : Type 0 where
+  pub way : leg.way ≡ Outgoing
+  pub served : place_of rules (destination leg.packet).address ≡ Some place
+  pub kept : (destination packet).address ≡ (destination leg.packet).address
+
+abbrev pub OnwardIsForetold : Type 0
+OnwardIsForetold = (rules : Rules) (address : ℕ) (leg : Leg) (list : List Binding) (place : ℕ) (packet : List ℕ)
+    (side : Side) → reading side leg.packet ≡ Ok leg.packet →
+    (act rules address leg list).end ≡ Onward place packet → IsForetold rules leg place packet

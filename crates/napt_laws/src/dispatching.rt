@@ -1,0 +1,25 @@
+//! Laws of runs for a dispatcher.
+
+ghost use Rattle.napt_laws.specs.Dispatching.{RightAnswersAreTheRuns, RunsGrow, AnswersTellOutcomes, OnwardIsForetold};
+ghost use Rattle.napt_laws.specs.Places.{AnswersFillPlaces, PlacesStandForLegs};
+
+use napt_wire::packets_keep_their_way;
+
+/// What a dispatcher relies on while it hands out legs and takes answers.
+pub fn right_answers()
+    ensures right { RightAnswersAreTheRuns }
+    ensures grow { RunsGrow }
+    ensures told { AnswersTellOutcomes }
+    ensures foretold { OnwardIsForetold }
+{
+    packets_keep_their_way();
+}
+
+/// An input from inside may have a second leg: a place stands for it until the end of the first leg tells it
+/// (RFC 4787, REQ-9).
+pub fn places_stand_for_legs()
+    ensures fill { AnswersFillPlaces }
+    ensures stand { PlacesStandForLegs }
+{
+    right_answers();
+}

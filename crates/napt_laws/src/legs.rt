@@ -1,0 +1,17 @@
+//! Laws of legs.
+
+ghost use Rattle.napt_rules.specs.Prelude.{ErrorsChangeNothing, LegsEndAtTheirSide, InStaysIn, LegsAnswerAlone, LegsLeaveTheirOwn};
+
+/// An ICMP error changes no binding and no time; what leaves goes to no address of the pool, what goes onward to
+/// the one at that place; what comes in reaches the inside or is dropped.
+pub fn legs_keep_to_their_way()
+    ensures errors { ErrorsChangeNothing }
+    ensures sides { LegsEndAtTheirSide }
+    ensures incoming { InStaysIn }
+{}
+
+/// The legs of each external address act on that address's bindings alone.
+pub fn legs_are_local()
+    ensures answers { LegsAnswerAlone }
+    ensures leaves { LegsLeaveTheirOwn }
+{}

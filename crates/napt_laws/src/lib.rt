@@ -1,0 +1,20 @@
+//! The laws of the definition of a run: what holds of every step, leg and run, whatever the code.
+//!
+//! Each function is a law, which its contract states, and does nothing; `napt_rules` has the definition and the statements,
+//! `specs/` those for whoever runs each address apart, `proofs/` the lemmas.
+#![tactic(auto)]
+
+mod dispatching;
+mod legs;
+mod numbers;
+mod runs;
+mod steps;
+
+pub use dispatching::{places_stand_for_legs, right_answers};
+pub use legs::{legs_are_local, legs_keep_to_their_way};
+pub use numbers::candidates_are_the_class;
+pub use runs::{runs_are_sound, runs_keep_the_quota, translators_are_local};
+pub use steps::{
+    no_host_exceeds_its_quota, opening_is_sound, rows_are_in_order, steps_are_local,
+    steps_leave_live, steps_stay_sound,
+};

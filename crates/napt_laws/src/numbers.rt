@@ -1,0 +1,11 @@
+//! A law of external numbers.
+
+ghost use Rattle.napt_rules.specs.Prelude.{CandidatesBegin, CandidatesAreThose, CandidatesDiffer};
+
+/// The candidates of a number are those that it may be mapped to, each once, itself first: a port keeps its side of
+/// 1024 and its parity (RFC 4787, REQ-3 (a) and REQ-4), an identifier may become any (RFC 5508, section 3.1).
+pub fn candidates_are_the_class()
+    ensures begin { CandidatesBegin }
+    ensures those { CandidatesAreThose }
+    ensures differ { CandidatesDiffer }
+{}

@@ -1,0 +1,29 @@
+//! Laws of runs.
+
+ghost use Rattle.napt_rules.specs.Prelude.{RunsAreSound, RunsStayApart, RunsKeepQuota, TranslatorsAnswerAlone, TranslatorsKeepTheirOwn};
+
+use crate::steps::{no_host_exceeds_its_quota, opening_is_sound, steps_stay_sound};
+use napt_wire::packets_carry_numbers;
+
+/// After any inputs no two bindings share an endpoint (RFC 4787, REQ-1 and REQ-3).
+pub fn runs_are_sound()
+    ensures sound { RunsAreSound }
+    ensures apart { RunsStayApart }
+{
+    packets_carry_numbers();
+    steps_stay_sound();
+    opening_is_sound();
+}
+
+/// After any inputs no inside host has more bindings than the quota allows (RFC 6888, REQ-4).
+pub fn runs_keep_the_quota()
+    ensures { RunsKeepQuota }
+{
+    no_host_exceeds_its_quota();
+}
+
+/// A translator of one external address answers as the sequential one does, and is left with its bindings there.
+pub fn translators_are_local()
+    ensures answers { TranslatorsAnswerAlone }
+    ensures keeps { TranslatorsKeepTheirOwn }
+{}

@@ -1,3 +1,0 @@
-pub mod Ports
-pub mod Classes
-pub mod Choices

@@ -1,0 +1,288 @@
+-- What a whole run is told to come to, once its report is written or nobody wants one.
+use Rattle.std.specs.Result.{result_and}
+use Rattle.std.proofs.Common.{◌≡◌, ℕ, ◌+◌, Bool, true, false, List, Option, Result, Ok, Err, IfErr, IfOk, OnOk, refl, sym, ◌∙◌, ap, subst, arith}
+use Rattle.napt_wire.specs.declared.Side.TheVariants as sides
+use Rattle.napt_config.specs.Rules.{Rules}
+use Rattle.napt_records.specs.Counts.{AreCountsOf}
+use Rattle.napt_records.specs.Report.{report_of, report_text}
+use Rattle.napt_records.specs.declared.Fault.{Fault}
+use Rattle.napt_records.specs.declared.Fault.TheVariants.{Capture, Run, Write}
+use Rattle.napt_records.specs.declared.Which.TheVariants.{Outside, Inside, Report}
+use Rattle.napt_rules.specs.Prelude.{Arrival, ran}
+use Rattle.napt_rules.specs.declared.Outcome.{Outcome}
+use Rattle.napt_records.specs.Faults.{tells_shut_gate}
+use Rattle.napt_run.specs.Captures.{failed_readings, failed_writings}
+use Rattle.napt_sequential.specs.declared.fault.RunFault.TheVariants as faults
+use Rattle.napt_run.specs.Runs.{IfHeld, IsToldOf}
+use Rattle.napt_run.specs.Streams.{Explains, FailsMore, GetsReport, HasReadIf, IsOfRun, IsReading, IsReportFault, IsSettledBy, IsStopFault, Reports, ReportsAll, Streams, ended}
+use Rattle.napt_run.specs.declared.passing.Totals.{Totals}
+use Rattle.napt_run.proofs.Streamed.{IfHeld-all, IfHeld-map}
+
+-- a fault that was told stays, and after a good run only its report fails
+pub record Ends (told : Result Totals Fault) (result : Result (Unit {0}) Fault) : Type 0 where
+  pub fault : IfErr told (λ fault. result ≡ Err fault)
+  pub report : OnOk told (IfErr result IsReportFault)
+
+pub ends_and : (told : Result Totals Fault) (written result : Result (Unit {0}) Fault) →
+    result ≡ result_and told written → IfErr written IsReportFault → Ends told result
+ends_and (Ok totals) written result is fault =
+    record { fault = tt; report = subst (λ r. IfErr r IsReportFault) (sym is) fault }
+ends_and (Err fault) written result is none = record { fault = is; report = tt }
+
+-- by what it was
+module _ (P : Result Totals Fault → Result (Unit {0}) Fault → Type 0)
+    (well : (totals : Totals) → P (Ok totals) (Ok tt))
+    (unwritten : (totals : Totals) (fault : _) → P (Ok totals) (Err (Write Report fault)))
+    (unmade : (totals : Totals) → P (Ok totals) (Err (Run faults.Memory)))
+    (stopped : (fault : Fault) → P (Err fault) (Err fault)) where
+  at_report : (totals : Totals) (fault : Fault) → IsReportFault fault → P (Ok totals) (Err fault)
+  at_report totals (Write Report fault) is = unwritten totals fault
+  at_report totals (Write Outside fault) is = absurd is
+  at_report totals (Write Inside fault) is = absurd is
+  at_report totals (Capture side fault) is = absurd is
+  at_report totals (Run faults.Memory) is = unmade totals
+  at_report totals (Run faults.TooMany) is = absurd is
+  at_report totals (Run (faults.Pool fault)) is = absurd is
+
+  pub at_end : (told : Result Totals Fault) (result : Result (Unit {0}) Fault) → Ends told result → P told result
+  at_end (Ok totals) (Ok done) ends = well totals
+  at_end (Ok totals) (Err fault) ends = at_report totals fault ends.report
+  at_end (Err fault) result ends = subst (λ (r : Result (Unit {0}) Fault). P (Err fault) r) (sym ends.fault)
+      (stopped fault)
+
+module _ (rules : Rules) (inside : Option (List ℕ)) (outside : Option (Option (List ℕ))) (old new : Option
+    (List ℕ)) where
+  pub outside_ends : (told : Result Totals Fault) (result : Result (Unit {0}) Fault) → Ends told result →
+      Streams rules Outside (ended told) inside outside old new → Streams rules Outside result inside outside old new
+  outside_ends = at_end (λ told result. Streams rules Outside (ended told) inside outside old new →
+      Streams rules Outside result inside outside old new) (λ totals p. p) (λ totals fault p. p)
+      (λ totals p. IfHeld-all inside outside (λ both. tt)) (λ fault p. p)
+
+  pub inside_ends : (told : Result Totals Fault) (result : Result (Unit {0}) Fault) → Ends told result →
+      Streams rules Inside (ended told) inside outside old new → Streams rules Inside result inside outside old new
+  inside_ends = at_end (λ told result. Streams rules Inside (ended told) inside outside old new →
+      Streams rules Inside result inside outside old new) (λ totals p. p) (λ totals fault p. p)
+      (λ totals p. IfHeld-all inside outside (λ both. tt)) (λ fault p. p)
+
+pub explains_ends : (inside : Option (List ℕ)) (outside : Option (Option (List ℕ))) (told : Result Totals Fault)
+    (result : Result (Unit {0}) Fault) → Ends told result → IfErr told (Explains inside outside) →
+    IfErr result (Explains inside outside)
+explains_ends inside outside = at_end (λ told result. IfErr told (Explains inside outside) →
+    IfErr result (Explains inside outside)) (λ totals p. tt) (λ totals fault p. IfHeld-all inside outside (λ both. tt))
+    (λ totals p. IfHeld-all inside outside (λ both. tt)) (λ fault p. p)
+
+gate_of : (open_gate : Bool) (fault : Fault) → open_gate ≡ true → IsStopFault open_gate fault →
+    tells_shut_gate fault ≡ false
+gate_of open_gate (Capture side fault) is p = refl
+gate_of open_gate (Write which fault) is p = refl
+gate_of open_gate (Run faults.Memory) is p = refl
+gate_of open_gate (Run faults.TooMany) is p = absurd p
+gate_of open_gate (Run (faults.Pool fault)) is p = p is
+
+pub gate_ends : (open_gate : Bool) (told : Result Totals Fault) (result : Result (Unit {0}) Fault) → Ends told result →
+    IfErr told (IsStopFault open_gate) → open_gate ≡ true → IfErr result (λ fault. tells_shut_gate fault ≡ false)
+gate_ends open_gate = at_end (λ told result. IfErr told (IsStopFault open_gate) → open_gate ≡ true →
+    IfErr result (λ fault. tells_shut_gate fault ≡ false)) (λ totals p is. tt) (λ totals fault p is. refl)
+    (λ totals p is. refl) (λ fault p is. gate_of open_gate fault is p)
+
+not_stopped : (fault : Fault) → ((let r : Result (Unit {0}) Fault = Err fault in IsOfRun r) → ⊥) →
+    (let r : Result Totals Fault = Err fault in IsOfRun r) → ⊥
+not_stopped (Run fault) none run = none tt
+not_stopped (Capture side fault) none run = run
+not_stopped (Write which fault) none run = run
+
+not_run : (told : Result Totals Fault) (result : Result (Unit {0}) Fault) → Ends told result → (¬ IsOfRun result) →
+    ¬ IsOfRun told
+not_run = at_end (λ told result. (¬ IsOfRun result) → ¬ IsOfRun told) (λ totals none run. run)
+    (λ totals fault none run. run) (λ totals none run. run) not_stopped
+
+outside_written : (told : Result Totals Fault) (result : Result (Unit {0}) Fault) → Ends told result →
+    (¬ IsOfRun result) → failed_writings Outside (ended told) ≡ failed_writings Outside result
+outside_written = at_end (λ told result. (¬ IsOfRun result) → failed_writings Outside (ended told)
+    ≡ failed_writings Outside result) (λ totals no. refl) (λ totals fault no. refl) (λ totals no. refl)
+    (λ fault no. refl)
+
+inside_written : (told : Result Totals Fault) (result : Result (Unit {0}) Fault) → Ends told result →
+    (¬ IsOfRun result) → failed_writings Inside (ended told) ≡ failed_writings Inside result
+inside_written = at_end (λ told result. (¬ IsOfRun result) → failed_writings Inside (ended told)
+    ≡ failed_writings Inside result) (λ totals no. refl) (λ totals fault no. refl) (λ totals no. refl)
+    (λ fault no. refl)
+
+settled_ends : (told : Result Totals Fault) (result : Result (Unit {0}) Fault) → Ends told result →
+    IsSettledBy result → IsSettledBy (ended told)
+settled_ends = at_end (λ told result. IsSettledBy result → IsSettledBy (ended told)) (λ totals p. tt)
+    (λ totals fault p. tt) (λ totals p. tt) (λ fault p. p)
+
+-- what reading came to is the same, and so many of its reads failed
+record SameReads (read : Result (Unit {0}) Fault) (result : Result (Unit {0}) Fault) : Type 0 where
+  now : Result (Unit {0}) Fault
+  is : IsReading result now
+  inside_same : failed_readings sides.Inside read ≡ failed_readings sides.Inside now
+  outside_same : failed_readings sides.Outside read ≡ failed_readings sides.Outside now
+
+stopped_reads : (fault : Fault) (read : Result (Unit {0}) Fault) →
+    (let r : Result Totals Fault = Err fault in IsReading r read) → SameReads read (Err fault)
+stopped_reads (Capture side fault) read is = record { now = read; is = is; inside_same = refl; outside_same = refl }
+stopped_reads (Run fault) read is = record { now = read; is = is; inside_same = refl; outside_same = refl }
+stopped_reads (Write Outside fault) read is = record { now = read; is = is; inside_same = refl; outside_same = refl }
+stopped_reads (Write Inside fault) read is = record { now = read; is = is; inside_same = refl; outside_same = refl }
+stopped_reads (Write Report fault) read is = record { now = read; is = is; inside_same = refl; outside_same = refl }
+
+reads_end : (told : Result Totals Fault) (result : Result (Unit {0}) Fault) → Ends told result →
+    (read : Result (Unit {0}) Fault) → IsReading told read → SameReads read result
+reads_end = at_end (λ told result. (read : Result (Unit {0}) Fault) → IsReading told read → SameReads read result)
+    (λ totals read is. record { now = read; is = is; inside_same = refl; outside_same = refl })
+    (λ totals fault read is. record {
+      now = Err (Write Report fault);
+      is = refl;
+      inside_same = ap (failed_readings sides.Inside) is;
+      outside_same = ap (failed_readings sides.Outside) is;
+    })
+    (λ totals read is. record {
+      now = Err (Run faults.Memory);
+      is = refl;
+      inside_same = ap (failed_readings sides.Inside) is;
+      outside_same = ap (failed_readings sides.Outside) is;
+    }) stopped_reads
+
+-- THE DEVICES, BY THEIR VALUES BEFORE AND AFTER
+
+module _ (told : Result Totals Fault) (result : Result (Unit {0}) Fault) (ends : Ends told result) where
+  pub reads_by : {R Q : Type 0} (has : Bool) (of : R → ℕ) (if : Q → ℕ) (old new : R) (other last : Q) →
+      ((¬ IsOfRun told) → HasReadIf has of if old new other last told) → (¬ IsOfRun result) →
+      HasReadIf has of if old new other last result
+  reads_by has of if old new other last reads none =
+      let (read, is, ours, theirs) = reads (not_run told result ends none) in
+      let same = reads_end told result ends read is in (
+        same.now,
+        same.is,
+        ours ∙ ap (λ (n : ℕ). of old + n) same.inside_same,
+        subst (λ (n : ℕ). FailsMore has if other last n) same.outside_same theirs,
+      )
+
+  pub outside_by : (old new : ℕ) → ((¬ IsOfRun told) → new ≡ old + failed_writings Outside (ended told)) →
+      (¬ IsOfRun result) → new ≡ old + failed_writings Outside result
+  outside_by old new fails none = fails (not_run told result ends none)
+      ∙ ap (λ (n : ℕ). old + n) (outside_written told result ends none)
+
+  pub inside_by : (old new : ℕ) → ((¬ IsOfRun told) → new ≡ old + failed_writings Inside (ended told)) →
+      (¬ IsOfRun result) → new ≡ old + failed_writings Inside result
+  inside_by old new fails none = fails (not_run told result ends none)
+      ∙ ap (λ (n : ℕ). old + n) (inside_written told result ends none)
+
+  -- of one of which no call fails
+  pub none_by : ((¬ IsOfRun told) → 0 ≡ 0 + failed_writings Inside (ended told)) → (¬ IsOfRun result) →
+      failed_writings Inside result ≡ 0
+  none_by fails none = let is = inside_by 0 0 fails none in omega (arith, is)
+
+  pub settled_by : {P : Type 0} → (IsSettledBy (ended told) → P) → IsSettledBy result → P
+  settled_by holds settled = holds (settled_ends told result ends settled)
+
+-- THE REPORT
+
+abbrev Written : Totals → Result (Unit {0}) Fault → Option (List ℕ) → Option (List ℕ) → Type 0
+Written totals result old new = (outcomes : List Outcome) → AreCountsOf outcomes totals.counts →
+    GetsReport (report_of totals.cuts.inside totals.cuts.outside outcomes totals.passed.bindings.items) result old new
+
+text_told : (rules : Rules) (totals : Totals) (inputs : List Arrival) →
+    totals.passed.bindings.items ≡ (ran rules inputs).bindings →
+    report_of totals.cuts.inside totals.cuts.outside (ran rules inputs).outcomes totals.passed.bindings.items
+    ≡ report_text totals.cuts.inside totals.cuts.outside (ran rules inputs)
+unfolding report_text
+text_told rules totals inputs is =
+    ap (λ b. report_of totals.cuts.inside totals.cuts.outside (ran rules inputs).outcomes b) is
+
+all_reported : (rules : Rules) (inside : Option (List ℕ)) (outside : Option (Option (List ℕ))) (old new : Option
+    (List ℕ))
+    (totals : Totals) (result : Result (Unit {0}) Fault) → IsToldOf rules inside outside totals →
+    Written totals result old new → IfHeld inside outside (λ both. ReportsAll rules result both old new)
+all_reported rules inside outside old new totals result told written =
+    IfHeld-map inside outside (λ both all. (
+      told.inputs,
+      totals.cuts.inside,
+      totals.cuts.outside,
+      all,
+      subst (λ t. GetsReport t result old new) (text_told rules totals told.inputs told.bindings)
+          (written (ran rules told.inputs).outcomes told.counts),
+    )) told.all
+
+nothing_reported : (rules : Rules) (inside : Option (List ℕ)) (outside : Option (Option (List ℕ)))
+    (old new : Option (List ℕ)) (fault : Fault) → IsStopFault false fault → new ≡ old →
+    Reports rules (Err fault) inside outside old new
+nothing_reported rules inside outside old new (Capture side fault) stop same = IfHeld-all inside outside (λ both. same)
+nothing_reported rules inside outside old new (Run fault) stop same = IfHeld-all inside outside (λ both. same)
+nothing_reported rules inside outside old new (Write Outside fault) stop same = IfHeld-all inside outside (λ both. same)
+nothing_reported rules inside outside old new (Write Inside fault) stop same = IfHeld-all inside outside (λ both. same)
+nothing_reported rules inside outside old new (Write Report fault) stop same = absurd stop
+
+pub report_ends : (rules : Rules) (inside : Option (List ℕ)) (outside : Option (Option (List ℕ)))
+    (old new : Option (List ℕ)) (told : Result Totals Fault) (result : Result (Unit {0}) Fault) → Ends told result →
+    IfOk told (IsToldOf rules inside outside) → IfErr told (IsStopFault false) → IfErr told (λ _. new ≡ old) →
+    IfOk told (λ totals. Written totals result old new) → Reports rules result inside outside old new
+report_ends rules inside outside old new = at_end (λ told result. IfOk told (IsToldOf rules inside outside) →
+    IfErr told (IsStopFault false) → IfErr told (λ _. new ≡ old) → IfOk told (λ totals. Written totals result old new) →
+    Reports rules result inside outside old new)
+    (λ totals told stop same written. all_reported rules inside outside old new totals (Ok tt) told written)
+    (λ totals fault told stop same written. all_reported rules inside outside old new totals (Err
+    (Write Report fault)) told
+    written)
+    (λ totals told stop same written. IfHeld-all inside outside (λ both. written (ran rules told.inputs).outcomes
+    told.counts))
+    (λ fault told stop same written. nothing_reported rules inside outside old new fault stop same)
+
+-- AND WHAT WAS WRITTEN OF IT
+
+closed_fault : (open_gate : Bool) (fault : Fault) → IsStopFault open_gate fault → IsStopFault false fault
+closed_fault open_gate (Capture side fault) p = tt
+closed_fault open_gate (Write Outside fault) p = tt
+closed_fault open_gate (Write Inside fault) p = tt
+closed_fault open_gate (Write Report fault) p = p
+closed_fault open_gate (Run faults.Memory) p = tt
+closed_fault open_gate (Run faults.TooMany) p = p
+closed_fault open_gate (Run (faults.Pool fault)) p = λ never. absurd (let no : false ≡ true = never in cc)
+
+pub closed : (open_gate : Bool) (told : Result Totals Fault) → IfErr told (IsStopFault open_gate) →
+    IfErr told (IsStopFault false)
+closed open_gate (Ok totals) p = tt
+closed open_gate (Err fault) p = closed_fault open_gate fault p
+
+pub same_contents : {U : Type 0} (contents : U → Option (List ℕ)) (old new : U) (told : Result Totals Fault) →
+    IfErr told (λ _. new ≡ old) → IfErr told (λ _. contents new ≡ contents old)
+same_contents contents old new (Ok totals) p = tt
+same_contents contents old new (Err fault) p = ap contents p
+
+none_written : (fault : Fault) → IsStopFault false fault →
+    (let r : Result (Unit {0}) Fault = Err fault in failed_writings Report r ≡ 0)
+none_written (Capture side fault) p = refl
+none_written (Write Outside fault) p = refl
+none_written (Write Inside fault) p = refl
+none_written (Write Report fault) p = absurd p
+none_written (Run fault) p = refl
+
+pub written_all : (told : Result Totals Fault) (written result : Result (Unit {0}) Fault) (old new : Option (List ℕ)) →
+    result ≡ result_and told written → IfOk told (λ totals. Written totals written old new) →
+    IfOk told (λ totals. Written totals result old new)
+written_all (Ok totals) written result old new is made = subst (λ r. Written totals r old new) (sym is) made
+written_all (Err fault) written result old new is made = tt
+
+pub written_fails : (told : Result Totals Fault) (written result : Result (Unit {0}) Fault) →
+    result ≡ result_and told written → IfErr told (λ _. written ≡ Ok tt) → IfErr told (IsStopFault false) →
+    failed_writings Report written ≡ failed_writings Report result
+written_fails (Ok totals) written result is nothing stop = ap (failed_writings Report) (sym is)
+written_fails (Err fault) written result is nothing stop =
+    ap (failed_writings Report) nothing ∙ sym (none_written fault stop) ∙ ap (failed_writings Report) (sym is)
+
+pub written_flushed : (P : Type 0) (told : Result Totals Fault) (written result : Result (Unit {0}) Fault) →
+    result ≡ result_and told written → OnOk told (OnOk written P) → OnOk result P
+written_flushed P (Ok totals) written result is flushed = subst (λ r. OnOk r P) (sym is) flushed
+written_flushed P (Err fault) written result is flushed = subst (λ r. OnOk r P) (sym is) tt
+
+-- and where there is none
+pub none_told : (told : Result Totals Fault) →
+    IfErr told (λ _. let none : Result (Unit {0}) Fault = Ok tt in none ≡ Ok tt)
+none_told (Ok totals) = tt
+none_told (Err fault) = refl
+
+pub none_flushed : (result : Result (Unit {0}) Fault) → OnOk result (Unit {0})
+none_flushed (Ok done) = tt
+none_flushed (Err fault) = tt

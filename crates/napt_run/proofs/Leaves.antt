@@ -1,0 +1,80 @@
+-- What leaving does to the outputs.
+use Rattle.std.proofs.Common.{◌≡◌, ℕ, ◌-◌, ◌^◌, ◌<◌, List, [], ◌∷◌, ◌++◌, length, Option, Result, Ok, Err, IfErr, OnOk, false, sym, subst, arith, append-nil, length-append}
+use Rattle.std.specs.Prelude.{MatchResult}
+use Rattle.std.proofs.lemmas.List.Elements.{All-head}
+use Rattle.napt_capture.specs.Text.{entry_of_packet, record_text}
+use Rattle.napt_capture.specs.declared.fault.WriteFault.{WriteFault}
+use Rattle.napt_rules.specs.declared.Outcome.{Outcome}
+use Rattle.napt_rules.specs.declared.Outcome.TheVariants.{ToOutside, ToInside}
+use Rattle.napt_records.specs.Counts.{AreCountsOf}
+use Rattle.napt_records.specs.Output.{IsTime}
+use Rattle.napt_records.specs.declared.report.Counts.{Counts}
+use Rattle.napt_records.specs.declared.Which.TheVariants.{Outside, Inside}
+use Rattle.napt_run.specs.Outputs.{Grows, Breaks}
+use Rattle.napt_run.specs.Leaving.{AreTimes, Takes, Fails, named}
+use Rattle.napt_run.specs.LeavingLaws.{grows_none}
+use Rattle.napt_run.specs.declared.output.Output.{Output}
+use Rattle.napt_run.specs.declared.leaving.Leaving.{Leaving}
+
+time_of_one : (time : ℕ) (outcome : Outcome) → AreTimes ((time, outcome) ∷ []) → IsTime time
+time_of_one time outcome all = All-head (λ timed. IsTime timed.0) (time, outcome) [] all
+
+-- one outcome more was counted
+abbrev Counted : Counts → Outcome → Counts → Type 0
+Counted old outcome new = (outcomes : List Outcome) → length outcomes < 2 ^ 64 - 1 → AreCountsOf outcomes old →
+    AreCountsOf (outcomes ++ outcome ∷ []) new
+
+fewer : (outcomes : List Outcome) (outcome : Outcome) → length (outcomes ++ outcome ∷ []) < 2 ^ 64 →
+    length outcomes < 2 ^ 64 - 1
+fewer outcomes outcome few = omega (arith, few, length-append outcomes (outcome ∷ []))
+
+-- of a record that is the only one, or of a front of it
+module _ {W : Type 0} (contents : W → Option (List ℕ)) (failed : W → ℕ) {g : _} (old new : Output W g) where
+  grows_one : (text : List ℕ) → Grows contents failed old text new → Grows contents failed old (text ++ []) new
+  grows_one text p = subst (λ (l : List ℕ). Grows contents failed old l new) (sym (append-nil text)) p
+
+  breaks_one : (text : List ℕ) (fault : WriteFault) → Breaks contents failed old text fault new →
+      Breaks contents failed old (text ++ []) fault new
+  breaks_one text fault p = subst (λ (l : List ℕ). Breaks contents failed old l fault new) (sym (append-nil text)) p
+
+module _ {W V : Type 0} (oc : W → Option (List ℕ)) (of : W → ℕ) (ic : V → Option (List ℕ)) (if : V → ℕ) {g h : _}
+    (time : ℕ) (packet : List ℕ) (old : Leaving W V g h) where
+  -- a packet to the outside
+  pub leaves_outside : (output : Output W g) (counts : Counts) (r : Result (Unit {0}) WriteFault) →
+      (IsTime time → OnOk r (Grows oc of old.to_outside (record_text (entry_of_packet time packet)) output)) →
+      (IsTime time → IfErr r (λ fault. old.to_outside.is_broken ≡ false →
+      Breaks oc of old.to_outside (record_text (entry_of_packet time packet)) fault output)) →
+      Counted old.counts (ToOutside packet) counts →
+      MatchResult (named Outside r) (λ _. Takes oc of ic if old ((time, ToOutside packet) ∷ [])
+      (record old { to_outside = output; counts = counts }))
+      (λ fault. Fails oc of ic if old ((time, ToOutside packet) ∷ []) fault
+      (record old { to_outside = output; counts = counts }))
+  leaves_outside output counts (Ok done) ok err counted = record {
+    to_outside = λ times. grows_one oc of old.to_outside output _ (ok (time_of_one time (ToOutside packet) times));
+    to_inside = λ times. grows_none ic if old.to_inside;
+    counts = λ outcomes few are. counted outcomes (fewer outcomes (ToOutside packet) few) are;
+  }
+  leaves_outside output counts (Err fault) ok err counted = λ sound times. (
+    breaks_one oc of old.to_outside output _ fault (err (time_of_one time (ToOutside packet) times) sound.0),
+    grows_none ic if old.to_inside,
+  )
+
+  -- a packet to the inside
+  pub leaves_inside : (output : Output V h) (counts : Counts) (r : Result (Unit {0}) WriteFault) →
+      (IsTime time → OnOk r (Grows ic if old.to_inside (record_text (entry_of_packet time packet)) output)) →
+      (IsTime time → IfErr r (λ fault. old.to_inside.is_broken ≡ false →
+      Breaks ic if old.to_inside (record_text (entry_of_packet time packet)) fault output)) →
+      Counted old.counts (ToInside packet) counts →
+      MatchResult (named Inside r) (λ _. Takes oc of ic if old ((time, ToInside packet) ∷ [])
+      (record old { to_inside = output; counts = counts }))
+      (λ fault. Fails oc of ic if old ((time, ToInside packet) ∷ []) fault
+      (record old { to_inside = output; counts = counts }))
+  leaves_inside output counts (Ok done) ok err counted = record {
+    to_outside = λ times. grows_none oc of old.to_outside;
+    to_inside = λ times. grows_one ic if old.to_inside output _ (ok (time_of_one time (ToInside packet) times));
+    counts = λ outcomes few are. counted outcomes (fewer outcomes (ToInside packet) few) are;
+  }
+  leaves_inside output counts (Err fault) ok err counted = λ sound times. (
+    grows_none oc of old.to_outside,
+    breaks_one ic if old.to_inside output _ fault (err (time_of_one time (ToInside packet) times) sound.1),
+  )

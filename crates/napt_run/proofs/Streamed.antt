@@ -1,0 +1,301 @@
+-- What a run leaves on the devices of its outputs.
+use Rattle.std.proofs.Common.{◌≡◌, ◌⊎◌, inl, inr, ℕ, ◌+◌, ◌-◌, ◌^◌, ◌≤◌, min, Bool, List, length, take, Option, Some, None, Result, Ok, Err, IfErr, IfOk, sym, ◌∙◌, ap, subst, arith, add-zero}
+use Rattle.std.specs.Io.KnownBytes.{Appends}
+use Rattle.napt_wire.specs.declared.Side.{Side}
+use Rattle.napt_wire.specs.declared.Side.TheVariants as sides
+use Rattle.napt_capture.specs.Text.{file_header}
+use Rattle.napt_capture.specs.declared.fault.WriteFault.{WriteFault}
+use Rattle.napt_config.specs.Rules.{Rules}
+use Rattle.napt_records.specs.UntilFault.{Both}
+use Rattle.napt_records.specs.declared.Fault.{Fault}
+use Rattle.napt_records.specs.declared.Fault.TheVariants.{Capture, Run, Write}
+use Rattle.napt_records.specs.declared.Which.{Which}
+use Rattle.napt_records.specs.declared.Which.TheVariants.{Outside, Inside, Report}
+use Rattle.napt_rules.specs.Prelude.{Arrival}
+use Rattle.napt_run.specs.Captures.{failed_writings}
+use Rattle.napt_sequential.specs.declared.fault.RunFault.TheVariants as faults
+use Rattle.napt_run.specs.Outputs.{Breaks, Grows}
+use Rattle.napt_run.specs.Runs.{FailsOutside, IfHeld, IsToldOf, RunsTo, text_behind}
+use Rattle.napt_run.specs.Streams.{Explains, IsOfRun, IsSettledBy, IsStopFault, Streams, capture_text, ended}
+use Rattle.napt_run.specs.declared.leaving.Leaving.{Leaving}
+use Rattle.napt_run.specs.declared.output.Output.{Output}
+use Rattle.napt_run.specs.declared.passing.Totals.{Totals}
+use Rattle.napt_run.proofs.Behind.{IfHeld-by}
+use Rattle.napt_run.proofs.Fronts.{capture_is}
+
+pub IfHeld-map : {P Q : Both → Type 0} (inside : Option (List ℕ)) (outside : Option (Option (List ℕ))) →
+    ((both : Both) → P both → Q both) → IfHeld inside outside P → IfHeld inside outside Q
+IfHeld-map None outside more p = tt
+IfHeld-map (Some bytes) None more p = tt
+IfHeld-map (Some bytes) (Some others) more p = λ both held. more both (p both held)
+
+pub IfHeld-all : {P : Both → Type 0} (inside : Option (List ℕ)) (outside : Option (Option (List ℕ))) →
+    ((both : Both) → P both) → IfHeld inside outside P
+IfHeld-all inside outside all = IfHeld-by inside outside (λ b o both is same held. all both)
+
+-- OF ONE OUTPUT
+
+-- its text
+grown_text : (rules : Rules) (side : Side) (inputs : List Arrival) (old new : Option (List ℕ)) →
+    Appends old new (text_behind file_header rules side inputs) → Appends old new (capture_text rules side inputs)
+grown_text rules side inputs old new grown =
+    subst (λ (l : List ℕ). Appends old new l) (capture_is rules side inputs) grown
+
+-- or a front of it
+broken_text : {W : Type 0} (contents : W → Option (List ℕ)) (failed : W → ℕ) {g : _} (rules : Rules) (side : Side)
+    (inputs : List Arrival) (old new : Output W g) (fault : WriteFault) → old.written ≡ 0 →
+    Breaks contents failed old (text_behind file_header rules side inputs) fault new →
+    (count : ℕ) × (fault.written ≡ min count (2 ^ 64 - 1))
+    × (count ≤ length (capture_text rules side inputs))
+    × Appends (contents old.device.now) (contents new.device.now) (take count (capture_text rules side inputs))
+broken_text contents failed rules side inputs old new fault none p = (
+  p.count,
+  omega (arith, p.counted 0 (omega (arith, none))),
+  subst (λ (l : List ℕ). p.count ≤ length l) (capture_is rules side inputs) p.within,
+  subst (λ (l : List ℕ). Appends (contents old.device.now) (contents new.device.now) (take p.count l))
+      (capture_is rules side inputs) p.appended,
+)
+
+-- the device is the same, and so many more of its calls failed
+pub record Counted {W : Type 0} (failed : W → ℕ) {g : _} (old new : Output W g) (more : ℕ) : Type 0 where
+  pub same : new.device.ghost_name ≡ old.device.ghost_name
+  pub count : failed new.device.now ≡ failed old.device.now + more
+
+none_counted : {W : Type 0} (contents : W → Option (List ℕ)) (failed : W → ℕ) {g : _} (old new : Output W g)
+    (text : List ℕ) → Grows contents failed old text new → Counted failed old new 0
+none_counted contents failed old new text p =
+    record { same = p.same; count = p.kept ∙ sym (add-zero (failed old.device.now)) }
+
+one_counted : {W : Type 0} (contents : W → Option (List ℕ)) (failed : W → ℕ) {g : _} (old new : Output W g)
+    (text : List ℕ) (fault : WriteFault) → Breaks contents failed old text fault new → Counted failed old new 1
+one_counted contents failed old new text fault p = record { same = p.same; count = p.failed_once }
+
+module _ {W V : Type 0} {g h : _} (open_gate : Bool) (rules : Rules)
+    (oc : W → Option (List ℕ)) (of : W → ℕ) (outside_flushed : W → Type 0)
+    (ic : V → Option (List ℕ)) (if : V → ℕ) (inside_flushed : V → Type 0)
+    (inside : Option (List ℕ)) (outside : Option (Option (List ℕ)))
+    (old new : Leaving W V g h) where
+  abbrev To : Result Totals Fault → Type 0
+  To result = RunsTo open_gate rules oc of outside_flushed ic if inside_flushed inside outside file_header old new
+      result
+
+  -- THE FAULT, AND THE REPORT
+
+  pub explains : (result : Result Totals Fault) → To result → IfErr result (Explains inside outside)
+  explains (Ok totals) p = tt
+  explains (Err (Capture side fault)) p = p.is_fault
+  explains (Err (Write which fault)) p = IfHeld-all inside outside (λ both. tt)
+  explains (Err (Run faults.TooMany)) p = absurd p
+  explains (Err (Run faults.Memory)) p = IfHeld-all inside outside (λ both. tt)
+  explains (Err (Run (faults.Pool fault))) p = IfHeld-all inside outside (λ both. tt)
+
+  pub stops : (result : Result Totals Fault) → To result → IfErr result (IsStopFault open_gate)
+  stops (Ok totals) p = tt
+  stops (Err (Capture side fault)) p = tt
+  stops (Err (Write Outside fault)) p = tt
+  stops (Err (Write Inside fault)) p = tt
+  stops (Err (Write Report fault)) p = p
+  stops (Err (Run fault)) p = p
+
+  pub tells : (result : Result Totals Fault) → To result → IfOk result (IsToldOf rules inside outside)
+  tells (Ok totals) p = record { inputs = p.inputs; all = p.all; counts = p.counts; bindings = p.bindings }
+  tells (Err fault) p = tt
+
+-- WHAT AN OUTPUT GOT
+
+-- by what it was before and after
+record At {D : Type 0} {g : _} (rules : Rules) (which : Which) (contents : D → Option (List ℕ)) (failed : D → ℕ)
+    (flushed : D → Type 0) (inside : Option (List ℕ)) (outside : Option (Option (List ℕ)))
+    (result : Result Totals Fault) (old new : Output D g) : Type 0 where
+  gets : Streams rules which (ended result) inside outside (contents old.device.now) (contents new.device.now)
+  counted : Counted failed old new (failed_writings which (ended result))
+  settled : IsSettledBy (ended result) → flushed new.device.now
+
+module _ {W V : Type 0} {g h : _} (open_gate : Bool) (rules : Rules)
+    (oc : W → Option (List ℕ)) (of : W → ℕ) (outside_flushed : W → Type 0)
+    (ic : V → Option (List ℕ)) (if : V → ℕ) (inside_flushed : V → Type 0)
+    (inside : Option (List ℕ)) (outside : Option (Option (List ℕ)))
+    (old new : Leaving W V g h) where
+  abbrev IsAtOutside : Result Totals Fault → Type 0
+  IsAtOutside result = At rules Outside oc of outside_flushed inside outside result old.to_outside new.to_outside
+
+  abbrev IsAtInside : Result Totals Fault → Type 0
+  IsAtInside result = At rules Inside ic if inside_flushed inside outside result old.to_inside new.to_inside
+
+  abbrev Runs : Result Totals Fault → Type 0
+  Runs result = RunsTo open_gate rules oc of outside_flushed ic if inside_flushed inside outside file_header old new
+      result
+
+  at_outside : old.to_outside.written ≡ 0 → (result : Result Totals Fault) → Runs result → (¬ IsOfRun result) →
+      IsAtOutside result
+  at_outside none (Ok totals) p not_run = record {
+    gets = IfHeld-map inside outside (λ both all. (
+      p.inputs,
+      totals.cuts.inside,
+      totals.cuts.outside,
+      all,
+      grown_text rules sides.Outside p.inputs _ _ p.wrote.to_outside.appended,
+    )) p.all;
+    counted = none_counted oc of _ _ _ p.wrote.to_outside;
+    settled = λ settled. p.wrote.settled.0;
+  }
+  at_outside none (Err (Capture side fault)) p not_run = record {
+    gets = IfHeld-map inside outside (λ both taken. (
+      p.inputs,
+      taken,
+      grown_text rules sides.Outside p.inputs _ _ p.wrote.to_outside.appended,
+    )) p.taken;
+    counted = none_counted oc of _ _ _ p.wrote.to_outside;
+    settled = λ settled. p.wrote.settled.0;
+  }
+  at_outside none (Err (Write Outside fault)) p not_run = record {
+    gets = IfHeld-map inside outside (λ both front. (
+      p.inputs,
+      front,
+      broken_text oc of rules sides.Outside p.inputs old.to_outside new.to_outside fault none p.broke,
+    ))
+        p.front_of_all;
+    counted = one_counted oc of _ _ _ fault p.broke;
+    settled = λ settled. absurd settled;
+  }
+  at_outside none (Err (Write Inside fault)) p not_run = record {
+    gets = IfHeld-map inside outside (λ both front. (
+      p.inputs,
+      front,
+      grown_text rules sides.Outside p.inputs _ _ p.wrote.appended,
+    )) p.front_of_all;
+    counted = none_counted oc of _ _ _ p.wrote;
+    settled = λ settled. absurd settled;
+  }
+  at_outside none (Err (Write Report fault)) p not_run = absurd p
+  at_outside none (Err (Run fault)) p not_run = absurd (not_run tt)
+
+  -- where the output to the outside failed, the one to the inside may not be begun
+  kept : (fault : WriteFault) (p : FailsOutside open_gate rules oc of outside_flushed ic if inside_flushed inside
+      outside file_header old new fault) →
+      Grows ic if old.to_inside (text_behind file_header rules sides.Inside p.before) new.to_inside
+      ⊎ ((fault.written ≤ length file_header) × (new.to_inside ≡ old.to_inside)) →
+      IsAtInside (Err (Write Outside fault))
+  kept fault p (inl grown) = record {
+    gets = IfHeld-map inside outside (λ both front. inl (
+      p.before,
+      front,
+      grown_text rules sides.Inside p.before _ _ grown.appended,
+    )) p.front_before;
+    counted = none_counted ic if _ _ _ grown;
+    settled = λ settled. absurd settled;
+  }
+  kept fault p (inr (short, same)) = record {
+    gets = IfHeld-all inside outside (λ both. inr (short, ap (λ (o : Output V h). ic o.device.now) same));
+    counted = record {
+      same = ap (λ (o : Output V h). o.device.ghost_name) same;
+      count = ap (λ (o : Output V h). if o.device.now) same ∙ sym (add-zero (if old.to_inside.device.now));
+    };
+    settled = λ settled. absurd settled;
+  }
+
+  at_inside : old.to_inside.written ≡ 0 → (result : Result Totals Fault) → Runs result → (¬ IsOfRun result) →
+      IsAtInside result
+  at_inside none (Ok totals) p not_run = record {
+    gets = IfHeld-map inside outside (λ both all. (
+      p.inputs,
+      totals.cuts.inside,
+      totals.cuts.outside,
+      all,
+      grown_text rules sides.Inside p.inputs _ _ p.wrote.to_inside.appended,
+    )) p.all;
+    counted = none_counted ic if _ _ _ p.wrote.to_inside;
+    settled = λ settled. p.wrote.settled.1;
+  }
+  at_inside none (Err (Capture side fault)) p not_run = record {
+    gets = IfHeld-map inside outside (λ both taken. (
+      p.inputs,
+      taken,
+      grown_text rules sides.Inside p.inputs _ _ p.wrote.to_inside.appended,
+    )) p.taken;
+    counted = none_counted ic if _ _ _ p.wrote.to_inside;
+    settled = λ settled. p.wrote.settled.1;
+  }
+  at_inside none (Err (Write Outside fault)) p not_run = kept fault p p.kept
+  at_inside none (Err (Write Inside fault)) p not_run = record {
+    gets = IfHeld-map inside outside (λ both front. (
+      p.inputs,
+      front,
+      broken_text ic if rules sides.Inside p.inputs old.to_inside new.to_inside fault none p.broke,
+    )) p.front_of_all;
+    counted = one_counted ic if _ _ _ fault p.broke;
+    settled = λ settled. absurd settled;
+  }
+  at_inside none (Err (Write Report fault)) p not_run = absurd p
+  at_inside none (Err (Run fault)) p not_run = absurd (not_run tt)
+
+-- WHERE THE DEVICES ARE LEFT
+
+run_or_not : (result : Result Totals Fault) → IsOfRun result ⊎ (¬ IsOfRun result)
+run_or_not (Ok totals) = inr (λ r. r)
+run_or_not (Err (Capture side fault)) = inr (λ r. r)
+run_or_not (Err (Write which fault)) = inr (λ r. r)
+run_or_not (Err (Run fault)) = inl tt
+
+settled_not_run : (result : Result Totals Fault) → IsSettledBy (ended result) → ¬ IsOfRun result
+settled_not_run (Ok totals) settled = λ r. r
+settled_not_run (Err (Capture side fault)) settled = λ r. r
+settled_not_run (Err (Write which fault)) settled = λ r. r
+settled_not_run (Err (Run fault)) settled = absurd settled
+
+run_gets : (rules : Rules) (which : Which) (result : Result Totals Fault) (inside : Option (List ℕ))
+    (outside : Option (Option (List ℕ))) (old new : Option (List ℕ)) → IsOfRun result →
+    Streams rules which (ended result) inside outside old new
+run_gets rules which (Ok totals) inside outside old new run = absurd run
+run_gets rules which (Err (Capture side fault)) inside outside old new run = absurd run
+run_gets rules which (Err (Write other fault)) inside outside old new run = absurd run
+run_gets rules which (Err (Run fault)) inside outside old new run = IfHeld-all inside outside (λ both. tt)
+
+-- what a device got, by its values before and after
+pub record Done {D : Type 0} (rules : Rules) (which : Which) (contents : D → Option (List ℕ)) (failed : D → ℕ)
+    (flushed : D → Type 0) (inside : Option (List ℕ)) (outside : Option (Option (List ℕ)))
+    (result : Result Totals Fault) (old new : D) : Type 0 where
+  pub gets : Streams rules which (ended result) inside outside (contents old) (contents new)
+  pub count : (¬ IsOfRun result) → failed new ≡ failed old + failed_writings which (ended result)
+  pub settled : IsSettledBy (ended result) → flushed new
+
+-- the device of an output, which is left as the output leaves it
+done : {D : Type 0} {g : _} (rules : Rules) (which : Which) (contents : D → Option (List ℕ)) (failed : D → ℕ)
+    (flushed : D → Type 0) (inside : Option (List ℕ)) (outside : Option (Option (List ℕ)))
+    (result : Result Totals Fault) (old new : Output D g) →
+    ((¬ IsOfRun result) → At rules which contents failed flushed inside outside result old new) → (start last : D) →
+    old.device.now ≡ start →
+    ((¬ IsOfRun result) → new.device.ghost_name ≡ old.device.ghost_name → last ≡ new.device.now) →
+    Done rules which contents failed flushed inside outside result start last
+done rules which contents failed flushed inside outside result old new is start last from at =
+    let left : (¬ IsOfRun result) → last ≡ new.device.now = λ not_run. at not_run (is not_run).counted.same in
+    record {
+      gets = elim (run_or_not result) [
+        | inl run ↦ run_gets rules which result inside outside (contents start) (contents last) run
+        | inr not_run ↦ rw (left not_run, sym from) (is not_run).gets
+      ];
+      count = λ not_run. rw (left not_run, sym from) (is not_run).counted.count;
+      settled = λ settled. let not_run = settled_not_run result settled in
+          rw (left not_run) ((is not_run).settled settled);
+    }
+
+module _ {W V : Type 0} {g h : _} (open_gate : Bool) (rules : Rules)
+    (oc : W → Option (List ℕ)) (of : W → ℕ) (outside_flushed : W → Type 0)
+    (ic : V → Option (List ℕ)) (if : V → ℕ) (inside_flushed : V → Type 0)
+    (inside : Option (List ℕ)) (outside : Option (Option (List ℕ)))
+    (old new : Leaving W V g h) (result : Result Totals Fault)
+    (runs : RunsTo open_gate rules oc of outside_flushed ic if inside_flushed inside outside file_header old new
+    result) where
+  pub outside_done : old.to_outside.written ≡ 0 → (start last : W) → old.to_outside.device.now ≡ start →
+      ((¬ IsOfRun result) → new.to_outside.device.ghost_name ≡ old.to_outside.device.ghost_name →
+      last ≡ new.to_outside.device.now) →
+      Done rules Outside oc of outside_flushed inside outside result start last
+  outside_done none = done rules Outside oc of outside_flushed inside outside result old.to_outside new.to_outside
+      (at_outside open_gate rules oc of outside_flushed ic if inside_flushed inside outside old new none result runs)
+
+  pub inside_done : old.to_inside.written ≡ 0 → (start last : V) → old.to_inside.device.now ≡ start →
+      ((¬ IsOfRun result) → new.to_inside.device.ghost_name ≡ old.to_inside.device.ghost_name →
+      last ≡ new.to_inside.device.now) →
+      Done rules Inside ic if inside_flushed inside outside result start last
+  inside_done none = done rules Inside ic if inside_flushed inside outside result old.to_inside new.to_inside
+      (at_inside open_gate rules oc of outside_flushed ic if inside_flushed inside outside old new none result runs)

@@ -1,0 +1,22 @@
+-- What a run that ends well writes over captures that come is what it writes over captures that are read whole.
+use Rattle.std.specs.Prelude.{◌≡◌, ℕ, List, Option, Some, Ok}
+use Rattle.napt_config.specs.Rules.{Rules}
+use Rattle.napt_records.specs.declared.Which.TheVariants.{Outside, Inside, Report}
+use Rattle.napt_run.specs.Captures.{Gets, whole}
+use Rattle.napt_run.specs.Streams.{Streams, Reports}
+
+-- what `run_captures` promises of an output, and what `run_streams` does, over the same bytes
+abbrev pub OutputsAreTheSame : Type 0
+OutputsAreTheSame = (rules : Rules) (inside : List ℕ) (outside : Option (List ℕ)) (done : Unit {0}) (old : List ℕ)
+    (new other : Option (List ℕ)) →
+    (Gets rules Outside whole (Some inside) (Some outside) (Some old) new →
+    Streams rules Outside (Ok done) (Some inside) (Some outside) (Some old) other → other ≡ new)
+    × (Gets rules Inside whole (Some inside) (Some outside) (Some old) new →
+    Streams rules Inside (Ok done) (Some inside) (Some outside) (Some old) other → other ≡ new)
+
+-- and of the report
+abbrev pub ReportsAreTheSame : Type 0
+ReportsAreTheSame = (rules : Rules) (inside : List ℕ) (outside : Option (List ℕ)) (done : Unit {0}) (old : List ℕ)
+    (new other : Option (List ℕ)) →
+    Gets rules Report whole (Some inside) (Some outside) (Some old) new →
+    Reports rules (Ok done) (Some inside) (Some outside) (Some old) other → other ≡ new

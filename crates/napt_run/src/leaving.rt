@@ -1,0 +1,144 @@
+//! What a run writes as it goes.
+ghost use Rattle.std.specs.Prelude.{◌≡◌, ◌^◌, ◌<◌, length};
+ghost use Rattle.napt_run.specs.Leaving.{named};
+
+use crate::output::Output;
+use napt_capture::{Sink, WriteFault};
+use napt_dispatch::Departures;
+use napt_records::{Counts, Fault, Which};
+use napt_rules::Outcome;
+use napt_wire::Packet;
+
+/// The captures that a run writes as it goes, and the counts for its report.
+#[derive(Drop)]
+pub(crate) struct Leaving<'a, 'b, W: Sink, V: Sink> {
+    pub(crate) to_outside: Output<'a, W>,
+    pub(crate) to_inside: Output<'b, V>,
+    pub(crate) counts: Counts,
+}
+
+/// Writing an output failed.
+#[derive(Clone, Copy, Drop)]
+pub(crate) struct OutputFault {
+    pub(crate) which: Which,
+    pub(crate) fault: WriteFault,
+}
+
+/// An output's answer, with its name beside the fault.
+fn named(which: Which, answer: Result<(), WriteFault>) -> Result<(), OutputFault>
+    ensures { result ≡ named which answer }
+{
+    match answer {
+        Ok(()) => Ok(()),
+        Err(fault) => Err(OutputFault { which, fault }),
+    }
+}
+
+/// The bytes of a packet, of which there are fewer than 65,536.
+fn bytes_of(packet: &Packet) -> &[u8]
+    ensures value { result.now ≡ packet.now }
+    ensures short { length result.now < 2 ^ 16 }
+{
+    let bytes = packet.bytes();
+    bytes
+}
+
+/// The vector of an outcome's packet, to be used again once it is written.
+fn vector_of(outcome: Outcome) -> Option<Vec<u8>> {
+    match outcome {
+        Outcome::ToOutside(packet) | Outcome::ToInside(packet) => Some(packet.into_bytes()),
+        Outcome::Dropped(_) => None,
+    }
+}
+
+impl<'a, 'b, W: Sink, V: Sink> Leaving<'a, 'b, W, V> {
+    ghost use Rattle.std.specs.Prelude.{◌∷◌, [], IfErr, MatchResult, OnOk};
+    ghost use Rattle.napt_records.specs.Counts.{AreCountsOf};
+    ghost use Rattle.napt_run.specs.Leaving.{AreSound, Begins, Fails, FailsToBegin, IsSettled, Takes};
+
+    /// Over these outputs, before anything is written.
+    pub(crate) fn into(to_outside: Output<'a, W>, to_inside: Output<'b, V>) -> Leaving<'a, 'b, W, V>
+        ensures to_outside { result.to_outside ≡ to_outside.entry }
+        ensures to_inside { result.to_inside ≡ to_inside.entry }
+        ensures counts { AreCountsOf [] result.counts }
+    {
+        Leaving {
+            to_outside,
+            to_inside,
+            counts: Counts::new(),
+        }
+    }
+
+    /// Writes and flushes the headers, so that a reader finds captures without packets.
+    pub(crate) fn begin(&mut self) -> Result<(), Fault>
+        ensures ok { OnOk result
+            (Begins W.contents W.failed V.contents V.failed self.old self.new) }
+        ensures settled { OnOk result (IsSettled W.is_flushed V.is_flushed self.new) }
+        ensures err { AreSound self.old →
+            IfErr result (λ fault. FailsToBegin W.contents W.failed V.contents V.failed
+            self.old fault self.new) }
+    {
+        if let Err(fault) = self.to_outside.start() {
+            return Err(Fault::Write(Which::Outside, fault));
+        }
+        match self.to_inside.start() {
+            Ok(()) => Ok(()),
+            Err(fault) => Err(Fault::Write(Which::Inside, fault)),
+        }
+    }
+
+    /// Counts the outcome of an input, and writes the record of its packet, if there is one, with its arrival time in ns.
+    fn write(&mut self, time: u64, outcome: &Outcome) -> Result<(), OutputFault>
+        ensures { MatchResult result
+            (λ _. Takes W.contents W.failed V.contents V.failed
+            self.old ((time, outcome.now) ∷ []) self.new)
+            (λ fault. Fails W.contents W.failed V.contents V.failed
+            self.old ((time, outcome.now) ∷ []) fault self.new) }
+    {
+        self.counts.count(outcome);
+        match outcome {
+            Outcome::ToOutside(packet) => {
+                named(Which::Outside, self.to_outside.put(time, bytes_of(packet)))
+            }
+            Outcome::ToInside(packet) => {
+                named(Which::Inside, self.to_inside.put(time, bytes_of(packet)))
+            }
+            Outcome::Dropped(_) => Ok(()),
+        }
+    }
+}
+
+impl<W: Sink, V: Sink> Departures for Leaving<'_, '_, W, V> {
+    ghost use Rattle.napt_run.specs.Leaving.{Takes, Fails, IsSettled};
+    ghost use Rattle.napt_run.specs.LeavingLaws.{takes_none, takes_more};
+
+    type Fault = OutputFault;
+
+    ghost takes = { λ x all y. Takes W.contents W.failed V.contents V.failed x all y };
+
+    ghost fails = { λ x all fault y. Fails W.contents W.failed V.contents V.failed x all fault y };
+
+    ghost is_settled = { λ x. IsSettled W.is_flushed V.is_flushed x };
+
+    fn leave(&mut self, time: u64, outcome: Outcome) -> Result<Option<Vec<u8>>, OutputFault> {
+        match self.write(time, &outcome) {
+            Ok(()) => Ok(vector_of(outcome)),
+            Err(fault) => Err(fault),
+        }
+    }
+
+    fn settle(&mut self) -> Result<(), OutputFault> {
+        match self.to_outside.flush() {
+            Ok(()) => named(Which::Inside, self.to_inside.flush()),
+            Err(fault) => Err(OutputFault {
+                which: Which::Outside,
+                fault,
+            }),
+        }
+    }
+
+    ghost takes_none = { λ x. takes_none W.contents W.failed V.contents V.failed x };
+
+    ghost takes_more = { λ x y z first second taken then.
+        takes_more W.contents W.failed V.contents V.failed x y z first second taken then };
+}

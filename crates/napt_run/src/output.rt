@@ -1,0 +1,127 @@
+//! A capture that is written record by record.
+ghost use Rattle.std.specs.Prelude.{◌≡◌, ◌+◌, ◌-◌, min, ◌^◌, ◌≤◌, ◌<◌, [], length, OnOk, IfErr, IfOk, false};
+ghost use Rattle.napt_capture.specs.Device.{failed_calls};
+ghost use Rattle.napt_capture.specs.Text.{entry_of_packet, file_header, record_text};
+
+use napt_capture::{Sink, WriteFault, Written};
+
+/// The latest time, in ns, that a record can hold.
+const LATEST: u64 = 4_294_967_295_999_999_999;
+
+/// A capture that is written record by record.
+#[derive(Drop)]
+pub(crate) struct Output<'a, W: Sink> {
+    pub(crate) device: &'a mut W,
+    /// How many bytes were written. It saturates.
+    pub(crate) written: u64,
+    /// Whether a write or a flush failed; nothing is written from then on.
+    pub(crate) is_broken: bool,
+    ghost can_fail: { is_broken ≡ false → W.failed device.now < 2 ^ 64 - 1 },
+}
+
+impl<'a, W: Sink> Output<'a, W> {
+    ghost use Rattle.napt_records.specs.Output.{IsTime};
+    ghost use Rattle.napt_run.specs.Outputs.{Grows, Breaks};
+
+    /// Over a device, before anything of the capture is written.
+    pub(crate) fn over(device: &'a mut W) -> Output<'a, W>
+        requires { W.failed device.old < 2 ^ 64 - 1 }
+        ensures same_reference { result.device.ghost_name ≡ device.entry.ghost_name }
+        ensures device { result.device.now ≡ device.old }
+        ensures written { result.written ≡ 0 }
+        ensures sound { result.is_broken ≡ false }
+    {
+        Output {
+            device,
+            written: 0,
+            is_broken: false,
+        }
+    }
+
+    /// Writes the header of the capture.
+    fn begin(&mut self) -> Result<(), WriteFault>
+        ensures ok { OnOk result (Grows W.contents W.failed self.old file_header self.new) }
+        ensures err { IfErr result (λ fault. self.old.is_broken ≡ false →
+            Breaks W.contents W.failed self.old file_header fault self.new) }
+    {
+        let before = self.written;
+        if self.is_broken {
+            return Err(WriteFault { written: before });
+        }
+        match Written::begin(self.device) {
+            Ok(written) => {
+                self.written = before.saturating_add(written.bytes());
+                Ok(())
+            }
+            Err(fault) => {
+                self.is_broken = true;
+                Err(behind(before, fault))
+            }
+        }
+    }
+
+    /// Writes the header, and flushes it.
+    pub(crate) fn start(&mut self) -> Result<(), WriteFault>
+        ensures ok { OnOk result (Grows W.contents W.failed self.old file_header self.new) }
+        ensures flushed { OnOk result (W.is_flushed self.new.device.now) }
+        ensures err { IfErr result (λ fault. self.old.is_broken ≡ false →
+            Breaks W.contents W.failed self.old file_header fault self.new) }
+    {
+        self.begin()?;
+        self.flush()
+    }
+
+    /// Writes the record of a packet, with its arrival time in ns.
+    pub(crate) fn put(&mut self, time: u64, bytes: &[u8]) -> Result<(), WriteFault>
+        requires { length bytes.now < 2 ^ 16 }
+        ensures ok { IsTime time → OnOk result (Grows W.contents W.failed self.old
+            (record_text (entry_of_packet time bytes.now)) self.new) }
+        ensures err { IsTime time → IfErr result (λ fault. self.old.is_broken ≡ false →
+            Breaks W.contents W.failed self.old (record_text (entry_of_packet time bytes.now))
+            fault self.new) }
+    {
+        let before = self.written;
+        if self.is_broken {
+            return Err(WriteFault { written: before });
+        }
+        match Written::nothing().record(self.device, time.min(LATEST), bytes) {
+            Ok(written) => {
+                self.written = before.saturating_add(written.bytes());
+                Ok(())
+            }
+            Err(fault) => {
+                self.is_broken = true;
+                Err(behind(before, fault))
+            }
+        }
+    }
+
+    /// Flushes what was written.
+    pub(crate) fn flush(&mut self) -> Result<(), WriteFault>
+        ensures ok { OnOk result (Grows W.contents W.failed self.old [] self.new) }
+        ensures flushed { OnOk result (W.is_flushed self.new.device.now) }
+        ensures err { IfErr result (λ fault. self.old.is_broken ≡ false →
+            Breaks W.contents W.failed self.old [] fault self.new) }
+    {
+        let written = self.written;
+        if self.is_broken {
+            return Err(WriteFault { written });
+        }
+        match self.device.flush() {
+            Ok(()) => Ok(()),
+            Err(_) => {
+                self.is_broken = true;
+                Err(WriteFault { written })
+            }
+        }
+    }
+}
+
+/// A fault in a part of the capture that follows this many bytes.
+fn behind(before: u64, fault: WriteFault) -> WriteFault
+    ensures { result.written ≡ min (before + fault.written) (2 ^ 64 - 1) }
+{
+    WriteFault {
+        written: before.saturating_add(fault.written),
+    }
+}

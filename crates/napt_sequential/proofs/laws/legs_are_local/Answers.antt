@@ -1,8 +1,0 @@
-use Rattle.napt_sequential.proofs.Alone.{legs_answer_alone, legs_leave_their_own}
-use Rattle.napt_sequential.proofs.laws.legs_are_local.Goals as goal
-
-pub returns-clause-answers : goal.returns-clause-answers
-returns-clause-answers c = legs_answer_alone
-
-pub returns-clause-leaves : goal.returns-clause-leaves
-returns-clause-leaves c = legs_leave_their_own

@@ -1,8 +1,0 @@
-use Rattle.napt_sequential.proofs.Places.{answers_fill, places_stand}
-use Rattle.napt_sequential.proofs.laws.places_stand_for_legs.Goals as goal
-
-pub returns-clause-fill : goal.returns-clause-fill
-returns-clause-fill c = answers_fill
-
-pub returns-clause-stand : goal.returns-clause-stand
-returns-clause-stand c = places_stand c.right_answers.ensures.foretold

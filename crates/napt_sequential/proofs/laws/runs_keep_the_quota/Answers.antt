@@ -1,5 +1,0 @@
-use Rattle.napt_sequential.proofs.QuotaKept.{runs_keep_quota}
-use Rattle.napt_sequential.proofs.laws.runs_keep_the_quota.Goals as goal
-
-pub returns : goal.returns
-returns c = runs_keep_quota c.no_host_exceeds_its_quota.ensures.outbound c.no_host_exceeds_its_quota.ensures.inbound

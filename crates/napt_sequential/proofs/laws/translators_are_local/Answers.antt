@@ -1,8 +1,0 @@
-use Rattle.napt_sequential.proofs.RunsLocal.{translators_answer_alone, translators_keep_their_own}
-use Rattle.napt_sequential.proofs.laws.translators_are_local.Goals as goal
-
-pub returns-clause-answers : goal.returns-clause-answers
-returns-clause-answers c = translators_answer_alone
-
-pub returns-clause-keeps : goal.returns-clause-keeps
-returns-clause-keeps c = translators_keep_their_own

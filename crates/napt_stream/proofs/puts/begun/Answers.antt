@@ -1,8 +1,0 @@
-use Rattle.napt_capture.specs.Text.{file_header}
-use Rattle.napt_stream.proofs.Breaks.{flush_breaks}
-use Rattle.napt_stream.proofs.puts.begun.Goals as goal
-
-pub returns-clause-err : goal.returns-clause-err
-returns-clause-err g c =
-    flush_breaks g.W.Sink.contents g.W.Sink.failed c.args.output.now c.begin.new.self c.flush.new.self file_header
-    c.flush.result c.in_ok-begin.ensures.ok c.flush.ensures.err

@@ -1,0 +1,29 @@
+use Rattle.std.proofs.Common.{◌≡◌, ℕ, ◌≤◌, true, All, subst, sym, ◌∙◌}
+use Rattle.napt_config.specs.declared.settings.Timers.{Timers}
+use Rattle.napt_rules.specs.Prelude.{is_live}
+use Rattle.napt_table.specs.declared.bindings.keys.ExternalKey.{ExternalKey}
+use Rattle.napt_table.specs.Holdings.{KeepsSeen}
+use Rattle.napt_table.proofs.Queues.{all_live}
+use Rattle.napt_table.proofs.Granted.{keeps_then}
+use Rattle.napt_table.proofs.bindings.Bindings.purge.Goals as goal
+
+pub returns : goal.returns
+returns c =
+    let i = c.loop.invariant in
+    let k = c.purge_first.ensures in
+    let old = c.args.self.now in
+    let mid = c.loop.self in
+    let new = c.purge_first.new.self in
+    record {
+      timers_is = k.timers ∙ i.timers;
+      at_is = k.at ∙ i.at;
+      keeps = keeps_then old.timers old.at old.held mid.held new.held i.keeps
+          (subst (λ (t : Timers). KeepsSeen t old.at mid.held new.held) i.timers
+          (subst (λ (a : ℕ). KeepsSeen mid.timers a mid.held new.held) i.at k.keeps));
+      room = λ h. k.room (i.room h);
+      live = λ key b h. subst (λ (t : Timers). is_live t old.at b ≡ true) (k.timers ∙ i.timers)
+          (subst (λ (a : ℕ). is_live new.timers a b ≡ true) (k.at ∙ i.at)
+          (all_live new.timers new.at new.held new.due.entries k.due
+          (subst (λ (a : ℕ). All (λ (e : ℕ × ExternalKey). a ≤ e.0) new.due.entries) (sym k.at)
+          (k.none c.loop-test.false)) key b h));
+    }

@@ -1,0 +1,25 @@
+use Rattle.std.proofs.Common.{ℕ, ◌≤◌, arith}
+use Rattle.std.proofs.lemmas.List.Elements.{All-contains}
+use Rattle.napt_table.specs.declared.bindings.keys.ExternalKey.{ExternalKey}
+use Rattle.napt_table.proofs.Queues.{popped_due, one_less}
+use Rattle.napt_table.proofs.bindings.Bindings.purge_first.Goals as goal
+
+pub requeue_or_remove-requires-clause-due : goal.requeue_or_remove-requires-clause-due
+requeue_or_remove-requires-clause-due c =
+    let s = c.self.inside in
+    popped_due s.timers s.at s.held s.due.entries c.take_first.new.self.entries c.in-Some-take_first.field-0-0
+    c.in-Some-take_first.key c.self.invariant c.in-Some-take_first.ensures.some
+
+pub returns-clause-fewer : goal.returns-clause-fewer
+returns-clause-fewer c =
+    let s = c.self.inside in
+    rw (← c.self.view_is) (λ given.
+    let le : c.in-Some-take_first.field-0-0 ≤ c.in-Some.until =
+    All-contains (λ (e : ℕ × ExternalKey). c.in-Some-take_first.field-0-0 ≤ e.0) s.due.entries (
+      c.in-Some.until,
+      c.in-Some.field-0-1,
+    ) c.in-Some-take_first.ensures.least c.in-Some.ensures.some in
+    let less = one_less s.at c.in-Some-take_first.field-0-0 c.in-Some-take_first.key
+    s.due.entries c.take_first.new.self.entries c.in-Some-take_first.ensures.some (omega arith) in
+    let after = c.requeue_or_remove.ensures.come_up in
+    omega arith)

@@ -1,0 +1,5 @@
+use Rattle.napt_table.proofs.Seen.{shows_later}
+use Rattle.napt_table.proofs.bindings.held_is_purged_later.Goals as goal
+
+pub returns : goal.returns
+returns c = shows_later

@@ -1,0 +1,5 @@
+use Rattle.napt_table.proofs.QuotaKept.{played_keeps_quota}
+use Rattle.napt_table.proofs.tables_keep_the_quota.Goals as goal
+
+pub returns : goal.returns
+returns c = played_keeps_quota

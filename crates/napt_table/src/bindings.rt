@@ -1,0 +1,243 @@
+//! The bindings of one external address, under all protocols.
+//!
+//! A binding that has ended may still be held: no look-up finds it, and it is removed before the next new binding gets a
+//! number. Its queue entry has a time until which it is sure to live, kept lazily: a packet that keeps the binding alive
+//! does not move the entry, and when its time has come the binding is checked again.
+
+ghost use Rattle.std.specs.Prelude.{◌≡◌, ◌+◌, ◌≤◌, ◌<◌, All, true, false, Some, None, OnOk, IfOk};
+ghost use Rattle.std.specs.Option.{option_map};
+ghost use Rattle.napt_table.specs.Held.{HeldIsPurgedLater};
+ghost use Rattle.napt_table.specs.Holdings.{KeepsSeen};
+ghost use Rattle.napt_table.specs.Bindings.{AreDue, AreDueBut, come_up};
+
+use crate::TimedRow;
+use crate::bindings::held::Held;
+use crate::bindings::keys::ExternalKey;
+use crate::rows::row_of;
+use napt_binding::{IdleTimers, end_of, is_live, until};
+use napt_collections::Due;
+use napt_rules::{Inbound, Received, Row};
+use napt_wire::{Cause, Endpoint, Protocol};
+use std::alloc::{AllocError, Global};
+use std::marker::Model;
+
+mod held;
+mod keys;
+mod numbers_in_use;
+mod sending;
+
+/// The bindings of one external address; contracts see what is held, the timers, the time of the last packet, and the
+/// queue.
+#[derive(Drop)]
+pub(crate) struct Bindings {
+    timers: IdleTimers,
+    /// The time of the last packet, in ns; 0 before the first.
+    at: u64,
+    held: Held,
+    /// One entry for each binding that is not fixed, with a time until which it is sure to live.
+    due: Due<ExternalKey>,
+}
+
+impl Model for Bindings {
+    ghost use Rattle.napt_table.specs.Bindings.{BindingsState, AreDue};
+
+    ghost Value = { BindingsState };
+
+    ghost view = { λ bindings. record {
+      timers = bindings.timers;
+      at = bindings.at;
+      held = bindings.held;
+      due = bindings.due;
+    } };
+
+    ghost invariant = { λ bindings. AreDue bindings.timers bindings.at bindings.held bindings.due.entries };
+}
+
+/// For a binding without a queue entry: removes a dead one, queues a live one.
+fn requeue_or_remove(
+    held: &mut Held,
+    due: &mut Due<ExternalKey>,
+    timers: IdleTimers,
+    at: u64,
+    key: ExternalKey,
+)
+    requires due { AreDueBut timers at key held.old due.old.entries }
+    requires room { 0 < due.old.room }
+    ensures due { AreDue timers at held.new due.new.entries }
+    ensures keeps { KeepsSeen timers at held.old held.new }
+    ensures come_up { come_up at due.new.entries ≤ come_up at due.old.entries }
+    ensures room { 0 < held.old.room → 0 < held.new.room }
+    ensures queue { due.old.room ≤ due.new.room + 1 }
+{
+    let Some(binding) = held.get(key) else {
+        return;
+    };
+    if binding.fixed {
+        return;
+    }
+    if is_live(binding, timers, at) {
+        due.put(until(binding, timers, at), key);
+    } else {
+        held.remove(key);
+    }
+}
+
+impl Bindings {
+    ghost use Rattle.napt_table.specs.Held.{seen};
+    ghost use Rattle.napt_table.specs.TimedRows.{timed};
+    ghost use Rattle.napt_table.specs.declared.bindings.keys.ExternalKey.{ExternalKey as Key};
+    ghost use Rattle.napt_table.specs.Holdings.{held, held_at, IsSamePlace, IsNamed};
+    ghost use Rattle.napt_table.specs.Bindings.{HasRoom, IsPurged, IsLiveNumberOf, Receives};
+
+    /// Nothing is held. It takes memory for the numbers in use.
+    pub(crate) fn new(
+        alloc: Global,
+        address: u32,
+        timers: IdleTimers,
+        quota: Option<u16>,
+    ) -> Result<Bindings, AllocError>
+        ensures timers { IfOk result (λ bindings. bindings.timers ≡ timers) }
+        ensures at { IfOk result (λ bindings. bindings.at ≡ 0) }
+        ensures address { IfOk result (λ bindings. bindings.held.address ≡ address) }
+        ensures quota { IfOk result (λ bindings. bindings.held.quota ≡ quota) }
+        ensures none { IfOk result (λ bindings. (key : Key) → held bindings.held key ≡ None) }
+    {
+        Ok(Bindings {
+            timers,
+            at: 0,
+            held: Held::new(alloc, address, quota)?,
+            due: Due::new(alloc),
+        })
+    }
+
+    /// Law: each binding is at the address, under its own protocol and number. It does nothing when it runs.
+    pub(crate) fn keep_names(&self)
+        ensures { IsNamed self.now.held }
+    {
+        self.held.keep_names();
+    }
+
+    /// The time of the last packet, in ns; 0 before the first.
+    pub(crate) fn at(&self) -> u64
+        ensures { result ≡ self.now.at }
+    {
+        self.at
+    }
+
+    /// How many bindings it holds.
+    pub(crate) fn size(&self) -> u64 {
+        self.held.size()
+    }
+
+    /// The inside endpoint of the live binding with the number.
+    pub(crate) fn inside_of(&self, now: u64, protocol: Protocol, number: u16) -> Option<Endpoint>
+        ensures { result ≡ option_map (λ b. b.inside)
+            (seen self.now.timers now (held_at self.now.held protocol number)) }
+    {
+        match self.held.get(ExternalKey { number, protocol }) {
+            Some(binding) if is_live(binding, self.timers, now) => Some(binding.inside),
+            _ => None,
+        }
+    }
+
+    /// The number of the live binding of the inside endpoint.
+    pub(crate) fn number_of(&self, now: u64, protocol: Protocol, inside: Endpoint) -> Option<u16>
+        ensures { IsLiveNumberOf now self.now protocol inside result }
+    {
+        let number = self.held.number_of(protocol, inside)?;
+        match self.held.get(ExternalKey { number, protocol }) {
+            Some(binding) if is_live(binding, self.timers, now) => Some(number),
+            _ => None,
+        }
+    }
+
+    /// The live binding with the number, with its end.
+    pub(crate) fn timed(&self, now: u64, protocol: Protocol, number: u16) -> Option<TimedRow>
+        ensures { result ≡ option_map (timed self.now.timers)
+            (seen self.now.timers now (held_at self.now.held protocol number)) }
+    {
+        self.timers.keep_limits();
+        match self.held.get(ExternalKey { number, protocol }) {
+            Some(binding) if is_live(binding, self.timers, now) => Some(TimedRow {
+                row: row_of(binding),
+                end: end_of(binding, self.timers),
+            }),
+            _ => None,
+        }
+    }
+
+    /// Takes in a packet: the inside endpoint of the live binding with its number, if it lets the remote in; else
+    /// `NoBinding` or `Filtered`. It takes no memory.
+    pub(crate) fn receive(&mut self, inbound: Inbound, packet: Received) -> Result<Endpoint, Cause>
+        requires later { self.old.at ≤ packet.now }
+        ensures timers { self.new.timers ≡ self.old.timers }
+        ensures place { IsSamePlace self.old.held self.new.held }
+        ensures at { self.new.at ≡ packet.now }
+        ensures receives { Receives inbound packet self.old self.new result }
+    {
+        let timers = self.timers;
+        timers.keep_limits();
+        self.held.keep_names();
+        self.at = packet.now;
+        let held = &mut self.held;
+        held.receive(timers, inbound, packet)
+    }
+
+    /// Requeues an entry that came up, with its later end, or removes its binding; whether there was one.
+    fn purge_first(&mut self) -> bool
+        ensures timers { self.new.timers ≡ self.old.timers }
+        ensures at { self.new.at ≡ self.old.at }
+        ensures keeps { KeepsSeen self.old.timers self.old.at self.old.held self.new.held }
+        ensures room { HasRoom self.old → HasRoom self.new }
+        ensures fewer { result ≡ true → come_up self.old.at self.new.due.entries
+            < come_up self.old.at self.old.due.entries }
+        ensures none { result ≡ false → All (λ e. self.old.at ≤ e.0) self.new.due.entries }
+        ensures due { AreDue self.new.timers self.new.at self.new.held self.new.due.entries }
+    {
+        let (timers, at) = (self.timers, self.at);
+        match self.due.first() {
+            Some((until, _)) if until < at => {}
+            _ => return false,
+        }
+        let due = &mut self.due;
+        let Some((_, key)) = due.take_first() else {
+            return false;
+        };
+        requeue_or_remove(&mut self.held, &mut self.due, timers, at, key);
+        true
+    }
+
+    /// Removes what is dead.
+    fn purge(&mut self)
+        ensures { IsPurged self.old.at self.old self.new }
+    {
+        while self.purge_first() {}
+    }
+
+    /// Removes what is dead at `now`, which becomes the time.
+    fn purge_at(&mut self, now: u64)
+        requires later { self.old.at ≤ now }
+        ensures { IsPurged now self.old self.new }
+    {
+        self.at = now;
+        self.purge();
+    }
+}
+
+impl Bindings {
+    ghost use Rattle.napt_table.specs.Listing.{held_rows, AreRead};
+
+    /// The rows of the bindings that are live at `now` (ns), in no order.
+    pub(crate) fn rows(&self, alloc: Global, now: u64) -> Result<Vec<Row>, AllocError>
+        ensures rows { IfOk result (λ made. made.items
+            ≡ held_rows self.now.timers now self.now.held) }
+        ensures read { OnOk result (AreRead self.now.timers now self.now.held) }
+    {
+        self.held.rows(alloc, self.timers, now)
+    }
+}
+
+/// What is held still shows the list as time passes.
+pub(crate) fn held_is_purged_later()
+    ensures { HeldIsPurgedLater }
+{}

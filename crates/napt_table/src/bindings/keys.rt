@@ -1,0 +1,45 @@
+//! By what the bindings of one external address are found.
+
+ghost use Rattle.std.specs.Prelude.{◌≡◌, ◌<◌, ◌^◌};
+ghost use Rattle.napt_table.specs.Keys.{key_of, inside_key};
+
+use crate::rows::number_of;
+use napt_binding::Binding;
+use napt_wire::{Endpoint, Protocol};
+
+/// An external number under its protocol.
+#[derive(Clone, Copy, PartialEq, Eq, PartialOrd, Ord, Hash)]
+pub(crate) struct ExternalKey {
+    pub(crate) number: u16,
+    pub(crate) protocol: Protocol,
+}
+
+/// An inside endpoint under its protocol.
+#[derive(Clone, Copy, PartialEq, Eq, Hash)]
+pub(crate) struct InsideKey {
+    address: u32,
+    number: u16,
+    protocol: Protocol,
+}
+
+/// The key of the inside endpoint.
+pub(crate) fn inside_key(protocol: Protocol, inside: Endpoint) -> InsideKey
+    ensures { result ≡ inside_key protocol inside }
+{
+    InsideKey {
+        address: inside.address,
+        number: inside.number,
+        protocol,
+    }
+}
+
+/// The key of the binding's external number.
+pub(crate) fn key_of(binding: &Binding) -> ExternalKey
+    ensures value { result ≡ key_of binding.now }
+    ensures small { result.number < 2 ^ 16 }
+{
+    ExternalKey {
+        number: number_of(binding),
+        protocol: binding.protocol,
+    }
+}

@@ -1,0 +1,77 @@
+//! Which external numbers of an address are in use, under each protocol.
+
+ghost use Rattle.std.specs.Prelude.{◌≡◌, ◌^◌, ◌<◌, false, not, ◌&&◌, ◌||◌, find, IfOk};
+
+use crate::bindings::keys::ExternalKey;
+use crate::numbers::Numbers;
+use napt_wire::Protocol;
+use std::alloc::{AllocError, Global};
+
+/// The numbers in use, by protocol.
+#[derive(Drop)]
+pub(crate) struct NumbersInUse {
+    icmp: Numbers,
+    tcp: Numbers,
+    udp: Numbers,
+}
+
+impl NumbersInUse {
+    ghost use Rattle.napt_rules.specs.Prelude.{candidates};
+    ghost use Rattle.napt_table.specs.Keys.{external_key, key_eq};
+    ghost use Rattle.napt_table.specs.declared.bindings.keys.ExternalKey.{ExternalKey as Key};
+    ghost use Rattle.napt_table.specs.InUse.{is_in_use, AreByProtocol};
+
+    /// None is in use. It takes about 25 KiB, and no other call takes any; `AllocError` if they are refused.
+    pub(crate) fn new(alloc: Global) -> Result<NumbersInUse, AllocError>
+        ensures by_protocol { IfOk result AreByProtocol }
+        ensures none { IfOk result (λ numbers. (key : Key) → is_in_use numbers key ≡ false) }
+    {
+        Ok(NumbersInUse {
+            icmp: Numbers::new(alloc, Protocol::Icmp)?,
+            tcp: Numbers::new(alloc, Protocol::Tcp)?,
+            udp: Numbers::new(alloc, Protocol::Udp)?,
+        })
+    }
+
+    /// The external number for an inside endpoint with this number: the first of its candidates that is not in use;
+    /// `None` if all are.
+    pub(crate) fn choose(&self, protocol: Protocol, number: u16) -> Option<u16>
+        requires { AreByProtocol self.now }
+        ensures { result ≡ find (λ n. not (is_in_use self.now (external_key protocol n)))
+            (candidates protocol number) }
+    {
+        match protocol {
+            Protocol::Icmp => self.icmp.choose(number),
+            Protocol::Tcp => self.tcp.choose(number),
+            Protocol::Udp => self.udp.choose(number),
+        }
+    }
+
+    /// Marks the number as in use, if it is free.
+    pub(crate) fn put(&mut self, key: ExternalKey)
+        requires { AreByProtocol self.old }
+        ensures by_protocol { AreByProtocol self.new }
+        ensures used { (other : Key) → other.number < 2 ^ 16 → is_in_use self.new other
+            ≡ (key_eq other key || is_in_use self.old other) }
+    {
+        match key.protocol {
+            Protocol::Icmp => self.icmp.put(key.number),
+            Protocol::Tcp => self.tcp.put(key.number),
+            Protocol::Udp => self.udp.put(key.number),
+        }
+    }
+
+    /// Frees the number, if it is in use.
+    pub(crate) fn take(&mut self, key: ExternalKey)
+        requires { AreByProtocol self.old }
+        ensures by_protocol { AreByProtocol self.new }
+        ensures used { (other : Key) → other.number < 2 ^ 16 → is_in_use self.new other
+            ≡ (not (key_eq other key) && is_in_use self.old other) }
+    {
+        match key.protocol {
+            Protocol::Icmp => self.icmp.take(key.number),
+            Protocol::Tcp => self.tcp.take(key.number),
+            Protocol::Udp => self.udp.take(key.number),
+        }
+    }
+}

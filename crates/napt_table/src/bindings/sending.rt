@@ -1,0 +1,189 @@
+//! Bindings that begin, and packets that go out through them.
+
+ghost use Rattle.std.specs.Prelude.{◌≡◌, ◌≤◌, true, false, Some, None, OnOk, OnErr, IfOk, cond};
+
+use crate::bindings::Bindings;
+use crate::bindings::keys::key_of;
+use napt_binding::{Binding, Flows, until};
+use napt_rules::Sent;
+use napt_wire::{Cause, Endpoint, Protocol};
+use std::alloc::{AllocError, Global};
+
+impl Bindings {
+    ghost use Rattle.napt_rules.specs.Prelude.{is_live};
+    ghost use Rattle.napt_table.specs.Keys.{key_eq, key_of};
+    ghost use Rattle.napt_table.specs.declared.bindings.keys.ExternalKey.{ExternalKey as Key};
+    ghost use Rattle.napt_table.specs.Holdings.{held, IsSamePlace, IsAbsent};
+    ghost use Rattle.napt_table.specs.Bindings.{HasRoom, Stands};
+
+    /// Makes room for one more binding.
+    fn make_room(&mut self) -> Result<(), AllocError>
+        ensures same { Stands self.old self.new }
+        ensures room { OnOk result (HasRoom self.new) }
+    {
+        let held = &mut self.held;
+        held.reserve()?;
+        let due = &mut self.due;
+        due.reserve()
+    }
+
+    /// Adds a binding, for which there is room and whose ends are free.
+    fn insert(&mut self, binding: Binding)
+        requires room { HasRoom self.old }
+        requires live { is_live self.old.timers self.old.at binding ≡ true }
+        requires loose { binding.fixed ≡ false }
+        requires at { binding.external.address ≡ self.old.held.address }
+        requires free { held self.old.held (key_of binding) ≡ None }
+        requires absent { IsAbsent self.old.held binding.protocol binding.inside }
+        ensures timers { self.new.timers ≡ self.old.timers }
+        ensures at { self.new.at ≡ self.old.at }
+        ensures place { IsSamePlace self.old.held self.new.held }
+        ensures held { (key : Key) → held self.new.held key ≡ cond (key_eq (key_of binding) key)
+            (Some binding) (held self.old.held key) }
+    {
+        let key = key_of(&binding);
+        let end = until(&binding, self.timers, self.at);
+        let held = &mut self.held;
+        held.insert(binding);
+        let due = &mut self.due;
+        due.put(end, key);
+    }
+}
+
+impl Bindings {
+    ghost use Rattle.std.specs.Prelude.{[]};
+    ghost use Rattle.napt_wire.specs.declared.Way.TheVariants.{Outgoing as WayOut};
+    ghost use Rattle.napt_rules.specs.Prelude.{Binding, change_first, is_live, live_flows, is_flow_of, used, with_flow};
+    ghost use Rattle.napt_table.specs.Held.{redirect_of};
+    ghost use Rattle.napt_table.specs.Keys.{external_key, key_eq};
+    ghost use Rattle.napt_table.specs.declared.bindings.keys.ExternalKey.{ExternalKey as Key};
+    ghost use Rattle.napt_table.specs.Holdings.{held, IsSamePlace, IsAbsent, WentOut};
+    ghost use Rattle.napt_table.specs.Bindings.{HasRoom, Stands, Begins, Sends};
+
+    /// Adds a redirect whose ends are free. It never expires, so it has no queue entry. If memory is refused nothing
+    /// that is held changes.
+    pub(crate) fn open(
+        &mut self,
+        alloc: Global,
+        protocol: Protocol,
+        inside: Endpoint,
+        number: u16,
+    ) -> Result<(), AllocError>
+        requires free { held self.old.held (external_key protocol number) ≡ None }
+        requires absent { IsAbsent self.old.held protocol inside }
+        ensures timers { self.new.timers ≡ self.old.timers }
+        ensures at { self.new.at ≡ self.old.at }
+        ensures place { IsSamePlace self.old.held self.new.held }
+        ensures held { OnOk result ((key : Key) → held self.new.held key
+            ≡ cond (key_eq (external_key protocol number) key)
+            (Some (redirect_of protocol self.old.held.address inside number))
+            (held self.old.held key)) }
+    {
+        self.make_room()?;
+        let binding = Binding {
+            protocol,
+            inside,
+            external: Endpoint {
+                address: self.held.address(),
+                number,
+            },
+            fixed: true,
+            last: 0,
+            flows: Flows::new(alloc),
+        };
+        let held = &mut self.held;
+        held.insert(binding);
+        Ok(())
+    }
+
+    /// Sends a packet out through the live binding of its inside endpoint, if there is one; returns its number. If
+    /// memory is refused nothing that is held changes.
+    fn send_held(&mut self, alloc: Global, packet: Sent) -> Result<Option<u16>, AllocError>
+        requires later { self.old.at ≤ packet.now }
+        ensures timers { self.new.timers ≡ self.old.timers }
+        ensures at { self.new.at ≡ self.old.at }
+        ensures went { IfOk result (WentOut self.old.timers packet self.old.held self.new.held) }
+        ensures refused { OnErr result (Stands self.old self.new) }
+    {
+        let timers = self.timers;
+        timers.keep_limits();
+        let held = &mut self.held;
+        let sent = held.send(alloc, timers, packet)?;
+        Ok(sent)
+    }
+
+    /// Takes the memory for a new binding for the outgoing packet, and begins its flows. What is held does not change.
+    fn prepare(&mut self, alloc: Global, packet: Sent) -> Result<Flows, AllocError>
+        ensures same { Stands self.old self.new }
+        ensures room { OnOk result (HasRoom self.new) }
+        ensures flows { IfOk result (λ flows.
+            live_flows self.old.timers packet.now packet.protocol flows ≡
+            change_first (is_flow_of packet.remote) (used packet.protocol WayOut packet.flags packet.now)
+            (with_flow packet.remote packet.now [])) }
+    {
+        self.make_room()?;
+        Flows::begun(alloc, self.timers, packet)
+    }
+
+    /// Makes a binding with these flows for the outgoing packet; returns its number, or `NoPort`. It takes no memory.
+    fn begin(&mut self, packet: Sent, flows: Flows) -> Result<u16, Cause>
+        requires room { HasRoom self.old }
+        requires at { self.old.at ≡ packet.now }
+        requires live { (key : Key) (b : Binding) → held self.old.held key ≡ Some b →
+            is_live self.old.timers packet.now b ≡ true }
+        requires absent { IsAbsent self.old.held packet.protocol packet.inside }
+        requires flows { live_flows self.old.timers packet.now packet.protocol flows ≡
+            change_first (is_flow_of packet.remote) (used packet.protocol WayOut packet.flags packet.now)
+            (with_flow packet.remote packet.now []) }
+        ensures timers { self.new.timers ≡ self.old.timers }
+        ensures at { self.new.at ≡ self.old.at }
+        ensures place { IsSamePlace self.old.held self.new.held }
+        ensures begins { Begins packet self.old self.new result }
+    {
+        self.timers.keep_limits();
+        let Some(number) = self.held.choose(packet.protocol, packet.inside.number) else {
+            return Err(Cause::NoPort);
+        };
+        let binding = Binding {
+            protocol: packet.protocol,
+            inside: packet.inside,
+            external: Endpoint {
+                address: self.held.address(),
+                number,
+            },
+            fixed: false,
+            last: packet.now,
+            flows,
+        };
+        self.insert(binding);
+        Ok(number)
+    }
+
+    /// Sends a packet out: returns the number of its binding, or of a new one if it has none; else `OverQuota` or
+    /// `NoPort`. If memory is refused nothing that is held changes.
+    pub(crate) fn send(
+        &mut self,
+        alloc: Global,
+        packet: Sent,
+    ) -> Result<Result<u16, Cause>, AllocError>
+        requires later { self.old.at ≤ packet.now }
+        ensures timers { self.new.timers ≡ self.old.timers }
+        ensures place { IsSamePlace self.old.held self.new.held }
+        ensures at { OnOk result (self.new.at ≡ packet.now) }
+        ensures sends { IfOk result (Sends packet self.old self.new) }
+        ensures refused { OnErr result (Stands self.old self.new) }
+    {
+        self.keep_names();
+        if let Some(number) = self.send_held(alloc, packet)? {
+            self.at = packet.now;
+            return Ok(Ok(number));
+        }
+        let flows = self.prepare(alloc, packet)?;
+        self.purge_at(packet.now);
+        self.keep_names();
+        if self.held.reaches(packet.inside.address) {
+            return Ok(Err(Cause::OverQuota));
+        }
+        Ok(self.begin(packet, flows))
+    }
+}

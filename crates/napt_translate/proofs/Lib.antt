@@ -1,4 +1,0 @@
-pub mod Acts
-pub mod Places
-pub mod LegLaws
-pub mod Foreseen
