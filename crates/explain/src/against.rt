@@ -29,8 +29,8 @@ struct Difference<'a> {
     second: &'a Outcome,
 }
 
-/// Runs the inputs under both configurations, and prints a line for each selected packet that ends differently, then the
-/// counts of both runs. Fails with `Differ` if any packet, selected or not, ends differently.
+/// Runs the inputs under both configurations, and prints a line for each selected packet that ends differently, then
+/// the counts of both runs. Fails with `Differ` if any packet, selected or not, ends differently.
 pub fn tell_against<R: Print + AllocGlobal>(
     rt: &R,
     choice: Choice,

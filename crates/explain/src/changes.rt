@@ -21,8 +21,8 @@ pub struct Change {
     pub event: Event,
 }
 
-/// What happened up to the last packet, in order of time. At equal times expired bindings come first, since their ports are
-/// free for the bindings made then; refused packets come last.
+/// What happened up to the last packet, in order of time. At equal times expired bindings come first, since their ports
+/// are free for the bindings made then; refused packets come last.
 pub fn changes_of(alloc: Global, log: &Log, last: u64) -> Result<Vec<Change>, AllocError> {
     let mut changes = Vec::new(alloc);
     add_ends(&mut changes, log, last)?;

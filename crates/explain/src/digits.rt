@@ -1,4 +1,4 @@
-//! Appends numbers, addresses and spaces to a text. Most of the time of a million lines goes into these, so they avoid
+//! Appends numbers, addresses and spaces to a text. They take most of the time of a million lines, so they avoid
 //! `write!`.
 
 use itoa::Buffer;

@@ -82,7 +82,7 @@ struct Source<'a> {
     log: &'a Log,
 }
 
-/// Refuses a log file that another option already names, or that cannot be created, and says why.
+/// Refuses a log file that another option already names, or that cannot be created, and prints why.
 pub fn refuse_log<R: Files + Eprint>(rt: &R, options: &Options<'_>) -> Result<(), Stop> {
     let Some(path) = options.log else {
         return Ok(());
@@ -127,7 +127,7 @@ fn text_of(path: Option<&String>) -> Option<&str> {
     path.map(|path| path.as_str())
 }
 
-/// Writes the log of a run to a file; `last` is the time of its last packet. If that fails, it names the file and the
+/// Writes the log of a run to a file; `last` is the time of its last packet. If that fails, prints the file and the
 /// system's reason.
 pub fn write_log<R: Files + Eprint + AllocGlobal>(
     rt: &R,

@@ -1,8 +1,8 @@
 //! The program `explain`: what a run of `napt` does, for people to read.
 //!
-//! It takes the arguments of `napt`, makes the same run on one thread, and prints one line per packet, the bindings that live
-//! at the end, and a summary; on request it also draws a picture of the run. It never writes an output file of `napt`. If
-//! `napt` would refuse a file, `explain` says why on standard error, and exits with the same status.
+//! It takes the arguments of `napt`, makes the same run on one thread, and prints one line per packet, the bindings
+//! live at the end, and a summary; on request it also draws a picture of the run. It never writes an output file of
+//! `napt`. If `napt` would refuse a file, `explain` prints why on standard error, and exits with the same status.
 #![tactic(auto)]
 
 mod against;
@@ -144,7 +144,7 @@ fn run<R: Files + Print + Eprint + AllocGlobal>(
     }
 }
 
-/// Writes the picture of a run to a file. If that fails, it names the file and the system's reason.
+/// Writes the picture of a run to a file. If that fails, prints the file and the system's reason.
 fn draw<R: Files + Eprint + AllocGlobal>(rt: &R, path: &str, shown: Shown<'_>) -> Result<(), Stop> {
     let text = drawing(rt.alloc(), shown)?;
     match fs::write(rt, path, text.as_str()) {
@@ -161,7 +161,8 @@ fn drawing(alloc: Global, shown: Shown<'_>) -> Result<String, AllocError> {
     drawing_of(alloc, &scene)
 }
 
-/// Prints the requested lines, the bindings and the summary; for a single packet, its line and the bindings that it used.
+/// Prints the requested lines, the bindings and the summary; for a single packet, its line and the bindings that it
+/// used.
 fn tell_run<R: Print + Eprint + AllocGlobal>(
     rt: &R,
     options: &Options<'_>,

@@ -1,7 +1,7 @@
 //! A JSON object for each packet, for programs. docs/FORMATS.md describes its fields.
 //!
-//! Most of the time of a million objects goes into their texts. All of an object but its numbers and endpoints is one of a
-//! few texts, so serde_json makes each of these once; the rest are digits, appended directly.
+//! The texts of a million objects take most of the time. All of an object but its numbers and endpoints is one of a few
+//! texts, so serde_json makes each of these once; the rest is digits, appended directly.
 
 use crate::digits::{add_address, add_number};
 use crate::names::side_name;
@@ -46,7 +46,7 @@ pub struct Objects {
     known: Vec<Known>,
 }
 
-/// What the numbers of a packet's endpoints are.
+/// The kind of the numbers of a packet's endpoints.
 #[derive(Clone, Copy, PartialEq, Eq)]
 enum Numbers {
     Ports,

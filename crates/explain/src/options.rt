@@ -178,8 +178,8 @@ pub struct Choice {
     pub dropped: bool,
 }
 
-/// Parses the arguments, the program's name first. Help and the version are printed at once, and `None` is returned; a usage
-/// error is printed and returned as an error.
+/// Parses the arguments, the program's name first. Help and the version are printed at once, and `None` is returned; a
+/// usage error is printed and returned as an error.
 pub fn read<'w, R: Print + Eprint + AllocGlobal>(
     rt: &R,
     words: &'w [String],
@@ -194,7 +194,7 @@ pub fn read<'w, R: Print + Eprint + AllocGlobal>(
     }
 }
 
-/// Prints what `clap` says: help and version to standard output, a usage error to standard error.
+/// Prints the message of `clap`: help and version to standard output, a usage error to standard error.
 fn told<R: Print + Eprint + AllocGlobal>(rt: &R, error: &Error) -> Result<(), Stop> {
     let text = error.to_string(rt.alloc())?;
     match error.kind() {

@@ -1,4 +1,5 @@
-//! Says why a file of the command line cannot be used. `napt_program` has already decided that it cannot, as for `napt`.
+//! Prints why a file of the command line cannot be used. `napt_program` has already decided that it cannot, as for
+//! `napt`.
 
 use crate::options::Options;
 use crate::stop::Stop;
@@ -24,7 +25,7 @@ enum Output {
     Picture,
 }
 
-/// Says why the file of a role cannot be used, and returns how `napt` would stop.
+/// Prints why the file of a role cannot be used, and returns how `napt` would stop.
 pub fn tell_file<R: Files + Eprint>(rt: &R, options: &Options<'_>, role: Role) -> Stop {
     let files = &options.files;
     match role {
@@ -38,7 +39,7 @@ pub fn tell_file<R: Files + Eprint>(rt: &R, options: &Options<'_>, role: Role) -
     Stop::Told(napt_program::Stop::File(role))
 }
 
-/// Says that the standard stream for a role is closed, and returns how `napt` would stop.
+/// Prints that the standard stream for a role is closed, and returns how `napt` would stop.
 pub fn tell_closed<R: Eprint>(rt: &R, role: Role) -> Stop {
     let stream = match role {
         Role::Inside => "standard input",
@@ -51,7 +52,7 @@ pub fn tell_closed<R: Eprint>(rt: &R, role: Role) -> Stop {
     Stop::Told(napt_program::Stop::File(role))
 }
 
-/// Refuses a picture file that another option already names, or that cannot be created, and says why.
+/// Refuses a picture file that another option already names, or that cannot be created, and prints why.
 pub fn refuse_picture<R: Files + Eprint>(rt: &R, options: &Options<'_>) -> Result<(), Stop> {
     let Some(path) = options.svg else {
         return Ok(());
@@ -71,7 +72,7 @@ pub fn picture_stop() -> Stop {
     Stop::Told(napt_program::Stop::File(Role::Report))
 }
 
-/// Says that a file of an option failed, with the system's reason.
+/// Prints that a file of an option failed, with the system's reason.
 pub fn tell_failed<R: Eprint>(rt: &R, option: &str, path: &str, error: &io::Error) {
     let hint = match path {
         "-" => "; a standard stream is /dev/stdin or /dev/stdout",
@@ -80,8 +81,8 @@ pub fn tell_failed<R: Eprint>(rt: &R, option: &str, path: &str, error: &io::Erro
     let _ = eprintln!(rt; "explain: --{option} {path}: {error}{hint}");
 }
 
-/// Says why a configuration file cannot be used, and returns how `napt` would stop: it is missing, cannot be read, or is too
-/// long.
+/// Prints why a configuration file cannot be used (it is missing, cannot be read, or is too long), and returns how
+/// `napt` would stop.
 pub fn tell_config<R: Files + Eprint>(rt: &R, option: &str, path: &str) -> Stop {
     match failure_of_reading(rt, path) {
         Some(error) => tell_failed(rt, option, path, &error),
@@ -112,7 +113,7 @@ fn failure_of_first<R: Files>(rt: &R, path: &str) -> Option<io::Error> {
     }
 }
 
-/// Says why a capture cannot be opened.
+/// Prints why a capture cannot be opened.
 fn tell_input<R: Files + Eprint>(rt: &R, role: Role, path: Option<&String>) {
     let Some(path) = path else {
         return;
@@ -122,7 +123,7 @@ fn tell_input<R: Files + Eprint>(rt: &R, role: Role, path: Option<&String>) {
     }
 }
 
-/// Says why an output cannot be created.
+/// Prints why an output cannot be created.
 fn tell_output<R: Files + Eprint>(
     rt: &R,
     options: &Options<'_>,
@@ -140,7 +141,7 @@ fn tell_output<R: Files + Eprint>(
     }
 }
 
-/// Says what else names the file of an output.
+/// Prints what else names the file of an output.
 fn tell_again<R: Eprint>(rt: &R, option: &str, path: &str, name: &str) {
     let _ = eprintln!(rt; "explain: --{option} {path}: it is the file of {name}");
 }
@@ -156,8 +157,8 @@ fn option_of(output: Output) -> &'static str {
 
 /// What else names the file of an output, among all that come before it.
 ///
-/// Files are compared by what they are (`napt_program::is_same`), so another spelling of the path, or a link, is the same
-/// file.
+/// Files are compared by what they are (`napt_program::is_same`), so another spelling of the path, or a link, is the
+/// same file.
 fn named_again<R: Files>(
     rt: &R,
     options: &Options<'_>,

@@ -3,7 +3,7 @@
 use std::fs;
 use std::rt::Files;
 
-/// How many packets there are between two reports; a run of fewer packets reports nothing.
+/// How many packets there are between two reports; a run of fewer reports nothing.
 const EACH: u64 = 65_536;
 
 /// The progress of a run over `many` packets.
@@ -14,7 +14,8 @@ pub struct Progress {
 }
 
 impl Progress {
-    /// Reports if standard error is a terminal and standard output is not: there the lines themselves show the progress.
+    /// Reports if standard error is a terminal and standard output is not: there the lines themselves show the
+    /// progress.
     pub fn of<R: Files + AllocGlobal>(rt: &R, many: usize) -> Progress {
         let is_long = many as u64 > EACH;
         Progress {

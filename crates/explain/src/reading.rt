@@ -22,7 +22,7 @@ use std::rt::Files;
 /// How many bytes are read at once.
 const BUFFERED: usize = 65_536;
 
-/// How many bytes of a capture are kept to say what it is: its header.
+/// How many bytes of a capture are kept to tell what it is: its header.
 const HEADER: u64 = 24;
 
 /// What is printed about a capture that ends inside a record.
@@ -47,8 +47,8 @@ pub struct Cuts {
 }
 
 impl Cuts {
-    /// Says that the last packet of a capture that ends inside a record is left out; on standard error if programs read
-    /// standard output.
+    /// Reports each capture that ends inside a record, whose last packet is left out; on standard error if programs
+    /// read standard output.
     pub fn tell<R: Print + Eprint>(self, rt: &R, form: Form<'_>) -> Result<(), Stop> {
         for (side, cut) in [("inside", self.inside), ("outside", self.outside)] {
             if cut && form.is_for_programs() {
@@ -63,8 +63,8 @@ impl Cuts {
 
 /// Reads the configuration and the captures.
 ///
-/// Fails as `napt` would, with the same fault first. The outputs of `napt` are neither created nor emptied: one that could
-/// not be is refused as far as that can be known beforehand (`napt_program::unmade`).
+/// Fails as `napt` would, with the same fault first. The outputs of `napt` are neither created nor emptied: one that
+/// could not be is refused as far as that can be known beforehand (`napt_program::unmade`).
 pub fn read_given<R: Files + Input + Eprint + AllocGlobal>(
     rt: &R,
     streams: Streams,
@@ -98,7 +98,7 @@ pub fn read_given<R: Files + Input + Eprint + AllocGlobal>(
     })
 }
 
-/// What was opened. If a file was refused, says why.
+/// What was opened. If a file was refused, prints why.
 fn explain_file<R: Files + Eprint, T: Drop>(
     rt: &R,
     options: &Options<'_>,

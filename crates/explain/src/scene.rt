@@ -75,7 +75,7 @@ pub fn scene_of(alloc: Global, shown: Shown<'_>) -> Result<Scene, AllocError> {
     Ok(scene)
 }
 
-/// The line above the picture, with the date of the first packet, from which its times count.
+/// The line above the picture, with the date of the first packet, from which times are counted.
 fn head_of(alloc: Global, shown: Shown<'_>) -> Result<String, AllocError> {
     let packets = shown.account.uses.len();
     let addresses = shown.config.pool().len();
@@ -167,7 +167,8 @@ fn label_of(alloc: Global, entry: &Entry) -> Result<String, AllocError> {
     )
 }
 
-/// The title of a binding: its label and external address, and, unless it is a redirect, its times since the first packet.
+/// The title of a binding: its label and external address, and, unless it is a redirect, its times since the first
+/// packet.
 fn title_of(alloc: Global, entry: &Entry, label: &str, zero: u64) -> Result<String, AllocError> {
     let external = Address(entry.binding.external.address);
     if entry.binding.fixed {

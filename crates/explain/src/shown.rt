@@ -72,13 +72,13 @@ impl fmt::Display for FlagsText {
     }
 }
 
-/// The packet that some bytes are as they arrive, if they are one.
+/// The packet that these bytes are on arrival, if they are one.
 pub fn arrival(alloc: Global, side: Side, bytes: &[u8]) -> Result<Option<Packet>, AllocError> {
     let copy = Vec::from_slice(alloc, bytes)?;
     Ok(Packet::read(side, copy).ok())
 }
 
-/// Appends that packet, or what can be said of bytes that are none.
+/// Appends that packet, or what is known of bytes that are none.
 pub fn add_arrival(
     alloc: Global,
     text: &mut String,
@@ -105,8 +105,8 @@ fn add_unread(text: &mut String, bytes: &[u8]) -> Result<(), AllocError> {
     }
 }
 
-/// Whether bytes without an Ethernet header are ARP for IPv4 over Ethernet (RFC 826): hardware type 1, protocol type 0x0800,
-/// and address lengths 6 and 4.
+/// Whether bytes without an Ethernet header are ARP for IPv4 over Ethernet (RFC 826): hardware type 1, protocol type
+/// 0x0800, and address lengths 6 and 4.
 fn is_arp(bytes: &[u8]) -> bool {
     bytes.starts_with(&[0, 1, 8, 0, 6, 4])
 }
@@ -161,7 +161,7 @@ fn is_host(party: Party, address: u32) -> bool {
     party.number.is_none() && party.address == address
 }
 
-/// Whether a host or endpoint is one of the packet that some bytes are as they arrive. Bytes that are no packet have only
+/// Whether a host or endpoint is one of the packet that these bytes are on arrival. Bytes that are no packet have only
 /// addresses.
 pub fn is_end_of_arrival(
     party: Party,

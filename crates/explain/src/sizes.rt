@@ -1,5 +1,5 @@
-//! How many bindings, ports and hosts a run had at once, what quotas would have refused, and how long bindings lived: figures
-//! for sizing a pool and a quota (RFC 6888, REQ-4). docs/FORMATS.md defines each of them.
+//! How many bindings, ports and hosts a run had at once, what quotas would have refused, and how long bindings lived:
+//! figures for sizing a pool and a quota (RFC 6888, REQ-4). docs/FORMATS.md defines each of them.
 
 pub mod hosts;
 pub mod lifetimes;

@@ -24,8 +24,8 @@ pub enum Stop {
 }
 
 impl Stop {
-    /// The exit status: that of `napt`; 6 if standard output fails, as for a file; 1 if packets differ, or if nobody had the
-    /// endpoint asked about.
+    /// The exit status: that of `napt`; 6 if standard output fails, as for a file; 1 if packets differ, or if nobody
+    /// had the endpoint asked about.
     pub fn status(&self) -> u8 {
         match self {
             Stop::Told(stop) | Stop::As(stop) => stop_status(stop),
@@ -34,7 +34,7 @@ impl Stop {
         }
     }
 
-    /// Prints the line that says why, unless the reason was already printed.
+    /// Prints the reason, unless it was already printed.
     pub fn tell<R: Eprint>(&self, rt: &R) {
         let _ = match self {
             Stop::Told(_) | Stop::Differ | Stop::Nobody => Ok(()),

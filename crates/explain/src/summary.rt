@@ -78,8 +78,8 @@ impl<'a> Told<'a> {
         self.inputs.last().map_or(0, |input| input.clock)
     }
 
-    /// Appends the line of packet `number`, from 1, if it is selected, and before it the lines of the bindings that expired
-    /// by then.
+    /// Appends the line of packet `number`, from 1, if it is selected, and before it the lines of the bindings that
+    /// expired by then.
     pub fn add_line(
         self,
         alloc: Global,
@@ -296,7 +296,7 @@ fn used(packet: &Packet, note: Note) -> &'static str {
     }
 }
 
-/// Prints the bindings that live at the last packet's time, with their ages; only those of a host or endpoint if one is
+/// Prints the bindings live at the last packet's time, with their ages; only those of a host or endpoint if one is
 /// selected.
 pub fn tell_bindings<R: Print>(rt: &R, page: &mut Page, told: Told<'_>) -> Result<(), Stop> {
     let now = told.last();

@@ -8,8 +8,8 @@ use napt_config::{Address, Config};
 use napt_records::{EndpointText, protocol_name};
 use std::alloc::{AllocError, Global};
 
-/// Prints a line for each binding that had the endpoint, in the order in which they were made; `last` is the time of the
-/// run's last packet. If there is none, prints that nobody had it and fails with `Nobody`.
+/// Prints a line for each binding that had the endpoint, in the order in which they were made; `last` is the time of
+/// the run's last packet. If there is none, prints that nobody had it and fails with `Nobody`.
 pub fn tell_holders<R: Print + AllocGlobal>(
     rt: &R,
     question: Question,

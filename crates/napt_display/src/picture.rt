@@ -1,8 +1,9 @@
-//! A picture of a run over time in SVG: the bindings of each external address as bars, packets as strokes on them, hairpins
-//! as arrows between them, and dropped packets below. With many bindings it shows counts instead: live bindings at each
-//! address, and packets.
+//! A picture of a run over time in SVG: the bindings of each external address as bars, packets as strokes on them,
+//! hairpins as arrows between them, and dropped packets below. With many bindings it shows counts instead: live
+//! bindings at each address, and packets.
 //!
-//! The caller says what to show (`Scene`), in its own words and with times in ns; `drawing_of` lays it out and draws it.
+//! The caller gives what to show (`Scene`), in its own words and with times in ns; `drawing_of` lays it out and draws
+//! it.
 
 mod bars;
 mod counts;

@@ -1,5 +1,5 @@
-//! Why napt refuses a configuration or a capture, or drops packets, for people to read: where a configuration has its fault,
-//! what a capture seems to be, what a cause means, and what to do.
+//! Why napt refuses a configuration or a capture, or drops packets, for people to read: where a configuration has its
+//! fault, what a capture seems to be, what a cause means, and what to do.
 
 mod capture;
 mod cause;

@@ -67,7 +67,7 @@ impl Hosts {
         Some(place)
     }
 
-    /// The hosts, those with the most bindings at once first; of equal ones the lower address first.
+    /// The hosts, those with the most bindings at once first; at equal numbers the lower address first.
     pub fn ranked(&self, alloc: Global) -> Result<Vec<Host>, AllocError> {
         let mut ranked = Vec::from_slice(alloc, &self.list)?;
         ranked.sort_by_key(|host| (u64::MAX - host.bindings.most, host.address))?;
@@ -75,8 +75,8 @@ impl Hosts {
     }
 }
 
-/// The percentile of bindings at once over ranked hosts: the least number that `percent` of a hundred hosts did not exceed; 0
-/// if there are no hosts.
+/// The percentile of bindings at once over ranked hosts: the least number that `percent` of a hundred hosts did not
+/// exceed; 0 if there are no hosts.
 pub fn percentile(ranked: &[Host], percent: u64) -> u64 {
     let many = ranked.len() as u64;
     let within = many.saturating_mul(percent).saturating_add(99) / 100;

@@ -1,7 +1,7 @@
 //! How long bindings lived, from when they were made until they expired.
 
-/// The upper bounds of the spans, in seconds: each holds the lifetimes up to it that the span before does not. The timers of
-/// the RFCs are 60, 120, 240, 300 and 7440 seconds.
+/// The upper bounds of the spans, in seconds: a span holds the lifetimes up to its bound and above the one before. The
+/// timers of the RFCs are 60, 120, 240, 300 and 7440 seconds.
 pub const SPANS: [u64; 8] = [60, 120, 240, 300, 600, 1800, 3600, 7440];
 
 const SECOND: u64 = 1_000_000_000;
@@ -11,7 +11,7 @@ const SECOND: u64 = 1_000_000_000;
 pub struct Lifetimes {
     /// How many in each span.
     pub within: [u64; 8],
-    /// How many longer than every span.
+    /// How many are longer than every span.
     pub longer: u64,
     /// How many have not expired.
     pub living: u64,

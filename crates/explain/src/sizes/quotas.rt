@@ -1,4 +1,4 @@
-//! What a quota would have refused: new bindings of hosts that have reached it, not counting the bindings it refused before.
+//! What a quota would have refused: new bindings of hosts that have reached it, without those that it refused before.
 
 use std::alloc::{AllocError, Global};
 
@@ -9,7 +9,7 @@ pub struct Quota {
     pub most: u64,
     /// How many new bindings it would have refused.
     pub refused: u64,
-    /// How many hosts it would have refused one.
+    /// To how many hosts it would have refused one.
     pub hosts: u64,
     /// How many live bindings each host has that it allowed.
     kept: Vec<u64>,

@@ -70,7 +70,7 @@ fn draw_binding(text: &mut String, binding: &Binding, bar: Bar) -> Result<(), Al
     text.push_str("</g>\n")
 }
 
-/// The bar up to its last packet, and from there a thin one to its end.
+/// The bar up to its last packet, and a thin one from there to its end.
 fn draw_bar(text: &mut String, kind: BindingKind, bar: Bar) -> Result<(), AllocError> {
     let top = bar.top.saturating_add(BAR_TOP);
     let (class, rest) = classes_of(kind);
@@ -90,7 +90,7 @@ fn draw_bar(text: &mut String, kind: BindingKind, bar: Bar) -> Result<(), AllocE
     draw_area(text, class, thick)
 }
 
-/// The classes of a bar up to its last packet, and from there.
+/// The classes of a bar up to its last packet, and after it.
 fn classes_of(kind: BindingKind) -> (&'static str, &'static str) {
     match kind {
         BindingKind::Udp => ("udp", "udp rest"),
@@ -100,7 +100,7 @@ fn classes_of(kind: BindingKind) -> (&'static str, &'static str) {
     }
 }
 
-/// The labels of the bars, above all else.
+/// The labels of the bars, drawn over everything else.
 fn draw_labels(text: &mut String, bindings: &[Binding], bars: &[Bar]) -> Result<(), AllocError> {
     for bar in bars {
         if let Some(binding) = bindings.get(bar.place) {
@@ -160,7 +160,7 @@ fn draw_stroke(text: &mut String, mark: Mark) -> Result<(), AllocError> {
     )
 }
 
-/// A cross up to its end, where a title may stand.
+/// Opens a cross; a title may follow before its end.
 fn draw_cross(text: &mut String, mark: Mark) -> Result<(), AllocError> {
     let (left, line) = (mark.column.saturating_sub(4), mark.top.saturating_add(6));
     write!(
@@ -169,7 +169,7 @@ fn draw_cross(text: &mut String, mark: Mark) -> Result<(), AllocError> {
     )
 }
 
-/// An arrow from one bar into another, up to its end; to the same bar it goes round.
+/// Opens an arrow from one bar into another, or a loop if it is the same bar.
 fn draw_hairpin(text: &mut String, mark: Mark) -> Result<(), AllocError> {
     write!(text, "<path class=\"hairpin\" d=\"M{} ", mark.column)?;
     let above = mark.top.saturating_add(BAR_TOP);

@@ -11,7 +11,7 @@ use crate::picture::span::{BIN_WIDTH, HEAD, LEFT, Span};
 use crate::picture::tallies::{Tallies, Tally, tallies_of};
 use std::alloc::{AllocError, Global};
 
-/// The words above the lanes. The time of a bar follows them.
+/// The words above the lanes, without the time of a bar, which follows.
 const LEGEND: &[&str] = &[
     "Each address has how many of its bindings live, over time; below its name stands how many live at once at most. Below the",
     "addresses are the packets, the hairpins among them, and those that were dropped for each cause: how many and, in brackets, how",
@@ -135,7 +135,7 @@ fn draw_bin_time(text: &mut String, span: Span) -> Result<(), AllocError> {
     text.push_str(" s wide.</text>\n")
 }
 
-/// The lanes of packets, with how many there are and the most in a bar.
+/// The lanes of packets, with their total and the most in a bar.
 fn draw_rows(text: &mut String, rows: &[Row<'_>]) -> Result<(), AllocError> {
     for row in rows {
         draw_lane(text, row.name, row.lane)?;
@@ -167,7 +167,7 @@ fn draw_lives(
     Ok(())
 }
 
-/// A bar for each run of bins with the same bindings, where any live.
+/// A bar for each run of bins with the same bindings, if any are live.
 fn draw_live_bins(
     text: &mut String,
     span: Span,

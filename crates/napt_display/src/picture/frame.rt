@@ -34,7 +34,7 @@ const STYLE: &str = "<style>
 markerUnits=\"userSpaceOnUse\"><path class=\"tip\" d=\"M0 0L8 4L0 8z\"/></marker></defs>
 ";
 
-/// The first line of the legend.
+/// Where the first line of the legend is.
 const LEGEND_TOP: u64 = 48;
 
 /// The whole width of a drawing.
@@ -49,14 +49,14 @@ pub const LANE_PAD: u64 = 3;
 /// The column where the names of lanes and rows end.
 pub const NAME_END: u64 = LEFT - 10;
 
-/// A lane, from a line to a line.
+/// The lines where a lane begins and ends.
 #[derive(Clone, Copy)]
 pub struct Lane {
     pub top: u64,
     pub bottom: u64,
 }
 
-/// The page, whose lanes end at `bottom`, with its head.
+/// The page with its head; the lanes end at `bottom`.
 pub fn draw_page(text: &mut String, head: &str, bottom: u64) -> Result<(), AllocError> {
     let height = bottom.saturating_add(FOOT);
     write!(
@@ -118,7 +118,7 @@ pub fn name_at(top: u64) -> Point {
     }
 }
 
-/// The times since the first packet, above and below, with a line through all lanes at each.
+/// The times since the first packet, above and below the lanes, each with a line through all lanes.
 pub fn draw_axis(text: &mut String, span: Span, bottom: u64) -> Result<(), AllocError> {
     let apart = span.time_between();
     let begin = span.start.saturating_sub(span.zero);
@@ -139,7 +139,7 @@ pub fn draw_axis(text: &mut String, span: Span, bottom: u64) -> Result<(), Alloc
     Ok(())
 }
 
-/// Where a time stands above the lanes.
+/// Where a time is written above the lanes.
 fn above(column: u64) -> Point {
     Point {
         column,
@@ -147,7 +147,7 @@ fn above(column: u64) -> Point {
     }
 }
 
-/// Where a time stands below the lanes, which end at a line.
+/// Where a time is written below the lanes, which end at this line.
 fn below(column: u64, bottom: u64) -> Point {
     Point {
         column,

@@ -40,7 +40,7 @@ pub struct Bar {
     pub top: u64,
 }
 
-/// What a mark says of a packet, in the order of drawing.
+/// What a mark shows of a packet, in the order of drawing.
 #[derive(Clone, Copy, PartialEq, Eq, PartialOrd, Ord)]
 pub enum MarkKind {
     /// It went out at the bar of the mark's top.
@@ -53,13 +53,13 @@ pub enum MarkKind {
     Dropped,
 }
 
-/// What a packet leaves in the picture. Packets at one place leave one mark.
+/// The mark of a packet in the picture. Packets at one place share a mark.
 #[derive(Clone, Copy, PartialEq, Eq, PartialOrd, Ord)]
 pub struct Mark {
     pub kind: MarkKind,
     pub column: u64,
     pub top: u64,
-    /// The top of the bar where a hairpin comes in; else the mark's own.
+    /// The top of the bar where a hairpin comes in; for other packets the mark's own top.
     pub into: u64,
 }
 
@@ -86,7 +86,7 @@ pub struct Layout {
     pub lanes: Vec<Lane>,
     /// The bars, lane by lane.
     pub bars: Vec<Bar>,
-    /// The top of the row of each cause, and how many of the packets that are shown were dropped for it.
+    /// The top of the row of each cause, and how many of the shown packets were dropped for it.
     pub causes: Vec<Cause>,
     /// The packets of each mark.
     pub marks: BTreeMap<Mark, Packets>,
@@ -130,7 +130,8 @@ fn columns_of(bar: Bar, label: &str) -> (u64, u64) {
     )
 }
 
-/// The first row that is free at `from`, where each is taken up to its column in `taken`; it is then taken up to `to`.
+/// The first row that is free from column `from` on. `taken` has the column up to which each row is taken: for this one
+/// it is now `to`.
 fn row_for(taken: &mut Vec<u64>, from: u64, to: u64) -> Result<usize, AllocError> {
     let at = match taken.iter().position(|end| *end <= from) {
         Some(at) => at,
@@ -200,7 +201,7 @@ impl Layout {
         Ok(())
     }
 
-    /// The bar of a binding in the first row of its lane that is free for it; `taken` is up to where each row is taken.
+    /// The bar of a binding in the first row of its lane that is free for it; `taken` is as for `row_for`.
     fn add_bar(
         &mut self,
         taken: &mut Vec<u64>,
@@ -266,8 +267,7 @@ impl Layout {
         self.count_packet(mark, clock)
     }
 
-    /// The first column, of this one and those beside it, without an arrow between other bars; the last one if there is
-    /// none.
+    /// The first of this column and those beside it that has no arrow between other bars; the last one if all have.
     fn column_beside(&self, first: u64, tops: (u64, u64)) -> u64 {
         let mut column = first;
         for beside in 0..=MOST_BESIDE {
@@ -280,7 +280,7 @@ impl Layout {
         column
     }
 
-    /// A mark at a time, if it has a top.
+    /// Adds a mark at a time, if it has a top.
     fn add_mark(&mut self, kind: MarkKind, clock: u64, top: Option<u64>) -> Result<(), AllocError> {
         let Some(top) = top else {
             return Ok(());

@@ -1,4 +1,4 @@
-//! How many bindings of each lane live, in bins of the time shown.
+//! How many bindings of each lane are live, in bins of the time shown.
 
 use crate::picture::scene::{Binding, BindingKind};
 use crate::picture::span::{BINS, Span};
@@ -7,7 +7,7 @@ use std::alloc::{AllocError, Global};
 /// The bindings of a lane in a bin.
 #[derive(Clone, Copy)]
 pub struct LiveBin {
-    /// The most that live at one moment of it.
+    /// The most that are live at one moment of it.
     pub most: u64,
     /// How many are made in it.
     pub made: u64,
@@ -19,14 +19,14 @@ pub struct LiveBin {
 #[derive(Drop)]
 pub struct Lives {
     pub bins: Vec<LiveBin>,
-    /// The most that live at one moment of the time shown.
+    /// The most that are live at one moment of the time shown.
     pub most: u64,
-    /// How many live, and since when.
+    /// How many are live, and since when.
     now: u64,
     since: u64,
 }
 
-/// A moment at which a binding of a lane begins or ends. At one moment some end before others begin.
+/// A moment at which a binding of a lane begins or ends. At equal moments ends come before beginnings.
 #[derive(Clone, Copy, PartialEq, Eq, PartialOrd, Ord)]
 struct Turn {
     moment: u64,
@@ -43,7 +43,7 @@ enum TurnKind {
     Begins,
 }
 
-/// The bindings of each of so many lanes.
+/// The bindings of each lane.
 pub fn lives_of(
     alloc: Global,
     span: Span,
@@ -142,7 +142,7 @@ impl Lives {
         }
     }
 
-    /// As many live until a moment as do now.
+    /// Up to a moment as many are live as now.
     fn hold(&mut self, span: Span, until: u64) {
         if until <= self.since {
             return;

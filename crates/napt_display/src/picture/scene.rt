@@ -5,7 +5,7 @@
 pub struct Scene {
     /// The line above the lanes.
     pub head: String,
-    /// The part of the time to show; absent, the time of all packets.
+    /// The part of the time to show; if absent, the time of all packets.
     pub from: Option<u64>,
     pub until: Option<u64>,
     /// The names of the lanes.
@@ -24,7 +24,7 @@ pub enum BindingKind {
     Udp,
     Tcp,
     Icmp,
-    /// It lives before the first packet and after the last, whatever its times.
+    /// It is live before the first packet and after the last, whatever its times.
     Redirect,
 }
 
@@ -42,7 +42,7 @@ pub struct Binding {
     pub made: u64,
     /// When a packet last went through it.
     pub used: u64,
-    /// When it is gone.
+    /// When it ends.
     pub end: u64,
 }
 

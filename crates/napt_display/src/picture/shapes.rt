@@ -1,4 +1,4 @@
-//! The shapes and the words that a picture is made of.
+//! The shapes and the words of a picture.
 
 use crate::picture::span::{MICROSECOND, SECOND, Span};
 use std::alloc::AllocError;
@@ -24,7 +24,7 @@ pub fn draw_area(text: &mut String, class: &str, area: Area) -> Result<(), Alloc
     text.push_str("/>\n")
 }
 
-/// A rectangle up to its end, where a title may stand.
+/// Opens a rectangle; a title may follow before its end.
 pub fn open_area(text: &mut String, class: &str, area: Area) -> Result<(), AllocError> {
     write!(
         text,
@@ -58,7 +58,7 @@ pub fn push_moment(text: &mut String, span: Span, moment: u64) -> Result<(), All
     push_time(text, span, moment.saturating_sub(span.zero))
 }
 
-/// A time in seconds, with as many decimals.
+/// A time in seconds, with as many decimals as `push_moment`.
 pub fn push_time(text: &mut String, span: Span, time: u64) -> Result<(), AllocError> {
     let (seconds, rest) = (time / SECOND, time % SECOND);
     if span.column < MICROSECOND {
@@ -79,7 +79,7 @@ pub fn push_escaped(text: &mut String, words: &str) -> Result<(), AllocError> {
     Ok(())
 }
 
-/// The XML escape of a letter that may not be in a text, or in a value in quotation marks.
+/// The XML escape of a letter that a text, or a value in quotation marks, may not have.
 fn escape_of(letter: char) -> Option<&'static str> {
     match letter {
         '&' => Some("&amp;"),

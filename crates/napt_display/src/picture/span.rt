@@ -4,7 +4,7 @@ ghost use Rattle.std.specs.Prelude.{◌≤◌, ◌+◌};
 
 use crate::picture::scene::{Binding, BindingKind, Scene};
 
-/// The line above the first lane, below the legend and the axis.
+/// Where the first lane begins, below the legend and the axis.
 pub const HEAD: u64 = 140;
 
 /// The first and the last column of time.
@@ -23,7 +23,7 @@ pub const MILLISECOND: u64 = 1_000_000;
 
 pub const SECOND: u64 = 1_000_000_000;
 
-/// The least width between two times on the axis.
+/// The least distance between two times on the axis.
 pub const TIME_WIDTH: u64 = 115;
 
 /// The time that is shown, in ns.
@@ -35,13 +35,13 @@ pub struct Span {
     pub start: u64,
     /// Where it ends: after the last packet, if no other end is chosen.
     pub end: u64,
-    /// The time of a column.
+    /// How much time a column is.
     pub column: u64,
 }
 
 impl Span {
-    /// The time from the first packet to the last, a second if that is none, and a sixteenth more. Of it the part that
-    /// is chosen.
+    /// The chosen part of the time from the first packet to the last and a sixteenth more. If all packets have one
+    /// time, it is a second and a sixteenth.
     pub fn of(scene: &Scene) -> Span {
         let (zero, last) = match (scene.passes.first(), scene.passes.last()) {
             (Some(first), Some(last)) => (first.clock, last.clock),
@@ -67,7 +67,7 @@ impl Span {
         self.start <= moment && moment <= self.end
     }
 
-    /// Whether any of the time from a moment until before another is shown.
+    /// Whether any of the time from a moment up to another, without that one, is shown.
     pub fn meets(self, from: u64, to: u64) -> bool {
         from <= self.end && self.start < to
     }
@@ -85,7 +85,7 @@ impl Span {
             .count()
     }
 
-    /// The column of a moment; what is before or after the span is at its edge.
+    /// The column of a moment; one before or after the span is at its edge.
     pub fn column_of(self, moment: u64) -> u64
         ensures left { LEFT ≤ result }
         ensures right { result ≤ RIGHT }
@@ -94,7 +94,7 @@ impl Span {
         LEFT + columns.min(RIGHT - LEFT)
     }
 
-    /// The bin of a moment; what is before or after the span is in the first or the last one.
+    /// The bin of a moment; one before or after the span is in the first or the last bin.
     pub fn bin_of(self, moment: u64) -> usize
         ensures within { result + 1 ≤ 500 }
     {
@@ -113,7 +113,7 @@ impl Span {
         self.column.saturating_mul(BIN_WIDTH)
     }
 
-    /// The time between two times of the axis: 1, 2 or 5 of a decimal unit.
+    /// The time between two marks of the axis: 1, 2 or 5 of a decimal unit.
     pub fn time_between(self) -> u64 {
         let least = self.column.saturating_mul(TIME_WIDTH);
         let mut unit = MICROSECOND;

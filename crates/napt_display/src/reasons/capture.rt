@@ -99,7 +99,7 @@ pub fn capture_reasons(
     Ok(reasons)
 }
 
-/// Adds what some bytes seem to be, and the command that makes captures for napt from them, if known.
+/// Adds what some bytes seem to be and, if known, the command that makes captures for napt from them.
 fn add_form(alloc: Global, reasons: &mut Vec<Reason>, form: Form) -> Result<(), AllocError>
     ensures { OnOk result (vec_len reasons.old + 1 ≤ vec_len reasons.new) }
 {
@@ -119,7 +119,7 @@ fn add_form(alloc: Global, reasons: &mut Vec<Reason>, form: Form) -> Result<(), 
     }
 }
 
-/// Adds the command that makes the two captures that napt reads from a named one.
+/// Adds the command that makes napt's two captures from a named one.
 fn add_split(alloc: Global, reasons: &mut Vec<Reason>, name: &str) -> Result<(), AllocError>
     ensures { OnOk result (vec_len reasons.old ≤ vec_len reasons.new) }
 {

@@ -24,7 +24,7 @@ pub fn meaning(cause: Cause) -> &'static str {
     }
 }
 
-/// What to do if many packets are dropped so.
+/// What to do if many packets are dropped for it.
 pub fn advice(cause: Cause) -> Option<&'static str> {
     match cause {
         Cause::Truncated => Some(

@@ -10,9 +10,9 @@ use napt_config::ConfigFault;
 use std::alloc::{AllocError, Global};
 use toml::Value;
 
-/// Why `Config::read` refuses a text with this fault: the place, the value there, the other entry if the fault is about two,
-/// and what was expected; or the line that is not TOML; or just the fault if it has no place. There is at least one reason.
-/// Fails only if memory runs out.
+/// Why `Config::read` refuses a text with this fault: the place, the value there, the other entry if the fault is about
+/// two, and what was expected; or the line that is not TOML; or just the fault if it has no place. There is at least
+/// one reason. Fails only if memory runs out.
 pub fn config_reasons(
     alloc: Global,
     text: &[u8],
@@ -79,7 +79,7 @@ fn line_of(text: &str, place: usize) -> usize {
     ends.saturating_add(1)
 }
 
-/// Adds why a table is refused: the place with what is said of it, or the fault in words if it has no place.
+/// Adds why a table is refused: the place with its reasons, or the fault in words if it has no place.
 fn add_for_table(reasons: &mut Vec<Reason>, refused: Refused<'_>) -> Result<(), AllocError>
     ensures { OnOk result (vec_len reasons.old + 1 ≤ vec_len reasons.new) }
 {
@@ -178,7 +178,7 @@ fn value_text(alloc: Global, value: Option<&Value>) -> Result<String, AllocError
     }
 }
 
-/// What was expected at a place, if that says more than the fault.
+/// What was expected at a place, if that adds to the fault.
 fn expected(fault: ConfigFault, place: Place<'_>) -> Option<&'static str> {
     let field = place.field.unwrap_or("");
     match fault {

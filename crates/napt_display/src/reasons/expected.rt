@@ -26,7 +26,7 @@ fn shape_in_entry(key: &str, field: &str) -> &'static str {
     }
 }
 
-/// What was expected at a place, if that says more than the fault, and the RFC behind it.
+/// What was expected at a place, if that adds to the fault, and the RFC behind it.
 pub fn expected_at(fault: ConfigFault, key: &str, field: &str) -> Option<&'static str> {
     match fault {
         ConfigFault::TimerTooShort => Some(least_time(field)),

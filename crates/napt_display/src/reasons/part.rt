@@ -12,7 +12,7 @@ const KEYS: &[&str] = &[
     "pool", "inside", "filter", "refresh", "timers", "ring", "quota", "pair", "redirect",
 ];
 
-/// Goes before a configuration of which only the pool is checked.
+/// Precedes a configuration of which only the pool is checked.
 const NO_PREFIX: &str = "inside = [\"255.255.255.255/32\"]\n";
 
 /// The keys inside a key, in the order they are checked.
@@ -66,11 +66,11 @@ struct Part<'t> {
     keys: Kept<'t>,
     /// The last of its keys.
     key: &'t str,
-    /// The last entry of the key's list; absent, it is whole.
+    /// The last entry of the key's list; if absent, the list is whole.
     entry: Option<usize>,
-    /// The fields of that entry, or of the table at the key; absent, all.
+    /// The fields of that entry, or of the table at the key; if absent, all.
     fields: Option<Kept<'t>>,
-    /// Entries of a list up to this one are left out; absent, none are.
+    /// Entries of a list up to this one are left out; if absent, none is.
     left_out: Option<Entry<'t>>,
 }
 

@@ -1,10 +1,10 @@
-//! One thing said about what is refused.
+//! One reason for a refusal.
 
 ghost use Rattle.std.specs.Prelude.{◌≡◌, ◌+◌, OnOk, vec_len};
 
 use std::alloc::AllocError;
 
-/// One thing said about what is refused.
+/// One reason for a refusal.
 #[derive(Drop)]
 pub struct Reason {
     /// What it is about: `why`, `at`, `line`, `meant`, `value`, `with`, `expected`, `it is` or `do`; empty if it
