@@ -1,5 +1,5 @@
 -- The rules of a run, in reading order. `ran rules inputs`, at the end of `Sequential`, is what a run over inputs
--- gives: what became of each, the bindings that live at the end, and how many legs acted at each external address. A
+-- gives: the outcome of each input, the bindings live at the end, and how many legs acted at each external address. A
 -- run on one thread and a run over workers are both proved to give exactly this.
 --
 -- LEGEND
@@ -8,7 +8,8 @@
 -- bits, a packet is the list of its bytes. `rules` is what contracts see of a configuration (`napt_config`, `Rules`),
 -- `address` is an external address of its pool, `list` the bindings of all of them, and `now` the time of a packet.
 --
---   word : A → B → C    a function of an A and a B, which gives a C; below it, what it gives
+--   word : A → B → C    a function of an A and a B, which gives a C; below it, what it gives. `abbrev` and
+--                       `unfoldable` say only whether a prover opens the word by itself
 --   f x y               the function f at x and y; `λ x. t` is the function that gives t
 --   x ≡ y               x and y are equal; `==`, `nat_lt`, `nat_le`, `&&`, `||`, `not` give `true` or `false`
 --   a × b               both; `P → Q` also says that P implies Q, and `(x : A) → P` that P holds of each x

@@ -1,8 +1,9 @@
 -- The sequential translator: what a run over a list of inputs gives, on one list of bindings.
 --
--- Each input is read, judged by its side, and taken through the bindings of the external address that serves it (RFC
--- 3022, sections 4.1 to 4.3). What an inside host sends to an external address of the pool comes in again there at
--- once (RFC 4787, REQ-9, hairpinning). A run's time is the greatest clock so far, so it never goes back.
+-- Each input is read, checked against its side, and taken through the bindings of the external address that serves it
+-- (RFC 3022, sections 4.1 to 4.3). A leg is one pass of a packet through one external address. What an inside host
+-- sends to an external address of the pool comes in again there at once, by a second leg (RFC 4787, REQ-9,
+-- hairpinning). A run's time is the greatest clock so far, so it never goes back; the arrival times of inputs may.
 use Rattle.std.specs.Prelude.{ℕ, ◌+◌, ◌==◌, max, length, List, [], ◌∷◌, ◌++◌, map, filter, flat_map, Result, Ok, Err}
 use Rattle.napt_wire.specs.declared.Side.{Side}
 use Rattle.napt_wire.specs.declared.Way.TheVariants.{Incoming}
@@ -37,7 +38,7 @@ pub record Course : Type 0 where
   pub acts : List Act
   pub list : List Binding
 
--- a course, and another behind it
+-- the first course, then the rest
 abbrev pub ahead : Course → Course → Course
 ahead first rest = record {
   outcomes = first.outcomes ++ rest.outcomes;
@@ -45,7 +46,7 @@ ahead first rest = record {
   list = rest.list;
 }
 
--- the outcome is that of the last leg
+-- the outcome is that of the last leg, which never ends onward: a second leg comes in
 abbrev pub outcome_of : End → Outcome
 outcome_of (ends.ToOutside packet) = ToOutside packet
 outcome_of (ends.ToInside packet) = ToInside packet
@@ -59,7 +60,7 @@ once address leg acted = record {
   list = acted.list;
 }
 
--- a first leg, and the second that follows at once where the packet goes onward: in, at the address that it was sent to
+-- a first leg, and if its packet goes onward at once a second: in, at the address that the packet was sent to
 abbrev pub follow_by : Rules → ℕ → Leg → Acted → End → Course
 follow_by rules address leg first (ends.Onward place packet) =
     let next : Leg = record leg { way = Incoming; packet = packet } in
@@ -82,7 +83,7 @@ admitted rules address leg list =
 abbrev pub first_leg : ℕ → ℕ → Side → List ℕ → Leg
 first_leg number now side packet = record { number = number; now = now; way = way_from side; packet = packet }
 
--- by what an input comes to: the packet's first leg acts at the address that serves it
+-- given the result of admission: a cause drops the input, a packet's first leg acts at the address that serves it
 abbrev pub step_as : Rules → (List ℕ → Leg) → Result (List ℕ) Cause → List Binding → Course
 step_as rules leg_of (Err cause) list = refused cause list
 step_as rules leg_of (Ok packet) list =
@@ -95,7 +96,7 @@ step rules number now input list = step_as rules (first_leg number now input.sid
 
 -- ALL INPUTS
 
--- from a number, a clock and a list on
+-- the run of the inputs that are left, given the next number, the clock so far and the list
 abbrev pub run_from : Rules → ℕ → ℕ → List Arrival → List Binding → Course
 run_from rules number clock [] list = record { outcomes = []; acts = []; list = list }
 run_from rules number clock (input ∷ inputs) list =
@@ -106,7 +107,7 @@ run_from rules number clock (input ∷ inputs) list =
 abbrev pub run : Rules → List Arrival → List Binding → Course
 run rules inputs list = run_from rules 0 0 inputs list
 
--- the time of the last input, from a clock on
+-- the time of the last input, given the clock before
 abbrev pub last_clock : ℕ → List Arrival → ℕ
 last_clock clock [] = clock
 last_clock clock (input ∷ inputs) = last_clock (max clock input.clock) inputs
