@@ -1,4 +1,4 @@
-//! Where a datagram has its headers and its ends.
+//! Where a datagram's headers are, and its ends.
 
 ghost use Rattle.std.specs.Prelude.{◌≡◌, ◌+◌, ◌≤◌, ◌<◌, ◌^◌, IfSome, option_map};
 ghost use Rattle.napt_wire.specs.Fields.{address_place, end_at, inner_of, number_place};
@@ -8,7 +8,7 @@ use crate::bytes::{read_long, read_word};
 use crate::form::{End, Form};
 use crate::{Endpoint, Inner};
 
-/// The headers of a datagram in the bytes: a packet's own, or those that an ICMP error quotes.
+/// The headers of a datagram in the bytes of a packet: the packet's own, or those that an ICMP error quotes.
 #[derive(Clone, Copy)]
 pub(crate) struct Header {
     /// Where the IPv4 header begins.

@@ -203,7 +203,7 @@ impl Packet {
         rewrite.write(&mut self.bytes);
     }
 
-    /// The packet's own headers.
+    /// The packet's own header.
     fn header(&self) -> Header
         ensures { IsHeader 0 result self.now }
     {
@@ -214,7 +214,7 @@ impl Packet {
         }
     }
 
-    /// The headers that an ICMP error quotes, of which this was kept.
+    /// The header of the datagram that an ICMP error quotes, from what was kept of it.
     fn quoted_header(&self, quoted: Quoted) -> Header
         requires error { is_error (kind self.now) ≡ true }
         requires quoted { quoted ≡ quoted_of self.now }

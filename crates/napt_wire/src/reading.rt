@@ -232,7 +232,7 @@ fn read_quoted(side: Side, bytes: &[u8], start: usize) -> Result<Quoted, Cause>
     })
 }
 
-/// The headers of the datagram at `at`, if it can have been translated the other way (RFC 5508
+/// The header of the datagram at `at`, if that can have been translated the other way (RFC 5508
 /// section 4).
 #[tactic(auto, unfolding(crate::specs::Reading::has_bad_inner))]
 fn read_inner(side: Side, bytes: &[u8], at: usize) -> Option<Header>

@@ -203,8 +203,8 @@ pub(crate) struct ErrorRewrite {
 }
 
 impl ErrorRewrite {
-    /// What changes in an error that goes this way when the inside end of the datagram that it quotes, which has
-    /// its header at `inner`, becomes `end`.
+    /// What changes in an error that goes this way, with this header, when the inside end of the datagram that it
+    /// quotes, whose header is `inner`, becomes `end`.
     pub(crate) fn of(
         bytes: &[u8],
         error: Header,
