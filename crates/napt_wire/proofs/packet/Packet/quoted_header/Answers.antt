@@ -1,4 +1,4 @@
-use Rattle.std.proofs.Common.{◌≡◌, ℕ, ◌+◌, List, ap, ◌∙◌, refl}
+use Rattle.std.proofs.Common.{◌≡◌, ℕ, List, ap, ◌∙◌, refl}
 use Rattle.napt_wire.specs.Fields.{inner_at}
 use Rattle.napt_wire.specs.Packet.{quoted_of}
 use Rattle.napt_wire.specs.declared.packet.Quoted.{Quoted}
