@@ -4,7 +4,7 @@ use Rattle.std.proofs.lemmas.Bool.Decides.{nat_tests}
 use Rattle.std.proofs.lemmas.Grind.{common_steps}
 use Rattle.napt_wire.specs.Bytes.{byte_at}
 use Rattle.napt_wire.specs.Fields.{total_length, transport, form_at, source, kind, kind_of, number_at, number_place, is_error, CanCarry}
-use Rattle.napt_wire.specs.Reading.{refusal, reading, message_checks, has_bad_transport, has_port_zero, has_zero_port, is_translated}
+use Rattle.napt_wire.specs.Reading.{refusal, reading, message_checks, has_bad_transport, has_zero_port, is_translated}
 use Rattle.napt_wire.specs.Packet.{IsPacket}
 use Rattle.napt_wire.proofs.Readings.{passes_of_read, first_passed, others_passed}
 use Rattle.napt_wire.specs.declared.Side.{Side}
@@ -21,9 +21,9 @@ module _ (side : Side) (bytes : List ℕ) where
   carried_by : (form : Form) → refusal (message_checks form side bytes) ≡ None → form ≡ form_at 0 bytes →
       is_error (kind_of form bytes) ≡ false →
       CanCarry (kind_of form bytes) (number_at (transport 0 bytes) (number_place form Source) bytes)
-  carried_by Udp h e plain = let ports = no_zero_port Udp (first_passed (has_port_zero 0 bytes) BadPort [] h) e in
+  carried_by Udp h e plain = let ports = no_zero_port Udp (first_passed (has_zero_port (form_at 0 bytes) (transport 0 bytes) bytes) BadPort [] h) e in
       grind (arith, nat_tests, ports)
-  carried_by Tcp h e plain = let ports = no_zero_port Tcp (first_passed (has_port_zero 0 bytes) BadPort [] h) e in
+  carried_by Tcp h e plain = let ports = no_zero_port Tcp (first_passed (has_zero_port (form_at 0 bytes) (transport 0 bytes) bytes) BadPort [] h) e in
       grind (arith, nat_tests, ports)
   carried_by Request h e plain = tt
   carried_by Reply h e plain = tt

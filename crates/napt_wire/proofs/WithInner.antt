@@ -688,6 +688,10 @@ pub error_of : (bytes : List ℕ) → is_error (kind bytes) ≡ true → form_at
 unfolding kind
 error_of bytes h = error_form (form_at 0 bytes) bytes h
 
+pub is_error_of : (bytes : List ℕ) → form_at 0 bytes ≡ Error → is_error (kind bytes) ≡ true
+unfolding kind
+is_error_of bytes h = rw h refl
+
 carries_quoted : (form : Form) (number : ℕ) → CanQuote (protocol_of form) number → Carries form number
 carries_quoted Udp number h = h
 carries_quoted Tcp number h = h

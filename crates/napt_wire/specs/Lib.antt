@@ -7,4 +7,5 @@ pub mod Packet
 pub mod Right
 pub mod Rewrite
 pub mod Room
+pub mod Header
 pub mod Laws

@@ -79,10 +79,6 @@ has_bad_inner side at bytes =
 abbrev pub has_zero_port : Form → ℕ → List ℕ → Bool
 has_zero_port form start bytes = has_ports form && (word_at start bytes == 0 || word_at (start + 2) bytes == 0)
 
--- the datagram at a place has ports, and one of them is 0
-abbrev pub has_port_zero : ℕ → List ℕ → Bool
-has_port_zero at bytes = has_zero_port (form_at at bytes) (transport at bytes) bytes
-
 -- the checks on the bytes that came, each with the cause where it fails: what the IPv4 header says of
 -- itself (RFC 791 section 3.1)
 abbrev pub length_checks : List ℕ → List (Bool × Cause)
@@ -107,13 +103,13 @@ abbrev pub error_checks : Side → List ℕ → List (Bool × Cause)
 error_checks side bytes =
     (not (is_right (words (drop (transport 0 bytes) bytes))), BadChecksum)
     ∷ (has_bad_inner side (inner_at bytes) bytes, BadInner)
-    ∷ (has_port_zero (inner_at bytes) bytes, BadPort)
+    ∷ (has_zero_port (form_at (inner_at bytes) bytes) (transport (inner_at bytes) bytes) bytes, BadPort)
     ∷ []
 
 -- the checks on a message of a form behind the two on its header: those of an error, or the ports
 abbrev pub message_checks : Form → Side → List ℕ → List (Bool × Cause)
-message_checks Udp side bytes = (has_port_zero 0 bytes, BadPort) ∷ []
-message_checks Tcp side bytes = (has_port_zero 0 bytes, BadPort) ∷ []
+message_checks Udp side bytes = (has_zero_port (form_at 0 bytes) (transport 0 bytes) bytes, BadPort) ∷ []
+message_checks Tcp side bytes = (has_zero_port (form_at 0 bytes) (transport 0 bytes) bytes, BadPort) ∷ []
 message_checks Request side bytes = []
 message_checks Reply side bytes = []
 message_checks Error side bytes = error_checks side bytes

@@ -26,6 +26,5 @@ pub(crate) fn write_word(bytes: &mut [u8], place: usize, word: u16)
     requires { place + 2 ≤ length bytes.old }
     ensures { bytes.new ≡ put_word place word bytes.old }
 {
-    bytes[place] = (word >> 8) as u8;
-    bytes[place + 1] = (word & 0xff) as u8;
+    BigEndian::write_u16(&mut bytes[place..], word);
 }

@@ -1,11 +1,9 @@
-//! The forms of transport headers, and where a datagram has its ends.
+//! The forms of transport headers, and the two ends of a datagram.
 
 ghost use Rattle.std.specs.Prelude.{◌≡◌, ◌+◌, ◌≤◌, length};
-ghost use Rattle.napt_wire.specs.Fields.{address_place, end_at, form_at, icmp_form, inner_of, number_place, protocol_of, transport};
-ghost use Rattle.napt_wire.specs.Room.{HasHeaders};
+ghost use Rattle.napt_wire.specs.Fields.{address_place, form_at, icmp_form, number_place, protocol_of, transport};
 
-use crate::bytes::{read_long, read_word};
-use crate::{Endpoint, Inner, Protocol};
+use crate::Protocol;
 
 /// The form of a datagram's transport header.
 #[derive(Clone, Copy)]
@@ -87,35 +85,5 @@ impl End {
             End::Source => 12,
             End::Destination => 16,
         }
-    }
-}
-
-/// An end of the datagram at `at`, whose transport header has this form and begins at `start`.
-pub(crate) fn read_end(bytes: &[u8], at: usize, start: usize, form: Form, end: End) -> Endpoint
-    requires room { HasHeaders at bytes.now }
-    requires start { start ≡ transport at bytes.now }
-    requires form { form ≡ form_at at bytes.now }
-    ensures { result ≡ end_at at end bytes.now }
-{
-    let address = read_long(bytes, at + end.address_place());
-    let number = match form.number_place(end) {
-        Some(place) => read_word(bytes, start + place),
-        None => 0,
-    };
-    Endpoint { address, number }
-}
-
-/// The protocol and ends of the datagram at `at`, whose transport header has this form and begins at
-/// `start`.
-pub(crate) fn read_ends(bytes: &[u8], at: usize, start: usize, form: Form) -> Inner
-    requires room { HasHeaders at bytes.now }
-    requires start { start ≡ transport at bytes.now }
-    requires form { form ≡ form_at at bytes.now }
-    ensures { result ≡ inner_of at bytes.now }
-{
-    Inner {
-        protocol: form.protocol(),
-        source: read_end(bytes, at, start, form, End::Source),
-        destination: read_end(bytes, at, start, form, End::Destination),
     }
 }

@@ -11,6 +11,7 @@
 mod bytes;
 mod checksum;
 mod form;
+mod header;
 mod laws;
 mod packet;
 mod reading;

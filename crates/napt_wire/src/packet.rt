@@ -4,13 +4,15 @@ ghost use Rattle.std.specs.Prelude.{◌≡◌, List, ℕ, false, true, Ok, Err, 
 ghost use Rattle.napt_wire.specs.Fields.{source, destination, end_at, inner_at, kind, local_end, remote_end, is_error, CanCarry};
 ghost use Rattle.napt_wire.specs.Reading.{reading};
 ghost use Rattle.napt_wire.specs.Rewriting.{changed, end_changes, with_source, with_destination, reverted};
-ghost use Rattle.napt_wire.specs.Packet.{IsPacket, form_of};
+ghost use Rattle.napt_wire.specs.Packet.{IsPacket, form_of, quoted_of};
+ghost use Rattle.napt_wire.specs.Header.{IsHeader};
 ghost use Rattle.napt_wire.specs.Right.{transport_right};
 ghost use Rattle.napt_wire.specs.declared.Side.{Side};
 
-use crate::form::{End, Form, read_end, read_ends};
+use crate::form::{End, Form};
+use crate::header::Header;
 use crate::reading::read_datagram;
-use crate::rewrite::{ErrorRewrite, Rewrite};
+use crate::rewrite::ErrorRewrite;
 use crate::{Cause, Endpoint, Flags, Kind, Side, Way};
 use std::marker::Model;
 
@@ -119,10 +121,7 @@ impl Packet {
             Body::Udp => Kind::Udp,
             Body::Tcp(flags) => Kind::Tcp(flags),
             Body::Request | Body::Reply => Kind::Echo,
-            Body::Error(Quoted { form, start }) => {
-                let at = usize::from(self.start) + 8;
-                Kind::ErrorOf(read_ends(&self.bytes, at, start.into(), form))
-            }
+            Body::Error(quoted) => Kind::ErrorOf(self.quoted_header(quoted).ends(&self.bytes)),
         }
     }
 
@@ -199,15 +198,33 @@ impl Packet {
         let Body::Error(quoted) = self.body else {
             unreachable!();
         };
-        let rewrite = ErrorRewrite::of(
-            &self.bytes,
-            self.start.into(),
-            quoted.start.into(),
-            quoted.form,
-            way,
-            end,
-        );
+        let quoted = self.quoted_header(quoted);
+        let rewrite = ErrorRewrite::of(&self.bytes, self.header(), quoted, way, end);
         rewrite.write(&mut self.bytes);
+    }
+
+    /// The packet's own header.
+    fn header(&self) -> Header
+        ensures { IsHeader 0 result self.now }
+    {
+        Header {
+            at: 0,
+            start: self.start.into(),
+            form: self.body.form(),
+        }
+    }
+
+    /// The header of the datagram that an ICMP error quotes, from what was kept of it.
+    fn quoted_header(&self, quoted: Quoted) -> Header
+        requires error { is_error (kind self.now) ≡ true }
+        requires quoted { quoted ≡ quoted_of self.now }
+        ensures { IsHeader (inner_at self.now) result self.now }
+    {
+        Header {
+            at: usize::from(self.start) + 8,
+            start: quoted.start.into(),
+            form: quoted.form,
+        }
     }
 
     /// An end of the packet.
@@ -215,8 +232,7 @@ impl Packet {
         ensures value { result ≡ end_at 0 end self.now }
         ensures reads { IsPacket self.now }
     {
-        let form = self.body.form();
-        read_end(&self.bytes, 0, self.start.into(), form, end)
+        self.header().end(&self.bytes, end)
     }
 
     /// Replaces an end, and each checksum that covers it.
@@ -228,8 +244,7 @@ impl Packet {
             ≡ Ok self.new }
         ensures right { transport_right 0 self.new ≡ transport_right 0 self.old }
     {
-        let form = self.body.form();
-        let rewrite = Rewrite::of_end(&self.bytes, 0, self.start.into(), form, end, new);
+        let rewrite = self.header().rewrite_end(&self.bytes, end, new);
         rewrite.write(&mut self.bytes);
     }
 }

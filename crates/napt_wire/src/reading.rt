@@ -7,11 +7,12 @@ ghost use Rattle.napt_wire.specs.Checksum.{is_right};
 ghost use Rattle.napt_wire.specs.Fields.{flags_of, form_at, fragment_offset, has_more, header_length, inner_at, total_length, transport};
 ghost use Rattle.napt_wire.specs.Packet.{IsFound, body_of, quoted_of};
 ghost use Rattle.napt_wire.specs.Reading.{body_checks, error_checks, has_bad_inner, has_bad_transport, has_zero_port, header_checks, is_known, is_quoted, is_translated, length_checks, reading, refusal};
-ghost use Rattle.napt_wire.specs.Room.{HasHeaders};
+ghost use Rattle.napt_wire.specs.Header.{IsHeader};
 
 use crate::bytes::{read_long, read_word};
 use crate::checksum::is_right;
 use crate::form::Form;
+use crate::header::Header;
 use crate::packet::{Body, Quoted};
 use crate::{Cause, Flags, Side};
 
@@ -135,7 +136,7 @@ fn read_body(side: Side, bytes: &[u8], start: usize) -> Result<Body, Cause>
     if !is_translated(side, form, bytes[start]) {
         return Err(Cause::Unsupported);
     }
-    if has_port_zero(bytes, start, form) {
+    if has_zero_port(bytes, start, form) {
         return Err(Cause::BadPort);
     }
     match form {
@@ -184,7 +185,7 @@ fn is_translated(side: Side, form: Form, icmp_type: u8) -> bool
 }
 
 /// Whether the transport header at `start` has a port that is 0.
-fn has_port_zero(bytes: &[u8], start: usize, form: Form) -> bool
+fn has_zero_port(bytes: &[u8], start: usize, form: Form) -> bool
     requires { start + 8 ≤ length bytes.now }
     ensures { result ≡ has_zero_port form start bytes.now }
 {
@@ -219,29 +220,27 @@ fn read_quoted(side: Side, bytes: &[u8], start: usize) -> Result<Quoted, Cause>
         return Err(Cause::BadChecksum);
     }
     let at = start + 8;
-    let Some((inner, form)) = read_inner(side, bytes, at) else {
+    let Some(inner) = read_inner(side, bytes, at) else {
         return Err(Cause::BadInner);
     };
-    if has_port_zero(bytes, inner, form) {
+    if has_zero_port(bytes, inner.start, inner.form) {
         return Err(Cause::BadPort);
     }
     Ok(Quoted {
-        form,
-        start: inner as u16,
+        form: inner.form,
+        start: inner.start as u16,
     })
 }
 
-/// Where the transport header of the datagram at `at` begins, and its form, if it can have been
-/// translated the other way (RFC 5508 section 4).
+/// The header of the datagram at `at`, if that can have been translated the other way (RFC 5508
+/// section 4).
 #[tactic(auto, unfolding(crate::specs::Reading::has_bad_inner))]
-fn read_inner(side: Side, bytes: &[u8], at: usize) -> Option<(usize, Form)>
+fn read_inner(side: Side, bytes: &[u8], at: usize) -> Option<Header>
     requires there { at ≤ length bytes.now }
     requires outer { 20 ≤ length bytes.now }
     requires small { length bytes.now ≤ 65535 }
     ensures bad { is_none result ≡ has_bad_inner side at bytes.now }
-    ensures start { IfSome result (λ found. found.0 ≡ transport at bytes.now) }
-    ensures form { IfSome result (λ found. found.1 ≡ form_at at bytes.now) }
-    ensures room { IfSome result (λ found. HasHeaders at bytes.now) }
+    ensures header { IfSome result (λ header. IsHeader at header bytes.now) }
 {
     if bytes.len() < at + 20 || bytes[at] >> 4 != 4 {
         return None;
@@ -258,7 +257,7 @@ fn read_inner(side: Side, bytes: &[u8], at: usize) -> Option<(usize, Form)>
     if !is_quoted(side, form) || read_long(bytes, at + 12) != read_long(bytes, 16) {
         return None;
     }
-    Some((start, form))
+    Some(Header { at, start, form })
 }
 
 /// Whether an error from a side may quote a datagram of this form.

@@ -2,15 +2,17 @@
 
 ghost use Rattle.std.specs.Prelude.{◌≡◌, ◌+◌, ◌/◌, ◌%◌, ◌<◌, ◌≤◌, [], ◌∷◌, length, option_to_list};
 ghost use Rattle.napt_wire.specs.Bytes.{put_word};
-ghost use Rattle.napt_wire.specs.Fields.{end_at, form_at, inner_at, transport};
+ghost use Rattle.napt_wire.specs.Fields.{inner_at};
+ghost use Rattle.napt_wire.specs.Header.{IsHeader};
 ghost use Rattle.napt_wire.specs.Rewrite.{address_changes_of, changes_of, error_changes_of};
 ghost use Rattle.napt_wire.specs.Rewriting.{address_changes, change, changed, checksum_changes, end_changes, inner_end, outer_end, reverted_changes, olds, news, address_words, end_words};
 ghost use Rattle.napt_wire.specs.Checksum.{canon, canon_udp};
-ghost use Rattle.napt_wire.specs.Room.{AreThere, HasHeaders};
+ghost use Rattle.napt_wire.specs.Room.{AreThere};
 
 use crate::bytes::{read_long, read_word, write_word};
 use crate::checksum::{fix_address, fix_check, fix_end, fix_end_udp};
-use crate::form::{End, Form, read_end};
+use crate::form::{End, Form};
+use crate::header::Header;
 use crate::{Endpoint, Way};
 
 /// A 16-bit word that is replaced: its place, its old and its new value.
@@ -69,21 +71,6 @@ pub(crate) struct AddressRewrite {
 }
 
 impl AddressRewrite {
-    /// What changes in the header of the datagram at `at` when an address becomes `new`.
-    pub(crate) fn of(bytes: &[u8], at: usize, end: End, new: u32) -> AddressRewrite
-        requires { at + 20 ≤ length bytes.now }
-        ensures { address_changes_of result ≡ address_changes at end new bytes.now }
-    {
-        let place = at + end.address_place();
-        let old = read_long(bytes, place);
-        let check = read_word(bytes, at + 10);
-        AddressRewrite {
-            header_check: Change::of(bytes, at + 10, fix_address(check, old, new)),
-            high: Change::of(bytes, place, (new >> 16) as u16),
-            low: Change::of(bytes, place + 2, (new & 0xffff) as u16),
-        }
-    }
-
     /// Replaces the words.
     pub(crate) fn write(&self, bytes: &mut [u8])
         requires { AreThere (address_changes_of self.now) bytes.old }
@@ -105,68 +92,71 @@ impl AddressRewrite {
     }
 }
 
-/// How the checksum of a transport header at `start` changes when `old` becomes `new`, if it is there.
-fn checksum_change(
-    bytes: &[u8],
-    start: usize,
-    form: Form,
-    old: Endpoint,
-    new: Endpoint,
-) -> Option<Change>
-    requires { start + 8 ≤ length bytes.now }
-    ensures { option_to_list result ≡ checksum_changes form start old new bytes.now }
-{
-    match form {
-        Form::Udp => {
-            let check = read_word(bytes, start + 6);
-            Some(Change::of(bytes, start + 6, fix_end_udp(check, old, new)))
-        }
-        Form::Tcp => {
-            if bytes.len() < start + 18 {
-                return None;
-            }
-            let check = read_word(bytes, start + 16);
-            Some(Change::of(bytes, start + 16, fix_end(check, old, new)))
-        }
-        Form::Request | Form::Reply => {
-            let check = read_word(bytes, start + 2);
-            Some(Change::of(bytes, start + 2, fix_check(check, old.number, new.number)))
-        }
-        Form::Error => None,
-    }
-}
-
-impl Rewrite {
-    /// What changes in the datagram at `at`, whose transport header has this form and begins at
-    /// `start`, when one of its ends becomes `new`.
-    pub(crate) fn of_end(
-        bytes: &[u8],
-        at: usize,
-        start: usize,
-        form: Form,
-        end: End,
-        new: Endpoint,
-    ) -> Rewrite
-        requires room { HasHeaders at bytes.now }
-        requires start { start ≡ transport at bytes.now }
-        requires form { form ≡ form_at at bytes.now }
-        ensures { changes_of result ≡ end_changes at end new bytes.now }
+impl Header {
+    /// What changes when an end of the datagram becomes `new`.
+    pub(crate) fn rewrite_end(self, bytes: &[u8], end: End, new: Endpoint) -> Rewrite
+        requires { IsHeader self.at self bytes.now }
+        ensures { changes_of result ≡ end_changes self.at end new bytes.now }
     {
-        let old = read_end(bytes, at, start, form, end);
-        let (number, transport_check) = match form.number_place(end) {
-            Some(number_place) => (
-                Some(Change::of(bytes, start + number_place, new.number)),
-                checksum_change(bytes, start, form, old, new),
+        let old = self.end(bytes, end);
+        let (number, transport_check) = match self.number_place(end) {
+            Some(place) => (
+                Some(Change::of(bytes, place, new.number)),
+                self.rewrite_check(bytes, old, new),
             ),
             None => (None, None),
         };
         Rewrite {
             number,
             transport_check,
-            address: AddressRewrite::of(bytes, at, end, new.address),
+            address: self.rewrite_address(bytes, end, new.address),
         }
     }
 
+    /// What changes in the IPv4 header when the address of an end becomes `new`.
+    fn rewrite_address(self, bytes: &[u8], end: End, new: u32) -> AddressRewrite
+        requires { IsHeader self.at self bytes.now }
+        ensures { address_changes_of result ≡ address_changes self.at end new bytes.now }
+    {
+        let place = self.address_place(end);
+        let old = read_long(bytes, place);
+        let check = read_word(bytes, self.at + 10);
+        AddressRewrite {
+            header_check: Change::of(bytes, self.at + 10, fix_address(check, old, new)),
+            high: Change::of(bytes, place, (new >> 16) as u16),
+            low: Change::of(bytes, place + 2, (new & 0xffff) as u16),
+        }
+    }
+
+    /// How the transport checksum changes when an end that was `old` becomes `new`, if it is there.
+    fn rewrite_check(self, bytes: &[u8], old: Endpoint, new: Endpoint) -> Option<Change>
+        requires { IsHeader self.at self bytes.now }
+        ensures { option_to_list result
+            ≡ checksum_changes self.form self.start old new bytes.now }
+    {
+        let start = self.start;
+        match self.form {
+            Form::Udp => {
+                let check = read_word(bytes, start + 6);
+                Some(Change::of(bytes, start + 6, fix_end_udp(check, old, new)))
+            }
+            Form::Tcp => {
+                if bytes.len() < start + 18 {
+                    return None;
+                }
+                let check = read_word(bytes, start + 16);
+                Some(Change::of(bytes, start + 16, fix_end(check, old, new)))
+            }
+            Form::Request | Form::Reply => {
+                let check = read_word(bytes, start + 2);
+                Some(Change::of(bytes, start + 2, fix_check(check, old.number, new.number)))
+            }
+            Form::Error => None,
+        }
+    }
+}
+
+impl Rewrite {
     /// Replaces the words.
     pub(crate) fn write(&self, bytes: &mut [u8])
         requires { AreThere (changes_of self.now) bytes.old }
@@ -213,29 +203,25 @@ pub(crate) struct ErrorRewrite {
 }
 
 impl ErrorRewrite {
-    /// What changes in an error with its message at `start`, whose quoted datagram has a transport
-    /// header of this form at `inner`.
+    /// What changes in an error that goes this way, with this header, when the inside end of the datagram that it
+    /// quotes, whose header is `inner`, becomes `end`.
     pub(crate) fn of(
         bytes: &[u8],
-        start: usize,
-        inner: usize,
-        form: Form,
+        error: Header,
+        inner: Header,
         way: Way,
         end: Endpoint,
     ) -> ErrorRewrite
-        requires room { HasHeaders 0 bytes.now }
-        requires start { start ≡ transport 0 bytes.now }
-        requires inner_room { HasHeaders (inner_at bytes.now) bytes.now }
-        requires inner { inner ≡ transport (inner_at bytes.now) bytes.now }
-        requires form { form ≡ form_at (inner_at bytes.now) bytes.now }
+        requires error { IsHeader 0 error bytes.now }
+        requires inner { IsHeader (inner_at bytes.now) inner bytes.now }
         ensures { error_changes_of result ≡ reverted_changes way end bytes.now }
     {
-        let quoted = Rewrite::of_end(bytes, start + 8, inner, form, inner_end(way), end);
-        let check = quoted.fix(read_word(bytes, start + 2));
+        let quoted = inner.rewrite_end(bytes, inner_end(way), end);
+        let check = quoted.fix(read_word(bytes, error.start + 2));
         ErrorRewrite {
             quoted,
-            check: Change::of(bytes, start + 2, check),
-            address: AddressRewrite::of(bytes, 0, outer_end(way), end.address),
+            check: Change::of(bytes, error.start + 2, check),
+            address: error.rewrite_address(bytes, outer_end(way), end.address),
         }
     }
 

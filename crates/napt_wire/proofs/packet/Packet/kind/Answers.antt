@@ -1,31 +1,27 @@
 use Rattle.std.proofs.Common.{List, ℕ, sym, ap}
-use Rattle.napt_wire.proofs.Readings.{passes_of_read}
-use Rattle.napt_wire.proofs.WithInner.{inner_room, passes_error, quoted_form}
-use Rattle.napt_wire.specs.Fields.{inner, inner_at, kind, kind_of}
+use Rattle.napt_wire.proofs.WithInner.{is_error_of, quoted_form}
+use Rattle.napt_wire.specs.Fields.{inner, kind, kind_of}
 use Rattle.napt_wire.specs.declared.form.Form.{Form}
 use Rattle.napt_wire.proofs.packet.Packet.kind.Goals as goal
 
-pub read_ends-requires-clause-room : goal.read_ends-requires-clause-room
-read_ends-requires-clause-room c =
-    let (side, reads) = c.self.invariant.reads in
+pub quoted_header-requires-clause-error : goal.quoted_header-requires-clause-error
+quoted_header-requires-clause-error c =
     let bytes : List ℕ = c.self.inside.bytes.items in
-    let quoted = quoted_form bytes c.self.inside.start c.self.inside.body c.in-Error.field-0 c.self.invariant.found
-    c.in-Error.is in
-    let passes = passes_error side bytes (passes_of_read side bytes bytes reads) quoted.0 in
-    rw (c.from-at.ensures, c.deref.ensures.value, c.self.invariant.found.start_is)
-    (inner_room side (inner_at bytes) bytes passes.inner_good)
+    rw (← c.self.view_is)
+    (is_error_of bytes (quoted_form bytes c.self.inside.start c.self.inside.body c.in-Error.quoted
+    c.self.invariant.found c.in-Error.is).0)
+
+pub quoted_header-requires-clause-quoted : goal.quoted_header-requires-clause-quoted
+quoted_header-requires-clause-quoted c =
+    let bytes : List ℕ = c.self.inside.bytes.items in
+    rw (← c.self.view_is)
+    (quoted_form bytes c.self.inside.start c.self.inside.body c.in-Error.quoted c.self.invariant.found c.in-Error.is).1
 
 pub returns-in-Error : goal.returns-in-Error
 unfolding kind inner
 returns-in-Error c =
     let bytes : List ℕ = c.self.inside.bytes.items in
-    let quoted = quoted_form bytes c.self.inside.start c.self.inside.body c.in-Error.field-0 c.self.invariant.found
+    let quoted = quoted_form bytes c.self.inside.start c.self.inside.body c.in-Error.quoted c.self.invariant.found
     c.in-Error.is in
-    rw (
-      c.read_ends.ensures,
-      c.from-at.ensures,
-      c.deref.ensures.value,
-      c.self.invariant.found.start_is,
-      ← c.self.view_is,
-    )
+    rw (c.ends.ensures, c.quoted_header.ensures.at_is, c.deref.ensures.value, ← c.self.view_is)
     (sym (ap (λ (form : Form). kind_of form bytes) quoted.0))

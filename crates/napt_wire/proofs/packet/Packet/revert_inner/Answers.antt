@@ -1,34 +1,24 @@
 use Rattle.std.proofs.Common.{◌≡◌, Ok, sym, ◌∙◌, ap, refl, take, drop, length, ◌++◌, List, ℕ}
 use Rattle.napt_wire.proofs.Changes.{vec-changed}
-use Rattle.napt_wire.proofs.Readings.{room_of_packet, passes_of_read, reads_of_passes}
+use Rattle.napt_wire.proofs.Readings.{passes_of_read, reads_of_passes}
 use Rattle.napt_wire.proofs.RightKept.{error_right}
-use Rattle.napt_wire.proofs.WithInner.{PassesError, passes_error, KeepsError, error_kept_of, inner_room, error_there, error_of, carries_inner, not_error, error_found}
+use Rattle.napt_wire.proofs.WithInner.{passes_error, KeepsError, error_kept_of, error_there, error_of, carries_inner, not_error, error_found, quoted_form}
 use Rattle.napt_wire.specs.Reading.{reading}
 use Rattle.napt_wire.specs.Rewriting.{changed, reverted, reverted_changes}
 use Rattle.napt_wire.specs.declared.Side.{Side}
 use Rattle.napt_wire.proofs.packet.Packet.revert_inner.Goals as goal
-use Rattle.napt_wire.proofs.packet.Packet.revert_inner.Goals.{After-into-2, After-self-1}
+use Rattle.napt_wire.proofs.packet.Packet.revert_inner.Goals.{After-self-1}
 
 pub unreachable-requires : goal.unreachable-requires
 unreachable-requires c =
     not_error c.self.inside.bytes.items c.self.inside.start c.self.inside.body c.self.invariant.found
     (error_of c.self.inside.bytes.items (rw c.self.view_is c.requires.error)) c.in_default.not-Error
 
-pub of-rewrite-requires-clause-room : goal.of-rewrite-requires-clause-room
-of-rewrite-requires-clause-room c = rw c.deref.ensures.value (room_of_packet _ c.self.invariant.reads)
-
--- the packet passes as an error, before and after
-passes : (c : After-into-2) (side : Side) → reading side c.self.inside.bytes.items ≡ Ok c.self.inside.bytes.items →
-    PassesError side c.self.inside.bytes.items
-passes c side h =
-    passes_error side c.self.inside.bytes.items (passes_of_read side c.self.inside.bytes.items c.self.inside.bytes.items
-    h)
-    (error_of c.self.inside.bytes.items (rw c.self.view_is c.requires.error))
-
-pub of-rewrite-requires-clause-inner_room : goal.of-rewrite-requires-clause-inner_room
-of-rewrite-requires-clause-inner_room c =
-    rw c.deref.ensures.value (inner_room c.self.invariant.reads.0 _ _
-    (passes c c.self.invariant.reads.0 c.self.invariant.reads.1).inner_good)
+pub quoted_header-quoted-requires-clause-quoted : goal.quoted_header-quoted-requires-clause-quoted
+quoted_header-quoted-requires-clause-quoted c =
+    rw (← c.self.view_is)
+    (quoted_form c.self.inside.bytes.items c.self.inside.start c.self.inside.body c.in-Error.quoted
+    c.self.invariant.found c.in-Error.is).1
 
 pub write-requires : goal.write-requires
 write-requires c =

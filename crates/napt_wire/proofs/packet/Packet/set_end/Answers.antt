@@ -9,12 +9,9 @@ use Rattle.napt_wire.specs.Fields.{form_at}
 use Rattle.napt_wire.specs.Rewriting.{changed, end_changes}
 use Rattle.napt_wire.proofs.packet.Packet.set_end.Goals as goal
 
-pub of_end-rewrite-requires-clause-room : goal.of_end-rewrite-requires-clause-room
-of_end-rewrite-requires-clause-room c = rw c.deref.ensures.value (room_of_packet _ c.self.invariant.reads)
-
 pub write-requires : goal.write-requires
 write-requires c =
-    rw (c.of_end-rewrite.ensures, c.deref_mut.ensures.value, c.deref.ensures.value)
+    rw (c.rewrite_end-rewrite.ensures, c.header.ensures.at_is, c.deref_mut.ensures.value, c.deref.ensures.value)
     (end-there 0 c.args.end c.args.new c.self.inside.bytes.items (room_of_packet _ c.self.invariant.reads))
 
 -- what the vector holds at the end
@@ -24,7 +21,7 @@ is_new : (c : goal.After-self-1) → take c.self.inside.bytes.len (c.write.new.b
 is_new c =
     let new_is : c.write.new.bytes ≡ changed (end_changes 0 c.args.end c.args.new c.self.inside.bytes.items)
     c.self.inside.bytes.items =
-    rw (c.write.ensures, c.of_end-rewrite.ensures, c.deref_mut.ensures.value, c.deref.ensures.value) refl in
+    rw (c.write.ensures, c.rewrite_end-rewrite.ensures, c.header.ensures.at_is, c.deref_mut.ensures.value, c.deref.ensures.value) refl in
     let long : length c.write.new.bytes ≡ c.self.inside.bytes.len =
     ap length new_is ∙ length-changed (end_changes 0 c.args.end c.args.new c.self.inside.bytes.items)
     c.self.inside.bytes.items

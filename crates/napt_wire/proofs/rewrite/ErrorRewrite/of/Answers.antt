@@ -7,11 +7,13 @@ unfolding reverted_changes
 returns c =
     rw (
       c.of.ensures,
-      c.of-2.ensures,
+      c.rewrite_address.ensures,
       c.fix-check.ensures,
       c.read_word.ensures,
-      c.of_end-quoted.ensures,
+      c.rewrite_end-quoted.ensures,
       c.inner_end.ensures,
       c.outer_end.ensures,
-      ← c.requires.start,
+      c.requires.error.at_is,
+      c.requires.error.start_is,
+      c.requires.inner.at_is,
     ) refl

@@ -1,0 +1,22 @@
+use Rattle.std.proofs.Common.{◌≡◌, ℕ, List, ap, ◌∙◌, refl}
+use Rattle.napt_wire.specs.Fields.{inner_at}
+use Rattle.napt_wire.specs.Packet.{quoted_of}
+use Rattle.napt_wire.specs.declared.packet.Quoted.{Quoted}
+use Rattle.napt_wire.proofs.Readings.{passes_of_read}
+use Rattle.napt_wire.proofs.WithInner.{error_of, inner_room, passes_error}
+use Rattle.napt_wire.proofs.packet.Packet.quoted_header.Goals as goal
+
+pub returns : goal.returns
+returns c =
+    let bytes : List ℕ = c.self.inside.bytes.items in
+    let (side, reads) = c.self.invariant.reads in
+    let passes = passes_error side bytes (passes_of_read side bytes bytes reads)
+    (error_of bytes (rw c.self.view_is c.requires.error)) in
+    let quoted : c.args.quoted ≡ quoted_of bytes = rw c.self.view_is c.requires.quoted in
+    rw (← c.self.view_is)
+    record {
+      room = inner_room side (inner_at bytes) bytes passes.inner_good;
+      at_is = rw (c.from.ensures, c.self.invariant.found.start_is) refl;
+      start_is = c.into.ensures ∙ ap (λ (q : Quoted). q.start) quoted;
+      form_is = ap (λ (q : Quoted). q.form) quoted;
+    }

@@ -1,0 +1,68 @@
+//! Where a datagram's headers are, and its ends.
+
+ghost use Rattle.std.specs.Prelude.{◌≡◌, ◌+◌, ◌≤◌, ◌<◌, ◌^◌, IfSome, option_map};
+ghost use Rattle.napt_wire.specs.Fields.{address_place, end_at, inner_of, number_place};
+ghost use Rattle.napt_wire.specs.Header.{IsHeader};
+
+use crate::bytes::{read_long, read_word};
+use crate::form::{End, Form};
+use crate::{Endpoint, Inner};
+
+/// The headers of a datagram in the bytes of a packet: the packet's own, or those that an ICMP error quotes.
+#[derive(Clone, Copy)]
+pub(crate) struct Header {
+    /// Where the IPv4 header begins.
+    pub(crate) at: usize,
+    /// Where the transport header begins.
+    pub(crate) start: usize,
+    /// The form of the transport header.
+    pub(crate) form: Form,
+}
+
+impl Header {
+    /// Where an end has its address.
+    pub(crate) fn address_place(self, end: End) -> usize
+        requires { self.at + 20 < 2 ^ 64 }
+        ensures { result ≡ self.at + address_place end }
+    {
+        self.at + end.address_place()
+    }
+
+    /// Where an end has its number, if it has one.
+    pub(crate) fn number_place(self, end: End) -> Option<usize>
+        requires { self.start + 8 < 2 ^ 64 }
+        ensures place { result ≡ option_map (λ offset. self.start + offset)
+            (number_place self.form end) }
+        ensures near { IfSome result (λ place. place + 2 ≤ self.start + 8) }
+    {
+        match self.form.number_place(end) {
+            Some(offset) => Some(self.start + offset),
+            None => None,
+        }
+    }
+
+    /// An end of the datagram.
+    pub(crate) fn end(self, bytes: &[u8], end: End) -> Endpoint
+        requires { IsHeader self.at self bytes.now }
+        ensures { result ≡ end_at self.at end bytes.now }
+    {
+        let address = read_long(bytes, self.address_place(end));
+        let number = match self.number_place(end) {
+            Some(place) => read_word(bytes, place),
+            None => 0,
+        };
+        Endpoint { address, number }
+    }
+
+    /// The protocol and the ends of the datagram.
+    pub(crate) fn ends(self, bytes: &[u8]) -> Inner
+        requires { IsHeader self.at self bytes.now }
+        ensures { result ≡ inner_of self.at bytes.now }
+    {
+        Inner {
+            protocol: self.form.protocol(),
+            source: self.end(bytes, End::Source),
+            destination: self.end(bytes, End::Destination),
+        }
+    }
+}
