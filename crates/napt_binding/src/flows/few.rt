@@ -111,10 +111,7 @@ pub(super) fn use_flow(
     }
     flows.reserve(1)?;
     keep_standing(flows, timers, sent.now, sent.protocol);
-    match flows.push(begun_by(sent)) {
-        Ok(()) => {}
-        Err(_) => unreachable!(),
-    }
+    flows.push_reserved(begun_by(sent));
     Ok(())
 }
 

@@ -159,10 +159,7 @@ impl Slots {
         ensures slots { self.new.slots ≡ self.old.slots ++ Some flow ∷ [] }
     {
         let place = self.flows.len();
-        match self.flows.push(Some(flow)) {
-            Ok(()) => {}
-            Err(_) => unreachable!(),
-        }
+        self.flows.push_reserved(Some(flow));
         let established = &mut self.established;
         established.put(established_time(Some(flow)));
         let others = &mut self.others;

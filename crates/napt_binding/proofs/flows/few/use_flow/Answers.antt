@@ -34,7 +34,7 @@ returns-clause-distinct c =
     let old : List Flow = c.args.flows.now.items in
     let none : list_any (standing_flow_of c.args.timers sent.now sent.protocol sent.remote) old ≡ false =
     any_nowhere (standing_flow_of c.args.timers sent.now sent.protocol sent.remote) old (cc) in
-    rw (c.in-Ok.ensures.items, c.keep_standing.ensures.flows, c.in_ok-reserve.ensures.items, c.begun_by.ensures)
+    rw (c.push_reserved.ensures.items, c.keep_standing.ensures.flows, c.in_ok-reserve.ensures.items, c.begun_by.ensures)
     (distinct_pushed (live_flows c.args.timers sent.now sent.protocol old) _
     (none_left c.args.timers c.keep_limits.ensures sent.now sent.protocol sent.remote sent.flags old none)
     (distinct_live c.args.timers sent.now sent.protocol old c.requires.distinct))
@@ -45,7 +45,7 @@ returns-clause-ok c =
     let old : List Flow = c.args.flows.now.items in
     let none : list_any (standing_flow_of c.args.timers sent.now sent.protocol sent.remote) old ≡ false =
     any_nowhere (standing_flow_of c.args.timers sent.now sent.protocol sent.remote) old (cc) in
-    rw (c.in-Ok.ensures.items, c.keep_standing.ensures.flows, c.in_ok-reserve.ensures.items, c.begun_by.ensures)
+    rw (c.push_reserved.ensures.items, c.keep_standing.ensures.flows, c.in_ok-reserve.ensures.items, c.begun_by.ensures)
     (flow_begun c.args.timers c.keep_limits.ensures sent.now sent.protocol sent.remote sent.flags old none)
 
 pub returns-clause-bound : goal.returns-clause-bound
@@ -54,5 +54,5 @@ returns-clause-bound c =
     let old : List Flow = c.args.flows.now.items in
     let none : list_any (standing_flow_of c.args.timers sent.now sent.protocol sent.remote) old ≡ false =
     any_nowhere (standing_flow_of c.args.timers sent.now sent.protocol sent.remote) old (cc) in
-    rw (c.in-Ok.ensures.items, c.keep_standing.ensures.flows, c.in_ok-reserve.ensures.items)
+    rw (c.push_reserved.ensures.items, c.keep_standing.ensures.flows, c.in_ok-reserve.ensures.items)
     (fits c.args.timers sent old c.begun_by.result c.requires.room none)
