@@ -4,8 +4,8 @@ use Rattle.std.specs.Prelude.{filter}
 use Rattle.std.specs.Bool.{beq}
 use Rattle.std.specs.Cmp.{booleans_Decides}
 use Rattle.std.specs.List.{All, AllPairs, Contains, range_with_len}
-use Rattle.std.proofs.lemmas.Bool.{and_parts}
-use Rattle.std.proofs.lemmas.Bool.Decides.{nat_tests, Decides-eqb}
+use Rattle.std.proofs.lemmas.Bool.{and_parts, and_from, ltb-true, lt-ltb, leb-true, leb-false, le-leb}
+use Rattle.std.proofs.lemmas.Bool.Decides.{Decides-eqb}
 use Rattle.std.proofs.lemmas.List.Elements.{All-append, All-contains, All-filter, Contains-append_left, Contains-append_right, filter_passes}
 use Rattle.std.proofs.lemmas.List.FromFn.{length-range_with_len, get_or-range_with_len}
 use Rattle.std.proofs.lemmas.List.Kept.{AllPairs-cons, AllPairs-filter, AllPairs-from_increasing}
@@ -20,7 +20,7 @@ port_from_test port n small e =
     let a = and_parts (nat_lt 0 n) (beq (nat_lt n 1024) (nat_lt port 1024) && (n % 2 == port % 2)) e in
     let b = and_parts (beq (nat_lt n 1024) (nat_lt port 1024)) (n % 2 == port % 2) a.1 in
     record {
-      positive = grind (arith, nat_tests, a.0);
+      positive = ltb-true 0 n a.0;
       small = small;
       side = (booleans_Decides (nat_lt n 1024) (nat_lt port 1024)).0 b.0;
       parity = (Decides-eqb (n % 2) (port % 2)).0 b.1;
@@ -28,11 +28,11 @@ port_from_test port n small e =
 
 pub test_from_port : (port n : ℕ) → IsPortFor port n → is_port_for port n ≡ true
 test_from_port port n is =
-    let a : nat_lt 0 n ≡ true = let positive = is.positive in grind (arith, nat_tests) in
+    let a : nat_lt 0 n ≡ true = lt-ltb 0 n is.positive in
     let b = (booleans_Decides (nat_lt n 1024) (nat_lt port 1024)).1 is.side in
     let c = (Decides-eqb (n % 2) (port % 2)).1 is.parity in
-    ap (λ v. v && (beq (nat_lt n 1024) (nat_lt port 1024) && (n % 2 == port % 2))) a
-    ∙ ap (λ v. v && (n % 2 == port % 2)) b ∙ c
+    and_from (nat_lt 0 n) (beq (nat_lt n 1024) (nat_lt port 1024) && (n % 2 == port % 2)) a
+    (and_from (beq (nat_lt n 1024) (nat_lt port 1024)) (n % 2 == port % 2) b c)
 
 number_from_test : (protocol : Protocol) (number n : ℕ) → n < 65536 → is_number_for protocol number n ≡ true →
     IsNumberFor protocol number n
@@ -112,12 +112,6 @@ rising_differ xs rise i j d less h = let lower = rise i j d less h in λ same. o
 above_differs : (number m n : ℕ) → number ≤ m → n < number → m ≢ n
 above_differs number m n above below = λ same. omega (arith, above, below, same)
 
-reads_le : (m n : ℕ) → nat_le m n ≡ true → m ≤ n
-reads_le m n e = grind (arith, nat_tests, e)
-
-reads_lt : (m n : ℕ) → nat_lt m n ≡ true → m < n
-reads_lt m n e = grind (arith, nat_tests, e)
-
 -- THE CANDIDATES
 
 module _ (protocol : Protocol) (number : ℕ) where
@@ -151,7 +145,7 @@ module _ (protocol : Protocol) (number : ℕ) where
     | true ↦ λ e. Contains-append_left from_it before_it n
         (Contains-filter (nat_le number) fitting n (all_fitting n is) e)
     | false ↦ λ e.
-        let less : nat_lt n number ≡ true = grind (arith, nat_tests, e) in
+        let less : nat_lt n number ≡ true = lt-ltb n number (leb-false number n e) in
         Contains-append_right from_it before_it n
         (Contains-filter (λ other. nat_lt other number) fitting n (all_fitting n is) less)
   ] refl
@@ -166,15 +160,15 @@ module _ (protocol : Protocol) (number : ℕ) where
   before_rise = AllPairs-filter (λ m n. m < n) (λ other. nat_lt other number) fitting fitting_rise
 
   from_above : All (λ n. number ≤ n) from_it
-  from_above k d h = reads_le number (slice_index_or from_it k d) (filter_passes (nat_le number) fitting k d h)
+  from_above k d h = leb-true number (slice_index_or from_it k d) (filter_passes (nat_le number) fitting k d h)
 
   before_below : All (λ n. n < number) before_it
   before_below k d h =
-      reads_lt (slice_index_or before_it k d) number (filter_passes (λ other. nat_lt other number) fitting k d h)
+      ltb-true (slice_index_or before_it k d) number (filter_passes (λ other. nat_lt other number) fitting k d h)
 
   itself_first : IsNumberFor protocol number number → (others : List ℕ) × (candidates protocol number ≡ number ∷ others)
   itself_first is =
-      let e : nat_le number number ≡ true = grind (arith, nat_tests) in
+      let e : nat_le number number ≡ true = le-leb number number (omega arith) in
       let (rest, starts) = least_first from_it number from_rise from_above
       (Contains-filter (nat_le number) fitting number (all_fitting number is) e) in
       (rest ++ before_it, ap (λ (l : List ℕ). l ++ before_it) starts)

@@ -23,7 +23,7 @@ is_number_for Udp port other = is_port_for port other
 unfoldable pub numbers_below : ℕ → List ℕ
 numbers_below limit = range_with_len 0 limit
 
--- the numbers of 16 bits that may stand for a number: from the number itself on, then those below it
+-- the numbers of 16 bits that may stand for a number, upwards from the number itself, then upwards from the least
 abbrev pub candidates : Protocol → ℕ → List ℕ
 candidates protocol number =
     let fitting = filter (is_number_for protocol number) (numbers_below 65536) in

@@ -1,9 +1,8 @@
 -- The candidates of a number are the numbers of its class: those from its own place on, then those before it.
-use Rattle.std.proofs.Common.{◌≡◌, ◌≢◌, ℕ, zero, suc, ◌+◌, ◌-◌, ◌*◌, ◌/◌, ◌%◌, ◌<◌, ◌≤◌, Bool, true, false, ◌&&◌, cond, nat_lt, nat_le, List, [], ◌∷◌, ◌++◌, map, refl, sym, ◌∙◌, ap, arith}
+use Rattle.std.proofs.Common.{inl, inr, ◌≡◌, ◌≢◌, ℕ, zero, suc, ◌+◌, ◌-◌, ◌*◌, ◌/◌, ◌%◌, ◌<◌, ◌≤◌, Bool, true, false, ◌&&◌, cond, nat_lt, nat_le, List, [], ◌∷◌, ◌++◌, map, refl, sym, ◌∙◌, ap, arith}
 use Rattle.std.specs.Prelude.{filter}
 use Rattle.std.specs.List.{range_with_len}
-use Rattle.std.proofs.lemmas.Bool.{and_parts, true≢false}
-use Rattle.std.proofs.lemmas.Bool.Decides.{nat_tests}
+use Rattle.std.proofs.lemmas.Bool.{and_parts, and_from, cases_lt, true≢false, ltb-true, ltb-false, lt-ltb, le-ltb, leb-true, le-leb}
 use Rattle.napt_wire.specs.declared.Protocol.{Protocol}
 use Rattle.napt_wire.specs.declared.Protocol.TheVariants.{Icmp, Tcp, Udp}
 use Rattle.napt_rules.specs.Prelude.{is_port_for, is_number_for, numbers_below, candidates}
@@ -11,23 +10,6 @@ use Rattle.napt_laws.proofs.Classes.{port_from_test, test_from_port}
 use Rattle.napt_table.specs.declared.class.Class.{Class}
 use Rattle.napt_table.specs.Classes.{port_class, class_of, member}
 use Rattle.napt_table.proofs.Ports.{by_class}
-
--- TESTS
-
-le_true : (m n : ℕ) → m ≤ n → nat_le m n ≡ true
-le_true m n h = grind (arith, nat_tests, h)
-
-lt_true : (m n : ℕ) → m < n → nat_lt m n ≡ true
-lt_true m n h = grind (arith, nat_tests, h)
-
-true_le : (m n : ℕ) → nat_le m n ≡ true → m ≤ n
-true_le m n e = grind (arith, nat_tests, e)
-
-true_lt : (m n : ℕ) → nat_lt m n ≡ true → m < n
-true_lt m n e = grind (arith, nat_tests, e)
-
-false_le : (m n : ℕ) → nat_lt m n ≡ false → n ≤ m
-false_le m n e = grind (arith, nat_tests, e)
 
 -- WHAT A FILTER KEEPS OF A RANGE
 
@@ -38,10 +20,10 @@ record Passing (test : ℕ → Bool) (f : ℕ → ℕ) (a n i m : ℕ) : Type 0 
 
 module _ (test : ℕ → Bool) (f : ℕ → ℕ) (rises : (i j : ℕ) → i < j → f i < f j) where
   first : (a i j : ℕ) → i ≤ j → a ≡ f j → a ≤ f i → j ≡ i
-  first a i j from is above = elim (nat_lt i j) as (λ v. nat_lt i j ≡ v → j ≡ i) [
-    | true ↦ λ e. let higher : f i < f j = rises i j (true_lt i j e) in absurd (omega (arith, higher, is, above))
-    | false ↦ λ e. let low : j ≤ i = false_le i j e in omega (arith, low, from)
-  ] refl
+  first a i j from is above = elim (cases_lt i j) as (λ _. j ≡ i) [
+    | inl less ↦ let higher : f i < f j = rises i j less in absurd (omega (arith, higher, is, above))
+    | inr not_less ↦ omega (arith, not_less, from)
+  ]
 
   past : (a n i m : ℕ) → Passing test f a (suc n) i m → test a ≡ false → Passing test f (a + 1) n i m
   past a n i m p fails = record {
@@ -109,23 +91,18 @@ record IsClassOf (fits : ℕ → Bool) (number place : ℕ) (class : Class) : Ty
   from_it : (j : ℕ) → place ≤ j → number ≤ member class j
   before_it : (j : ℕ) → j < place → member class j < number
 
-both : (a b : Bool) → a ≡ true → b ≡ true → (a && b) ≡ true
-both a b e f = ap (λ v. v && b) e ∙ f
-
 module _ (fits : ℕ → Bool) (number place : ℕ) (class : Class) (s : IsClassOf fits number place class) where
   at_or_after : (j : ℕ) → number ≤ member class j → place ≤ j
-  at_or_after j high = elim (nat_lt j place) as (λ v. nat_lt j place ≡ v → place ≤ j) [
-    | true ↦ λ e. let low : member class j < number = s.before_it j (true_lt j place e) in
-        absurd (omega (arith, low, high))
-    | false ↦ λ e. false_le j place e
-  ] refl
+  at_or_after j high = elim (cases_lt j place) as (λ _. place ≤ j) [
+    | inl less ↦ let low : member class j < number = s.before_it j less in absurd (omega (arith, low, high))
+    | inr not_less ↦ not_less
+  ]
 
   before : (j : ℕ) → member class j < number → j < place
-  before j low = elim (nat_lt j place) as (λ v. nat_lt j place ≡ v → j < place) [
-    | true ↦ λ e. true_lt j place e
-    | false ↦ λ e. let high : number ≤ member class j = s.from_it j (false_le j place e) in
-        absurd (omega (arith, low, high))
-  ] refl
+  before j low = elim (cases_lt j place) as (λ _. j < place) [
+    | inl less ↦ less
+    | inr not_less ↦ let high : number ≤ member class j = s.from_it j not_less in absurd (omega (arith, low, high))
+  ]
 
   upper : filter (nat_le number) (filter fits (numbers_below 65536))
       ≡ map (member class) (range_with_len place (class.many - place))
@@ -136,13 +113,13 @@ module _ (fits : ℕ → Bool) (number place : ℕ) (class : Class) (s : IsClass
             let (small, passes) = s.sound j (omega (arith, from, to, within)) in (
               omega arith,
               omega (arith, small),
-              both (fits (member class j)) (nat_le number (member class j)) passes
-                  (le_true number (member class j) (s.from_it j from)),
+              and_from (fits (member class j)) (nat_le number (member class j)) passes
+                  (le-leb number (member class j) (s.from_it j from)),
             );
         whole = λ x from to e.
             let (passes, above) = and_parts (fits x) (nat_le number x) e in
             let (j, below, is) = s.whole x (omega (arith, to)) passes in
-            let high : number ≤ x = true_le number x above in
+            let high : number ≤ x = leb-true number x above in
             let late : place ≤ j = at_or_after j (omega (arith, high, is)) in
             (j, late, omega (arith, below, late), is);
       })
@@ -156,13 +133,13 @@ module _ (fits : ℕ → Bool) (number place : ℕ) (class : Class) (s : IsClass
             let (small, passes) = s.sound j (omega (arith, to, within)) in (
               omega arith,
               omega (arith, small),
-              both (fits (member class j)) (nat_lt (member class j) number) passes
-                  (lt_true (member class j) number (s.before_it j (omega (arith, to)))),
+              and_from (fits (member class j)) (nat_lt (member class j) number) passes
+                  (lt-ltb (member class j) number (s.before_it j (omega (arith, to)))),
             );
         whole = λ x from to e.
             let (passes, lower) = and_parts (fits x) (nat_lt x number) e in
             let (j, below, is) = s.whole x (omega (arith, to)) passes in
-            let low : x < number = true_lt x number lower in
+            let low : x < number = ltb-true x number lower in
             let early : j < place = before j (omega (arith, low, is)) in
             (j, omega arith, omega (arith, early), is);
       })
@@ -176,9 +153,6 @@ module _ (fits : ℕ → Bool) (number place : ℕ) (class : Class) (s : IsClass
       ∙ ap (λ (l : List ℕ). map (member class) (range_with_len place (class.many - place)) ++ l) lower
 
 -- THE FIVE CLASSES
-
-above_false : (n m : ℕ) → m ≤ n → nat_lt n m ≡ false
-above_false n m h = grind (arith, nat_tests, h)
 
 -- every second number from the least on, so many of them, on one side of 1024: those of its parity on that side
 ports_of : (least many : ℕ) (low : Bool) (port : ℕ) → port < 65536 →
@@ -211,44 +185,44 @@ ports_of least many low port number_small side parity positive small fits within
 low_between : (least many n : ℕ) → nat_lt n 1024 ≡ true → least ≤ n → 1024 ≤ least + 2 * many →
     (least ≤ n) × (n < least + 2 * many)
 low_between least many n low h end =
-    let below : n < 1024 = grind (arith, nat_tests, low) in
+    let below : n < 1024 = ltb-true n 1024 low in
     (h, omega (arith, below, end))
 
 high_between : (least many n : ℕ) → nat_lt n 1024 ≡ false → n < 65536 → n % 2 ≡ least % 2 → least ≤ 1025 →
     least + 2 * many ≡ 65536 + least % 2 → (least ≤ n) × (n < least + 2 * many)
 high_between least many n high small parity h end =
-    let above : 1024 ≤ n = grind (arith, nat_tests, high) in
+    let above : 1024 ≤ n = ltb-false n 1024 high in
     (omega (arith, above, parity, h), omega (arith, small, parity, end))
 
 module _ (port : ℕ) (small : port < 65536) where
   low_odd : nat_lt port 1024 ≡ true → port % 2 ≡ 1 →
       IsClassOf (is_port_for port) port ((port - 1) / 2) (record { least = 1; many = 512; apart = 2 })
   low_odd low odd =
-      let below : port < 1024 = true_lt port 1024 low in
+      let below : port < 1024 = ltb-true port 1024 low in
       ports_of 1 512 true port small low odd (omega arith) (omega arith) (omega arith)
-      (λ n _ h. lt_true n 1024 (omega (arith, h)))
+      (λ n _ h. lt-ltb n 1024 (omega (arith, h)))
       (λ n h _ _ side. low_between 1 512 n side (omega (arith, h)) (omega arith))
 
   low_even : nat_lt port 1024 ≡ true → port % 2 ≡ 0 →
       IsClassOf (is_port_for port) port ((port - 2) / 2) (record { least = 2; many = 511; apart = 2 })
   low_even low even =
-      let below : port < 1024 = true_lt port 1024 low in
+      let below : port < 1024 = ltb-true port 1024 low in
       ports_of 2 511 true port small low even (omega arith) (omega arith) (omega arith)
-      (λ n _ h. lt_true n 1024 (omega (arith, h)))
+      (λ n _ h. lt-ltb n 1024 (omega (arith, h)))
       (λ n h _ parity side. low_between 2 511 n side (omega (arith, h, parity)) (omega arith))
 
   high_odd : nat_lt port 1024 ≡ false → port % 2 ≡ 1 →
       IsClassOf (is_port_for port) port ((port - 1025) / 2) (record { least = 1025; many = 32256; apart = 2 })
   high_odd high odd =
       ports_of 1025 32256 false port small high odd (omega arith) (omega arith) (omega arith)
-      (λ n h _. above_false n 1024 (omega (arith, h)))
+      (λ n h _. le-ltb n 1024 (omega (arith, h)))
       (λ n _ small parity side. high_between 1025 32256 n side small parity (omega arith) refl)
 
   high_even : nat_lt port 1024 ≡ false → port % 2 ≡ 0 →
       IsClassOf (is_port_for port) port ((port - 1024) / 2) (record { least = 1024; many = 32256; apart = 2 })
   high_even high even =
       ports_of 1024 32256 false port small high even (omega arith) (omega arith) (omega arith)
-      (λ n h _. above_false n 1024 (omega (arith, h)))
+      (λ n h _. le-ltb n 1024 (omega (arith, h)))
       (λ n _ small parity side. high_between 1024 32256 n side small parity (omega arith) refl)
 
   is_port_class : IsClassOf (is_port_for port) port ((port - (port_class port).least) / (port_class port).apart) (port_class port)
