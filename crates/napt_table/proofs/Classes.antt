@@ -225,10 +225,11 @@ module _ (port : ℕ) (small : port < 65536) where
       (λ n h _. le-ltb n 1024 (omega (arith, h)))
       (λ n _ small parity side. high_between 1024 32256 n side small parity (omega arith) refl)
 
-  is_port_class : IsClassOf (is_port_for port) port ((port - (port_class port).least) / (port_class port).apart) (port_class port)
+  is_port_class : IsClassOf (is_port_for port) port ((port - (port_class port).least) / (port_class port).apart)
+      (port_class port)
   is_port_class =
-      by_class (λ class. IsClassOf (is_port_for port) port ((port - class.least) / class.apart) class) port low_odd low_even high_odd
-      high_even
+      by_class (λ class. IsClassOf (is_port_for port) port ((port - class.least) / class.apart) class) port
+      low_odd low_even high_odd high_even
 
 is_identifier_class : (number : ℕ) → number < 65536 →
     IsClassOf (is_number_for Icmp number) number ((number - 0) / 1) (record { least = 0; many = 65536; apart = 1 })
@@ -242,8 +243,8 @@ is_identifier_class number small = record {
 }
 
 is_class_of : (protocol : Protocol) (number : ℕ) → number < 65536 →
-    IsClassOf (is_number_for protocol number) number ((number - (class_of protocol number).least) / (class_of protocol number).apart)
-    (class_of protocol number)
+    IsClassOf (is_number_for protocol number) number
+    ((number - (class_of protocol number).least) / (class_of protocol number).apart) (class_of protocol number)
 is_class_of Icmp number small = is_identifier_class number small
 is_class_of Tcp number small = is_port_class number small
 is_class_of Udp number small = is_port_class number small
