@@ -6,7 +6,6 @@ pub mod Finds
 
 pub mod Purges
 pub mod Fresh
-pub mod Ports
 pub mod Classes
 pub mod Endpoints
 -- STEPS: how a list of bindings begins, and what a packet does to it

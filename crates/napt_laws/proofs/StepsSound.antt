@@ -1,5 +1,5 @@
 -- Every step keeps the list sound.
-use Rattle.std.proofs.Common.{◌≡◌, ℕ, zero, suc, ◌+◌, ◌<◌, ◌≤◌, Bool, true, false, cond, List, [], ◌∷◌, ◌++◌, map, Option, Some, None, Result, Ok, Err, refl, sym, ◌∙◌, ap, subst, arith, length, get_or}
+use Rattle.std.proofs.Common.{◌≡◌, ℕ, zero, suc, ◌<◌, Bool, true, false, cond, List, [], ◌∷◌, ◌++◌, map, Option, Some, None, Result, Ok, Err, refl, sym, ◌∙◌, ap, subst, arith, length, get_or}
 use Rattle.std.specs.Prelude.{filter, find}
 use Rattle.std.specs.List.{list_any}
 use Rattle.std.proofs.lemmas.Bool.{not-true, true≢false}
@@ -12,13 +12,12 @@ use Rattle.napt_wire.specs.declared.Flags.{Flags}
 use Rattle.napt_config.specs.declared.settings.Refresh.{Refresh}
 use Rattle.napt_rules.specs.declared.Inbound.{Inbound}
 use Rattle.napt_config.specs.declared.settings.Timers.{Timers}
-use Rattle.napt_rules.specs.Prelude.{Binding, change_first, Each, is_tcp, is_of_inside, has_number, is_live, with_live_flows, purge, permits, is_flow_of, used, with_flow, sent, refreshes, refreshed, received, port_class, candidate, numbers_from, candidates, is_free, choice, granted, of_source, sent_by, fresh, out_made, out_found, out_purged, of_destination, received_by, in_found, in_purged, row, AreRowsApart, AreApart, Apart, IsNumber, IsPaired, IsSound, PurgeStaysSound, OutStaysSound, InStaysSound, SoundIsApart}
+use Rattle.napt_rules.specs.Prelude.{Binding, change_first, Each, is_tcp, is_of_inside, has_number, is_live, with_live_flows, purge, permits, is_flow_of, used, with_flow, sent, refreshes, refreshed, received, candidates, is_free, choice, granted, of_source, sent_by, fresh, out_made, out_found, out_purged, of_destination, received_by, in_found, in_purged, row, AreRowsApart, AreApart, Apart, IsNumber, IsPaired, IsSound, PurgeStaysSound, OutStaysSound, InStaysSound, SoundIsApart}
 use Rattle.napt_rules.specs.declared.Sent.{Sent}
 use Rattle.napt_rules.specs.declared.Received.{Received}
-use Rattle.napt_rules.specs.declared.Class.{Class}
 use Rattle.napt_rules.specs.declared.Row.{Row}
-use Rattle.napt_laws.proofs.Lists.{each_pushed, each_kept, find_passes, find_none, any_none, each_weaker, each_true}
-use Rattle.napt_laws.proofs.Ports.{port_least}
+use Rattle.napt_laws.proofs.Lists.{each_pushed, each_kept, find_passes, find_none, any_none, each_true}
+use Rattle.napt_laws.proofs.Classes.{each_candidate}
 use Rattle.napt_laws.proofs.Passes.{in_passed}
 use Rattle.napt_laws.proofs.Endpoints.{has_it, inside_it}
 use Rattle.napt_laws.proofs.Quotas.{granted_is_chosen}
@@ -101,17 +100,10 @@ received_row inbound remote flags now b =
 
 -- A FREE NUMBER
 
-from_least : (class : Class) (p first many : ℕ) →
-    Each (λ n. class.least ≤ n) (map (candidate class p) (numbers_from first many))
-from_least class p first zero = tt
-from_least class p first (suc many) = (omega arith, from_least class p (first + 1) many)
-
 numbers : (protocol : Protocol) (p : ℕ) → Each (IsNumber protocol) (candidates protocol p)
 numbers Icmp p = each_true (candidates Icmp p)
-numbers Tcp p = let least : 0 < (port_class p).least = port_least p in each_weaker (λ n. (port_class p).least ≤ n) (λ n.
-    0 < n) (λ n le. omega arith) (candidates Tcp p) (from_least (port_class p) p 0 (port_class p).many)
-numbers Udp p = let least : 0 < (port_class p).least = port_least p in each_weaker (λ n. (port_class p).least ≤ n) (λ n.
-    0 < n) (λ n le. omega arith) (candidates Udp p) (from_least (port_class p) p 0 (port_class p).many)
+numbers Tcp p = each_candidate (IsNumber Tcp) Tcp p (λ n is. is.positive)
+numbers Udp p = each_candidate (IsNumber Udp) Udp p (λ n is. is.positive)
 
 pub chosen : (list : List Binding) (protocol : Protocol) (address p n : ℕ) → choice list protocol address p ≡ Some n →
     (is_free list address protocol n ≡ true) × IsNumber protocol n

@@ -1,40 +1,30 @@
 -- Which numbers may stand for a number, and in which order they are tried.
 --
 -- RFC 4787, REQ-3 (a): a port of 0 to 1023 is mapped into that range, one of 1024 to 65535 into that. REQ-4: an even
--- port is mapped to an even one, an odd one to an odd one. Within its class a port is preserved where it is free.
--- RFC 5508, section 3.1: the identifier of an echo has no such classes.
-use Rattle.std.specs.Prelude.{ℕ, ◌+◌, ◌-◌, ◌*◌, ◌/◌, ◌%◌, ◌==◌, nat_lt, cond, List, [], ◌∷◌, map}
-use Rattle.std.proofs.Common.{zero, suc}
+-- port is mapped to an even one, an odd one to an odd one. Where it is free a port is preserved. RFC 5508, section 3.1:
+-- the identifier of an echo may become any.
+use Rattle.std.specs.Prelude.{ℕ, ◌%◌, ◌==◌, nat_lt, nat_le, Bool, true, ◌&&◌, List, ◌++◌, filter}
+use Rattle.std.specs.Bool.{beq}
+use Rattle.std.specs.List.{range_with_len}
 use Rattle.napt_wire.specs.declared.Protocol.{Protocol}
 use Rattle.napt_wire.specs.declared.Protocol.TheVariants.{Icmp, Tcp, Udp}
-use Rattle.napt_rules.specs.declared.Class.{Class}
 
--- odd from 1 to 1023, even from 2 to 1022, odd from 1025 to 65535, even from 1024 to 65534: never 0
-abbrev pub port_class : ℕ → Class
-port_class port =
-    cond (nat_lt port 1024)
-    (cond (port % 2 == 1) (record { least = 1; many = 512; apart = 2 }) (record { least = 2; many = 511; apart = 2 }))
-    (cond (port % 2 == 1) (record { least = 1025; many = 32256; apart = 2 }) (record {
-      least = 1024;
-      many = 32256;
-      apart = 2;
-    }))
+-- a port that may stand for a port: it is not 0, on the same side of 1024 and of the same parity
+abbrev pub is_port_for : ℕ → ℕ → Bool
+is_port_for port other = nat_lt 0 other && (beq (nat_lt other 1024) (nat_lt port 1024) && (other % 2 == port % 2))
 
-abbrev pub class_of : Protocol → ℕ → Class
-class_of Icmp identifier = record { least = 0; many = 65536; apart = 1 }
-class_of Tcp port = port_class port
-class_of Udp port = port_class port
+-- a number that may stand for a number
+abbrev pub is_number_for : Protocol → ℕ → ℕ → Bool
+is_number_for Icmp identifier other = true
+is_number_for Tcp port other = is_port_for port other
+is_number_for Udp port other = is_port_for port other
 
--- the k-th number after the first, wrapping inside the class
-abbrev pub candidate : Class → ℕ → ℕ → ℕ
-candidate class first k = class.least + class.apart * (((first - class.least) / class.apart + k) % class.many)
+-- the numbers below a limit, from 0 on
+unfoldable pub numbers_below : ℕ → List ℕ
+numbers_below limit = range_with_len 0 limit
 
--- the numbers from first on, so many of them
-abbrev pub numbers_from : ℕ → ℕ → List ℕ
-numbers_from first zero = []
-numbers_from first (suc many) = first ∷ numbers_from (first + 1) many
-
--- the class of the number, beginning with the number itself and wrapping, each once
+-- the numbers of 16 bits that may stand for a number, upwards from the number itself, then upwards from the least
 abbrev pub candidates : Protocol → ℕ → List ℕ
 candidates protocol number =
-    let class = class_of protocol number in map (candidate class number) (numbers_from 0 class.many)
+    let fitting = filter (is_number_for protocol number) (numbers_below 65536) in
+    filter (nat_le number) fitting ++ filter (λ other. nat_lt other number) fitting

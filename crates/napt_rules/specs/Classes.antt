@@ -1,4 +1,4 @@
--- The candidates of a number in the words of RFC 4787.
+-- LAW: the candidates of a number are those that may stand for it, each once, and the number itself comes first.
 use Rattle.std.specs.Prelude.{◌≡◌, ◌≢◌, ℕ, ◌<◌, ◌%◌, nat_lt, List, ◌∷◌, ◌↔◌}
 use Rattle.std.specs.List.{AllPairs, Contains}
 use Rattle.napt_wire.specs.declared.Protocol.{Protocol}

@@ -11,7 +11,8 @@
 --   word : A → B → C    a function of an A and a B, which gives a C; below it, what it gives. `abbrev` and
 --                       `unfoldable` say only whether a prover opens the word by itself
 --   f x y               the function f at x and y; `λ x. t` is the function that gives t
---   x ≡ y               x and y are equal; `==`, `nat_lt`, `nat_le`, `&&`, `||`, `not` give `true` or `false`
+--   x ≡ y               x and y are equal; `==`, `beq` (of two tests), `nat_lt`, `nat_le`, `&&`, `||` and `not` give
+--                       `true` or `false`
 --   a × b               both; `P → Q` also says that P implies Q, and `(x : A) → P` that P holds of each x
 --   cond test a b       a where the test is true, else b
 --   record r { f = x }  r with x in its field f; `record { .. }` is one with these fields

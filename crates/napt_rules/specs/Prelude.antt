@@ -6,7 +6,8 @@ pub use Rattle.napt_rules.specs.Life.{second, is_recent, is_live_flow, is_live_b
 pub use Rattle.napt_rules.specs.Filtering.{permits_by, permits, inbound_of}
 pub use Rattle.napt_rules.specs.Traffic.{is_flow_of, used, with_flow, sent, refreshes, refreshed, received}
 pub use Rattle.napt_rules.specs.Classes.{IsPortFor, IsNumberFor, CandidatesBegin, CandidatesAreThose, CandidatesDiffer}
-pub use Rattle.napt_rules.specs.Candidates.{port_class, class_of, candidate, numbers_from, candidates}
+pub use Rattle.napt_rules.specs.Candidates.{is_port_for, is_number_for, candidates}
+unfoldable pub use Rattle.napt_rules.specs.Candidates.{numbers_below}
 pub use Rattle.napt_rules.specs.Choice.{is_free, choice}
 pub use Rattle.napt_rules.specs.Quota.{counts_for, count_for, reaches, granted}
 pub use Rattle.napt_rules.specs.Opening.{protocol_of, redirected, opening}

@@ -52,14 +52,6 @@ pub struct Row {
     pub fixed: bool,
 }
 
-/// A class of external numbers: the least one, how many, and how far apart.
-#[derive(Clone, Copy)]
-pub struct Class {
-    pub least: u32,
-    pub many: u32,
-    pub apart: u32,
-}
-
 /// Whom a binding lets in, and which of those packets keep it alive (RFC 4787, REQ-8 and REQ-6).
 #[derive(Clone, Copy, Debug, PartialEq, Eq)]
 pub struct Inbound {

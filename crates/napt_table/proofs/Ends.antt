@@ -1,5 +1,5 @@
 -- What is held stays found by both its ends, and counted, when a binding comes, goes or changes.
-use Rattle.std.proofs.Common.{◌≡◌, ◌≢◌, ℕ, ◌+◌, ◌-◌, ◌*◌, ◌<◌, ◌≤◌, ◌^◌, Bool, true, false, not, ◌&&◌, ◌||◌, cond, [], Option, Some, None, refl, sym, ◌∙◌, ap, subst, arith, eqb, map, zero, suc}
+use Rattle.std.proofs.Common.{◌≡◌, ◌≢◌, ℕ, ◌+◌, ◌-◌, ◌*◌, ◌<◌, ◌≤◌, ◌^◌, Bool, true, false, not, ◌&&◌, ◌||◌, cond, List, [], ◌∷◌, Option, Some, None, refl, sym, ◌∙◌, ap, subst, arith, eqb}
 use Rattle.std.specs.Prelude.{find}
 use Rattle.std.specs.Option.{is_some}
 use Rattle.std.specs.Map.{lookup}
@@ -9,7 +9,7 @@ use Rattle.napt_wire.specs.declared.Protocol.{Protocol}
 use Rattle.napt_wire.specs.declared.Protocol.TheVariants.{Icmp, Tcp, Udp}
 use Rattle.napt_wire.specs.declared.Endpoint.{Endpoint}
 use Rattle.napt_rules.specs.declared.Row.{Row}
-use Rattle.napt_rules.specs.Prelude.{Binding, row, class_of, candidate, numbers_from, candidates}
+use Rattle.napt_rules.specs.Prelude.{Each, Binding, row, candidates}
 use Rattle.napt_binding.specs.declared.addresses.Addresses.{Addresses}
 use Rattle.napt_table.specs.declared.bindings.keys.ExternalKey.{ExternalKey}
 use Rattle.napt_table.specs.declared.bindings.keys.InsideKey.{InsideKey}
@@ -22,7 +22,7 @@ use Rattle.napt_table.specs.Holdings.{Holdings, held, held_at, count_all, IsNumb
 use Rattle.napt_table.specs.HeldShown.{holdings_of, number_at, IsHeld}
 use Rattle.napt_table.specs.InUse.{is_in_use, AreByProtocol}
 use Rattle.napt_table.specs.Keys.{key_eq, inside_eq, external_key, inside_key, key_of}
-use Rattle.napt_laws.proofs.Ports.{candidate_small}
+use Rattle.napt_laws.proofs.Classes.{small_number, each_candidate}
 use Rattle.napt_table.proofs.Hosts.{count_same, count_changed, count_none, count_few}
 use Rattle.napt_table.proofs.Seen.{seen_is}
 use Rattle.napt_table.proofs.Keys.{key_is, key_differs, by_key, at_key, past_key, inside_ends, inside_same}
@@ -420,23 +420,21 @@ none_held it no_numbers no_insides by_protocol unused counting no_counts =
 
 -- A CHOICE
 
-find_agree_in : (p q : ℕ → Bool) (at : ℕ → ℕ) (first many : ℕ) → ((k : ℕ) → p (at k) ≡ q (at k)) →
-    find p (map at (numbers_from first many)) ≡ find q (map at (numbers_from first many))
-find_agree_in p q at first zero same = refl
-find_agree_in p q at first (suc many) same =
-    ap (λ v. cond v (Some (at first)) (find p (map at (numbers_from (first + 1) many)))) (same first)
-    ∙ ap (λ (o : Option ℕ). cond (q (at first)) (Some (at first)) o) (find_agree_in p q at (first + 1) many same)
+find_agree_each : (p q : ℕ → Bool) (xs : List ℕ) → Each (λ n. p n ≡ q n) xs → find p xs ≡ find q xs
+find_agree_each p q [] same = refl
+find_agree_each p q (x ∷ xs) same =
+    ap (λ v. cond v (Some x) (find p xs)) same.0
+    ∙ ap (λ (o : Option ℕ). cond (q x) (Some x) o) (find_agree_each p q xs same.1)
 
 -- a number is in use where a binding has it
 pub choice_held : (it : Inside) → IsHeld it → (protocol : Protocol) (number : ℕ) →
     find (λ n. not (is_in_use it.numbers (external_key protocol n))) (candidates protocol number)
     ≡ find (λ n. not (is_some (held_at (holdings_of it) protocol n))) (candidates protocol number)
 choice_held it is protocol number =
-    find_agree_in (λ n. not (is_in_use it.numbers (external_key protocol n)))
-    (λ n. not (is_some (held_at (holdings_of it) protocol n))) (candidate (class_of protocol number) number) 0
-    (class_of protocol number).many
-    (λ k. let n : ℕ = candidate (class_of protocol number) number k in
-    ap not (is.used_is (external_key protocol n) (candidate_small protocol number k)))
+    let p = λ (n : ℕ). not (is_in_use it.numbers (external_key protocol n)) in
+    let q = λ (n : ℕ). not (is_some (held_at (holdings_of it) protocol n)) in
+    find_agree_each p q (candidates protocol number) (each_candidate (λ n. p n ≡ q n) protocol number
+    (λ n fits. ap not (is.used_is (external_key protocol n) (small_number protocol number n fits))))
 
 -- BY THE KEYS OF A CALL
 

@@ -1,3 +1,5 @@
+pub mod Ports
+pub mod Classes
 mod Choices
 pub mod QuotaKept
 pub mod Tables

@@ -13,3 +13,4 @@ pub mod Listing
 pub mod Counts
 pub mod TimedRows
 pub mod Places
+pub mod Classes

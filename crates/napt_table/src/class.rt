@@ -1,11 +1,18 @@
 //! The classes of external numbers (RFC 4787, REQ-3 (a) and REQ-4; RFC 5508, section 3.1).
 
 ghost use Rattle.std.specs.Prelude.{◌≡◌, ◌+◌, ◌-◌, ◌*◌, ◌^◌, ◌<◌, ◌≤◌};
-ghost use Rattle.napt_rules.specs.Prelude.{class_of};
+ghost use Rattle.napt_table.specs.Classes.{class_of};
 ghost use Rattle.napt_table.specs.Places.{place_of};
 
-use napt_rules::Class;
 use napt_wire::Protocol;
+
+/// A class of external numbers: the least one, how many, and how far apart.
+#[derive(Clone, Copy)]
+pub struct Class {
+    pub least: u32,
+    pub many: u32,
+    pub apart: u32,
+}
 
 /// The class that an inside endpoint's number is mapped in: a port keeps its parity and its side of 1024.
 pub(crate) fn class_of(protocol: Protocol, number: u16) -> Class

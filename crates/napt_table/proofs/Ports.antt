@@ -1,10 +1,8 @@
--- What holds of each class of ports holds of that of a port, and what holds of each.
-use Rattle.std.proofs.Common.{◌≡◌, ◌≢◌, ℕ, ◌%◌, ◌^◌, ◌<◌, ◌==◌, Bool, true, false, cond, nat_lt, refl, arith}
+-- What holds of each class of ports holds of that of a port.
+use Rattle.std.proofs.Common.{◌≡◌, ◌≢◌, ℕ, ◌%◌, ◌<◌, ◌==◌, Bool, true, false, cond, nat_lt, refl, arith}
 use Rattle.std.proofs.lemmas.Bool.Decides.{nat_tests}
-use Rattle.napt_wire.specs.declared.Protocol.{Protocol}
-use Rattle.napt_wire.specs.declared.Protocol.TheVariants.{Icmp, Tcp, Udp}
-use Rattle.napt_rules.specs.declared.Class.{Class}
-use Rattle.napt_rules.specs.Prelude.{port_class, class_of, candidate}
+use Rattle.napt_table.specs.declared.class.Class.{Class}
+use Rattle.napt_table.specs.Classes.{port_class}
 
 odd : (p : ℕ) → (p % 2 == 1) ≡ true → p % 2 ≡ 1
 odd p e = grind (arith, nat_tests, e)
@@ -33,17 +31,3 @@ by_class P p low_odd low_even high_odd high_even =
       | false ↦ λ e. elim (p % 2 == 1) as (λ v. (p % 2 == 1) ≡ v → P (high_class v))
           [ true ↦ λ f. high_odd e (odd p f) | false ↦ λ f. high_even e (even p f) ] refl
     ] refl
-
-pub port_least : (p : ℕ) → 0 < (port_class p).least
-port_least p = by_class (λ class. 0 < class.least) p (λ _ _. omega arith) (λ _ _. omega arith) (λ _ _. omega arith)
-    (λ _ _. omega arith)
-
--- candidates are numbers of 16 bits
-port_small : (p k : ℕ) → candidate (port_class p) p k < 2 ^ 16
-port_small p k = by_class (λ class. candidate class p k < 2 ^ 16) p (λ _ _. omega arith) (λ _ _. omega arith) (λ _ _.
-    omega arith) (λ _ _. omega arith)
-
-pub candidate_small : (protocol : Protocol) (p k : ℕ) → candidate (class_of protocol p) p k < 2 ^ 16
-candidate_small Icmp p k = omega arith
-candidate_small Tcp p k = port_small p k
-candidate_small Udp p k = port_small p k
