@@ -194,13 +194,6 @@ pub marked_same : (number : ℕ) (mark : Bool) (window later : Window) → IsMar
     journal_of later ≡ journal_of window
 marked_same number mark window later m = journal_as m.times_stay m.left_stays
 
--- something is held, and an input is marked
-pub held_parts : (queues later : List QueueState) (window marked : Window) (held : List (List Held)) (number : ℕ)
-    (mark : Bool) → Holds held queues later → IsMarked number mark window marked →
-    parts_with later marked ≡ with_held held (parts_with queues window)
-held_parts queues later window marked held number mark h m =
-    parts_as h.counts_stay h.owed_stays h.held_is m.progress_stays (marked_same number mark window marked m)
-
 -- a worker has a list of each kind
 pub within_owed : (queues : List QueueState) (w : ℕ) → w < length queues → w < length (owed_in queues)
 within_owed queues w lt = rw length-map lt
