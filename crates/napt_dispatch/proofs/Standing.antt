@@ -32,7 +32,7 @@ use Rattle.napt_laws.specs.Places.{first_act, second_legs, second_of, IsSeconded
 use Rattle.napt_dispatch.specs.Queues.{pushed, put_first, Popped}
 use Rattle.napt_dispatch.specs.Collecting.{outcome_of}
 use Rattle.napt_dispatch.specs.Passing.{timed}
-use Rattle.napt_dispatch.specs.QueueStates.{QueueState, unused, counts_in, owed_in, held_in, Holds, Owes}
+use Rattle.napt_dispatch.specs.QueueStates.{QueueState, unused, counts_in, owed_in, held_in, Owes}
 use Rattle.napt_dispatch.specs.Windows.{Window, progress_in, times_in, next_leg, IsKnown, IsWritten, IsMarked}
 use Rattle.napt_dispatch.specs.Standing.{Journal, journal_of, Parts, parts_with, DispatchState, owed_of, IsOwed, resolved, Reaches, Stands, Keeps, with_held, with_progress, with_first, ended, IsToldBy, Noted, IsSecond, Admits, IsDone}
 use Rattle.napt_dispatch.proofs.Windows.{known_set, known_push, left_front, left_whole, timed_outcomes}

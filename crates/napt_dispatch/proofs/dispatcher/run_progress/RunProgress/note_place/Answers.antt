@@ -1,5 +1,5 @@
-use Rattle.std.proofs.Common.{true, refl, sym, arith}
-use Rattle.napt_dispatch.proofs.Windows.{open_marked, set_outside}
+use Rattle.std.proofs.Common.{true, refl}
+use Rattle.napt_dispatch.proofs.Windows.{open_marked}
 use Rattle.napt_dispatch.proofs.dispatcher.run_progress.RunProgress.note_place.Goals as goal
 
 pub returns-in-Some : goal.returns-in-Some
