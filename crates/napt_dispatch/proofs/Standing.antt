@@ -1,5 +1,5 @@
 -- What stands while a dispatcher hands out the legs of a run.
-use Rattle.std.proofs.Common.{◌≡◌, ◌≢◌, ℕ, ◌+◌, ◌<◌, ◌≤◌, ◌==◌, max, true, false, cond, List, [], ◌∷◌, ◌++◌, length, map, replicate, Option, Some, None, Ok, Err, refl, sym, ◌∙◌, ap, subst, arith, inl, inr, append_assoc, append-nil, length-append}
+use Rattle.std.proofs.Common.{◌≡◌, ◌≢◌, ℕ, ◌+◌, ◌<◌, ◌≤◌, ◌==◌, max, Bool, true, false, cond, List, [], ◌∷◌, ◌++◌, length, map, replicate, Option, Some, None, Ok, Err, refl, sym, ◌∙◌, ap, subst, arith, inl, inr, append_assoc, append-nil, length-append}
 use Rattle.std.specs.Prelude.{IfSome, MatchOption, flat_map, slice_index, slice_get, slice_set}
 use Rattle.std.proofs.lemmas.Bool.{cases_eq, eq-eqb, ne_eqb}
 use Rattle.std.proofs.lemmas.List.{length-set, set-set, length_push, map-append, get_or-set_same, length-replicate, length-map}
@@ -32,8 +32,8 @@ use Rattle.napt_laws.specs.Places.{first_act, second_legs, second_of, IsSeconded
 use Rattle.napt_dispatch.specs.Queues.{pushed, put_first, Popped}
 use Rattle.napt_dispatch.specs.Collecting.{outcome_of}
 use Rattle.napt_dispatch.specs.Passing.{timed}
-use Rattle.napt_dispatch.specs.QueueStates.{QueueState, unused, counts_in, owed_in, held_in, Holds, Owes}
-use Rattle.napt_dispatch.specs.Windows.{Window, progress_in, times_in, next_leg, IsKnown, IsWritten}
+use Rattle.napt_dispatch.specs.QueueStates.{QueueState, unused, counts_in, owed_in, held_in, Owes}
+use Rattle.napt_dispatch.specs.Windows.{Window, progress_in, times_in, next_leg, IsKnown, IsWritten, IsMarked}
 use Rattle.napt_dispatch.specs.Standing.{Journal, journal_of, Parts, parts_with, DispatchState, owed_of, IsOwed, resolved, Reaches, Stands, Keeps, with_held, with_progress, with_first, ended, IsToldBy, Noted, IsSecond, Admits, IsDone}
 use Rattle.napt_dispatch.proofs.Windows.{known_set, known_push, left_front, left_whole, timed_outcomes}
 use Rattle.napt_dispatch.proofs.Lists.{push_own, push_other, count_push, place_within, no_lengths, of_replicate, map_replicate}
@@ -190,9 +190,9 @@ offered_parts_are w leg queues later window o = parts_as o.counts_are o.owed_is 
 
 -- WHAT IS HELD, BY THE QUEUES
 
-pub held_parts : (queues later : List QueueState) (window : Window) (held : List (List Held)) →
-    Holds held queues later → parts_with later window ≡ with_held held (parts_with queues window)
-held_parts queues later window held h = parts_as h.counts_stay h.owed_stays h.held_is refl refl
+pub marked_same : (number : ℕ) (mark : Bool) (window later : Window) → IsMarked number mark window later →
+    journal_of later ≡ journal_of window
+marked_same number mark window later m = journal_as m.times_stay m.left_stays
 
 -- a worker has a list of each kind
 pub within_owed : (queues : List QueueState) (w : ℕ) → w < length queues → w < length (owed_in queues)

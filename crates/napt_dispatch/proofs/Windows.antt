@@ -1,8 +1,7 @@
 -- What is known of the inputs that were read.
-use Rattle.std.proofs.Common.{◌≡◌, ◌⊎◌, inl, inr, ℕ, zero, suc, ◌+◌, ◌<◌, ◌≤◌, true, List, [], ◌∷◌, ◌++◌, length, map, set, get_or, Some, refl, sym, ◌∙◌, ap, subst, arith, append-nil, append_assoc, length-append}
+use Rattle.std.proofs.Common.{◌≡◌, ◌⊎◌, inl, inr, ℕ, zero, suc, ◌+◌, ◌<◌, ◌≤◌, Bool, true, false, List, [], ◌∷◌, ◌++◌, length, map, set, get_or, Some, refl, sym, ◌∙◌, ap, subst, arith, append-nil, append_assoc, length-append}
 use Rattle.std.specs.Prelude.{slice_get, slice_set}
-use Rattle.std.proofs.lemmas.List.{map-set, map-append, get_or-map, length-map}
-use Rattle.std.proofs.lemmas.Simd.{map-map}
+use Rattle.std.proofs.lemmas.List.{map-set, map-append, get_or-map, length-map, set-get_or}
 use Rattle.napt_pool.proofs.Lists.{map-kept}
 use Rattle.napt_rules.specs.declared.Outcome.{Outcome}
 use Rattle.napt_rules.specs.Prelude.{Arrival, Course}
@@ -15,7 +14,7 @@ use Rattle.napt_dispatch.specs.declared.dispatcher.progress.Second.TheVariants a
 use Rattle.napt_dispatch.specs.Collecting.{outcome_of}
 use Rattle.napt_dispatch.specs.Standing.{IsSecond, IsSecondOf}
 use Rattle.napt_dispatch.specs.Passing.{timed}
-use Rattle.napt_dispatch.specs.Windows.{Window, time_in, ended_in, known_in, progress_in, times_in, outcome_in, is_unknown, expecting, IsWritten, Leaves, IsKnown, AllKnown, IsHandedOver}
+use Rattle.napt_dispatch.specs.Windows.{Window, time_in, ended_in, unmarked, known_in, arrived, mark_of, progress_in, times_in, marks_in, outcome_in, is_unknown, opened, expecting, IsUnmarked, IsWritten, HasMark, IsMarked, Leaves, IsKnown, AllKnown, IsHandedOver}
 
 -- LISTS
 
@@ -29,6 +28,11 @@ get_behind : {X : Type 0} (xs ys : List X) (n i : ℕ) → n ≡ length xs + i �
 get_behind [] ys n i e = let same : n ≡ i = omega arith in ap (slice_get ys) same
 get_behind (x ∷ xs) ys zero i e = absurd (omega arith)
 get_behind (x ∷ xs) ys (suc n) i e = get_behind xs ys n i (omega arith)
+
+set_past : {X : Type 0} (xs : List X) (n : ℕ) (x : X) → length xs ≤ n → set xs n x ≡ xs
+set_past [] n x le = refl
+set_past (y ∷ xs) zero x le = absurd (omega arith)
+set_past (y ∷ xs) (suc n) x le = ap (λ (l : List _). y ∷ l) (set_past xs n x (omega arith))
 
 get_at : {X : Type 0} (xs : List X) (i : ℕ) (x : X) → i < length xs → x ≡ get_or xs i x → slice_get xs i ≡ Some x
 get_at [] i x lt is = absurd (omega arith)
@@ -77,80 +81,94 @@ known_outcome course i (EndedIn outcome) o is known = known ∙ is
 -- A WINDOW
 
 abbrev window_of : List (ℕ × Outcome) → List OpenInput → Window
-window_of left items = record { left = left; under_way = map (λ o. (o.time, o.progress)) items }
+window_of left items = record { left = left; under_way = items }
 
-known_of_items : (items : List OpenInput) → map known_in (map (λ o. (o.time, o.progress)) items)
-    ≡ map (λ o. o.progress) items
-known_of_items items = map-map known_in (λ (o : OpenInput). let p : ℕ × Progress = (o.time, o.progress) in p) items
+-- what is read of all inputs, where one open input changes
+module _ {X : Type 0} (f : ℕ × Outcome → X) (h : OpenInput → X) (left : List (ℕ × Outcome)) (items : List OpenInput)
+    (number place : ℕ) (later : OpenInput) where
+  reads_set : (x : X) → number ≡ length left + place → h later ≡ x →
+      map f left ++ map h (set items place later) ≡ set (map f left ++ map h items) number x
+  reads_set x n same =
+      let place_is : number ≡ length (map f left) + place = omega (arith, n, length-map left f) in
+      ap (λ ys. map f left ++ ys) (map-set h items place later ∙ ap (set (map h items) place) same)
+      ∙ sym (set_behind (map f left) (map h items) number place x place_is)
 
-times_of_items : (items : List OpenInput) → map time_in (map (λ o. (o.time, o.progress)) items)
-    ≡ map (λ o. o.time) items
-times_of_items items = map-map time_in (λ (o : OpenInput). let p : ℕ × Progress = (o.time, o.progress) in p) items
+  reads_same : (o : OpenInput) → o ≡ get_or items place o → h later ≡ h o →
+      map f left ++ map h (set items place later) ≡ map f left ++ map h items
+  reads_same o at same = ap (λ ys. map f left ++ ys) (map-kept h items place later o at same)
 
 module _ (left : List (ℕ × Outcome)) (items : List OpenInput) (window : Window) (is : window_of left items ≡ window)
     (number place : ℕ) (n : number ≡ length window.left + place) (within : place < length window.under_way)
     (o : OpenInput) (at : o ≡ get_or items place o) where
   lt : place < length items
-  lt =
-      let one : length window.under_way ≡ length items =
-      ap (λ (w : Window). length w.under_way) (sym is)
-      ∙ length-map items (λ (o : OpenInput). let p : ℕ × Progress = (o.time, o.progress) in p) in
+  lt = let one : length window.under_way ≡ length items = ap (λ (w : Window). length w.under_way) (sym is) in
       omega (arith, within, one)
 
-  place_is : number ≡ length (map ended_in left) + place
-  place_is =
-      let long : length (map ended_in left) ≡ length left = length-map left ended_in in
-      let same : length window.left ≡ length left = ap (λ (w : Window). length w.left) (sym is) in
-      omega (arith, n, long, same)
+  n_is : number ≡ length left + place
+  n_is = let same : length window.left ≡ length left = ap (λ (w : Window). length w.left) (sym is) in
+      omega (arith, n, same)
 
-  -- what is known of an open input
+  -- the progress of an open input
   pub open_get : slice_get (progress_in window) number ≡ Some o.progress
   open_get =
-      let long : length (map (λ (o : OpenInput). o.progress) items) ≡ length items =
-      length-map items (λ (o : OpenInput). o.progress) in
-      let here : slice_get (map (λ (o : OpenInput). o.progress) items) place ≡ Some o.progress =
-      get_at (map (λ (o : OpenInput). o.progress) items) place o.progress (omega (arith, lt, long))
-      (ap (λ (o : OpenInput). o.progress) at
-      ∙ sym (get_or-map (λ (o : OpenInput). o.progress) items place o o.progress lt)) in
+      let place_is : number ≡ length (map ended_in left) + place = omega (arith, n_is, length-map left ended_in) in
+      let here : slice_get (map known_in items) place ≡ Some o.progress =
+      get_at (map known_in items) place o.progress (omega (arith, lt, length-map items known_in))
+      (ap known_in at ∙ sym (get_or-map known_in items place o o.progress lt)) in
       ap (λ (w : Window). slice_get (progress_in w) number) (sym is)
-      ∙ (get_behind (map ended_in left) (map known_in (map (λ o. (o.time, o.progress)) items)) number place place_is
-      ∙ (ap (λ ps. slice_get ps place) (known_of_items items) ∙ here))
+      ∙ (get_behind (map ended_in left) (map known_in items) number place place_is ∙ here)
 
-  -- something is written down of it
+  -- its progress is set
   pub open_written : (later : OpenInput) (p : Progress) → later.time ≡ o.time → later.progress ≡ p →
       IsWritten number p window (window_of left (set items place later))
-  open_written later p time same =
-      let times : map (λ (o : OpenInput). o.time) (set items place later) ≡ map (λ (o : OpenInput). o.time) items =
-      map-kept (λ (o : OpenInput). o.time) items place later o at time in
-      let progress : map (λ (o : OpenInput). o.progress) (set items place later)
-      ≡ set (map (λ (o : OpenInput). o.progress) items) place p =
-      map-set (λ (o : OpenInput). o.progress) items place later
-      ∙ ap (set (map (λ (o : OpenInput). o.progress) items) place) same in
-      record {
-        left_stays = ap (λ (w : Window). w.left) is;
-        times_stay = ap (λ ts. map time_in left ++ ts)
-            (times_of_items (set items place later) ∙ (times ∙ sym (times_of_items items)))
-            ∙ ap times_in is;
-        progress_is = ap (λ ps. map ended_in left ++ ps) (known_of_items (set items place later) ∙ (progress
-            ∙ ap (λ ps. set ps place p) (sym (known_of_items items))))
-            ∙ (sym (set_behind (map ended_in left) (map known_in (map (λ o. (o.time, o.progress)) items)) number place
-            p place_is) ∙ ap (λ (w : Window). set (progress_in w) number p) is);
-      }
+  open_written later p time same = record {
+    left_stays = ap (λ (w : Window). w.left) is;
+    times_stay = reads_same time_in arrived left items number place later o at time ∙ ap times_in is;
+    progress_is = reads_set ended_in known_in left items number place later p n_is same
+        ∙ ap (λ (w : Window). set (progress_in w) number p) is;
+  }
 
-  -- nothing that contracts see is changed of it
-  pub open_kept : (later : OpenInput) → later.time ≡ o.time → later.progress ≡ o.progress →
-      window_of left (set items place later) ≡ window
-  open_kept later time progress =
-      ap (λ xs. let w : Window = record { left = left; under_way = xs } in w)
-      (map-kept (λ (o : OpenInput). let p : ℕ × Progress = (o.time, o.progress) in p) items place later o at
-      (rw (time, progress) refl)) ∙ is
+  -- its mark is set or cleared
+  pub open_has_mark : (later : OpenInput) (m : Bool) → later.has_place ≡ m →
+      HasMark number m window (window_of left (set items place later))
+  open_has_mark later m same =
+      reads_set unmarked mark_of left items number place later m n_is same
+      ∙ ap (λ (w : Window). set (marks_in w) number m) is
+
+  pub open_marked : (later : OpenInput) (m : Bool) → later.time ≡ o.time → later.progress ≡ o.progress →
+      later.has_place ≡ m → IsMarked number m window (window_of left (set items place later))
+  open_marked later m time progress mark = record {
+    left_stays = ap (λ (w : Window). w.left) is;
+    times_stay = reads_same time_in arrived left items number place later o at time ∙ ap times_in is;
+    progress_stays = reads_same ended_in known_in left items number place later o at progress ∙ ap progress_in is;
+    marks_are = open_has_mark later m mark;
+  }
+
+  -- or not
+  pub open_unmarked : (later : OpenInput) → later.has_place ≡ o.has_place →
+      marks_in (window_of left (set items place later)) ≡ marks_in window
+  open_unmarked later same = reads_same unmarked mark_of left items number place later o at same ∙ ap marks_in is
+
+  -- it stays as it was
+  pub open_kept : (later : OpenInput) → later ≡ o → window_of left (set items place later) ≡ window
+  open_kept later same =
+      ap (λ xs. window_of left xs) (ap (set items place) (same ∙ at) ∙ set-get_or items place o) ∙ is
 
   -- its second leg
   pub open_second : (later : OpenInput) (second : Second) → IsSecondOf number o later second →
       IsSecond number window (window_of left (set items place later)) second
-  open_second later seconds.Unknown s = (open_kept later s.0 s.1, ap is_unknown open_get ∙ s.2)
-  open_second later seconds.Never s = (open_kept later s.0 s.1, s.2, open_get ∙ ap Some s.3)
-  open_second later (seconds.Known leg) s = (open_written later Awaited s.0 s.1, open_get ∙ ap Some s.2, s.3)
+  open_second later seconds.Unknown s = (open_kept later s.0, ap is_unknown open_get ∙ s.1)
+  open_second later seconds.Never s = (
+    open_marked later false (ap arrived s.0) (ap known_in s.0) (ap mark_of s.0),
+    s.1,
+    open_get ∙ ap Some s.2,
+  )
+  open_second later (seconds.Known leg) s = (
+    open_written later Awaited (ap arrived s.0) (ap known_in s.0),
+    open_get ∙ ap Some s.1,
+    s.2,
+    open_has_mark later false (ap mark_of s.0),
+  )
 
 -- nothing of the second leg of one whose outcome left
 pub left_unknown : (left : List (ℕ × Outcome)) (ps : List Progress) (number : ℕ) → number < length left →
@@ -171,36 +189,56 @@ pub length_all : (window : Window) → length (progress_in window) ≡ length wi
 length_all window = length_of (map ended_in window.left) (map known_in window.under_way)
     (length-map window.left ended_in) (length-map window.under_way known_in)
 
+length_marks : (window : Window) → length (marks_in window) ≡ length window.left + length window.under_way
+length_marks window = length_of (map unmarked window.left) (map mark_of window.under_way)
+    (length-map window.left unmarked) (length-map window.under_way mark_of)
+
 pub times_long : (window : Window) → length (times_in window) ≡ length (progress_in window)
 times_long window =
-    length_of (map time_in window.left) (map time_in window.under_way) (length-map window.left time_in)
-    (length-map window.under_way time_in) ∙ sym (length_all window)
+    length_of (map time_in window.left) (map arrived window.under_way) (length-map window.left time_in)
+    (length-map window.under_way arrived) ∙ sym (length_all window)
+
+-- no open input has this number
+pub set_outside : (window : Window) (number : ℕ) (m : Bool) →
+    length window.left + length window.under_way ≤ number → slice_set (marks_in window) number m ≡ marks_in window
+set_outside window number m le = set_past (marks_in window) number m (omega (arith, le, length_marks window))
 
 -- nor of one that was not read
 pub unread_unknown : (left : List (ℕ × Outcome)) (items : List OpenInput) (number : ℕ) →
     length left + length items ≤ number → is_unknown (slice_get (progress_in (window_of left items)) number) ≡ true
 unread_unknown left items number le =
-    let long : length (map (λ (o : OpenInput). let p : ℕ × Progress = (o.time, o.progress) in p) items)
-    ≡ length items = length-map items (λ (o : OpenInput). let p : ℕ × Progress = (o.time, o.progress) in p) in
-    past_unknown (progress_in (window_of left items)) number (omega (
-      arith,
-      le,
-      long,
-      length_all (window_of left items),
-    ))
+    past_unknown (progress_in (window_of left items)) number (omega (arith, le, length_all (window_of left items)))
 
 -- STEPS
 
 pub expecting_times : (time : ℕ) (window : Window) → times_in (expecting time window) ≡ times_in window ++ time ∷ []
 expecting_times time window =
-    rw (map-append time_in window.under_way ((time, Awaited) ∷ []))
-    (sym (append_assoc (map time_in window.left) (map time_in window.under_way) (time ∷ [])))
+    rw (map-append arrived window.under_way (opened time ∷ []))
+    (sym (append_assoc (map time_in window.left) (map arrived window.under_way) (time ∷ [])))
 
 pub expecting_progress : (time : ℕ) (window : Window) → progress_in (expecting time window)
     ≡ progress_in window ++ Awaited ∷ []
 expecting_progress time window =
-    rw (map-append known_in window.under_way ((time, Awaited) ∷ []))
+    rw (map-append known_in window.under_way (opened time ∷ []))
     (sym (append_assoc (map ended_in window.left) (map known_in window.under_way) (Awaited ∷ [])))
+
+pub expecting_marks : (time : ℕ) (window : Window) → marks_in (expecting time window)
+    ≡ marks_in window ++ false ∷ []
+expecting_marks time window =
+    rw (map-append mark_of window.under_way (opened time ∷ []))
+    (sym (append_assoc (map unmarked window.left) (map mark_of window.under_way) (false ∷ [])))
+
+pub expecting_unmarked : (time number : ℕ) (window later : Window) → number ≡ length (progress_in window) →
+    later ≡ expecting time window → IsUnmarked number later
+expecting_unmarked time number window later n is =
+    let long : number ≡ length (marks_in window) + 0 = omega (arith, n, length_all window, length_marks window) in
+    let left : later.left ≡ window.left = ap (λ (w : Window). w.left) is in
+    record {
+      open_is = omega (arith, n, length_all window, ap length left);
+      mark = ap (λ (w : Window). slice_get (marks_in w) number) is
+          ∙ (ap (λ ms. slice_get ms number) (expecting_marks time window)
+          ∙ get_behind (marks_in window) (false ∷ []) number 0 long);
+    }
 
 -- one outcome left
 pub leaves_over : (pair : ℕ × Outcome) (window later : Window) → Leaves pair window later →
@@ -222,10 +260,14 @@ leaves_over pair window later l =
     ∙ get_behind lefts (l.progress ∷ rest) (length window.left) 0 place in
     record {
       left_is = l.left_is;
-      times_stay = ap (λ xs. map time_in xs ++ map time_in later.under_way) l.left_is
-          ∙ (ap (λ xs. xs ++ map time_in later.under_way) (map-append time_in window.left (pair ∷ []))
-          ∙ (append_assoc (map time_in window.left) (pair.0 ∷ []) (map time_in later.under_way)
-          ∙ sym (ap (λ xs. map time_in window.left ++ map time_in xs) l.first)));
+      times_stay = ap (λ xs. map time_in xs ++ map arrived later.under_way) l.left_is
+          ∙ (ap (λ xs. xs ++ map arrived later.under_way) (map-append time_in window.left (pair ∷ []))
+          ∙ (append_assoc (map time_in window.left) (pair.0 ∷ []) (map arrived later.under_way)
+          ∙ sym (ap (λ xs. map time_in window.left ++ map arrived xs) l.first)));
+      marks_stay = ap (λ xs. map unmarked xs ++ map mark_of later.under_way) l.left_is
+          ∙ (ap (λ xs. xs ++ map mark_of later.under_way) (map-append unmarked window.left (pair ∷ []))
+          ∙ (append_assoc (map unmarked window.left) (false ∷ []) (map mark_of later.under_way)
+          ∙ sym (ap (λ xs. map unmarked window.left ++ map mark_of xs) l.first)));
       known = λ course known.
           rw set_is (known_set course (progress_in window) (length window.left) (ended_in pair)
           (known_outcome course (length window.left) l.progress pair.1 l.ended (known (length window.left) l.progress
@@ -236,6 +278,7 @@ pub over_none : (window : Window) → IsHandedOver [] window window
 over_none window = record {
   left_is = sym (append-nil window.left);
   times_stay = refl;
+  marks_stay = refl;
   known = λ course known. known;
 }
 
@@ -244,6 +287,7 @@ pub over_more : (xs ys : List (ℕ × Outcome)) (window middle later : Window) �
 over_more xs ys window middle later a b = record {
   left_is = b.left_is ∙ (ap (λ l. l ++ ys) a.left_is ∙ append_assoc window.left xs ys);
   times_stay = b.times_stay ∙ a.times_stay;
+  marks_stay = b.marks_stay ∙ a.marks_stay;
   known = λ course known. b.known course (a.known course known);
 }
 
@@ -274,7 +318,7 @@ pub left_front : (course : Course) (window : Window) (inputs : List Arrival) →
     times_in window ≡ map (λ i. i.time) inputs → AllKnown course (progress_in window) →
     length course.outcomes ≡ length inputs → IsFront window.left (timed inputs course.outcomes)
 left_front course window inputs times known long =
-    front_by window.left (map time_in window.under_way) inputs course.outcomes long times
+    front_by window.left (map arrived window.under_way) inputs course.outcomes long times
     (λ i pair g. known i (ended_in pair) (get_left window.left (map known_in window.under_way) i pair g))
 
 no_more : {X : Type 0} (xs ys zs : List X) → xs ++ ys ≡ zs → length xs ≡ length zs → xs ≡ zs
@@ -297,7 +341,7 @@ pub left_whole : (course : Course) (window : Window) (inputs : List Arrival) →
 left_whole course window inputs times known long none =
     let front : IsFront window.left (timed inputs course.outcomes) = left_front course window inputs times known long in
     let all : map time_in window.left ≡ map (λ (i : Arrival). i.time) inputs =
-    sym (append-nil (map time_in window.left)) ∙ (ap (λ xs. map time_in window.left ++ map time_in xs) (sym none)
+    sym (append-nil (map time_in window.left)) ∙ (ap (λ xs. map time_in window.left ++ map arrived xs) (sym none)
     ∙ times) in
     let one : length (map time_in window.left) ≡ length window.left = length-map window.left time_in in
     let two : length (map (λ (i : Arrival). i.time) inputs) ≡ length inputs =

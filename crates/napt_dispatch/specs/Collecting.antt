@@ -9,7 +9,7 @@ use Rattle.napt_dispatch.specs.Windows.{time_in}
 abbrev pub outcome_of : ℕ × Outcome → Outcome
 outcome_of pair = pair.1
 
--- they stand behind those that stood there before
+-- the outcomes and their times are appended
 pub record Collects (before : Collected) (pairs : List (ℕ × Outcome)) (after : Collected) : Type 0 where
   pub outcomes : after.outcomes.items ≡ before.outcomes.items ++ map outcome_of pairs
   pub times : after.times.items ≡ before.times.items ++ map time_in pairs

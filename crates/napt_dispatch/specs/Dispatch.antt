@@ -1,7 +1,7 @@
--- What a dispatcher offers its workers and takes of them, and what it knows of the run meanwhile.
+-- What a dispatcher offers its workers and takes from them.
 --
--- Right answers so far are the run's (`Dispatching` of napt_sequential), so what is offered next is the run's next
--- leg. That the answers are right is a premise until the workers are joined, which then tells it.
+-- As long as the answers are right, they are the run's, so the next leg offered is the run's next leg. That they are
+-- right is a premise here: it is proved once the workers are joined.
 use Rattle.std.specs.Prelude.{◌≡◌, ⊤, ℕ, zero, suc, ◌<◌, max, Bool, true, false, List, [], ◌∷◌, ◌++◌, map, length, slice_index, slice_index_or, Result, Ok, Err}
 use Rattle.napt_config.specs.Rules.{Rules}
 use Rattle.napt_rules.specs.Prelude.{of, opening, Arrival, rows, run, legs_at, Kept, kept_replies}
@@ -18,7 +18,7 @@ use Rattle.napt_laws.specs.Dispatching.{IsFront}
 
 -- WORKERS
 
--- the translators of the first addresses of the pool, before any leg
+-- the translators of the first n addresses of the pool, before any leg
 abbrev pub started : Rules → ℕ → List TranslatorState
 started rules zero = []
 started rules (suc n) = started rules n ++ begun n rules ∷ []
@@ -27,29 +27,29 @@ started rules (suc n) = started rules n ++ begun n rules ∷ []
 abbrev pub of_worker : {X : Type 0} → List (List X) → ℕ → List X
 of_worker lists w = slice_index_or lists w []
 
--- a fault of a run that has begun, under a gate that promises yes or one that does not
+-- a fault of a run that has started. A gate that promises yes is never reported as shut
 abbrev pub IsFaultUnder : Bool → RunFault → Type 0
 IsFaultUnder open_gate faults.Memory = ⊤
 IsFaultUnder open_gate faults.TooMany = ⊥
 IsFaultUnder open_gate (faults.Pool fault) = open_gate ≡ true → is_shut fault ≡ false
 
--- a fault of dispatching, which starts no thread
+-- a fault of dispatching, which starts no threads
 abbrev pub IsDispatchFault : Bool → RunFault → Type 0
 IsDispatchFault open_gate faults.Memory = ⊤
 IsDispatchFault open_gate faults.TooMany = ⊥
 IsDispatchFault open_gate (faults.Pool fault) = IsFaultOf (λ w. ⊤) fault × (open_gate ≡ true → is_shut fault ≡ false)
 
--- the rows that a worker's translator tells at a time
+-- the bindings of a worker's translator that are live at a time
 abbrev pub rows_after : ℕ → TranslatorState → List Row
 rows_after now state = rows state.rules.timers (max now state.table.at) state.table.list
 
 -- WHAT IS OFFERED AND ANSWERED
 
--- an address's bindings at first, before any leg
+-- the bindings of an address before any leg
 abbrev pub fresh : Rules → ℕ → Kept
 fresh rules address = record { list = of address (opening rules); at = 0 }
 
--- what was taken of each worker are answers of its translator to what it was offered
+-- the answers taken from each worker are its translator's, to the legs that it was offered
 abbrev pub Right : Rules → List (List Leg) → List (List Answer) → Type 0
 Right rules offered taken =
     (w : ℕ) → w < length rules.pool →
@@ -58,19 +58,19 @@ Right rules offered taken =
 
 -- LEGS
 
--- no address stands twice
+-- no address occurs twice
 abbrev pub Distinct : List ℕ → Type 0
 Distinct pool = (i j : ℕ) → i < length pool → j < length pool → slice_index pool i ≡ slice_index pool j → i ≡ j
 
 -- THE END
 
--- a fault of dispatching is told before one of the pool
+-- a fault of dispatching is reported before one of the pool
 abbrev pub first_fault : {D C : Type 0} → Result D RunFault → Result C PoolFault → Result (D × C) RunFault
 first_fault (Err fault) closed = Err fault
 first_fault (Ok dispatched) (Err fault) = Err (faults.Pool fault)
 first_fault (Ok dispatched) (Ok ended) = Ok (dispatched, ended)
 
--- what a run over the inputs gives, told by a dispatcher
+-- what a dispatcher returns for a run over the inputs
 pub record IsDispatched (rules : Rules) (inputs : List Arrival) (offered : List (List Leg)) (outcomes : List Outcome)
     (numbers : List ℕ) : Type 0 where
   pub legs : offered ≡ map (λ address. legs_at address (run rules inputs (opening rules)).acts) rules.pool

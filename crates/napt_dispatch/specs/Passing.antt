@@ -31,7 +31,7 @@ use Rattle.napt_dispatch.specs.Standing.{parts_of, state_of, IsSizedFor, Stands,
 abbrev pub timed : List Arrival → List Outcome → List (ℕ × Outcome)
 timed inputs outcomes = zip_with (λ input outcome. (input.time, outcome)) inputs outcomes
 
--- the first of these were taken, and while the others were the fault was told
+-- the first of these outcomes were taken, and the fault came while taking the others
 pub record Fails {S F : Type 0} (takes : S → List (ℕ × Outcome) → S → Type 0)
     (fails : S → List (ℕ × Outcome) → F → S → Type 0) (before : S) (went : List (ℕ × Outcome)) (fault : F) (after : S)
     : Type 0 where
@@ -42,14 +42,14 @@ pub record Fails {S F : Type 0} (takes : S → List (ℕ × Outcome) → S → T
   pub took : takes before first middle
   pub failed : fails middle others fault after
 
--- what left a window was taken
+-- the outcomes that left the window were taken
 pub record HandsOver {S : Type 0} (takes : S → List (ℕ × Outcome) → S → Type 0) (before : S) (window : Window)
     (after : S) (later : Window) : Type 0 where
   pub went : List (ℕ × Outcome)
   pub handed : IsHandedOver went window later
   pub took : takes before went after
 
--- or a fault was told of it
+-- or taking them failed
 pub record FailsOver {S F : Type 0} (takes : S → List (ℕ × Outcome) → S → Type 0)
     (fails : S → List (ℕ × Outcome) → F → S → Type 0) (before : S) (window : Window) (after : S) (later : Window)
     (fault : F) : Type 0 where
@@ -59,7 +59,7 @@ pub record FailsOver {S F : Type 0} (takes : S → List (ℕ × Outcome) → S �
 
 -- OVER A POOL
 
--- the pool has the same workers, what stood of it and of its dispatcher still stands, and these outcomes left
+-- the pool has the same workers, the dispatcher's invariant still holds, and these outcomes left
 pub record GoesOn {M G : Type 0} (pool : Pool M G Leg Answer) (d : Dispatcher) (went : List (ℕ × Outcome))
     (later_pool : Pool M G Leg Answer) (later : Dispatcher) : Type 0 where
   pub starts_stay : starts later_pool ≡ starts pool
@@ -68,14 +68,14 @@ pub record GoesOn {M G : Type 0} (pool : Pool M G Leg Answer) (d : Dispatcher) (
   pub left_is : (parts_of later).journal.left ≡ (parts_of d).journal.left ++ went
   pub keeps : Keeps (state_of pool d) (state_of later_pool later)
 
--- these were taken
+-- and were taken
 pub record LetsGo {M G S : Type 0} (takes : S → List (ℕ × Outcome) → S → Type 0) (pool : Pool M G Leg Answer)
     (d : Dispatcher) (before : S) (later_pool : Pool M G Leg Answer) (later : Dispatcher) (after : S) : Type 0 where
   pub went : List (ℕ × Outcome)
   pub goes : GoesOn pool d went later_pool later
   pub took : takes before went after
 
--- or a fault was told
+-- or taking them failed
 pub record StopsAt {M G S F : Type 0} (takes : S → List (ℕ × Outcome) → S → Type 0)
     (fails : S → List (ℕ × Outcome) → F → S → Type 0) (pool : Pool M G Leg Answer) (d : Dispatcher) (before : S)
     (later_pool : Pool M G Leg Answer) (later : Dispatcher) (after : S) (fault : F) : Type 0 where
@@ -83,7 +83,7 @@ pub record StopsAt {M G S F : Type 0} (takes : S → List (ℕ × Outcome) → S
   pub goes : GoesOn pool d went later_pool later
   pub failed : Fails takes fails before went fault after
 
--- with a fault of the run the workers are the same, and it is one of dispatching
+-- after a fault of the run, the pool has the same workers, and the fault is one of dispatching
 abbrev pub HaltsAt : {M G S F : Type 0} → Bool → (S → List (ℕ × Outcome) → S → Type 0) →
     (S → List (ℕ × Outcome) → F → S → Type 0) → Pool M G Leg Answer → Dispatcher → S → Pool M G Leg Answer →
     Dispatcher → S → Halted F → Type 0
@@ -101,7 +101,7 @@ LetsGoUnlessFault open_gate takes fails pool d before later_pool later after res
 
 -- READING
 
--- no input was read, and there are queues for each worker of the pool, one for each address
+-- before the first input: the pool has a worker for each address, and the dispatcher queues for each worker
 pub record Begins {M G : Type 0} (rules : Rules) (pool : Pool M G Leg Answer) (d : Dispatcher) : Type 0 where
   pub keeps : KeepsRules rules
   pub count : length (starts pool) ≡ length rules.pool
@@ -109,7 +109,7 @@ pub record Begins {M G : Type 0} (rules : Rules) (pool : Pool M G Leg Answer) (d
   pub left : d.progress.left ≡ []
   pub under_way : d.progress.under_way ≡ []
 
--- one input more was read, at a time
+-- one more input was read, at this time
 pub record Serves {M G : Type 0} (rules : Rules) (now : ℕ) (input : Arrival) (pool : Pool M G Leg Answer)
     (d : Dispatcher) (later_pool : Pool M G Leg Answer) (later : Dispatcher) : Type 0 where
   pub starts_stay : starts later_pool ≡ starts pool
@@ -121,7 +121,7 @@ pub record Serves {M G : Type 0} (rules : Rules) (now : ℕ) (input : Arrival) (
       Stands rules done ((done ++ input ∷ []) ++ rest) (state_of pool d) →
       Stands rules (done ++ input ∷ []) ((done ++ input ∷ []) ++ rest) (state_of later_pool later)
 
--- these inputs were read, from the first on, and these outcomes left
+-- these are all inputs read so far, and all outcomes that have left
 pub record Reads {M G : Type 0} (rules : Rules) (pool : Pool M G Leg Answer) (d : Dispatcher) (inputs : List Arrival)
     (went : List (ℕ × Outcome)) (later_pool : Pool M G Leg Answer) (later : Dispatcher) : Type 0 where
   pub starts_stay : starts later_pool ≡ starts pool
@@ -131,7 +131,7 @@ pub record Reads {M G : Type 0} (rules : Rules) (pool : Pool M G Leg Answer) (d 
   pub served : (rest : List Arrival) → Stands rules [] (inputs ++ rest) (state_of pool d) →
       Stands rules inputs (inputs ++ rest) (state_of later_pool later)
 
--- these inputs came, and perhaps the end or a fault was told
+-- these inputs came, and then perhaps the end or a fault
 abbrev pub HasCome : {A F : Type 0} → (A → List Arrival → A → Type 0) → (A → Option F → A → Type 0) → A → List Arrival →
     A → Type 0
 HasCome {A} {F} hands ends before inputs after =
@@ -142,7 +142,7 @@ module _ {A F S B : Type 0} (rules : Rules) (hands : A → List Arrival → A �
     (is_settled : S → Type 0) where
   module _ {M G : Type 0} (pool : Pool M G Leg Answer) (d : Dispatcher) (from : A) (before : S)
       (later_pool : Pool M G Leg Answer) (later : Dispatcher) (left : A) (after : S) where
-    -- all inputs were read
+    -- the arrivals ended or failed, and every input before that was read
     pub record ReadsToEnd (end : EndOfInputs F) : Type 0 where
       pub inputs : List Arrival
       pub went : List (ℕ × Outcome)
@@ -151,7 +151,7 @@ module _ {A F S B : Type 0} (rules : Rules) (hands : A → List Arrival → A �
       pub reads : Reads rules pool d inputs went later_pool later
       pub took : takes before went after
 
-    -- they were read, and all outcomes left
+    -- and every outcome has left and is settled
     pub record ReadsAll (end : EndOfInputs F) : Type 0 where
       pub to_end : ReadsToEnd end
       pub done : IsDone (parts_of later)
@@ -159,7 +159,7 @@ module _ {A F S B : Type 0} (rules : Rules) (hands : A → List Arrival → A �
       pub few : length later.progress.left < 2 ^ 64
       pub settled : is_settled after
 
-    -- some were read, and the departures told a fault
+    -- the departures failed after some inputs
     pub record ReadsSome (fault : B) : Type 0 where
       pub inputs : List Arrival
       pub went : List (ℕ × Outcome)
@@ -171,10 +171,10 @@ module _ {A F S B : Type 0} (rules : Rules) (hands : A → List Arrival → A �
     ReadsHalted open_gate (halts.Departure fault) = ReadsSome fault
     ReadsHalted open_gate (halts.Run fault) = (starts later_pool ≡ starts pool) × IsDispatchFault open_gate fault
 
-  -- WHAT DISPATCHING COMES TO
+  -- THE RESULT OF DISPATCHING
 
   module _ {M G : Type 0} (from : A) (before : S) (pool : Pool M G Leg Answer) (left : A) (after : S) where
-    -- the end of the arrivals was told, or their fault, and the outcomes of all inputs left
+    -- the arrivals ended or failed, and the outcomes of all inputs before that left
     pub record EndsWith (end : Option F) (done : Dispatched F B) : Type 0 where
       pub inputs : List Arrival
       pub went : List (ℕ × Outcome)
@@ -189,7 +189,7 @@ module _ {A F S B : Type 0} (rules : Rules) (hands : A → List Arrival → A �
           (went ≡ timed inputs (run rules inputs (opening rules)).outcomes)
           × IsDispatched rules inputs (accepts pool) (map outcome_of went) done.legs.items
 
-    -- the departures told a fault
+    -- the departures failed
     pub record EndsEarly (fault : B) : Type 0 where
       pub inputs : List Arrival
       pub went : List (ℕ × Outcome)
@@ -204,11 +204,10 @@ module _ {A F S B : Type 0} (rules : Rules) (hands : A → List Arrival → A �
     EndsBy done (endings.Arrival fault) = EndsWith (Some fault) done
     EndsBy done (endings.Departure fault) = EndsEarly fault
 
-  -- WHAT A RUN COMES TO
+  -- THE RESULT OF A RUN
 
   module _ (from : A) (before : S) (left : A) (after : S) where
-    -- all inputs came, and then the end was told or a fault; their outcomes are those of the sequential run, and all
-    -- of them left
+    -- the arrivals ended or failed, and exactly the outcomes of the sequential run over the inputs before that left
     pub record PassesTo (end : Option F) : Type 0 where
       pub inputs : List Arrival
       pub came : Came hands ends from inputs end left
@@ -221,7 +220,7 @@ module _ {A F S B : Type 0} (rules : Rules) (hands : A → List Arrival → A �
       pub bindings : passed.bindings.items ≡ (ran rules whole.inputs).bindings
       pub legs : passed.legs.items ≡ (ran rules whole.inputs).legs
 
-    -- some of them left, in the order of the inputs, and then the departures told a fault
+    -- the departures failed, and what left before are the first outcomes of the sequential run
     pub record PassesEarly (fault : B) : Type 0 where
       pub inputs : List Arrival
       pub went : List (ℕ × Outcome)
@@ -235,13 +234,13 @@ module _ {A F S B : Type 0} (rules : Rules) (hands : A → List Arrival → A �
     Passes (Err (stops.Departure fault)) = PassesEarly fault
     Passes (Err (stops.Run fault)) = ⊤
 
--- a fault of a run that has begun, under a gate that promises yes or one that does not
+-- a fault of a run that has started. A gate that promises yes is never reported as shut
 abbrev pub IsStoppedUnder : {F B : Type 0} → Bool → Stopped F B → Type 0
 IsStoppedUnder open_gate (stops.Run fault) = IsFaultUnder open_gate fault
 IsStoppedUnder open_gate (stops.Arrival fault) = ⊤
 IsStoppedUnder open_gate (stops.Departure fault) = ⊤
 
--- all inputs came, and the run over them is the sequential one
+-- the arrivals ended, and this is the sequential run over all inputs
 pub record RunsAll {A F : Type 0} (rules : Rules) (hands : A → List Arrival → A → Type 0)
     (ends : A → Option F → A → Type 0) (from : A) (done : TimedRun) (left : A) : Type 0 where
   pub inputs : List Arrival

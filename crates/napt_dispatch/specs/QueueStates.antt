@@ -4,7 +4,7 @@ use Rattle.napt_dispatch.specs.declared.dispatcher.held.Held.{Held}
 use Rattle.napt_dispatch.specs.declared.dispatcher.held.Owed.{Owed}
 use Rattle.napt_dispatch.specs.Queues.{pushed, Popped, many_in}
 
--- of one worker: how many legs it was offered, the legs whose answers it owes, and what is held for it
+-- one worker: the number of legs offered, the legs not answered yet, and what is held
 pub record QueueState : Type 0 where
   pub offered : ℕ
   pub owed : List Owed
@@ -14,7 +14,7 @@ pub record QueueState : Type 0 where
 abbrev pub unused : QueueState
 unused = record { offered = 0; owed = []; held = [] }
 
--- of all workers, part by part
+-- the same parts of all workers
 abbrev pub counts_in : List QueueState → List ℕ
 counts_in queues = map (λ q. q.offered) queues
 
@@ -24,7 +24,7 @@ owed_in queues = map (λ q. q.owed) queues
 abbrev pub held_in : List QueueState → List (List Held)
 held_in queues = map (λ q. q.held) queues
 
--- as many legs and places are held as are counted, and there is a worker
+-- the count of legs and placeholders held is right, and there is a worker
 pub record AreCounted (many : ℕ) (queues : List QueueState) : Type 0 where
   pub counted : many ≡ many_in (held_in queues)
   pub few : many ≤ 65536
@@ -33,25 +33,25 @@ pub record AreCounted (many : ℕ) (queues : List QueueState) : Type 0 where
 
 -- STEPS
 
--- this is held, and all else is as it was
+-- this is held now, and nothing else changed
 pub record Holds (held : List (List Held)) (queues later : List QueueState) : Type 0 where
   pub held_is : held_in later ≡ held
   pub counts_stay : counts_in later ≡ counts_in queues
   pub owed_stays : owed_in later ≡ owed_in queues
 
--- the first that was held for worker w was taken out
+-- the first leg or placeholder held for worker w was taken out
 pub record Releases (w : ℕ) (first : Held) (queues later : List QueueState) : Type 0 where
   pub popped : Popped w first (held_in queues) (held_in later)
   pub counts_stay : counts_in later ≡ counts_in queues
   pub owed_stays : owed_in later ≡ owed_in queues
 
--- one more leg was offered to worker w, which owes its answer
+-- one more leg was offered to worker w and awaits its answer
 pub record Owes (w : ℕ) (owed : Owed) (queues later : List QueueState) : Type 0 where
   pub counts_are : counts_in later ≡ slice_set (counts_in queues) w (slice_index (counts_in queues) w + 1)
   pub owed_is : owed_in later ≡ pushed w owed (owed_in queues)
   pub held_stays : held_in later ≡ held_in queues
 
--- the first leg whose answer worker w owed was answered
+-- worker w answered its oldest leg
 pub record Settles (w : ℕ) (owed : Owed) (queues later : List QueueState) : Type 0 where
   pub popped : Popped w owed (owed_in queues) (owed_in later)
   pub counts_stay : counts_in later ≡ counts_in queues

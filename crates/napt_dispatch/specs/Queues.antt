@@ -11,16 +11,16 @@ pushed w x lists = slice_set lists w (of_worker lists w ++ x ∷ [])
 abbrev pub put_first : {X : Type 0} → ℕ → X → List (List X) → List (List X)
 put_first w x lists = slice_set lists w (x ∷ of_worker lists w)
 
--- the first of a worker's list left it
+-- the first element of a worker's list was taken out
 pub record Popped {X : Type 0} (w : ℕ) (x : X) (lists later : List (List X)) : Type 0 where
   pub rest : List X
   pub first : of_worker lists w ≡ x ∷ rest
   pub later_is : later ≡ slice_set lists w rest
 
--- x stands first
+-- x is the first element
 abbrev pub BeginsWith : {X : Type 0} → X → List X → Type 0
 BeginsWith {X} x xs = (rest : List X) × (xs ≡ x ∷ rest)
 
--- how much there is in the lists of all workers
+-- the number of elements in all lists
 abbrev pub many_in : {X : Type 0} → List (List X) → ℕ
 many_in lists = sum_by length lists

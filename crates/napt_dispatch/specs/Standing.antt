@@ -1,8 +1,8 @@
--- What stands while a dispatcher hands out the legs of a run.
+-- The invariant of dispatching.
 --
--- For each worker: what it was offered, followed by what is held for it, are its legs of the run over the inputs that
--- were read. A place among what is held stands for a second leg (RFC 4787, REQ-9) that the answer of the first will
--- tell. That the answers are right is a premise until the workers are joined, which then tells it.
+-- For each worker, the legs offered and then those held are its legs of the run over the inputs read so far. A
+-- placeholder takes the place of a second leg (RFC 4787, REQ-9) until the first is answered. That the answers are
+-- right is a premise here: it is proved once the workers are joined.
 use Rattle.std.specs.Prelude.{◌≡◌, ◌≢◌, ◌⊎◌, ◌||◌, ℕ, ◌+◌, ◌<◌, ◌≤◌, max, nat_le, Bool, true, false, List, [], ◌∷◌, ◌++◌, map, flat_map, length, slice_index, slice_set, slice_get, Some, Result, MatchResult}
 use Rattle.napt_wire.specs.declared.Way.{Way}
 use Rattle.napt_wire.specs.declared.Way.TheVariants.{Outgoing, Incoming}
@@ -33,12 +33,12 @@ use Rattle.napt_dispatch.specs.declared.dispatcher.taking.Until.TheVariants as u
 use Rattle.napt_dispatch.specs.Dispatch.{of_worker, IsDispatchFault, Right}
 use Rattle.napt_dispatch.specs.Queues.{pushed, put_first, Popped, many_in}
 use Rattle.napt_dispatch.specs.QueueStates.{QueueState, counts_in, owed_in, held_in}
-use Rattle.napt_dispatch.specs.Windows.{Window, progress_in, times_in, is_unknown, next_leg, AllKnown, IsWritten}
+use Rattle.napt_dispatch.specs.Windows.{Window, progress_in, times_in, is_unknown, next_leg, AllKnown, IsWritten, HasMark, IsMarked}
 use Rattle.napt_laws.specs.Places.{second_legs}
 
--- WHAT A DISPATCHER KEEPS
+-- A DISPATCHER'S STATE
 
--- when the inputs that were read arrived, and the outcomes that left
+-- the arrival times of the inputs read, and the outcomes that have left
 pub record Journal : Type 0 where
   pub times : List ℕ
   pub left : List (ℕ × Outcome)
@@ -46,8 +46,8 @@ pub record Journal : Type 0 where
 abbrev pub journal_of : Window → Journal
 journal_of window = record { times = times_in window; left = window.left }
 
--- of each worker the number of legs that it was offered, the legs whose answers it owes, and what is held for it; of
--- each input that was read what is known
+-- for each worker, the number of legs offered, the legs not answered yet and what is held; and the progress of each
+-- input read
 pub record Parts : Type 0 where
   pub counts : List ℕ
   pub owed : List (List Owed)
@@ -67,7 +67,7 @@ parts_with queues window = record {
 abbrev pub parts_of : Dispatcher → Parts
 parts_of d = parts_with d.queues d.progress
 
--- with what each worker was offered, and what was taken of each
+-- with the legs offered to each worker, and the answers taken from it
 pub record DispatchState : Type 0 where
   pub offered : List (List Leg)
   pub taken : List (List Answer)
@@ -76,12 +76,12 @@ pub record DispatchState : Type 0 where
 abbrev pub state_of : {M G : Type 0} → Pool M G Leg Answer → Dispatcher → DispatchState
 state_of pool d = record { offered = accepts pool; taken = takes pool; parts = parts_of d }
 
--- WHAT STANDS
+-- THE INVARIANT
 
 abbrev pub owed_of : Leg → Owed
 owed_of leg = record { way = leg.way; now = leg.now }
 
--- of the legs that a worker was offered, the first were answered, and the others are those that it owes
+-- a worker has answered the first of the legs that it was offered, and owes the answers to the others
 pub record IsOwed (offered : List Leg) (taken : List Answer) (owed : List Owed) : Type 0 where
   pub before : List Leg
   pub rest : List Leg
@@ -89,12 +89,12 @@ pub record IsOwed (offered : List Leg) (taken : List Answer) (owed : List Owed) 
   pub long : length before ≡ length taken
   pub owed_is : owed ≡ map owed_of rest
 
--- the legs for which something held stands
+-- the legs that something held turns into
 abbrev pub resolved : List Act → Held → List Leg
 resolved acts (Ready leg) = leg ∷ []
 resolved acts (Place number) = second_legs number acts
 
--- where the answers are right
+-- if the answers are right
 pub record Reaches (rules : Rules) (done all : List Arrival) (state : DispatchState) : Type 0 where
   pub reached : (w : ℕ) → w < length rules.pool →
       of_worker state.offered w ++ flat_map (resolved (run rules all (opening rules)).acts)
@@ -102,7 +102,7 @@ pub record Reaches (rules : Rules) (done all : List Arrival) (state : DispatchSt
       ≡ legs_at (slice_index rules.pool w) (run rules done (opening rules)).acts
   pub known : AllKnown (run rules all (opening rules)) state.parts.progress
 
--- after the first inputs of all
+-- after the inputs `done`, the first of `all`
 pub record Stands (rules : Rules) (done all : List Arrival) (state : DispatchState) : Type 0 where
   pub rest : List Arrival
   pub whole : done ++ rest ≡ all
@@ -115,12 +115,12 @@ pub record Stands (rules : Rules) (done all : List Arrival) (state : DispatchSta
       (of_worker state.parts.owed w)
   pub reaches : Right rules state.offered state.taken → Reaches rules done all state
 
--- what stood still stands, with no input more
+-- the invariant still holds, after the same inputs
 abbrev pub Keeps : DispatchState → DispatchState → Type 0
 Keeps state later = (rules : Rules) (done all : List Arrival) → Stands rules done all state →
     Stands rules done all later
 
--- whatever the workers were offered and answered
+-- whatever was offered and answered
 abbrev pub KeepsParts : Parts → Parts → Type 0
 KeepsParts parts later =
     (offered : List (List Leg)) (taken : List (List Answer)) →
@@ -132,11 +132,11 @@ KeepsParts parts later =
 
 -- OVER A POOL
 
--- a dispatcher has queues for each worker of its pool
+-- the dispatcher has queues for each worker of the pool
 abbrev pub IsSizedFor : {M G : Type 0} → Pool M G Leg Answer → Dispatcher → Type 0
 IsSizedFor pool d = length d.queues ≡ length (starts pool)
 
--- the pool has the same workers, and what stood of it and of its dispatcher still stands
+-- the pool has the same workers, and the dispatcher's invariant still holds
 pub record Continues {M G : Type 0} (pool : Pool M G Leg Answer) (d : Dispatcher) (later_pool : Pool M G Leg Answer)
     (later : Dispatcher) : Type 0 where
   pub starts_stay : starts later_pool ≡ starts pool
@@ -144,7 +144,7 @@ pub record Continues {M G : Type 0} (pool : Pool M G Leg Answer) (d : Dispatcher
   pub journal_stays : (parts_of later).journal ≡ (parts_of d).journal
   pub keeps : Keeps (state_of pool d) (state_of later_pool later)
 
--- so it is after an answer; with a fault the workers are the same, and it is one of dispatching
+-- or there was a fault of dispatching, and the pool has the same workers
 abbrev pub ContinuesUnlessFault : {M G X : Type 0} → Bool → Pool M G Leg Answer → Dispatcher → Pool M G Leg Answer →
     Dispatcher → Result X RunFault → Type 0
 ContinuesUnlessFault open_gate pool d later_pool later result =
@@ -159,7 +159,7 @@ with_held held parts = record parts { held = held }
 abbrev pub with_progress : List Progress → Parts → Parts
 with_progress progress parts = record parts { progress = progress }
 
--- the leg is first of what is held for the worker
+-- with the leg held first for the worker
 abbrev pub with_first : ℕ → Leg → DispatchState → DispatchState
 with_first w leg state = record state { parts = with_held (put_first w (Ready leg) state.parts.held) state.parts }
 
@@ -167,7 +167,7 @@ abbrev pub ended : Way → Outcome → Progress
 ended Outgoing outcome = EndedOut outcome
 ended Incoming outcome = EndedIn outcome
 
--- what the end of a leg that was owed tells of its input
+-- the progress of an input after an answer to one of its legs
 abbrev pub IsToldBy : Owed → End → Progress → Type 0
 IsToldBy owed (ends.ToOutside packet) p = p ≡ ended owed.way (outcomes.ToOutside packet)
 IsToldBy owed (ends.ToInside packet) p = p ≡ ended owed.way (outcomes.ToInside packet)
@@ -185,34 +185,33 @@ pub record Noted (w : ℕ) (answer : Answer) (parts later : Parts) : Type 0 wher
   pub progress_is : later.progress ≡ slice_set parts.progress answer.number progress
   pub journal_stays : later.journal ≡ parts.journal
 
--- the second leg of the input of a number, as far as it is known
+-- taking out the second leg of an open input
 abbrev pub IsSecondOf : ℕ → OpenInput → OpenInput → Second → Type 0
-IsSecondOf number input later seconds.Unknown =
-    (later.time ≡ input.time) × (later.progress ≡ input.progress) × (is_unknown (Some input.progress) ≡ true)
-IsSecondOf number input later seconds.Never =
-    (later.time ≡ input.time) × (later.progress ≡ input.progress)
+IsSecondOf number input later seconds.Unknown = (later ≡ input) × (is_unknown (Some input.progress) ≡ true)
+IsSecondOf number input later seconds.Never = (later ≡ record input { has_place = false })
     × (outcome : Outcome) × (input.progress ≡ EndedOut outcome)
-IsSecondOf number input later (seconds.Known leg) =
-    (later.time ≡ input.time) × (later.progress ≡ Awaited) × (input.progress ≡ Onward leg.now leg.packet)
-    × (leg ≡ next_leg number leg.now leg.packet)
+IsSecondOf number input later (seconds.Known leg) = (later ≡ record input { progress = Awaited; has_place = false })
+    × (input.progress ≡ Onward leg.now leg.packet) × (leg ≡ next_leg number leg.now leg.packet)
 
--- the same of the inputs that were read
+-- the same for an input by its number
 abbrev pub IsSecond : ℕ → Window → Window → Second → Type 0
 IsSecond number window later seconds.Unknown =
     (later ≡ window) × (is_unknown (slice_get (progress_in window) number) ≡ true)
 IsSecond number window later seconds.Never =
-    (later ≡ window) × (outcome : Outcome) × (slice_get (progress_in window) number ≡ Some (EndedOut outcome))
+    IsMarked number false window later
+    × (outcome : Outcome) × (slice_get (progress_in window) number ≡ Some (EndedOut outcome))
 IsSecond number window later (seconds.Known leg) =
     IsWritten number Awaited window later
     × (slice_get (progress_in window) number ≡ Some (Onward leg.now leg.packet))
     × (leg ≡ next_leg number leg.now leg.packet)
+    × HasMark number false window later
 
--- of an input whose second leg was not known it is not known now
+-- if it was not known whether an input has a second leg, it still is not
 abbrev pub Forgets : List Progress → List Progress → Type 0
 Forgets progress later = (number : ℕ) → is_unknown (slice_get progress number) ≡ true →
     is_unknown (slice_get later number) ≡ true
 
--- what stood first for worker w was taken out, and there is room to put it back
+-- the first leg or placeholder held for worker w was taken out, and there is room to put it back
 pub record TakesFirst (w : ℕ) (parts later : Parts) : Type 0 where
   pub first : Held
   pub popped : Popped w first parts.held later.held
@@ -222,13 +221,13 @@ pub record TakesFirst (w : ℕ) (parts later : Parts) : Type 0 where
   pub forgets : Forgets parts.progress later.progress
   pub room : many_in later.held < 65536
 
--- nothing that is held can be offered: nothing is held, or a place that waits stands first
+-- nothing held can be offered: nothing is held, or a waiting placeholder is first
 abbrev pub first_waits : List Progress → List Held → Bool
 first_waits progress [] = true
 first_waits progress (Ready leg ∷ rest) = false
 first_waits progress (Place number ∷ rest) = is_unknown (slice_get progress number)
 
--- what stood first for worker w: it still does, a place that stands for nothing went, or a leg was taken out
+-- the first leg or placeholder held for worker w stays there, is dropped as there is no second leg, or is taken out
 abbrev pub IsFirst : ℕ → Parts → Parts → First → Type 0
 IsFirst w parts later firsts.Waits = (later ≡ parts)
     × (first_waits parts.progress (of_worker parts.held w) ≡ true)
@@ -238,7 +237,7 @@ IsFirst w parts later (firsts.Next leg) = TakesFirst w parts later
     Keeps (record { offered = offered; taken = taken; parts = parts })
     (with_first w leg (record { offered = offered; taken = taken; parts = later })))
 
--- one input more was read
+-- one more input was read
 abbrev pub Admits : Rules → ℕ → ℕ → Arrival → Parts → Parts → Type 0
 Admits rules number now input parts later =
     (offered : List (List Leg)) (taken : List (List Answer)) (done rest : List Arrival) → length done ≡ number →
@@ -251,18 +250,18 @@ Admits rules number now input parts later =
           later;
     })
 
--- whether answers were taken: fewer are owed than before, or nothing was done
+-- true: answers were taken, so fewer are owed; false: nothing changed
 abbrev pub HasTaken : Parts → Parts → Bool → Type 0
 HasTaken parts later true = many_in later.owed < many_in parts.owed
 HasTaken parts later false = later ≡ parts
 
 -- OFFERS
 
--- the ring of worker w has no room for a leg more, until an answer is taken
+-- the ring of worker w is full until an answer is taken
 abbrev pub IsRingFull : {M G : Type 0} → Pool M G Leg Answer → ℕ → Type 0
 IsRingFull pool w = length (of_worker (accepts pool) w) ≡ length (of_worker (takes pool) w) + capacity_of pool
 
--- a leg was offered to worker w: it was accepted behind the others, and its answer is owed
+-- a leg was offered to worker w: the pool accepted it, and its answer is owed
 pub record Offers {M G : Type 0} (w : ℕ) (leg : Leg) (pool : Pool M G Leg Answer) (d : Dispatcher)
     (later_pool : Pool M G Leg Answer) (later : Dispatcher) : Type 0 where
   pub accepted : accepts later_pool ≡ pushed w leg (accepts pool)
@@ -274,7 +273,7 @@ pub record Offers {M G : Type 0} (w : ℕ) (leg : Leg) (pool : Pool M G Leg Answ
     owed = pushed w (owed_of leg) (parts_of d).owed;
   }
 
--- it was not, since the ring of worker w is full: it stands first of what is held
+-- it was not, as the ring of worker w is full: it is held first
 pub record PutsBack {M G : Type 0} (w : ℕ) (leg : Leg) (pool : Pool M G Leg Answer) (d : Dispatcher)
     (later_pool : Pool M G Leg Answer) (later : Dispatcher) : Type 0 where
   pub full : IsRingFull pool w
@@ -284,20 +283,20 @@ pub record PutsBack {M G : Type 0} (w : ℕ) (leg : Leg) (pool : Pool M G Leg An
   pub ring_stays : later.ring ≡ d.ring
   pub parts_are : parts_of later ≡ with_held (put_first w (Ready leg) (parts_of d).held) (parts_of d)
 
--- nothing can be offered to worker w: as many legs are owed as its ring has room for, or nothing that is held can be
+-- nothing can be offered to worker w: its ring is full of legs not answered yet, or nothing held can be offered
 abbrev pub waits : ℕ → Parts → ℕ → Bool
 waits ring parts w = nat_le ring (length (of_worker parts.owed w))
     || first_waits parts.progress (of_worker parts.held w)
 
--- worker w was offered all that it can be: nothing is held for it, a place that waits stands first, or its ring is full
+-- worker w was offered all it can be: nothing is held for it, a waiting placeholder is first, or its ring is full
 abbrev pub HasOffered : {M G : Type 0} → Pool M G Leg Answer → Dispatcher → ℕ → Type 0
 HasOffered pool d w = (waits d.ring (parts_of d) w ≡ true) ⊎ IsRingFull pool w
 
--- so was every worker
+-- and so was every worker
 abbrev pub HasOfferedAll : {M G : Type 0} → Pool M G Leg Answer → Dispatcher → Type 0
 HasOfferedAll pool d = (w : ℕ) → w < length (starts pool) → HasOffered pool d w
 
--- no worker but w was offered anything, and of no input is more known
+-- no other worker than w was offered anything, and no input got further
 pub record OffersOnlyTo {M G : Type 0} (w : ℕ) (pool : Pool M G Leg Answer) (d : Dispatcher)
     (later_pool : Pool M G Leg Answer) (later : Dispatcher) : Type 0 where
   pub takes_stay : takes later_pool ≡ takes pool
@@ -310,19 +309,19 @@ pub record OffersOnlyTo {M G : Type 0} (w : ℕ) (pool : Pool M G Leg Answer) (d
 
 -- ROOM
 
--- one input more may be read
+-- one more input may be read
 pub record HasRoom (d : Dispatcher) : Type 0 where
   pub held : many_in (parts_of d).held + 2 ≤ 65536
   pub under_way : length d.progress.under_way < 131072
 
 -- THE END
 
--- nothing is held and nothing owed
+-- nothing is held, and every leg is answered
 pub record IsDone (parts : Parts) : Type 0 where
   pub owed : (w : ℕ) → of_worker parts.owed w ≡ []
   pub held : (w : ℕ) → of_worker parts.held w ≡ []
 
--- a state up to which a dispatcher goes on
+-- the state that a dispatcher goes on to
 abbrev pub HasReached : Until → Dispatcher → Type 0
 HasReached untils.Room d = HasRoom d
 HasReached untils.Done d = IsDone (parts_of d)

@@ -16,6 +16,7 @@ ghost use Rattle.napt_dispatch.specs.Dispatch.{of_worker, IsDispatchFault};
 ghost use Rattle.napt_dispatch.specs.Offers.{with_offer, with_offered};
 ghost use Rattle.napt_dispatch.specs.Passing.{LetsGoUnlessFault, Serves, Begins, ReadsToEnd, ReadsAll, ReadsHalted};
 ghost use Rattle.napt_dispatch.specs.Queues.{pushed, many_in};
+ghost use Rattle.napt_dispatch.specs.Windows.{IsUnmarked};
 ghost use Rattle.napt_dispatch.specs.Standing.{parts_of, state_of, Keeps, IsSizedFor, HasRoom, with_held, with_progress, Admits};
 
 use crate::Worker;
@@ -44,6 +45,7 @@ impl Dispatcher {
     fn hold_place(&mut self, to: Option<u32>, number: u64) -> Result<(), AllocError>
         requires to { IfSome to (λ v. v < length self.old.queues) }
         requires room { many_in (parts_of self.old).held < 65536 }
+        requires open { IsUnmarked number self.old.progress }
         ensures many { length self.new.queues ≡ length self.old.queues }
         ensures placed { OnOk result (MatchOption to (parts_of self.new ≡ parts_of self.old) (λ v.
             parts_of self.new
@@ -78,6 +80,7 @@ impl Dispatcher {
         requires place { w < length self.old.queues }
         requires to { IfSome to (λ v. v < length self.old.queues) }
         requires room { many_in (parts_of self.old).held + 2 ≤ 65536 }
+        requires open { IsUnmarked leg.number self.old.progress }
         ensures free { IfOk result (λ found. IsSome found
             ↔ ((of_worker (parts_of self.old).held w ≡ [])
             × (length (of_worker (parts_of self.old).owed w) < self.old.ring))) }
@@ -126,6 +129,7 @@ impl Dispatcher {
         requires keeps { KeepsRules config.now }
         requires sized { length self.old.queues ≡ length config.now.pool }
         requires room { many_in (parts_of self.old).held + 2 ≤ 65536 }
+        requires open { IsUnmarked number self.old.progress }
         ensures many { length self.new.queues ≡ length self.old.queues }
         ensures room { IfOk result (λ found.
             IfSome found (λ o. many_in (parts_of self.new).held < 65536)) }
@@ -233,7 +237,7 @@ impl Dispatcher {
     }
 
     /// Returns the next input, which may use the buffer of a packet that has left. A device is asked for it only if every
-    /// outcome has left and is settled: the departures stand here for that clause alone.
+    /// outcome has left and is settled; the departures are passed for that clause alone.
     fn next_input<A: Arrivals, D: Departures>(
         &mut self,
         arrivals: &mut A,

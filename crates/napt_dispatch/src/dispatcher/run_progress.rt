@@ -1,8 +1,8 @@
 //! The progress of the inputs that were read.
 
-ghost use Rattle.std.specs.Prelude.{◌≡◌, ◌↔◌, ◌+◌, ◌^◌, ◌<◌, Bool, [], length, slice_get, true, IfOk, IfErr, OnOk, MatchOption, MatchResult};
+ghost use Rattle.std.specs.Prelude.{◌≡◌, ◌↔◌, ◌⊎◌, ◌+◌, ◌^◌, ◌<◌, ◌≤◌, Bool, [], length, slice_get, true, IfOk, IfErr, OnOk, OnErr, MatchOption, MatchResult};
 ghost use Rattle.napt_dispatch.specs.Dispatch.{IsDispatchFault};
-ghost use Rattle.napt_dispatch.specs.Windows.{progress_in, expecting, is_unknown, FirstHasEnded, IsWritten, Leaves};
+ghost use Rattle.napt_dispatch.specs.Windows.{progress_in, marks_in, expecting, is_unknown, FirstMayLeave, IsWritten, IsMarked, Leaves};
 ghost use Rattle.napt_dispatch.specs.Passing.{HandsOver, FailsOver};
 ghost use Rattle.napt_dispatch.specs.Standing.{IsSecond};
 
@@ -33,14 +33,14 @@ pub(crate) struct RunProgress {
 }
 
 impl Model for RunProgress {
-    ghost use Rattle.std.specs.Prelude.{◌≡◌, ◌+◌, ◌<◌, ◌≤◌, ◌^◌, length, map};
+    ghost use Rattle.std.specs.Prelude.{◌≡◌, ◌+◌, ◌<◌, ◌≤◌, ◌^◌, length};
     ghost use Rattle.napt_dispatch.specs.Windows.{Window};
 
     ghost Value = { Window };
 
     ghost view = { λ all. record {
       left = all.past.items;
-      under_way = map (λ o. (o.time, o.progress)) all.under_way.items;
+      under_way = all.under_way.items;
     } };
 
     ghost invariant = { λ all. (all.first ≡ length all.past.items)
@@ -96,6 +96,7 @@ impl RunProgress {
         requires { length self.old.under_way < 131072 }
         ensures number { IfOk result (λ number. number ≡ length (progress_in self.old)) }
         ensures expecting { OnOk result (self.new ≡ expecting time self.old) }
+        ensures unchanged { OnErr result (self.new ≡ self.old) }
         ensures fault { (open_gate : Bool) → IfErr result (IsDispatchFault open_gate) }
     {
         let number = self.first + self.under_way.len() as u64;
@@ -115,7 +116,9 @@ impl RunProgress {
 
     /// Returns the index of the open input with this number. `None` if its outcome has left or it was not read.
     fn place_of(&self, number: u64) -> Option<usize>
-        ensures { MatchOption result (is_unknown (slice_get (progress_in self.now) number) ≡ true)
+        ensures { MatchOption result ((is_unknown (slice_get (progress_in self.now) number) ≡ true)
+            × ((number < length self.now.left)
+            ⊎ (length self.now.left + length self.now.under_way ≤ number)))
             (λ place. (number ≡ length self.now.left + place)
             × (place < length self.now.under_way)) }
     {
@@ -133,6 +136,7 @@ impl RunProgress {
     /// Sets the progress of the open input with this number. Fails if there is none, since no worker answers for it.
     pub(crate) fn write(&mut self, number: u64, progress: Progress) -> Result<(), ImpossibleAnswer>
         ensures ok { OnOk result (IsWritten number progress self.old self.new) }
+        ensures marks { marks_in self.new ≡ marks_in self.old }
         ensures err { IfErr result (λ _.
             is_unknown (slice_get (progress_in self.old) number) ≡ true) }
     {
@@ -145,7 +149,8 @@ impl RunProgress {
 
     /// Notes that a placeholder is held for the second leg of the input with this number.
     pub(crate) fn note_place(&mut self, number: u64)
-        ensures { self.new ≡ self.old }
+        requires { length self.old.left ≤ number }
+        ensures { IsMarked number true self.old self.new }
     {
         if let Some(place) = self.place_of(number) {
             self.under_way[place].has_place = true;
@@ -175,7 +180,7 @@ impl RunProgress {
 
     /// Returns whether the first open input has ended, and no placeholder is held for its second leg.
     fn may_leave(&self) -> bool
-        ensures { result ≡ true → FirstHasEnded self.now.under_way }
+        ensures { (result ≡ true) ↔ FirstMayLeave self.now.under_way }
     {
         match self.under_way.front() {
             Some(input) => input.progress.has_ended() && !input.has_place,
@@ -185,7 +190,8 @@ impl RunProgress {
 
     /// Takes out the outcome of the first open input with its arrival time, if it may leave.
     fn take_first(&mut self) -> Option<(u64, Outcome)>
-        ensures { MatchOption result (self.new ≡ self.old) (λ pair. Leaves pair self.old self.new) }
+        ensures { MatchOption result ((self.new ≡ self.old) × ¬ FirstMayLeave self.old.under_way)
+            (λ pair. Leaves pair self.old self.new) }
     {
         if !self.may_leave() {
             return None;
@@ -197,9 +203,10 @@ impl RunProgress {
         Some((time, outcome))
     }
 
-    /// Lets the outcomes of the first open inputs leave, up to the first input that has not ended.
+    /// Lets the outcomes of the first open inputs leave, up to the first that may not leave yet.
     pub(crate) fn hand_over<D: Departures>(&mut self, departures: &mut D) -> Result<(), D::Fault>
-        ensures { MatchResult result
+        ensures all { OnOk result (¬ FirstMayLeave self.new.under_way) }
+        ensures handed { MatchResult result
             (λ _. HandsOver D.takes departures.old self.old departures.new self.new)
             (FailsOver D.takes D.fails departures.old self.old departures.new self.new) }
     {

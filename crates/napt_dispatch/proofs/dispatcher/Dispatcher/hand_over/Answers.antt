@@ -7,18 +7,18 @@ pub returns-in-Ok : goal.returns-in-Ok
 returns-in-Ok g c =
     let later : Dispatcher = record c.args.self.now { progress = c.hand_over.new.self } in
     record {
-      went = c.in-Ok.ensures.went;
-      goes = goes_over c.args.pool.now c.args.self.now later c.in-Ok.ensures.went c.requires.sized refl
-          c.in-Ok.ensures.handed;
-      took = c.in-Ok.ensures.took;
+      went = c.in-Ok.ensures.handed.went;
+      goes = goes_over c.args.pool.now c.args.self.now later c.in-Ok.ensures.handed.went c.requires.sized refl
+          c.in-Ok.ensures.handed.handed;
+      took = c.in-Ok.ensures.handed.took;
     }
 
 pub returns-in-Err : goal.returns-in-Err
 returns-in-Err g c =
     let later : Dispatcher = record c.args.self.now { progress = c.hand_over.new.self } in
     record {
-      went = c.in-Err.ensures.went;
-      goes = goes_over c.args.pool.now c.args.self.now later c.in-Err.ensures.went c.requires.sized refl
-          c.in-Err.ensures.handed;
-      failed = c.in-Err.ensures.failed;
+      went = c.in-Err.ensures.handed.went;
+      goes = goes_over c.args.pool.now c.args.self.now later c.in-Err.ensures.handed.went c.requires.sized refl
+          c.in-Err.ensures.handed.handed;
+      failed = c.in-Err.ensures.handed.failed;
     }

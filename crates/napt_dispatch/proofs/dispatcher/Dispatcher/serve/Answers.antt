@@ -3,7 +3,13 @@ use Rattle.std.proofs.lemmas.Result.{err_from_is_err_and}
 use Rattle.napt_rules.specs.Prelude.{Arrival}
 use Rattle.napt_dispatch.specs.Windows.{expecting}
 use Rattle.napt_dispatch.proofs.Passing.{serves_as, continues_none}
+use Rattle.napt_dispatch.proofs.Windows.{expecting_unmarked}
 use Rattle.napt_dispatch.proofs.dispatcher.Dispatcher.serve.Goals as goal
+
+pub admit-requires-clause-open : goal.admit-requires-clause-open
+admit-requires-clause-open g c =
+    expecting_unmarked c.input.inside.time c.in_ok-number.number c.args.self.now.progress c.expect.new.self
+    c.in_ok-number.ensures.number c.in_ok-number.ensures.expecting
 
 pub returns-in_err-number-clause-fault : goal.returns-in_err-number-clause-fault
 returns-in_err-number-clause-fault g c =

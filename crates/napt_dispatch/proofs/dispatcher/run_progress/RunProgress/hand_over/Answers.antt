@@ -16,8 +16,8 @@ loop-time-preserved g c =
           (pair ∷ []) c.loop-time.invariant.took c.in-Ok.ensures;
     }
 
-pub returns-in-Err : goal.returns-in-Err
-returns-in-Err g c =
+pub returns-in-Err-clause-handed : goal.returns-in-Err-clause-handed
+returns-in-Err-clause-handed g c =
     let pair : ℕ × Outcome = (c.in-Some.time, c.in-Some.outcome) in
     let went = c.loop-time.invariant.went in
     record {
