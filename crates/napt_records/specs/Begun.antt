@@ -1,4 +1,4 @@
--- Captures of which only the headers were read.
+-- Captures whose headers have been read, and nothing else.
 use Rattle.std.specs.Prelude.{◌≡◌, ℕ, List, [], Option, None, Some}
 use Rattle.napt_capture.specs.declared.device.Source.{Ghosts}
 use Rattle.napt_capture.specs.Reading.{ReadsFileHeader}
@@ -14,14 +14,14 @@ pub record IsBegun {R : Type 0} {G : Ghosts R} (remaining : R → Option (List �
   pub number : stream.records.number ≡ 1
   pub cut : stream.cut ≡ None
 
--- of the outside one, which there may be
+-- the same of the outside one, if there is one
 abbrev pub IsBegunIf : {R : Type 0} {G : Ghosts R} → (R → Option (List ℕ)) → Option (Stream R G) → Option (List ℕ) →
     Type 0
 IsBegunIf remaining None None = Unit {0}
 IsBegunIf remaining (Some stream) (Some bytes) = IsBegun remaining stream (Some bytes)
 IsBegunIf remaining stream bytes = ⊥
 
--- both, of which nothing was handed out
+-- both, before anything was handed out
 pub record AreBegun {R Q : Type 0} {G : Ghosts R} {H : Ghosts Q} (inside : R → Option (List ℕ))
     (outside : Q → Option (List ℕ)) (both : MergedStreams R Q G H) (bytes : List ℕ) (others : Option (List ℕ)) : Type
     0 where

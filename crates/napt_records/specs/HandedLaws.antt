@@ -1,4 +1,4 @@
--- Nothing is handed out where nothing happens, and what is handed out twice is handed out in a row.
+-- Handing out nothing changes nothing, and inputs handed out in two parts are handed out in one.
 use Rattle.std.specs.Prelude.{ℕ, List, [], ◌∷◌, ◌++◌, Option, None, Some}
 use Rattle.std.proofs.Common.{refl, ◌∙◌, subst}
 use Rattle.std.proofs.lemmas.List.Elements.{All-append, All-nil}

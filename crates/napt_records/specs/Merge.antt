@@ -1,5 +1,5 @@
--- The inputs of a run: the records of both captures, merged by their arrival times (this product's profile). Neither
--- capture is sorted.
+-- The inputs of a run: the records of both captures, merged by arrival time (this product's profile). Captures need not
+-- be sorted.
 use Rattle.std.specs.Prelude.{◌≡◌, ℕ, ◌+◌, ◌≤◌, ◌<◌, ◌↔◌, max, Bool, true, false, List, [], ◌∷◌, map, filter, take, slice_get, Some}
 use Rattle.napt_wire.specs.declared.Side.{Side}
 use Rattle.napt_wire.specs.declared.Side.TheVariants.{Inside, Outside}
@@ -25,12 +25,12 @@ same_side _ _ = false
 abbrev pub is_from : Side → Arrival → Bool
 is_from side input = same_side side input.side
 
--- the greatest arrival time; 0 where there is no input
+-- the latest arrival time; 0 without inputs
 abbrev pub latest : List Arrival → ℕ
 latest [] = 0
 latest (input ∷ inputs) = max input.time (latest inputs)
 
--- the greatest arrival time up to a place
+-- the latest arrival time up to a place
 abbrev pub clock_at : ℕ → List Arrival → ℕ
 clock_at place inputs = latest (take (place + 1) inputs)
 
@@ -38,8 +38,8 @@ clock_at place inputs = latest (take (place + 1) inputs)
 abbrev pub reach : Side → ℕ → List Arrival → ℕ
 reach side place inputs = latest (filter (is_from side) (take (place + 1) inputs))
 
--- an inside input comes before an outside one exactly if the greatest time of the inside up to the one is at most
--- that of the outside up to the other
+-- an inside input precedes an outside one exactly if the latest inside time up to the first is at most the latest
+-- outside time up to the second
 abbrev pub AreInOrder : List Arrival → Type 0
 AreInOrder inputs =
     (i o : ℕ) (a b : Arrival) → slice_get inputs i ≡ Some a → slice_get inputs o ≡ Some b → a.side ≡ Inside →
@@ -50,7 +50,7 @@ abbrev pub HaveClocks : List Arrival → Type 0
 HaveClocks inputs = (place : ℕ) (input : Arrival) → slice_get inputs place ≡ Some input →
     input.clock ≡ clock_at place inputs
 
--- each side's inputs are its records in their order, and both are in order
+-- each side's inputs are its records in order, and the sides are in order
 pub record IsMerged (insides outsides : List Entry) (inputs : List Arrival) : Type 0 where
   pub inside : map of_input (filter (is_from Inside) inputs) ≡ map of_record insides
   pub outside : map of_input (filter (is_from Outside) inputs) ≡ map of_record outsides

@@ -1,5 +1,4 @@
--- What makes a run over two captures one: of two lists of records there is one merged list, and of two captures that
--- may have a fault one that comes before it.
+-- Two captures determine one run: their records have exactly one merged list, and a fault ends it at one place.
 use Rattle.std.specs.Prelude.{◌≡◌, List, Some, None, Err}
 use Rattle.napt_wire.specs.declared.Side.{Side}
 use Rattle.napt_wire.specs.declared.Side.TheVariants.{Inside, Outside}
@@ -19,17 +18,17 @@ MergeIsOne = (insides outsides : List Entry) (xs ys : List Arrival) → IsMerged
 abbrev pub MergeIsThere : Type 0
 MergeIsThere = (insides outsides : List Entry) → (xs : List Arrival) × IsMerged insides outsides xs
 
--- where merging ends without a fault, all is merged
+-- if merging ends without a fault, it has merged everything
 abbrev pub MergesWhole : Type 0
 MergesWhole = (both : Both) (inputs : List Arrival) → IsMergedUntil both.inside both.outside inputs None →
     IsMerged both.inside.records both.outside.records inputs
 
--- where it ends by a fault, all that comes before it
+-- if it ends with a fault, everything before that
 abbrev pub MergesBefore : Type 0
 MergesBefore = (both : Both) (inputs : List Arrival) (side : Side) (fault : CaptureFault) →
     IsMergedUntil both.inside both.outside inputs (Some (side, fault)) → AreBefore side fault both inputs
 
--- and of two that are next the inside's is returned
+-- and if both sides have a fault next, the inside's is returned
 abbrev pub TellsInsideFirst : Type 0
 TellsInsideFirst = (both : Both) (inputs : List Arrival) (fault its : CaptureFault) →
     IsMergedUntil both.inside both.outside inputs (Some (Outside, fault)) → both.inside.end ≡ Err its

@@ -1,4 +1,4 @@
--- What two captures that are read as they come hand out.
+-- What two captures hand out as they arrive.
 use Rattle.std.specs.Prelude.{◌≡◌, ◌⊎◌, ℕ, ◌+◌, max, Bool, false, All, List, [], Option, None, Some, IsSome, unwrap_or, Result, Ok, Err}
 use Rattle.napt_wire.specs.declared.Side.{Side}
 use Rattle.napt_wire.specs.declared.Side.TheVariants.{Inside, Outside}
@@ -20,7 +20,7 @@ use Rattle.napt_records.specs.Taking.{Takes, input_of}
 
 -- ONE STREAM
 
--- reading it did not fail yet
+-- no read of it failed
 abbrev pub IsLive : {R : Type 0} {G : Ghosts R} → Stream R G → Type 0
 IsLive stream = stream.live.fault ≡ None
 
@@ -28,7 +28,7 @@ IsLive stream = stream.live.fault ≡ None
 abbrev pub IsSame : {R : Type 0} {G : Ghosts R} → Stream R G → Stream R G → Type 0
 IsSame old new = new.live.source.ghost_name ≡ old.live.source.ghost_name
 
--- so many more reads failed
+-- this many more reads failed
 abbrev pub Counts : {R : Type 0} {G : Ghosts R} → (R → ℕ) → Stream R G → ℕ → Stream R G → Type 0
 Counts failed old more new = failed new.live.source.now ≡ failed old.live.source.now + more
 
@@ -36,7 +36,7 @@ Counts failed old more new = failed new.live.source.now ≡ failed old.live.sour
 abbrev pub NoneFailed : {R : Type 0} {G : Ghosts R} → (R → ℕ) → Stream R G → Stream R G → Type 0
 NoneFailed failed old new = failed new.live.source.now ≡ failed old.live.source.now
 
--- THE OUTSIDE ONE, WHICH THERE MAY BE
+-- THE OUTSIDE ONE, IF THERE IS ONE
 
 abbrev pub IsLiveIf : {R : Type 0} {G : Ghosts R} → Option (Stream R G) → Type 0
 IsLiveIf None = Unit {0}
@@ -76,7 +76,7 @@ StreamHasIf remaining (Some stream) firsts rest = StreamHas remaining stream fir
 
 -- WHO IS ASKED
 
--- what is next of a stream is not known, so that its source is asked
+-- the next record is not known, so the source is read
 abbrev pub AsksSource : {R : Type 0} {G : Ghosts R} → Stream R G → List Entry → Type 0
 AsksSource stream firsts = ((firsts ≡ []) × (stream.cut ≡ None)) × Asks stream.records
 
@@ -90,11 +90,11 @@ AsksDevice both = AsksSource both.inside both.inside_first.items
 
 -- BOTH
 
--- the records that were read and not handed out can be written
+-- the records that were read but not handed out can be written
 abbrev pub AreWritable : {R Q : Type 0} {G : Ghosts R} {H : Ghosts Q} → MergedStreams R Q G H → Type 0
 AreWritable both = All IsWritable both.inside_first.items × All IsWritable both.outside_first.items
 
--- and reading did not fail yet
+-- and no read failed
 abbrev pub AreLive : {R Q : Type 0} {G : Ghosts R} {H : Ghosts Q} → MergedStreams R Q G H → Type 0
 AreLive both = (IsLive both.inside × IsLiveIf both.outside) × AreWritable both
 
@@ -102,14 +102,14 @@ abbrev pub AreSame : {R Q : Type 0} {G : Ghosts R} {H : Ghosts Q} → MergedStre
     Type 0
 AreSame old new = IsSame old.inside new.inside × IsSameIf old.outside new.outside
 
--- so much is left of both
+-- what is left of both
 pub record Has {R Q : Type 0} {G : Ghosts R} {H : Ghosts Q} (inside : R → Option (List ℕ))
     (outside : Q → Option (List ℕ)) (both : MergedStreams R Q G H) (sides : Sides) : Type 0 where
   pub clock : sides.clock ≡ both.clock
   pub inside_has : StreamHas inside both.inside both.inside_first.items sides.inside
   pub outside_has : StreamHasIf outside both.outside both.outside_first.items sides.outside
 
--- both were looked at: what is left stays, and what is next is known
+-- a look at both leaves what is left unchanged, and makes what is next known
 pub record Looks {R Q : Type 0} {G : Ghosts R} {H : Ghosts Q} (inside : R → Option (List ℕ))
     (outside : Q → Option (List ℕ))
     (in_failed : R → ℕ) (out_failed : Q → ℕ) (old new : MergedStreams R Q G H) : Type 0 where
@@ -122,13 +122,13 @@ pub record Looks {R Q : Type 0} {G : Ghosts R} {H : Ghosts Q} (inside : R → Op
   pub inside_looked : (sides : Sides) → Has inside outside old sides → IsLooked new.inside_first.items sides.inside
   pub outside_looked : (sides : Sides) → Has inside outside old sides → IsLooked new.outside_first.items sides.outside
 
--- how many reads of a side failed, by a fault of a side
+-- how many reads of a side failed, by the fault and its side
 abbrev pub failed_by : Side → Side → CaptureFault → ℕ
 failed_by Inside Inside fault = let answer : Result (Unit {0}) CaptureFault = Err fault in failed_reads answer
 failed_by Outside Outside fault = let answer : Result (Unit {0}) CaptureFault = Err fault in failed_reads answer
 failed_by side other fault = 0
 
--- a fault was met at what is next
+-- what is next has a fault
 pub record Meets {R Q : Type 0} {G : Ghosts R} {H : Ghosts Q} (inside : R → Option (List ℕ))
     (outside : Q → Option (List ℕ))
     (in_failed : R → ℕ) (out_failed : Q → ℕ) (old : MergedStreams R Q G H) (fault : SideFault)
@@ -144,7 +144,7 @@ LooksOrMeets inside outside in_failed out_failed old (Ok done) new = Looks insid
 LooksOrMeets inside outside in_failed out_failed old (Err fault) new =
     Meets inside outside in_failed out_failed old fault new
 
--- of the records that were read, the next one was taken, and became an input
+-- the next of the records that were read became an input
 pub record TakesFirst (ins outs : List Entry) (clock : ℕ) (input : Arrival) (ins_left outs_left : List Entry)
     (now : ℕ) : Type 0 where
   pub side : Side

@@ -25,16 +25,16 @@ record_to side pair = record_at pair.0.time (packet_to side pair.1)
 abbrev pub records_to : Side → List Arrival → List Outcome → List Entry
 records_to side arrivals outcomes = filter_map (record_to side) (zip arrivals outcomes)
 
--- the same by the times alone
+-- the same, from the arrival times alone
 abbrev pub records_at : Side → List ℕ → List Outcome → List Entry
 records_at side times outcomes = filter_map (λ pair. record_at pair.0 (packet_to side pair.1)) (zip times outcomes)
 
--- the text of a record that is there
+-- the text of a record, if there is one
 abbrev pub text_of_record : Option Entry → List ℕ
 text_of_record (Some entry) = record_text entry
 text_of_record None = []
 
--- arrival times for which a capture has room
+-- arrival times that fit a record's header
 abbrev pub IsTime : ℕ → Type 0
 IsTime time = time < 2 ^ 32 * 1000000000
 

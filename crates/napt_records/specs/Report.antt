@@ -1,6 +1,8 @@
--- The report of a run, a line for each fact: how many packets came and what became of them, which captures were cut,
+-- The report of a run, a line for each fact: how many packets arrived and what became of them, which captures were cut,
 -- and the bindings (this product's format).
-use Rattle.std.specs.Prelude.{ℕ, ◌==◌, Bool, true, false, List, [], ◌∷◌, ◌++◌, length, codes, count_by, decimal, flat_map}
+use Rattle.std.specs.Prelude.{ℕ, Bool, true, false, List, [], ◌∷◌, ◌++◌, length, codes, count_by, decimal, flat_map}
+use denote.Enum.Bare.{sameb}
+use Rattle.napt_wire.specs.contracts.Cause.{the_type}
 use Rattle.napt_wire.specs.declared.Cause.{Cause}
 use Rattle.napt_wire.specs.declared.Cause.TheVariants.{Truncated, NotIpv4, BadHeader, BadChecksum, Fragment, Unsupported, BadInner, BadPort, Spoofed, NotOurs, NoBinding, Filtered, OverQuota, NoPort}
 use Rattle.napt_wire.specs.declared.Endpoint.{Endpoint}
@@ -35,23 +37,6 @@ causes =
     ∷ NoBinding ∷ Filtered
     ∷ OverQuota ∷ NoPort ∷ []
 
--- the place of a cause among them, from 0
-abbrev pub cause_place : Cause → ℕ
-cause_place Truncated = 0
-cause_place NotIpv4 = 1
-cause_place BadHeader = 2
-cause_place BadChecksum = 3
-cause_place Fragment = 4
-cause_place Unsupported = 5
-cause_place BadInner = 6
-cause_place BadPort = 7
-cause_place Spoofed = 8
-cause_place NotOurs = 9
-cause_place NoBinding = 10
-cause_place Filtered = 11
-cause_place OverQuota = 12
-cause_place NoPort = 13
-
 abbrev pub cause_name : Cause → Text
 cause_name Truncated = codes "truncated"
 cause_name NotIpv4 = codes "not-ipv4"
@@ -68,8 +53,9 @@ cause_name Filtered = codes "filtered"
 cause_name OverQuota = codes "over-quota"
 cause_name NoPort = codes "no-port"
 
+-- a packet that was dropped for this cause
 abbrev pub is_dropped : Cause → Outcome → Bool
-is_dropped cause (Dropped given) = cause_place given == cause_place cause
+is_dropped cause (Dropped given) = sameb the_type given cause
 is_dropped cause other = false
 
 abbrev pub drop_line : List Outcome → Cause → Text
@@ -88,7 +74,7 @@ protocol_name Icmp = codes "icmp"
 protocol_name Tcp = codes "tcp"
 protocol_name Udp = codes "udp"
 
--- the address and the number, also where that is the 0 of an echo
+-- the address and the number, even the 0 of an echo's other end
 abbrev pub endpoint_text : Endpoint → Text
 endpoint_text endpoint = address_text endpoint.address ++ codes ":" ++ decimal endpoint.number
 

@@ -1,4 +1,4 @@
--- What is left of a capture that is read as it comes.
+-- What is left of a capture that is read as it arrives.
 use Rattle.std.specs.Prelude.{◌≡◌, ℕ, Bool, List, [], ◌++◌, Option, Some, IfSome, Ok}
 use Rattle.napt_capture.specs.declared.device.Source.{Ghosts}
 use Rattle.napt_capture.specs.declared.records.Records.{Records}
@@ -8,8 +8,7 @@ use Rattle.napt_capture.specs.Stream.{HasRecords}
 use Rattle.napt_records.specs.declared.stream.Stream.{Stream}
 use Rattle.napt_records.specs.Streams.{Rest}
 
--- what is left of a reader with this text left, that read these records and did not hand them on, and reached this
--- end or none
+-- what a reader has left: this text, the records that it read but did not hand out, and the end, if it reached it
 pub record HasRest (records : Records) (left : Option (List ℕ)) (cut : Option Bool) (firsts : List Entry)
     (rest : Rest) :
     Type 0 where

@@ -1,4 +1,4 @@
--- Merging the records of two captures that are read as they come, until the end or the first fault that merging meets.
+-- Merging the records of two captures as they arrive, until the end or the first fault that merging meets.
 use Rattle.std.specs.Prelude.{◌≡◌, ℕ, max, Bool, false, List, [], ◌∷◌, Option, Some, None, Result, Ok, Err}
 use Rattle.napt_wire.specs.declared.Side.{Side}
 use Rattle.napt_wire.specs.declared.Side.TheVariants.{Inside, Outside}
@@ -7,16 +7,16 @@ use Rattle.napt_capture.specs.Contents.{Entry}
 use Rattle.napt_rules.specs.Prelude.{Arrival}
 use Rattle.napt_records.specs.Taking.{Takes, input_of}
 
--- the records that a side has left, and how they end: at the end of its text, maybe inside a record, or by a fault
+-- the records that a side has left, and how they end: with the text, perhaps inside a record, or with a fault
 pub record Rest : Type 0 where
   pub records : List Entry
   pub end : Result Bool CaptureFault
 
--- no capture is one without records
+-- a missing capture counts as one without records
 abbrev pub no_rest : Rest
 no_rest = record { records = []; end = Ok false }
 
--- the header in the place of the next record has this fault
+-- the next record has this fault
 abbrev pub IsAtFault : Rest → CaptureFault → Type 0
 IsAtFault rest fault = (rest.records ≡ []) × (rest.end ≡ Err fault)
 
@@ -24,19 +24,19 @@ IsAtFault rest fault = (rest.records ≡ []) × (rest.end ≡ Err fault)
 abbrev pub IsKnown : Rest → Type 0
 IsKnown rest = (fault : CaptureFault) → ¬ IsAtFault rest fault
 
--- a side was looked at, of which these records were read and not handed out: what is next is known, and is one of
--- these, if it is a record
+-- after a look at a side: what is next is known, and if it is a record, it is the first of these, which were read but
+-- not handed out
 pub record IsLooked (firsts : List Entry) (rest : Rest) : Type 0 where
   pub known : IsKnown rest
   pub shown : firsts ≡ [] → rest.records ≡ []
 
--- what both sides have left, and the greatest time so far
+-- what both sides have left, and the latest time so far
 pub record Sides : Type 0 where
   pub clock : ℕ
   pub inside : Rest
   pub outside : Rest
 
--- The next record of each side is known; the earlier one becomes an input, the inside one at a tie.
+-- The next record of each side is known, and the earlier one becomes an input; on a tie, the inside one.
 pub record TakesInput (old : Sides) (input : Arrival) (new : Sides) : Type 0 where
   pub inside_known : IsKnown old.inside
   pub outside_known : IsKnown old.outside
@@ -53,7 +53,7 @@ abbrev pub TakesInputs : Sides → List Arrival → Sides → Type 0
 TakesInputs old [] new = new ≡ old
 TakesInputs old (input ∷ inputs) new = (mid : Sides) × TakesInput old input mid × TakesInputs mid inputs new
 
--- merging ends there: both sides are at their ends, or the next record of one has a fault, the inside's first
+-- merging ends here: both sides are at their ends, or the next record of one has a fault, the inside's first
 abbrev pub Stops : Sides → Option (Side × CaptureFault) → Type 0
 Stops sides None =
     ((sides.inside.records ≡ []) × (sides.outside.records ≡ [])) × (IsKnown sides.inside × IsKnown sides.outside)

@@ -1,4 +1,4 @@
--- What the step of a merge takes: the earlier of the two first records, the inside one at a tie.
+-- What a step of a merge takes: the earlier of the two first records; on a tie, the inside one.
 use Rattle.std.specs.Prelude.{◌≡◌, ℕ, zero, suc, ◌+◌, max, length, Bool, true, false, cond, nat_lt, List, [], ◌∷◌, Option, Some, None}
 use Rattle.napt_wire.specs.declared.Side.{Side}
 use Rattle.napt_wire.specs.declared.Side.TheVariants.{Inside, Outside}
@@ -23,7 +23,7 @@ Takes ins outs (Some (Outside, entry)) ins_left outs_left = (outs ≡ entry ∷ 
 abbrev pub input_of : Side → ℕ → Entry → Arrival
 input_of side clock entry = record { side = side; time = entry.time; clock = clock; bytes = entry.bytes }
 
--- the inputs that the first of so many steps make of records, from a clock on
+-- the inputs that this many steps make of the records, starting at a clock
 abbrev pub inputs_by : ℕ → ℕ → List Entry → List Entry → List Arrival
 inputs_by zero clock ins outs = []
 inputs_by (suc steps) clock [] [] = []
@@ -38,6 +38,6 @@ inputs_by (suc steps) clock (first ∷ ins) (other ∷ outs) =
     (let now : ℕ = max clock other.time in input_of Outside now other ∷ inputs_by steps now (first ∷ ins) outs)
     (let now : ℕ = max clock first.time in input_of Inside now first ∷ inputs_by steps now ins (other ∷ outs))
 
--- those of all of them
+-- the inputs that all records make
 abbrev pub inputs_from : ℕ → List Entry → List Entry → List Arrival
 inputs_from clock ins outs = inputs_by (length ins + length outs) clock ins outs

@@ -1,5 +1,5 @@
--- What merging hands out of two captures whose bytes are known, over all that they hold: until both end, or until it
--- needs a record that has a fault.
+-- What merging hands out of two captures whose bytes are known: everything, or what precedes the first record with a
+-- fault that it needs.
 use Rattle.std.specs.Prelude.{◌≡◌, ◌⊎◌, ℕ, ◌<◌, Bool, List, [], ◌++◌, length, map, filter, take, Option, Some, None, Ok, Err}
 use Rattle.napt_wire.specs.declared.Side.{Side}
 use Rattle.napt_wire.specs.declared.Side.TheVariants.{Inside, Outside}
@@ -23,11 +23,11 @@ pub record IsRefused (bytes : List ℕ) (rest : Rest) : Type 0 where
   pub short : fault ≡ NoHeader → behind ≡ []
   pub rest_is : rest ≡ record { records = []; end = Err fault }
 
--- a file of these bytes holds these records, and ends so
+-- a file of these bytes holds these records and ends like this
 abbrev pub Holds : List ℕ → Rest → Type 0
 Holds bytes rest = IsStream bytes rest.records rest.end ⊎ IsRefused bytes rest
 
--- no outside capture is one without records
+-- a missing outside capture counts as one without records
 abbrev pub HoldsIf : Option (List ℕ) → Rest → Type 0
 HoldsIf None rest = rest ≡ no_rest
 HoldsIf (Some bytes) rest = Holds bytes rest
@@ -47,7 +47,7 @@ rest_of Outside both = both.outside
 
 -- WHAT IS MERGED
 
--- all inputs, where both captures end well, maybe inside a record
+-- all inputs, if neither capture has a fault; they may end inside a record
 abbrev pub AreAll : Both → Bool → Bool → List Arrival → Type 0
 AreAll both cut_inside cut_outside inputs =
     (both.inside.end ≡ Ok cut_inside) × (both.outside.end ≡ Ok cut_outside)
@@ -62,7 +62,7 @@ AreFront both inputs =
 abbrev pub HaveAll : Side → Both → List Arrival → Type 0
 HaveAll side both inputs = map of_input (filter (is_from side) inputs) ≡ map of_record (rest_of side both).records
 
--- the least front that has all records of a side at fault: merging needs what follows them
+-- the shortest front that has all records of the side at fault: merging needs what follows them
 pub record AreBefore (side : Side) (fault : CaptureFault) (both : Both) (inputs : List Arrival) : Type 0 where
   pub front : AreFront both inputs
   pub ends : (rest_of side both).end ≡ Err fault
@@ -70,7 +70,7 @@ pub record AreBefore (side : Side) (fault : CaptureFault) (both : Both) (inputs 
   pub least : (k : ℕ) (other : Side) (its : CaptureFault) → k < length inputs → (rest_of other both).end ≡ Err its →
       ¬ HaveAll other both (take k inputs)
 
--- those that were handed out before a fault of a side: where its device or memory failed, some
+-- what was handed out before a fault of a side: some front, if its device or memory failed
 abbrev pub AreTaken : Side → CaptureFault → Both → List Arrival → Type 0
 AreTaken side Read both inputs = AreFront both inputs
 AreTaken side Memory both inputs = AreFront both inputs

@@ -18,15 +18,15 @@ pub enum Which {
     Report,
 }
 
-/// Why a run over captures ends early. If the fault is of a capture or of the run, `run_captures` of `napt_run` has
-/// written nothing; the docs of `run_streams` there say what it has written by then.
+/// Why a run over captures ended early. After a fault of a capture or of the run, `run_captures` of `napt_run` has
+/// written nothing; the docs of `run_streams` say what it has written.
 #[derive(Clone, Copy, Debug, PartialEq, Eq)]
 pub enum Fault {
-    /// The capture of this side is refused, or reading it failed.
+    /// This side's capture was refused or could not be read.
     Capture(Side, CaptureFault),
-    /// The run failed, or memory ran out for what it is given or what it writes.
+    /// The run failed, or memory ran out for its inputs or outputs.
     Run(RunFault),
-    /// Writing this output failed. After `run_captures`, those before it are whole, and nothing is in those after it.
+    /// This output could not be written. After `run_captures`, those before it are complete and those after it empty.
     Write(Which, WriteFault),
 }
 

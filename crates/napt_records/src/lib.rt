@@ -1,7 +1,7 @@
-//! What a run over captures is made of beside its workers: its inputs, the records that it writes, and its report.
+//! The parts of a run over captures other than its workers: inputs, output records and report.
 //!
-//! [`merge`] makes the inputs of a run out of the records of both sides' captures; what leaves to each side is
-//! written by [`write_packets`], and [`report_text`] is the report. [`Fault`] says why a run over captures ends early.
+//! [`merge`] turns the records of both captures into the inputs of a run, [`write_packets`] writes what leaves to each
+//! side, and [`report_text`] makes the report. [`Fault`] says why a run ended early.
 #![tactic(auto)]
 
 mod fault;

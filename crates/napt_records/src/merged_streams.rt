@@ -1,4 +1,4 @@
-//! The inputs of a run over captures that are read as they come.
+//! The inputs of a run over captures that are read as they arrive.
 ghost use Rattle.std.specs.Prelude.{◌≡◌, [], All, OnOk, IfErr};
 ghost use Rattle.napt_capture.specs.Capture.{failed_reads};
 ghost use Rattle.napt_capture.specs.Reading.{StopsBy};
@@ -14,7 +14,7 @@ use napt_wire::Side;
 use std::alloc::Global;
 use std::collections::VecDeque;
 
-/// The capture of a side has a fault, or reading it failed.
+/// A side's capture has a fault or could not be read.
 #[derive(Clone, Copy, Debug, PartialEq, Eq)]
 pub struct SideFault {
     pub side: Side,
@@ -28,21 +28,21 @@ pub struct Cuts {
     pub outside: bool,
 }
 
-/// The records of two captures that are read as they come, which become the inputs of a run. Each is handed out once the
-/// next record of both is known: the earlier one, and the inside one at a tie.
+/// Merges two captures into the inputs of a run while they arrive. Once the next record of each side is known, the earlier
+/// one is handed out; on a tie, the inside one.
 #[derive(Drop)]
 pub struct MergedStreams<'a, 'b, R: Source, Q: Source> {
     alloc: Global,
     inside: Stream<'a, R>,
     outside: Option<Stream<'b, Q>>,
-    /// The records that were read and not handed out, at most one of each side.
+    /// Records that were read but not handed out, at most one per side.
     inside_first: VecDeque<Record>,
     outside_first: VecDeque<Record>,
-    /// The greatest arrival time so far, in ns.
+    /// The latest arrival time so far, in ns.
     clock: u64,
 }
 
-/// Looks at the outside stream, where there is one.
+/// Looks at the outside stream, if there is one.
 fn look_outside<Q: Source>(
     alloc: Global,
     outside: &mut Option<Stream<'_, Q>>,
@@ -74,7 +74,7 @@ impl<'a, 'b, R: Source, Q: Source> MergedStreams<'a, 'b, R, Q> {
     ghost use Rattle.std.specs.Prelude.{◌≡◌, []};
     ghost use Rattle.napt_records.specs.Merged.{AreLive, AreSame, LooksOrMeets, TakesAny, cut_if, cut_of};
 
-    /// Merges these captures, of which only the headers were read.
+    /// Merges these captures, whose headers have been read.
     pub fn new(
         alloc: Global,
         inside: Stream<'a, R>,
@@ -96,7 +96,7 @@ impl<'a, 'b, R: Source, Q: Source> MergedStreams<'a, 'b, R, Q> {
         }
     }
 
-    /// Whether each capture ends inside a record; false until its end was reached.
+    /// Whether each capture ends inside a record; false until its end is reached.
     pub fn cuts(&self) -> Cuts
         ensures inside { result.inside ≡ cut_of self.now.inside }
         ensures outside { result.outside ≡ cut_if self.now.outside }
@@ -119,7 +119,7 @@ impl<'a, 'b, R: Source, Q: Source> MergedStreams<'a, 'b, R, Q> {
         (self.inside, self.outside)
     }
 
-    /// Reads until the next record of each side is known. The first one read reuses the room of the spare vector.
+    /// Reads until the next record of each side is known. The first record read reuses the spare vector.
     fn look(&mut self, spare: &mut Vec<u8>) -> Result<(), SideFault>
         ensures same { AreSame self.old self.new }
         ensures looks { AreLive self.old → LooksOrMeets R.remaining Q.remaining R.failed Q.failed
@@ -145,7 +145,7 @@ impl<'a, 'b, R: Source, Q: Source> MergedStreams<'a, 'b, R, Q> {
         }
     }
 
-    /// Takes the next of the records that were read.
+    /// Takes the next record, of those that were read.
     fn take(&mut self) -> Option<Input>
         ensures takes { TakesAny self.old.inside_first.items self.old.outside_first.items
             self.old.clock result self.new.inside_first.items self.new.outside_first.items

@@ -1,4 +1,4 @@
-//! The inputs of a run: the records of both captures, merged by their arrival times.
+//! The inputs of a run: the records of both captures, merged by arrival time.
 ghost use Rattle.std.specs.Prelude.{◌≡◌, ◌++◌, [], length, All, IfOk};
 ghost use Rattle.napt_capture.specs.Text.{IsWritable};
 ghost use Rattle.napt_sequential.specs.Inputs.{IsTaken};
@@ -13,7 +13,7 @@ use std::alloc::{AllocError, Global};
 use std::collections::VecDeque;
 use std::marker::Model;
 
-/// Whether the next record is an outside one: the earlier of the two first ones, and the inside one at a tie.
+/// Whether the next record is the outside one: the earlier goes first, and on a tie the inside one.
 fn is_outside_next(inside: &VecDeque<Record>, outside: &VecDeque<Record>) -> bool
     ensures { result ≡ is_outside_next inside.now.items outside.now.items }
 {
@@ -26,7 +26,7 @@ fn is_outside_next(inside: &VecDeque<Record>, outside: &VecDeque<Record>) -> boo
     other.time < first.time
 }
 
-/// Takes the next record, with its side; `None` if both sides are at their ends.
+/// Takes the next record, with its side; `None` once both sides are empty.
 pub(crate) fn take_next(
     inside: &mut VecDeque<Record>,
     outside: &mut VecDeque<Record>,
@@ -41,13 +41,13 @@ pub(crate) fn take_next(
     Some((Side::Inside, record))
 }
 
-/// The records of both captures, which become the inputs of a run as it asks for them. Neither list is sorted: a record
-/// that is earlier than one before it in its capture still follows that one. At a tie the inside goes first.
+/// Merges the records of both captures into inputs as the run asks for them. Captures need not be sorted: each keeps its
+/// own order. On a tie the inside record goes first.
 #[derive(Drop)]
 pub struct Merged {
     inside: VecDeque<Record>,
     outside: VecDeque<Record>,
-    /// The greatest arrival time so far, in ns.
+    /// The latest arrival time so far, in ns.
     clock: u64,
 }
 
@@ -126,8 +126,8 @@ impl Arrivals for Merged {
     }
 }
 
-/// Merges the records of both captures into the inputs of a run, by their arrival times, as `Merged` hands them out. The
-/// bytes of the records move. Fails only if memory runs out.
+/// Merges the records of both captures by arrival time into the inputs of a run, in the order of [`Merged`]. The bytes are
+/// moved, not copied. Fails only if memory runs out.
 pub fn merge(
     alloc: Global,
     inside: Vec<Record>,

@@ -46,11 +46,11 @@ fn put_outcome<W: Sink>(
     }
 }
 
-/// Writes the capture of the packets that leave to a side, of inputs that arrived at these times, in ns, and flushes it.
-/// It takes no memory.
+/// Writes the capture of the packets that leave to a side, each with the arrival time of its input, in ns, and flushes it.
+/// Allocates nothing.
 ///
-/// Fails if a write failed or took nothing, or the flush failed: then exactly the first `written` bytes of the capture
-/// are written.
+/// Fails if a write fails or accepts nothing, or the flush fails: exactly the first `written` bytes of the capture are then
+/// written.
 pub fn write_packets<W: Sink>(
     writer: &mut W,
     side: Side,

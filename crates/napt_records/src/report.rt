@@ -1,7 +1,7 @@
-//! The report: how many packets came and what became of them, which captures were cut, and the bindings.
+//! The report: how many packets arrived and what became of them, which captures were cut, and the bindings.
 ghost use Rattle.std.specs.Prelude.{◌≡◌, ◌-◌, ◌^◌, ◌<◌, ◌++◌, ◌∷◌, [], List, IfOk, OnOk, codes, flat_map, length, slice_index, string_bytes};
 ghost use Rattle.napt_rules.specs.declared.Outcome.{Outcome};
-ghost use Rattle.napt_records.specs.Counts.{AreCountsOf};
+ghost use Rattle.napt_records.specs.Counts.{AreCountsOf, place_of};
 ghost use Rattle.napt_records.specs.Report as model;
 
 use crate::names::{EndpointText, cause_name, protocol_name};
@@ -10,36 +10,13 @@ use napt_table::Row;
 use napt_wire::Cause;
 use std::alloc::{AllocError, Global};
 
-/// The place of a cause's line among those of the drops, from 0: that of the cause in `Cause::ALL`.
-fn place_of(cause: Cause) -> usize
-    ensures place { result ≡ model.cause_place cause }
-    ensures below { result < 14 }
-{
-    match cause {
-        Cause::Truncated => 0,
-        Cause::NotIpv4 => 1,
-        Cause::BadHeader => 2,
-        Cause::BadChecksum => 3,
-        Cause::Fragment => 4,
-        Cause::Unsupported => 5,
-        Cause::BadInner => 6,
-        Cause::BadPort => 7,
-        Cause::Spoofed => 8,
-        Cause::NotOurs => 9,
-        Cause::NoBinding => 10,
-        Cause::Filtered => 11,
-        Cause::OverQuota => 12,
-        Cause::NoPort => 13,
-    }
-}
-
-/// How many inputs came, and what became of them.
+/// How many inputs arrived, and what became of them.
 #[derive(Clone, Copy)]
 pub struct Counts {
     packets: u64,
     to_outside: u64,
     to_inside: u64,
-    /// Those that were dropped for each cause, at its place.
+    /// How many were dropped for each cause, in the order in which `Cause` declares them.
     dropped: [u64; 14],
 }
 
@@ -56,7 +33,7 @@ impl Counts {
         }
     }
 
-    /// How many inputs came.
+    /// How many inputs arrived.
     pub fn packets(&self) -> u64
         ensures { (outcomes : List Outcome) → AreCountsOf outcomes self.now →
             result ≡ length outcomes }
@@ -74,7 +51,7 @@ impl Counts {
             Outcome::ToOutside(_) => self.to_outside = self.to_outside.saturating_add(1),
             Outcome::ToInside(_) => self.to_inside = self.to_inside.saturating_add(1),
             Outcome::Dropped(cause) => {
-                let dropped = &mut self.dropped[place_of(*cause)];
+                let dropped = &mut self.dropped[*cause as usize];
                 *dropped = dropped.saturating_add(1);
             }
         }
@@ -100,7 +77,7 @@ fn push_count(alloc: Global, report: &mut String, name: &str, count: u64) -> Res
     report.push_str(&line)
 }
 
-/// Adds the lines of the packets that were dropped, a cause each.
+/// Adds a line for each cause: how many packets were dropped for it.
 fn push_drops(
     alloc: Global,
     report: &mut String,
@@ -109,11 +86,11 @@ fn push_drops(
 ) -> Result<(), AllocError>
     ensures { OnOk result (string_bytes report.new ≡ string_bytes report.old ++ flat_map (λ cause.
         codes "drop " ++ model.count_line (model.cause_name cause)
-        (slice_index dropped.now (model.cause_place cause))) causes.now) }
+        (slice_index dropped.now (place_of cause))) causes.now) }
 {
     for cause in causes {
         report.push_str("drop ")?;
-        push_count(alloc, report, cause_name(*cause), dropped[place_of(*cause)])?;
+        push_count(alloc, report, cause_name(*cause), dropped[*cause as usize])?;
     }
     Ok(())
 }
@@ -154,7 +131,7 @@ fn push_counts(alloc: Global, report: &mut String, counts: &Counts) -> Result<()
     Ok(())
 }
 
-/// Adds the lines of the captures that were cut.
+/// Adds a line for each capture that was cut.
 fn push_cuts(report: &mut String, cut_inside: bool, cut_outside: bool) -> Result<(), AllocError>
     ensures { OnOk result (string_bytes report.new ≡ string_bytes report.old
         ++ model.cuts_text cut_inside cut_outside) }
@@ -168,11 +145,11 @@ fn push_cuts(report: &mut String, cut_inside: bool, cut_outside: bool) -> Result
     Ok(())
 }
 
-/// The report over counts: how many packets came and what became of them, which captures end inside a record, and the
-/// bindings.
+/// The report over these counts: how many packets arrived and what became of them, which captures end inside a record, and
+/// the bindings.
 ///
-/// Each line ends with a line feed. The lines of the bindings stand in their order, as
-/// `udp 10.0.0.2:5000 203.0.113.1:5000`, with ` fixed` after a redirect. Fails only if memory runs out.
+/// Each line ends with a line feed. Bindings are listed in order, as `udp 10.0.0.2:5000 203.0.113.1:5000`, with ` fixed`
+/// after a redirect. Fails only if memory runs out.
 pub fn report_of(
     alloc: Global,
     counts: &Counts,
@@ -191,7 +168,7 @@ pub fn report_of(
     Ok(report)
 }
 
-/// The report of a run, as [`report_of`] writes it over the counts of the outcomes. Fails only if memory runs out.
+/// The report of a run: [`report_of`] over the counts of its outcomes. Fails only if memory runs out.
 #[tactic(auto, unfolding(crate::specs::Report::report_text))]
 pub fn report_text(
     alloc: Global,

@@ -1,4 +1,4 @@
-//! A capture that is read as it comes.
+//! A capture that is read as it arrives.
 ghost use Rattle.std.specs.Prelude.{◌≡◌, ◌^◌, ◌-◌, ◌<◌, None};
 
 use napt_capture::{CaptureFault, Next, Record, Records, Source};
@@ -15,12 +15,12 @@ struct Live<'a, R: Source> {
     ghost can_fail: { fault ≡ None → R.failed source.now < 2 ^ 64 - 1 },
 }
 
-/// A capture that is read record after record.
+/// A capture that is read record by record.
 #[derive(Drop)]
 pub struct Stream<'a, R: Source> {
     live: Live<'a, R>,
     records: Records,
-    /// Whether it ends inside a record, once its end was reached.
+    /// Whether it ends inside a record, once its end is reached.
     cut: Option<bool>,
 }
 
@@ -30,7 +30,7 @@ impl<'a, R: Source> Live<'a, R> {
     ghost use Rattle.napt_capture.specs.Reading.{IsWritableNext, StopsBy};
     ghost use Rattle.napt_capture.specs.Records.{Asks, KeepsLeft, Tells, TellsEnd, next_number, left_of};
 
-    /// Reads the next record. After a fault nothing is read, and the same fault is returned.
+    /// Reads the next record. After a fault, reads nothing and returns the same fault.
     fn next(&mut self, records: &mut Records, vector: Vec<u8>) -> Result<Next, CaptureFault>
         ensures name { self.new.source.ghost_name ≡ self.old.source.ghost_name }
         ensures next { self.old.fault ≡ None → IfOk result (Tells records.old
@@ -69,11 +69,11 @@ impl<'a, R: Source> Stream<'a, R> {
     ghost use Rattle.napt_capture.specs.Reading.{StopsBy};
     ghost use Rattle.napt_capture.specs.Text.{IsWritable};
     ghost use Rattle.napt_capture.specs.Records.{KeepsLeft};
-    ghost use Rattle.napt_records.specs.Merged.{AsksSource};
+    ghost use Rattle.napt_records.specs.Merged.{AsksSource, Counts, IsLive, IsSame};
     ghost use Rattle.napt_records.specs.Streams.{IsAtFault, IsLooked, Rest};
     ghost use Rattle.napt_records.specs.Rests.{StreamHas};
 
-    /// The capture of a source whose header was read.
+    /// The capture of a source whose header has been read.
     pub fn new(source: &'a mut R, records: Records) -> Stream<'a, R>
         requires { R.failed source.old < 2 ^ 64 - 1 }
         ensures name { result.live.source.ghost_name ≡ source.entry.ghost_name }
@@ -92,35 +92,34 @@ impl<'a, R: Source> Stream<'a, R> {
         }
     }
 
-    /// Reads the next record into the list, if the list is empty and the end was not reached. The record reuses the
-    /// room of the spare vector, which a new one replaces. A fault loses nothing of what is left.
+    /// Reads the next record into the list, unless the list has one or the end was reached. The record takes over the spare
+    /// vector, which a new one replaces. A fault loses nothing of the rest.
     pub fn look(
         &mut self,
         alloc: Global,
         firsts: &mut VecDeque<Record>,
         spare: &mut Vec<u8>,
     ) -> Result<(), CaptureFault>
-        ensures name { self.new.live.source.ghost_name ≡ self.old.live.source.ghost_name }
+        ensures name { IsSame self.old self.new }
         ensures live { OnOk result (self.new.live.fault ≡ self.old.live.fault) }
-        ensures rest { self.old.live.fault ≡ None → OnOk result ((rest : Rest) →
+        ensures rest { IsLive self.old → OnOk result ((rest : Rest) →
             StreamHas R.remaining self.old firsts.old.items rest →
             StreamHas R.remaining self.new firsts.new.items rest
             × IsLooked firsts.new.items rest) }
-        ensures fault { self.old.live.fault ≡ None → IfErr result (λ fault. StopsBy fault
+        ensures fault { IsLive self.old → IfErr result (λ fault. StopsBy fault
             ((rest : Rest) → StreamHas R.remaining self.old firsts.old.items rest →
             IsAtFault rest fault)) }
         ensures told { OnOk result (firsts.new.items ≡ [] → IsSome self.new.cut) }
-        ensures kept { self.old.live.fault ≡ None → OnErr result (KeepsLeft
+        ensures kept { IsLive self.old → OnErr result (KeepsLeft
             self.old.records (R.remaining self.old.live.source.now)
             self.new.records (R.remaining self.new.live.source.now)) }
         ensures unchanged { OnErr result ((self.new.cut ≡ self.old.cut)
             × (firsts.new.items ≡ firsts.old.items)) }
         ensures writable { OnOk result (All IsWritable firsts.old.items →
             All IsWritable firsts.new.items) }
-        ensures count { self.old.live.fault ≡ None →
-            R.failed self.new.live.source.now
-            ≡ R.failed self.old.live.source.now + failed_reads result }
-        // If it is known without the source, the source is not asked.
+        ensures count { IsLive self.old →
+            Counts R.failed self.old (failed_reads result) self.new }
+        // The source is read only if the next record isn't known without it.
         ensures asks { (¬ AsksSource self.old firsts.old.items) →
             self.new.live.source.now ≡ self.old.live.source.now }
     {
@@ -136,7 +135,7 @@ impl<'a, R: Source> Stream<'a, R> {
         Ok(())
     }
 
-    /// Whether `look` asks the source.
+    /// Whether `look` would read the source.
     #[tactic(auto, using(crate::proofs::Left::none_of))]
     pub fn asks_device(&self, firsts: &VecDeque<Record>) -> bool
         ensures quiet { result ≡ false → ¬ AsksSource self.now firsts.now.items }
@@ -145,7 +144,7 @@ impl<'a, R: Source> Stream<'a, R> {
         firsts.is_empty() && self.cut.is_none() && !self.records.has_whole()
     }
 
-    /// Whether the capture ends inside a record; `None` until its end was reached.
+    /// Whether the capture ends inside a record; `None` until its end is reached.
     pub fn cut(&self) -> Option<bool>
         ensures { result ≡ self.now.cut }
     {

@@ -1,12 +1,13 @@
 -- What a run leaves on the devices of its outputs.
-use Rattle.std.proofs.Common.{◌≡◌, ◌⊎◌, inl, inr, ℕ, ◌+◌, ◌-◌, ◌^◌, ◌≤◌, min, Bool, List, length, take, Option, Some, None, Result, Ok, Err, IfErr, IfOk, sym, ◌∙◌, ap, subst, arith, add-zero}
+use Rattle.std.proofs.Common.{◌≡◌, ◌⊎◌, inl, inr, ℕ, ◌+◌, ◌-◌, ◌^◌, ◌≤◌, min, Bool, List, length, take, Option, Some, None, Result, Ok, Err, IfErr, IfOk, refl, sym, ◌∙◌, ap, subst, arith, add-zero}
 use Rattle.std.specs.Io.KnownBytes.{Appends}
 use Rattle.napt_wire.specs.declared.Side.{Side}
 use Rattle.napt_wire.specs.declared.Side.TheVariants as sides
 use Rattle.napt_capture.specs.Text.{file_header}
+use Rattle.napt_capture.specs.declared.fault.CaptureFault.{CaptureFault}
 use Rattle.napt_capture.specs.declared.fault.WriteFault.{WriteFault}
 use Rattle.napt_config.specs.Rules.{Rules}
-use Rattle.napt_records.specs.UntilFault.{Both}
+use Rattle.napt_records.specs.UntilFault.{AreAll, AreFront, AreTaken, Both}
 use Rattle.napt_records.specs.declared.Fault.{Fault}
 use Rattle.napt_records.specs.declared.Fault.TheVariants.{Capture, Run, Write}
 use Rattle.napt_records.specs.declared.Which.{Which}
@@ -15,8 +16,8 @@ use Rattle.napt_rules.specs.Prelude.{Arrival}
 use Rattle.napt_run.specs.Captures.{failed_writings}
 use Rattle.napt_sequential.specs.declared.fault.RunFault.TheVariants as faults
 use Rattle.napt_run.specs.Outputs.{Breaks, Grows}
-use Rattle.napt_run.specs.Runs.{FailsOutside, IfHeld, IsToldOf, RunsTo, text_behind}
-use Rattle.napt_run.specs.Streams.{Explains, IsOfRun, IsSettledBy, IsStopFault, Streams, capture_text, ended}
+use Rattle.napt_run.specs.Runs.{DeviceGets, FailsOutside, IfHeld, IsToldOf, ResultSays, RunsTo, text_behind}
+use Rattle.napt_run.specs.Streams.{Explains, HasFront, HasText, IsOfRun, IsSettledBy, IsStopFault, Streams, capture_text, ended, side_of}
 use Rattle.napt_run.specs.declared.leaving.Leaving.{Leaving}
 use Rattle.napt_run.specs.declared.output.Output.{Output}
 use Rattle.napt_run.specs.declared.passing.Totals.{Totals}
@@ -81,7 +82,7 @@ module _ {W V : Type 0} {g h : _} (open_gate : Bool) (rules : Rules)
 
   -- THE FAULT, AND THE REPORT
 
-  pub explains : (result : Result Totals Fault) → To result → IfErr result (Explains inside outside)
+  explains : (result : Result Totals Fault) → To result → IfErr result (Explains inside outside)
   explains (Ok totals) p = tt
   explains (Err (Capture side fault)) p = p.is_fault
   explains (Err (Write which fault)) p = IfHeld-all inside outside (λ both. tt)
@@ -89,7 +90,7 @@ module _ {W V : Type 0} {g h : _} (open_gate : Bool) (rules : Rules)
   explains (Err (Run faults.Memory)) p = IfHeld-all inside outside (λ both. tt)
   explains (Err (Run (faults.Pool fault))) p = IfHeld-all inside outside (λ both. tt)
 
-  pub stops : (result : Result Totals Fault) → To result → IfErr result (IsStopFault open_gate)
+  stops : (result : Result Totals Fault) → To result → IfErr result (IsStopFault open_gate)
   stops (Ok totals) p = tt
   stops (Err (Capture side fault)) p = tt
   stops (Err (Write Outside fault)) p = tt
@@ -97,9 +98,12 @@ module _ {W V : Type 0} {g h : _} (open_gate : Bool) (rules : Rules)
   stops (Err (Write Report fault)) p = p
   stops (Err (Run fault)) p = p
 
-  pub tells : (result : Result Totals Fault) → To result → IfOk result (IsToldOf rules inside outside)
+  tells : (result : Result Totals Fault) → To result → IfOk result (IsToldOf rules inside outside)
   tells (Ok totals) p = record { inputs = p.inputs; all = p.all; counts = p.counts; bindings = p.bindings }
   tells (Err fault) p = tt
+
+  pub says : (result : Result Totals Fault) → To result → ResultSays open_gate rules inside outside result
+  says result p = record { told = tells result p; fault = explains result p; stop = stops result p }
 
 -- WHAT AN OUTPUT GOT
 
@@ -110,6 +114,66 @@ record At {D : Type 0} {g : _} (rules : Rules) (which : Which) (contents : D →
   gets : Streams rules which (ended result) inside outside (contents old.device.now) (contents new.device.now)
   counted : Counted failed old new (failed_writings which (ended result))
   settled : IsSettledBy (ended result) → flushed new.device.now
+
+module _ {D : Type 0} {g : _} (rules : Rules) (which : Which) (contents : D → Option (List ℕ)) (failed : D → ℕ)
+    (flushed : D → Type 0) (inside : Option (List ℕ)) (outside : Option (Option (List ℕ))) (old new : Output D g)
+  where
+    abbrev Grew : List Arrival → Type 0
+    Grew inputs = Grows contents failed old (text_behind file_header rules (side_of which) inputs) new
+
+    abbrev Was : Result Totals Fault → Type 0
+    Was result = At rules which contents failed flushed inside outside result old new
+
+    abbrev CountsNone : Fault → Type 0
+    CountsNone fault = failed_writings which (Err fault) ≡ 0
+
+    -- it has all that these inputs leave
+    at_end : (totals : Totals) (inputs : List Arrival) → failed_writings which (Ok tt) ≡ 0 →
+        IfHeld inside outside (λ both. AreAll both totals.cuts.inside totals.cuts.outside inputs) → Grew inputs →
+        flushed new.device.now → Was (Ok totals)
+    at_end totals inputs none all grown settled = record {
+      gets = IfHeld-map inside outside (λ both all. (
+        inputs,
+        totals.cuts.inside,
+        totals.cuts.outside,
+        all,
+        grown_text rules (side_of which) inputs _ _ grown.appended,
+      )) all;
+      counted = subst (Counted failed old new) (sym none) (none_counted contents failed _ _ _ grown);
+      settled = λ done. settled;
+    }
+
+    at_fault : (side : Side) (fault : CaptureFault) (inputs : List Arrival) → CountsNone (Capture side fault) →
+        IfHeld inside outside (λ both. AreTaken side fault both inputs) → Grew inputs → flushed new.device.now →
+        Was (Err (Capture side fault))
+    at_fault side fault inputs none taken grown settled = record {
+      gets = IfHeld-map inside outside (λ both taken. (
+        inputs,
+        taken,
+        grown_text rules (side_of which) inputs _ _ grown.appended,
+      )) taken;
+      counted = subst (Counted failed old new) (sym none) (none_counted contents failed _ _ _ grown);
+      settled = λ done. settled;
+    }
+
+    has_text : (inputs : List Arrival) → IfHeld inside outside (λ both. AreFront both inputs) → Grew inputs →
+        IfHeld inside outside (λ both. HasText rules which both (contents old.device.now) (contents new.device.now))
+    has_text inputs front grown = IfHeld-map inside outside (λ both front. (
+      inputs,
+      front,
+      grown_text rules (side_of which) inputs _ _ grown.appended,
+    )) front
+
+    has_front : (inputs : List Arrival) (fault : WriteFault) → old.written ≡ 0 →
+        IfHeld inside outside (λ both. AreFront both inputs) →
+        Breaks contents failed old (text_behind file_header rules (side_of which) inputs) fault new →
+        IfHeld inside outside (λ both. HasFront rules which fault.written both (contents old.device.now)
+        (contents new.device.now))
+    has_front inputs fault none front broke = IfHeld-map inside outside (λ both front. (
+      inputs,
+      front,
+      broken_text contents failed rules (side_of which) inputs old new fault none broke,
+    )) front
 
 module _ {W V : Type 0} {g h : _} (open_gate : Bool) (rules : Rules)
     (oc : W → Option (List ℕ)) (of : W → ℕ) (outside_flushed : W → Type 0)
@@ -128,42 +192,19 @@ module _ {W V : Type 0} {g h : _} (open_gate : Bool) (rules : Rules)
 
   at_outside : old.to_outside.written ≡ 0 → (result : Result Totals Fault) → Runs result → (¬ IsOfRun result) →
       IsAtOutside result
-  at_outside none (Ok totals) p not_run = record {
-    gets = IfHeld-map inside outside (λ both all. (
-      p.inputs,
-      totals.cuts.inside,
-      totals.cuts.outside,
-      all,
-      grown_text rules sides.Outside p.inputs _ _ p.wrote.to_outside.appended,
-    )) p.all;
-    counted = none_counted oc of _ _ _ p.wrote.to_outside;
-    settled = λ settled. p.wrote.settled.0;
-  }
-  at_outside none (Err (Capture side fault)) p not_run = record {
-    gets = IfHeld-map inside outside (λ both taken. (
-      p.inputs,
-      taken,
-      grown_text rules sides.Outside p.inputs _ _ p.wrote.to_outside.appended,
-    )) p.taken;
-    counted = none_counted oc of _ _ _ p.wrote.to_outside;
-    settled = λ settled. p.wrote.settled.0;
-  }
+  at_outside none (Ok totals) p not_run = at_end rules Outside oc of outside_flushed inside outside
+      old.to_outside new.to_outside totals p.inputs refl p.all p.wrote.to_outside p.wrote.settled.0
+  at_outside none (Err (Capture side fault)) p not_run = at_fault rules Outside oc of outside_flushed inside outside
+      old.to_outside new.to_outside side fault p.inputs refl p.taken p.wrote.to_outside p.wrote.settled.0
   at_outside none (Err (Write Outside fault)) p not_run = record {
-    gets = IfHeld-map inside outside (λ both front. (
-      p.inputs,
-      front,
-      broken_text oc of rules sides.Outside p.inputs old.to_outside new.to_outside fault none p.broke,
-    ))
-        p.front_of_all;
+    gets = has_front rules Outside oc of outside_flushed inside outside old.to_outside new.to_outside p.inputs fault
+        none p.front_of_all p.broke;
     counted = one_counted oc of _ _ _ fault p.broke;
     settled = λ settled. absurd settled;
   }
   at_outside none (Err (Write Inside fault)) p not_run = record {
-    gets = IfHeld-map inside outside (λ both front. (
-      p.inputs,
-      front,
-      grown_text rules sides.Outside p.inputs _ _ p.wrote.appended,
-    )) p.front_of_all;
+    gets = has_text rules Outside oc of outside_flushed inside outside old.to_outside new.to_outside p.inputs
+        p.front_of_all p.wrote;
     counted = none_counted oc of _ _ _ p.wrote;
     settled = λ settled. absurd settled;
   }
@@ -177,11 +218,8 @@ module _ {W V : Type 0} {g h : _} (open_gate : Bool) (rules : Rules)
       ⊎ ((fault.written ≤ length file_header) × (new.to_inside ≡ old.to_inside)) →
       IsAtInside (Err (Write Outside fault))
   kept fault p (inl grown) = record {
-    gets = IfHeld-map inside outside (λ both front. inl (
-      p.before,
-      front,
-      grown_text rules sides.Inside p.before _ _ grown.appended,
-    )) p.front_before;
+    gets = IfHeld-map inside outside (λ both text. inl text) (has_text rules Inside ic if inside_flushed inside outside
+        old.to_inside new.to_inside p.before p.front_before grown);
     counted = none_counted ic if _ _ _ grown;
     settled = λ settled. absurd settled;
   }
@@ -196,33 +234,14 @@ module _ {W V : Type 0} {g h : _} (open_gate : Bool) (rules : Rules)
 
   at_inside : old.to_inside.written ≡ 0 → (result : Result Totals Fault) → Runs result → (¬ IsOfRun result) →
       IsAtInside result
-  at_inside none (Ok totals) p not_run = record {
-    gets = IfHeld-map inside outside (λ both all. (
-      p.inputs,
-      totals.cuts.inside,
-      totals.cuts.outside,
-      all,
-      grown_text rules sides.Inside p.inputs _ _ p.wrote.to_inside.appended,
-    )) p.all;
-    counted = none_counted ic if _ _ _ p.wrote.to_inside;
-    settled = λ settled. p.wrote.settled.1;
-  }
-  at_inside none (Err (Capture side fault)) p not_run = record {
-    gets = IfHeld-map inside outside (λ both taken. (
-      p.inputs,
-      taken,
-      grown_text rules sides.Inside p.inputs _ _ p.wrote.to_inside.appended,
-    )) p.taken;
-    counted = none_counted ic if _ _ _ p.wrote.to_inside;
-    settled = λ settled. p.wrote.settled.1;
-  }
+  at_inside none (Ok totals) p not_run = at_end rules Inside ic if inside_flushed inside outside
+      old.to_inside new.to_inside totals p.inputs refl p.all p.wrote.to_inside p.wrote.settled.1
+  at_inside none (Err (Capture side fault)) p not_run = at_fault rules Inside ic if inside_flushed inside outside
+      old.to_inside new.to_inside side fault p.inputs refl p.taken p.wrote.to_inside p.wrote.settled.1
   at_inside none (Err (Write Outside fault)) p not_run = kept fault p p.kept
   at_inside none (Err (Write Inside fault)) p not_run = record {
-    gets = IfHeld-map inside outside (λ both front. (
-      p.inputs,
-      front,
-      broken_text ic if rules sides.Inside p.inputs old.to_inside new.to_inside fault none p.broke,
-    )) p.front_of_all;
+    gets = has_front rules Inside ic if inside_flushed inside outside old.to_inside new.to_inside p.inputs fault
+        none p.front_of_all p.broke;
     counted = one_counted ic if _ _ _ fault p.broke;
     settled = λ settled. absurd settled;
   }
@@ -251,14 +270,6 @@ run_gets rules which (Err (Capture side fault)) inside outside old new run = abs
 run_gets rules which (Err (Write other fault)) inside outside old new run = absurd run
 run_gets rules which (Err (Run fault)) inside outside old new run = IfHeld-all inside outside (λ both. tt)
 
--- what a device got, by its values before and after
-pub record Done {D : Type 0} (rules : Rules) (which : Which) (contents : D → Option (List ℕ)) (failed : D → ℕ)
-    (flushed : D → Type 0) (inside : Option (List ℕ)) (outside : Option (Option (List ℕ)))
-    (result : Result Totals Fault) (old new : D) : Type 0 where
-  pub gets : Streams rules which (ended result) inside outside (contents old) (contents new)
-  pub count : (¬ IsOfRun result) → failed new ≡ failed old + failed_writings which (ended result)
-  pub settled : IsSettledBy (ended result) → flushed new
-
 -- the device of an output, which is left as the output leaves it
 done : {D : Type 0} {g : _} (rules : Rules) (which : Which) (contents : D → Option (List ℕ)) (failed : D → ℕ)
     (flushed : D → Type 0) (inside : Option (List ℕ)) (outside : Option (Option (List ℕ)))
@@ -266,7 +277,7 @@ done : {D : Type 0} {g : _} (rules : Rules) (which : Which) (contents : D → Op
     ((¬ IsOfRun result) → At rules which contents failed flushed inside outside result old new) → (start last : D) →
     old.device.now ≡ start →
     ((¬ IsOfRun result) → new.device.ghost_name ≡ old.device.ghost_name → last ≡ new.device.now) →
-    Done rules which contents failed flushed inside outside result start last
+    DeviceGets rules which contents failed flushed inside outside result start last
 done rules which contents failed flushed inside outside result old new is start last from at =
     let left : (¬ IsOfRun result) → last ≡ new.device.now = λ not_run. at not_run (is not_run).counted.same in
     record {
@@ -286,16 +297,16 @@ module _ {W V : Type 0} {g h : _} (open_gate : Bool) (rules : Rules)
     (old new : Leaving W V g h) (result : Result Totals Fault)
     (runs : RunsTo open_gate rules oc of outside_flushed ic if inside_flushed inside outside file_header old new
     result) where
-  pub outside_done : old.to_outside.written ≡ 0 → (start last : W) → old.to_outside.device.now ≡ start →
+  pub outside_gets : old.to_outside.written ≡ 0 → (start last : W) → old.to_outside.device.now ≡ start →
       ((¬ IsOfRun result) → new.to_outside.device.ghost_name ≡ old.to_outside.device.ghost_name →
       last ≡ new.to_outside.device.now) →
-      Done rules Outside oc of outside_flushed inside outside result start last
-  outside_done none = done rules Outside oc of outside_flushed inside outside result old.to_outside new.to_outside
+      DeviceGets rules Outside oc of outside_flushed inside outside result start last
+  outside_gets none = done rules Outside oc of outside_flushed inside outside result old.to_outside new.to_outside
       (at_outside open_gate rules oc of outside_flushed ic if inside_flushed inside outside old new none result runs)
 
-  pub inside_done : old.to_inside.written ≡ 0 → (start last : V) → old.to_inside.device.now ≡ start →
+  pub inside_gets : old.to_inside.written ≡ 0 → (start last : V) → old.to_inside.device.now ≡ start →
       ((¬ IsOfRun result) → new.to_inside.device.ghost_name ≡ old.to_inside.device.ghost_name →
       last ≡ new.to_inside.device.now) →
-      Done rules Inside ic if inside_flushed inside outside result start last
-  inside_done none = done rules Inside ic if inside_flushed inside outside result old.to_inside new.to_inside
+      DeviceGets rules Inside ic if inside_flushed inside outside result start last
+  inside_gets none = done rules Inside ic if inside_flushed inside outside result old.to_inside new.to_inside
       (at_inside open_gate rules oc of outside_flushed ic if inside_flushed inside outside old new none result runs)

@@ -1,4 +1,4 @@
--- Devices in place of those that are not handed in.
+-- Stand-ins for devices that are not given.
 use Rattle.std.specs.Prelude.{Bool}
 use Rattle.napt_run.specs.declared.absent.Nowhere.{Nowhere}
 

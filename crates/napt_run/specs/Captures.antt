@@ -1,5 +1,5 @@
--- What a run over captures leaves on its devices. Where the bytes of a reader or a writer are not known, nothing is
--- claimed of them.
+-- What a run over captures leaves on its devices. Nothing is claimed of the bytes of a reader or a writer that are not
+-- known.
 use Rattle.std.specs.Prelude.{◌≡◌, ℕ, ◌+◌, ◌≤◌, ◌^◌, List, [], length, map, take, false, IfSome, string_bytes, Option, Some, None, Result, Ok, Err}
 use Rattle.std.specs.Io.KnownBytes.{Appends}
 use Rattle.napt_wire.specs.declared.Side.{Side}
@@ -23,11 +23,11 @@ use Rattle.napt_records.specs.Report.{report_text}
 
 -- WHAT IS READ
 
--- where the bytes of the inside capture are known, and those of the outside one where there is one
+-- if the bytes of the inside capture are known, and those of the outside one, if there is one
 abbrev pub IfKnown : Option (List ℕ) → Option (Option (List ℕ)) → (List ℕ → Option (List ℕ) → Type 0) → Type 0
 IfKnown inside outside Holds = IfSome inside (λ bytes. IfSome outside (λ others. Holds bytes others))
 
--- no outside capture is one without records
+-- a missing outside capture counts as one without records
 abbrev pub no_contents : Contents
 no_contents = record { records = []; cut = false }
 
@@ -35,14 +35,14 @@ abbrev pub IsOutsideCapture : Option (List ℕ) → Contents → Type 0
 IsOutsideCapture None contents = contents ≡ no_contents
 IsOutsideCapture (Some bytes) contents = IsCapture bytes (Ok contents)
 
--- where its bytes are known, a capture was read as these contents
+-- these contents were read from a capture, if its bytes are known
 abbrev pub IsReadFrom : Option (List ℕ) → Contents → Type 0
 IsReadFrom inside contents = IfSome inside (λ bytes. IsCapture bytes (Ok contents))
 
 abbrev pub IsReadAsOutside : Option (Option (List ℕ)) → Contents → Type 0
 IsReadAsOutside outside contents = IfSome outside (λ others. IsOutsideCapture others contents)
 
--- what the bytes of both captures come to
+-- what was read from the bytes of both captures
 pub record AreRead (inside : List ℕ) (outside : Option (List ℕ)) (captures : Captures) : Type 0 where
   pub inside_capture : IsCapture inside (Ok captures.inside)
   pub outside_capture : IsOutsideCapture outside captures.outside
@@ -55,7 +55,7 @@ text_of rules Outside captures arrivals = text (records_to sides.Outside arrival
 text_of rules Inside captures arrivals = text (records_to sides.Inside arrivals (ran rules arrivals).outcomes)
 text_of rules Report captures arrivals = report_text captures.inside.cut captures.outside.cut (ran rules arrivals)
 
--- what of its text an output gets
+-- how much of its text an output gets
 pub data Share : Type 0 where
   whole : Share
   front : ℕ → Share
@@ -74,7 +74,7 @@ share_of Inside (Err (Write Report fault)) = whole
 share_of Report (Err (Write Report fault)) = front fault.written
 share_of Report (Err (Write other fault)) = nothing
 
--- a writer whose bytes were old, and are new, got this share of a text
+-- a writer with these bytes before and after got this share of a text
 abbrev pub Receives : Share → List ℕ → Option (List ℕ) → Option (List ℕ) → Type 0
 Receives whole text old new = Appends old new text
 Receives (front written) text old new = (written ≤ length text) × Appends old new (take written text)
@@ -87,7 +87,7 @@ GetsOf rules captures which share old new =
     (arrivals : List Arrival) × IsMerged captures.inside.records captures.outside.records arrivals
     × Receives share (text_of rules which captures arrivals) old new
 
--- and of the captures' bytes
+-- the same, by the captures' bytes
 abbrev pub Gets : Rules → Which → Share → Option (List ℕ) → Option (Option (List ℕ)) → Option (List ℕ) →
     Option (List ℕ) → Type 0
 Gets rules which nothing inside outside old new = new ≡ old
@@ -112,7 +112,7 @@ WasRead inside = (contents : Contents) × IsReadFrom inside contents
 abbrev pub WereRead : Option (List ℕ) → Option (Option (List ℕ)) → Type 0
 WereRead inside outside = WasRead inside × ((contents : Contents) × IsReadAsOutside outside contents)
 
--- what a fault says of the captures' bytes; the inside one is read first, and the run begins with both
+-- what a fault says of the captures' bytes: the inside one is read first, and the run starts once both are read
 abbrev pub Explains : Option (List ℕ) → Option (Option (List ℕ)) → Fault → Type 0
 Explains inside outside (Capture sides.Inside fault) =
     IfSome inside (λ bytes. let answer : Result Contents CaptureFault = Err fault in Answers bytes answer)
@@ -125,13 +125,13 @@ Explains inside outside (Run Memory) = WereRead inside outside
 Explains inside outside (Run (Pool fault)) = WereRead inside outside
 Explains inside outside (Write which fault) = WereRead inside outside
 
--- a refused capture, or that there are too many records
+-- the result is a refused capture, or too many records
 abbrev pub TellsTooMany : Result (Unit {0}) Fault → Type 0
 TellsTooMany (Err (Capture side fault)) = Unit {0}
 TellsTooMany (Err (Run TooMany)) = Unit {0}
 TellsTooMany other = ⊥
 
--- once both captures are read, too many records are told before anything else
+-- once both captures are read, too many records are reported before anything else
 abbrev pub TooManyAreTold : Option (List ℕ) → Option (Option (List ℕ)) → Result (Unit {0}) Fault → Type 0
 TooManyAreTold inside outside result =
     IfKnown inside outside (λ bytes others. (captures : Captures) → AreRead bytes others captures →
@@ -163,7 +163,7 @@ IsUnread sides.Outside known (Capture sides.Outside fault) =
     IfSome known (λ bytes. let answer : Result Contents CaptureFault = Err fault in Answers bytes answer)
 IsUnread side known other = ⊥
 
--- the outputs that were made for these captures
+-- the outputs made for these captures
 pub record AreOutputs (rules : Rules) (captures : Captures) (outputs : Outputs) : Type 0 where
   pub arrivals : List Arrival
   pub merged : IsMerged captures.inside.records captures.outside.records arrivals

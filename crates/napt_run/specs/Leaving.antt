@@ -1,4 +1,4 @@
--- What leaves while a run lasts, and what that does to the outputs.
+-- What leaves during a run, and what that does to the outputs.
 use Rattle.std.specs.Prelude.{◌≡◌, ℕ, ◌^◌, ◌<◌, List, [], ◌++◌, length, map, filter_map, flat_map, All, false, Option, Result, Ok, Err}
 use Rattle.napt_wire.specs.declared.Side.{Side}
 use Rattle.napt_wire.specs.declared.Side.TheVariants as sides
@@ -20,7 +20,7 @@ use Rattle.napt_records.specs.declared.Which.TheVariants.{Outside, Inside, Repor
 abbrev pub Timed : Type 0
 Timed = ℕ × Outcome
 
--- the records of those that go to a side
+-- the text of those that go to a side
 abbrev pub texts : Side → List Timed → List ℕ
 texts side all = flat_map record_text (filter_map (λ timed. record_at timed.0 (packet_to side timed.1)) all)
 
@@ -62,7 +62,7 @@ module _ {W V : Type 0} (outside_contents : W → Option (List ℕ)) (outside_fa
     pub to_inside : Grows inside_contents inside_failed old.to_inside file_header new.to_inside
     pub counts : new.counts ≡ old.counts
 
-  -- an output failed meanwhile: the one to the inside was not begun before the one to the outside was
+  -- writing a header failed; the one to the outside goes first
   abbrev pub FailsToBegin : Leaving W V g h → Fault → Leaving W V g h → Type 0
   FailsToBegin old (Write Outside fault) new =
       Breaks outside_contents outside_failed old.to_outside file_header fault new.to_outside

@@ -1,4 +1,4 @@
--- What leaves together is what leaves one behind the other.
+-- What leaves in two parts leaves as one.
 use Rattle.std.specs.Prelude.{◌≡◌, ℕ, ◌+◌, ◌-◌, ◌^◌, ◌<◌, min, List, [], ◌∷◌, ◌++◌, length, map, filter_map, flat_map, Option, Some, None, refl}
 use Rattle.std.proofs.Common.{sym, ◌∙◌, ap, subst, append-nil, append_assoc, length-append, add_assoc, add-zero}
 use Rattle.std.proofs.Math.Nat.{lt_of_le_of_lt, le-add_right}

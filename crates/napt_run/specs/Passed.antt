@@ -1,4 +1,4 @@
--- What a run between captures that come and captures that leave comes to, by its result.
+-- What a run from arriving captures to leaving ones does, by its result.
 use Rattle.std.specs.Prelude.{◌≡◌, ℕ, Bool, List, Option, Some, Result, Ok, Err}
 use Rattle.napt_capture.specs.declared.device.Source.{Ghosts}
 use Rattle.napt_config.specs.Rules.{Rules}
@@ -18,7 +18,7 @@ module _ {R Q W V : Type 0} {G : Ghosts R} {H : Ghosts Q} {g h : _} (open_gate :
     (ic : V → Option (List ℕ)) (if : V → ℕ) (inside_flushed : V → Type 0)
     (from : MergedStreams R Q G H) (before : Leaving W V g h) (left : MergedStreams R Q G H) (after : Leaving W V g h)
   where
-    -- all went well, and this is what the report tells
+    -- all went well, with these totals for the report
     pub record PassesAll (totals : Totals) : Type 0 where
       pub well : PassesWell rules (HandsOut inside outside in_failed out_failed)
           (EndsWith inside outside in_failed out_failed) (Takes oc of ic if) (Fails oc of ic if)

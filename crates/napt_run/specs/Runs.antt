@@ -1,5 +1,5 @@
--- What a run over captures that are read as they come does to its outputs, behind a text that both have already.
-use Rattle.std.specs.Prelude.{◌≡◌, ◌⊎◌, ℕ, ◌≤◌, Bool, List, ◌++◌, length, Option, Result, Ok, Err}
+-- What a run over captures that are read as they arrive does to its outputs, after a text that both already have.
+use Rattle.std.specs.Prelude.{◌≡◌, ◌⊎◌, ℕ, ◌+◌, ◌≤◌, Bool, List, ◌++◌, length, Option, Result, Ok, Err, IfErr, IfOk}
 use Rattle.napt_wire.specs.declared.Side.{Side}
 use Rattle.napt_wire.specs.declared.Side.TheVariants as sides
 use Rattle.napt_capture.specs.declared.fault.CaptureFault.{CaptureFault}
@@ -11,16 +11,17 @@ use Rattle.napt_records.specs.Counts.{AreCountsOf}
 use Rattle.napt_records.specs.UntilFault.{AreAll, AreFront, AreHeld, AreTaken, Both}
 use Rattle.napt_records.specs.declared.Fault.{Fault}
 use Rattle.napt_records.specs.declared.Fault.TheVariants.{Capture, Run, Write}
+use Rattle.napt_records.specs.declared.Which.{Which}
 use Rattle.napt_records.specs.declared.Which.TheVariants.{Outside, Inside, Report}
-use Rattle.napt_run.specs.Captures.{IfKnown}
+use Rattle.napt_run.specs.Captures.{IfKnown, failed_writings}
 use Rattle.napt_rules.specs.Prelude.{Arrival, ran}
 use Rattle.napt_run.specs.Leaving.{IsSettled, Timed, texts}
 use Rattle.napt_run.specs.Outputs.{Breaks, Grows}
-use Rattle.napt_run.specs.Streams.{IsFaultOf}
+use Rattle.napt_run.specs.Streams.{Explains, IsFaultOf, IsOfRun, IsSettledBy, IsStopFault, Streams, ended}
 use Rattle.napt_run.specs.declared.leaving.Leaving.{Leaving}
 use Rattle.napt_run.specs.declared.passing.Totals.{Totals}
 
--- this holds of what the captures hold, where their bytes are known
+-- this holds of what the captures hold, if their bytes are known
 abbrev pub IfHeld : Option (List ℕ) → Option (Option (List ℕ)) → (Both → Type 0) → Type 0
 IfHeld inside outside Holds =
     IfKnown inside outside (λ bytes others. (both : Both) → AreHeld bytes others both → Holds both)
@@ -44,7 +45,7 @@ module _ {W V : Type 0} {g h : _} (open_gate : Bool) (rules : Rules)
     pub to_inside : Grows ic if old.to_inside (text_behind front rules sides.Inside inputs) new.to_inside
     pub settled : IsSettled outside_flushed inside_flushed new
 
-  -- the run came to its end
+  -- the run reached its end
   pub record RunsWell (totals : Totals) : Type 0 where
     pub inputs : List Arrival
     pub wrote : Writes inputs
@@ -84,10 +85,25 @@ module _ {W V : Type 0} {g h : _} (open_gate : Bool) (rules : Rules)
   RunsTo (Err (Write Report fault)) = ⊥
   RunsTo (Err (Run fault)) = IsFaultUnder open_gate fault
 
--- what the report tells of all inputs
+-- what the report says of all inputs
 pub record IsToldOf (rules : Rules) (inside : Option (List ℕ)) (outside : Option (Option (List ℕ))) (totals : Totals) :
     Type 0 where
   pub inputs : List Arrival
   pub all : IfHeld inside outside (λ both. AreAll both totals.cuts.inside totals.cuts.outside inputs)
   pub counts : AreCountsOf (ran rules inputs).outcomes totals.counts
   pub bindings : totals.passed.bindings.items ≡ (ran rules inputs).bindings
+
+-- what a run leaves on the device of an output
+pub record DeviceGets {D : Type 0} (rules : Rules) (which : Which) (contents : D → Option (List ℕ)) (failed : D → ℕ)
+    (flushed : D → Type 0) (inside : Option (List ℕ)) (outside : Option (Option (List ℕ)))
+    (result : Result Totals Fault) (old new : D) : Type 0 where
+  pub gets : Streams rules which (ended result) inside outside (contents old) (contents new)
+  pub count : (¬ IsOfRun result) → failed new ≡ failed old + failed_writings which (ended result)
+  pub settled : IsSettledBy (ended result) → flushed new
+
+-- what the result of a run says of the captures, under a gate that promises yes or one that does not
+pub record ResultSays (open_gate : Bool) (rules : Rules) (inside : Option (List ℕ))
+    (outside : Option (Option (List ℕ))) (result : Result Totals Fault) : Type 0 where
+  pub told : IfOk result (IsToldOf rules inside outside)
+  pub fault : IfErr result (Explains inside outside)
+  pub stop : IfErr result (IsStopFault open_gate)

@@ -1,4 +1,4 @@
--- What a run that ends well writes over captures that come is what it writes over captures that are read whole.
+-- A run that succeeds writes the same, whether its captures are read as they arrive or whole.
 use Rattle.std.specs.Prelude.{◌≡◌, ℕ, List, Option, Some, Ok}
 use Rattle.napt_config.specs.Rules.{Rules}
 use Rattle.napt_records.specs.declared.Which.TheVariants.{Outside, Inside, Report}

@@ -1,5 +1,5 @@
--- What a run over captures leaves that are read while they come. Where the bytes of a reader or a writer are not known,
--- nothing is claimed of them.
+-- What a run leaves over captures that are read as they arrive. Nothing is claimed of the bytes of a reader or a writer
+-- that are not known.
 use Rattle.std.specs.Prelude.{◌≡◌, ◌⊎◌, ℕ, ◌+◌, ◌≤◌, ◌-◌, ◌^◌, min, List, [], length, take, Bool, true, false, Option, Some, None, Result, Ok, Err}
 use Rattle.std.specs.Borrow.{MutBor}
 use Rattle.std.specs.Io.KnownBytes.{Appends}
@@ -48,14 +48,14 @@ abbrev pub HasText : Rules → Which → Both → Option (List ℕ) → Option (
 HasText rules which both old new =
     (inputs : List Arrival) × AreFront both inputs × Appends old new (capture_text rules (side_of which) inputs)
 
--- as much of it as the fault says, whose number stops at the greatest one
+-- as much of it as the fault says, whose number saturates
 abbrev pub HasFront : Rules → Which → ℕ → Both → Option (List ℕ) → Option (List ℕ) → Type 0
 HasFront rules which written both old new =
     (inputs : List Arrival) × AreFront both inputs × ((count : ℕ) × (written ≡ min count (2 ^ 64 - 1))
     × (count ≤ length (capture_text rules (side_of which) inputs))
     × Appends old new (take count (capture_text rules (side_of which) inputs)))
 
--- where the header to the outside could not be written, the one to the inside was not begun
+-- if the header to the outside could not be written, the one to the inside was not begun
 abbrev pub IsUnbegun : ℕ → Option (List ℕ) → Option (List ℕ) → Type 0
 IsUnbegun written old new = (written ≤ length file_header) × (new ≡ old)
 
@@ -68,7 +68,7 @@ HasWritten rules Outside Inside written both old new = HasText rules Outside bot
 HasWritten rules other Outside written both old new = HasText rules other both old new ⊎ IsUnbegun written old new
 HasWritten rules Report Inside written both old new = HasText rules Report both old new
 
--- by what the run came to. Of a fault of the run itself nothing is claimed.
+-- by the result of the run. Nothing is claimed after a fault of the run itself.
 abbrev pub GetsOf : Rules → Which → Result (Unit {0}) Fault → Both → Option (List ℕ) → Option (List ℕ) → Type 0
 GetsOf rules which (Ok done) both old new = HasAll rules which both old new
 GetsOf rules which (Err (Capture side fault)) both old new =
@@ -92,7 +92,7 @@ GetsReport report (Err (Write Report fault)) old new =
     (fault.written ≤ length report) × Appends old new (take fault.written report)
 GetsReport report (Err other) old new = new ≡ old
 
--- it is written only at the end, and nothing of it before
+-- it is written only at the end
 abbrev pub TellsAll : Result (Unit {0}) Fault → Type 0
 TellsAll (Ok done) = Unit {0}
 TellsAll (Err (Write Report fault)) = Unit {0}
@@ -116,7 +116,7 @@ Reports rules result inside outside old new =
 
 -- THE FAULT
 
--- a fault of a capture's text is that of its bytes, and no capture is too large
+-- a fault in a capture is one of its bytes, and no capture is too large
 abbrev pub IsFaultOf : Side → CaptureFault → Both → Type 0
 IsFaultOf side Read both = Unit {0}
 IsFaultOf side Memory both = Unit {0}
@@ -145,32 +145,32 @@ IsSettledBy (Err (Capture side fault)) = Unit {0}
 IsSettledBy (Err (Write Report fault)) = Unit {0}
 IsSettledBy other = ⊥
 
--- a result, but for what it gives
+-- a result, without its value
 abbrev pub ended : {T : Type 0} → Result T Fault → Result (Unit {0}) Fault
 ended (Ok given) = Ok tt
 ended (Err fault) = Err fault
 
 -- FAILED READS
 
--- reading ended well, or by a fault
+-- reading succeeded, or ended with a fault
 abbrev pub IsOfReading : Result (Unit {0}) Fault → Type 0
 IsOfReading (Ok done) = Unit {0}
 IsOfReading (Err (Capture side fault)) = Unit {0}
 IsOfReading other = ⊥
 
--- what reading came to: where writing a capture failed, that is not told
+-- how reading ended, which a fault of writing a capture does not say
 abbrev pub IsReading : {T : Type 0} → Result T Fault → Result (Unit {0}) Fault → Type 0
 IsReading (Ok done) read = read ≡ Ok tt
 IsReading (Err (Write Outside fault)) read = IsOfReading read
 IsReading (Err (Write Inside fault)) read = IsOfReading read
 IsReading (Err fault) read = read ≡ Err fault
 
--- so many more reads of the outside capture failed; without one there are none
+-- this many more reads of the outside capture failed; none without one
 abbrev pub FailsMore : {Q : Type 0} → Bool → (Q → ℕ) → Q → Q → ℕ → Type 0
 FailsMore false failed old new more = more ≡ 0
 FailsMore true failed old new more = failed new ≡ failed old + more
 
--- the failed reads are those of what reading came to
+-- the failed reads are those of how reading ended
 abbrev pub HasReadIf : {T R Q : Type 0} → Bool → (R → ℕ) → (Q → ℕ) → R → R → Q → Q → Result T Fault → Type 0
 HasReadIf has_outside inside_failed outside_failed old new other_old other_new result =
     (read : Result (Unit {0}) Fault) × IsReading result read
@@ -186,14 +186,14 @@ HasRead inside_failed outside_failed old new given left result =
 
 -- STEPS
 
--- of a capture of these bytes the header was read, and no more is known of it
+-- the header of a capture of these bytes was read, and nothing else
 pub record IsBehindHeader {R : Type 0} (remaining : R → Option (List ℕ)) (records : Records) (bytes : Option (List ℕ))
     (source : R) : Type 0 where
   pub header : ReadsFileHeader records.spelling bytes (remaining source)
   pub ahead : records.ahead ≡ []
   pub number : records.number ≡ 1
 
--- and of the outside capture, if there is one
+-- the same of the outside capture, if there is one
 abbrev pub IsBehindHeaderIf : {R : Type 0} → (R → Option (List ℕ)) → Bool → Option Records → Option (List ℕ) → R →
     Type 0
 IsBehindHeaderIf remaining false None bytes source = Unit {0}
@@ -227,7 +227,7 @@ IsStopFault open_gate (Write Inside fault) = Unit {0}
 IsStopFault open_gate (Write Report fault) = ⊥
 IsStopFault open_gate (Run fault) = IsFaultUnder open_gate fault
 
--- a report could not be made, or not be written
+-- a report could not be made or written
 abbrev pub IsReportFault : Fault → Type 0
 IsReportFault (Write Report fault) = Unit {0}
 IsReportFault (Run faults.Memory) = Unit {0}

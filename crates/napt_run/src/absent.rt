@@ -2,7 +2,7 @@
 
 use napt_capture::{DeviceFault, Sink, Source};
 
-/// Stands in for an output that nobody asked for: it discards everything, and never fails.
+/// Stands in for an output that wasn't requested: discards everything, and never fails.
 #[derive(Drop)]
 pub(crate) struct Nowhere {
     is_flushed: bool,

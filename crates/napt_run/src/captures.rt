@@ -1,4 +1,4 @@
-//! A run over captures: reads both, runs in memory, and only then writes anything.
+//! A run over captures: reads both, runs in memory, and only then writes.
 ghost use Rattle.std.specs.Prelude.{◌≡◌, ◌↔◌, ◌+◌, ◌-◌, ◌^◌, ◌<◌, length, All, OnOk, IfOk, IfErr, IfSome, Err, true, false};
 ghost use Rattle.napt_capture.specs.Text.{IsWritable, text};
 ghost use Rattle.napt_records.specs.Output.{IsTime, records_at};
@@ -25,7 +25,7 @@ struct Captures {
     outside: Capture,
 }
 
-/// What a run writes, without record headers.
+/// What a run writes, before it is laid out as captures.
 #[derive(Drop)]
 struct Outputs {
     /// When each input arrived, in ns.
@@ -154,17 +154,17 @@ fn write_report<W: Sink>(output: &mut W, report: &str) -> Result<(), Fault>
 }
 
 /// Translates the inside capture and, if there is one, the outside capture, and writes what leaves to each side, and a
-/// report: exactly what the run on one thread gives, whatever the gate, the ring size and the schedule.
+/// report: exactly what the run on one thread gives, whatever the gate, the ring size or the schedule.
 ///
-/// Everything is read first. The run is then made in memory, with one worker thread for each external address; each worker
-/// asks the gate before each leg, and the gate decides only when the worker goes on. The workers are closed and joined before
-/// a fault of the run is returned. Last, the given outputs are written: to the outside, to the inside, the report.
+/// Reads everything first. Then runs in memory, with one worker thread for each external address; each worker asks the gate
+/// before each leg, and the gate only decides when it goes on. The workers are closed and joined before a fault of the run
+/// is returned. Finally writes the outputs that were requested: to the outside, to the inside, the report.
 ///
-/// Fails with `Fault::Capture` if the capture of that side is refused or cannot be read, the inside first; with `Fault::Run`:
+/// Fails with `Fault::Capture` if that side's capture is refused or cannot be read, the inside first; with `Fault::Run`:
 /// `TooMany` if and only if the captures have more than 4,294,967,295 records, `Memory` if memory is refused, `Pool` if a
 /// worker could not be started or stopped early (never `GateShut` under a gate that promises yes). After these faults nothing
-/// is written. Fails with `Fault::Write` if writing that output failed: the outputs before it are complete, it has the first
-/// `written` bytes of its text, and those after it have nothing.
+/// has been written. Fails with `Fault::Write` if that output could not be written: the outputs before it are complete, it
+/// has the first `written` bytes of its text, and those after it are untouched.
 pub fn run_captures<
     T: Threads + Wait + Copy + Send + 'static,
     R: Source,

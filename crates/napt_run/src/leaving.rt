@@ -24,7 +24,7 @@ pub(crate) struct OutputFault {
     pub(crate) fault: WriteFault,
 }
 
-/// An output's answer, with its name beside the fault.
+/// An output's answer, with the output's name beside the fault.
 fn named(which: Which, answer: Result<(), WriteFault>) -> Result<(), OutputFault>
     ensures { result ≡ named which answer }
 {
@@ -34,7 +34,7 @@ fn named(which: Which, answer: Result<(), WriteFault>) -> Result<(), OutputFault
     }
 }
 
-/// The bytes of a packet, of which there are fewer than 65,536.
+/// The bytes of a packet, fewer than 65,536.
 fn bytes_of(packet: &Packet) -> &[u8]
     ensures value { result.now ≡ packet.now }
     ensures short { length result.now < 2 ^ 16 }
@@ -43,7 +43,7 @@ fn bytes_of(packet: &Packet) -> &[u8]
     bytes
 }
 
-/// The vector of an outcome's packet, to be used again once it is written.
+/// The vector of an outcome's packet, to be reused once the packet is written.
 fn vector_of(outcome: Outcome) -> Option<Vec<u8>> {
     match outcome {
         Outcome::ToOutside(packet) | Outcome::ToInside(packet) => Some(packet.into_bytes()),
@@ -87,7 +87,7 @@ impl<'a, 'b, W: Sink, V: Sink> Leaving<'a, 'b, W, V> {
         }
     }
 
-    /// Counts the outcome of an input, and writes the record of its packet, if there is one, with its arrival time in ns.
+    /// Counts the outcome of an input, and writes the record of its packet, if any, with the arrival time in ns.
     fn write(&mut self, time: u64, outcome: &Outcome) -> Result<(), OutputFault>
         ensures { MatchResult result
             (λ _. Takes W.contents W.failed V.contents V.failed

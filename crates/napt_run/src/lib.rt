@@ -1,5 +1,5 @@
 //! A run from captures to captures: [`run_captures`] reads both captures whole, runs in memory and then writes;
-//! [`run_streams`] reads, translates and writes as the packets come, in bounded memory. Where both end well, they write the
+//! [`run_streams`] reads, translates and writes as the packets arrive, in bounded memory. If both succeed, they write the
 //! same bytes ([`streams_write_the_same`]).
 //!
 //! [`merge`] makes the inputs of a run from the records of both captures. [`run_plain`] takes them through the translators of

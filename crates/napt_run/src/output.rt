@@ -14,7 +14,7 @@ pub(crate) struct Output<'a, W: Sink> {
     pub(crate) device: &'a mut W,
     /// How many bytes were written. It saturates.
     pub(crate) written: u64,
-    /// Whether a write or a flush failed; nothing is written from then on.
+    /// Whether a write or a flush failed. From then on nothing is written.
     pub(crate) is_broken: bool,
     ghost can_fail: { is_broken ≡ false → W.failed device.now < 2 ^ 64 - 1 },
 }
@@ -23,7 +23,7 @@ impl<'a, W: Sink> Output<'a, W> {
     ghost use Rattle.napt_records.specs.Output.{IsTime};
     ghost use Rattle.napt_run.specs.Outputs.{Grows, Breaks};
 
-    /// Over a device, before anything of the capture is written.
+    /// An output over a device, with nothing written yet.
     pub(crate) fn over(device: &'a mut W) -> Output<'a, W>
         requires { W.failed device.old < 2 ^ 64 - 1 }
         ensures same_reference { result.device.ghost_name ≡ device.entry.ghost_name }
@@ -117,7 +117,7 @@ impl<'a, W: Sink> Output<'a, W> {
     }
 }
 
-/// A fault in a part of the capture that follows this many bytes.
+/// A fault in a part of the capture, counted from its start: this many bytes precede the part.
 fn behind(before: u64, fault: WriteFault) -> WriteFault
     ensures { result.written ≡ min (before + fault.written) (2 ^ 64 - 1) }
 {

@@ -1,4 +1,4 @@
-//! The run between arrivals and departures.
+//! The run from arrivals to departures.
 ghost use Rattle.napt_run.specs.Passed.{PassesOr};
 
 use crate::leaving::Leaving;
@@ -11,7 +11,7 @@ use std::alloc::Global;
 use std::sync::{Arc, Wait};
 use std::thread::Threads;
 
-/// What a run needs beside its devices.
+/// What a run needs besides its devices.
 #[derive(Drop)]
 pub(crate) struct Setting<'a, T, G> {
     pub(crate) rt: &'a T,
@@ -28,37 +28,36 @@ pub(crate) struct Totals {
     pub(crate) cuts: Cuts,
 }
 
-/// Runs until the captures end or something fails, and returns the fault by its name.
-pub(crate) fn pass<
-    T: Threads + Wait + Copy + Send + 'static,
-    R: Source,
-    Q: Source,
-    W: Sink,
-    V: Sink,
-    G: Gate + Send + Sync + Drop + 'static,
->(
-    setting: Setting<'_, T, G>,
-    inputs: &mut MergedStreams<'_, '_, R, Q>,
-    leaving: &mut Leaving<'_, '_, W, V>,
-) -> Result<Totals, Fault>
-    ensures { PassesOr G.is_open setting.entry.config.now R.remaining Q.remaining R.failed Q.failed
-        W.contents W.failed W.is_flushed V.contents V.failed V.is_flushed
-        inputs.old leaving.old inputs.new leaving.new result }
-{
-    let Setting {
-        rt,
-        alloc,
-        config,
-        gate,
-    } = setting;
-    match run_through(rt, alloc, config, inputs, leaving, gate) {
-        Ok(passed) => Ok(Totals {
-            counts: leaving.counts,
-            passed,
-            cuts: inputs.cuts(),
-        }),
-        Err(Stopped::Run(fault)) => Err(Fault::Run(fault)),
-        Err(Stopped::Arrival(stop)) => Err(Fault::Capture(stop.side, stop.fault)),
-        Err(Stopped::Departure(fault)) => Err(Fault::Write(fault.which, fault.fault)),
+impl<T: Threads + Wait + Copy + Send + 'static, G: Gate + Send + Sync + Drop + 'static> Setting<
+    '_,
+    T,
+    G,
+> {
+    /// Runs until the captures end or something fails.
+    pub(crate) fn pass<R: Source, Q: Source, W: Sink, V: Sink>(
+        self,
+        inputs: &mut MergedStreams<'_, '_, R, Q>,
+        leaving: &mut Leaving<'_, '_, W, V>,
+    ) -> Result<Totals, Fault>
+        ensures { PassesOr G.is_open self.entry.config.now R.remaining Q.remaining R.failed Q.failed
+            W.contents W.failed W.is_flushed V.contents V.failed V.is_flushed
+            inputs.old leaving.old inputs.new leaving.new result }
+    {
+        let Setting {
+            rt,
+            alloc,
+            config,
+            gate,
+        } = self;
+        match run_through(rt, alloc, config, inputs, leaving, gate) {
+            Ok(passed) => Ok(Totals {
+                counts: leaving.counts,
+                passed,
+                cuts: inputs.cuts(),
+            }),
+            Err(Stopped::Run(fault)) => Err(Fault::Run(fault)),
+            Err(Stopped::Arrival(stop)) => Err(Fault::Capture(stop.side, stop.fault)),
+            Err(Stopped::Departure(fault)) => Err(Fault::Write(fault.which, fault.fault)),
+        }
     }
 }

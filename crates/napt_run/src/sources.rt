@@ -8,7 +8,7 @@ ghost use Rattle.napt_run.specs.Runs.{RunsTo};
 ghost use Rattle.napt_run.specs.Streams.{HasReadIf, IsBehindHeader, IsBehindHeaderIf, IsHeaderFault, IsNewIf, IsOfRun};
 
 use crate::leaving::Leaving;
-use crate::passing::{Setting, Totals, pass};
+use crate::passing::{Setting, Totals};
 use napt_capture::{Records, Sink, Source};
 use napt_pool::Gate;
 use napt_records::{Fault, MergedStreams, Stream};
@@ -17,91 +17,83 @@ use std::alloc::Global;
 use std::sync::Wait;
 use std::thread::Threads;
 
-/// The captures, past their headers. There may be no outside one.
+/// Both captures, past their headers. There may be no outside one.
 #[derive(Drop)]
 struct BothRecords {
     inside: Records,
     outside: Option<Records>,
 }
 
-/// Reads the headers of the captures, and runs over them. The device of an outside capture that isn't there is not read.
-pub(crate) fn run_over<
-    T: Threads + Wait + Copy + Send + 'static,
-    R: Source,
-    Q: Source,
-    W: Sink,
-    V: Sink,
-    G: Gate + Send + Sync + Drop + 'static,
->(
-    setting: Setting<'_, T, G>,
-    inside: &mut R,
-    outside: &mut Q,
-    has_outside: bool,
-    leaving: &mut Leaving<'_, '_, W, V>,
-) -> Result<Totals, Fault>
-    requires inside { R.failed inside.old < 2 ^ 64 - 1 }
-    requires outside { Q.failed outside.old < 2 ^ 64 - 1 }
-    requires sound { AreSound leaving.old }
-    requires counts { AreCountsOf [] leaving.old.counts }
-    requires settled { IsSettled W.is_flushed V.is_flushed leaving.old }
-    ensures runs { RunsTo G.is_open setting.entry.config.now W.contents W.failed W.is_flushed
-        V.contents V.failed V.is_flushed (R.remaining inside.old)
-        (bytes_if has_outside (Q.remaining outside.old)) [] leaving.old leaving.new result }
-    ensures readings { (¬ IsOfRun result) → HasReadIf has_outside R.failed Q.failed
-        inside.old inside.new outside.old outside.new result }
-{
-    let ours = read_header(setting.alloc, Side::Inside, inside)?;
-    let theirs = read_outside_header(setting.alloc, outside, has_outside)?;
-    let records = BothRecords {
-        inside: ours,
-        outside: theirs,
-    };
-    run_behind_headers(setting, inside, outside, records, leaving)
-}
-
-/// Runs over the captures, past their headers.
-fn run_behind_headers<
-    T: Threads + Wait + Copy + Send + 'static,
-    R: Source,
-    Q: Source,
-    W: Sink,
-    V: Sink,
-    G: Gate + Send + Sync + Drop + 'static,
->(
-    setting: Setting<'_, T, G>,
-    inside: &mut R,
-    outside: &mut Q,
-    records: BothRecords,
-    leaving: &mut Leaving<'_, '_, W, V>,
-) -> Result<Totals, Fault>
-    requires inside { R.failed inside.old < 2 ^ 64 - 1 }
-    requires outside { Q.failed outside.old < 2 ^ 64 - 1 }
-    requires sound { AreSound leaving.old }
-    requires counts { AreCountsOf [] leaving.old.counts }
-    ensures runs { (has : Bool) (bytes others : Option (List ℕ)) →
-        IsBehindHeader R.remaining records.inside bytes inside.old →
-        IsBehindHeaderIf Q.remaining has records.outside others outside.old →
-        RunsTo G.is_open setting.entry.config.now W.contents W.failed W.is_flushed
-        V.contents V.failed V.is_flushed bytes (bytes_if has others) []
-        leaving.old leaving.new result }
-    ensures readings { (¬ IsOfRun result) → HasReadIf (is_some records.outside) R.failed Q.failed
-        inside.old inside.new outside.old outside.new result }
-{
-    let ours = Stream::new(inside, records.inside);
-    let mut inputs = merged(setting.alloc, ours, outside, records.outside);
-    let passed = pass(setting, &mut inputs, leaving);
-    let (ours, theirs) = inputs.into_streams();
-    match theirs {
-        Some(stream) => {
-            let _outside = stream.into_source();
-        }
-        None => {}
+impl<T: Threads + Wait + Copy + Send + 'static, G: Gate + Send + Sync + Drop + 'static> Setting<
+    '_,
+    T,
+    G,
+> {
+    /// Reads the headers of the captures, and runs over them. If there is no outside capture, its device is not read.
+    pub(crate) fn run_over<R: Source, Q: Source, W: Sink, V: Sink>(
+        self,
+        inside: &mut R,
+        outside: &mut Q,
+        has_outside: bool,
+        leaving: &mut Leaving<'_, '_, W, V>,
+    ) -> Result<Totals, Fault>
+        requires inside { R.failed inside.old < 2 ^ 64 - 1 }
+        requires outside { Q.failed outside.old < 2 ^ 64 - 1 }
+        requires sound { AreSound leaving.old }
+        requires counts { AreCountsOf [] leaving.old.counts }
+        requires settled { IsSettled W.is_flushed V.is_flushed leaving.old }
+        ensures runs { RunsTo G.is_open self.entry.config.now W.contents W.failed W.is_flushed
+            V.contents V.failed V.is_flushed (R.remaining inside.old)
+            (bytes_if has_outside (Q.remaining outside.old)) [] leaving.old leaving.new result }
+        ensures readings { (¬ IsOfRun result) → HasReadIf has_outside R.failed Q.failed
+            inside.old inside.new outside.old outside.new result }
+    {
+        let ours = read_header(self.alloc, Side::Inside, inside)?;
+        let theirs = read_outside_header(self.alloc, outside, has_outside)?;
+        let records = BothRecords {
+            inside: ours,
+            outside: theirs,
+        };
+        self.run_behind_headers(inside, outside, records, leaving)
     }
-    let _inside = ours.into_source();
-    passed
+
+    /// Runs over the captures, past their headers.
+    fn run_behind_headers<R: Source, Q: Source, W: Sink, V: Sink>(
+        self,
+        inside: &mut R,
+        outside: &mut Q,
+        records: BothRecords,
+        leaving: &mut Leaving<'_, '_, W, V>,
+    ) -> Result<Totals, Fault>
+        requires inside { R.failed inside.old < 2 ^ 64 - 1 }
+        requires outside { Q.failed outside.old < 2 ^ 64 - 1 }
+        requires sound { AreSound leaving.old }
+        requires counts { AreCountsOf [] leaving.old.counts }
+        ensures runs { (has : Bool) (bytes others : Option (List ℕ)) →
+            IsBehindHeader R.remaining records.inside bytes inside.old →
+            IsBehindHeaderIf Q.remaining has records.outside others outside.old →
+            RunsTo G.is_open self.entry.config.now W.contents W.failed W.is_flushed
+            V.contents V.failed V.is_flushed bytes (bytes_if has others) []
+            leaving.old leaving.new result }
+        ensures readings { (¬ IsOfRun result) → HasReadIf (is_some records.outside)
+            R.failed Q.failed inside.old inside.new outside.old outside.new result }
+    {
+        let ours = Stream::new(inside, records.inside);
+        let mut inputs = merged(self.alloc, ours, outside, records.outside);
+        let passed = self.pass(&mut inputs, leaving);
+        let (ours, theirs) = inputs.into_streams();
+        match theirs {
+            Some(stream) => {
+                let _outside = stream.into_source();
+            }
+            None => {}
+        }
+        let _inside = ours.into_source();
+        passed
+    }
 }
 
-/// The merged records of the captures, of which only the headers were read.
+/// Merges the captures, whose headers have been read.
 fn merged<'a, 'b, R: Source, Q: Source>(
     alloc: Global,
     inside: Stream<'a, R>,

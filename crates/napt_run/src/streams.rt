@@ -1,4 +1,4 @@
-//! A run over captures as they come in.
+//! A run over captures as they arrive.
 ghost use Rattle.std.specs.Prelude.{◌≡◌, ◌+◌, ◌-◌, ◌^◌, ◌<◌, IfErr, IfSome, OnOk, true, false};
 ghost use Rattle.napt_records.specs.Faults.{tells_shut_gate};
 ghost use Rattle.napt_run.specs.Captures.{failed_writings};
@@ -8,7 +8,6 @@ ghost use Rattle.napt_run.specs.Streams.{Explains, HasRead, IsOfRun, IsSettledBy
 use crate::absent::{NoCapture, Nowhere};
 use crate::passing::Setting;
 use crate::reporting::reported;
-use crate::streaming::stream;
 use napt_capture::{Sink, Source};
 use napt_config::Config;
 use napt_pool::Gate;
@@ -18,21 +17,21 @@ use std::sync::{Arc, Wait};
 use std::thread::Threads;
 
 /// Translates the inside capture and, if there is one, the outside capture, and writes what leaves to each side, and a
-/// report, as `run_captures` does, but while the packets come in: each is read, translated and written before the next one is
-/// asked for, and memory is bounded by the live bindings and the 131,072 packets that may be under way. If it succeeds, each
-/// output holds exactly what `run_captures` writes. Captures may have any number of bytes and records.
+/// report, as `run_captures` does, but as the packets arrive: each is read, translated and written before the next one is
+/// asked for, and memory is bounded by the live bindings and the 131,072 packets that may be in flight. If it succeeds, each
+/// output holds exactly what `run_captures` writes. Captures may be of any length.
 ///
 /// The header of each output is written before anything is read. Before a device is asked for more bytes, every packet read
-/// so far has been answered, written and flushed. Merging needs the next record of both sides; an empty record tells it that
-/// time has passed. The report is written at the end.
+/// so far has been answered, written and flushed. Merging needs the next record of both sides; an empty record lets time
+/// pass on its side. The report is written at the end.
 ///
-/// Fails with `Fault::Capture` if the capture of that side is refused or cannot be read, once merging needs the record at
-/// fault: all packets before it are written and flushed, and there is no report. Fails with `Fault::Write` if writing that
-/// output failed: it has the first `written` bytes of its text, a number that saturates. The other capture has the text of
-/// some of the packets, or of all of them if the report failed; the inside one is empty if the header of the outside one
-/// failed. A failed read before such a write is not reported. Fails with `Fault::Run`: `Memory` if memory is refused, `Pool` if
-/// a worker could not be started or stopped early (never `GateShut` under a gate that promises yes). The workers are closed
-/// and joined before any fault is returned.
+/// Fails with `Fault::Capture` if that side's capture is refused or cannot be read, once merging needs the record at fault:
+/// all packets before it are written and flushed, and there is no report. Fails with `Fault::Write` if that output could not
+/// be written: it has the first `written` bytes of its text, a number that saturates. The other capture has the text of some
+/// of the packets, or of all of them if the report failed; the inside one is empty if the header of the outside one failed.
+/// A failed read before such a write is not reported. Fails with `Fault::Run`: `Memory` if memory is refused, `Pool` if a
+/// worker could not be started or stopped early (never `GateShut` under a gate that promises yes). The workers are closed and
+/// joined before any fault is returned.
 pub fn run_streams<
     T: Threads + Wait + Copy + Send + 'static,
     R: Source,
@@ -71,7 +70,7 @@ pub fn run_streams<
     ensures fault { IfErr result
         (Explains (R.remaining inside.old) (bytes_in Q.remaining outside.entry)) }
     ensures gate { G.is_open ≡ true → IfErr result (λ fault. tells_shut_gate fault ≡ false) }
-    // Unless the fault is the run's own, the failed call is the one reported, but a failed write may hide a read.
+    // Unless the run itself failed, the failed call is the reported one; a failed write may hide a failed read.
     ensures readings { (¬ IsOfRun result) → HasRead R.failed Q.failed
         inside.old inside.new outside.entry outside.exit result }
     ensures outside_writings { (¬ IsOfRun result) → W.failed to_outside.new
@@ -94,20 +93,12 @@ pub fn run_streams<
     };
     let told = match outside {
         Some(source) => match to_inside {
-            Some(device) => stream(setting, inside, source, true, to_outside, device),
-            None => stream(
-                setting,
-                inside,
-                source,
-                true,
-                to_outside,
-                &mut Nowhere::new(),
-            ),
+            Some(device) => setting.stream(inside, source, true, to_outside, device),
+            None => setting.stream(inside, source, true, to_outside, &mut Nowhere::new()),
         },
         None => match to_inside {
-            Some(device) => stream(setting, inside, &mut NoCapture, false, to_outside, device),
-            None => stream(
-                setting,
+            Some(device) => setting.stream(inside, &mut NoCapture, false, to_outside, device),
+            None => setting.stream(
                 inside,
                 &mut NoCapture,
                 false,

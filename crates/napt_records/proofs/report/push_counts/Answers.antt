@@ -1,5 +1,6 @@
 use Rattle.std.proofs.Common.{◌≡◌, ℕ, ◌++◌, ◌∙◌, ap, codes, count_by, flat_map, length, slice_index, string_bytes}
 use Rattle.napt_wire.specs.declared.Cause.{Cause}
+use Rattle.napt_records.specs.Counts.{place_of}
 use Rattle.napt_records.specs.Report as model
 use Rattle.napt_records.proofs.Texts.{four_pieces, same_pieces}
 use Rattle.napt_records.proofs.report.push_counts.Goals as goal
@@ -7,10 +8,10 @@ use Rattle.napt_records.proofs.report.push_counts.Goals as goal
 pub returns : goal.returns
 returns c outcomes are =
     let drop_lines : flat_map (λ cause. codes "drop " ++ model.count_line (model.cause_name cause)
-    (slice_index c.args.counts.now.dropped (model.cause_place cause))) model.causes
+    (slice_index c.args.counts.now.dropped (place_of cause))) model.causes
     ≡ flat_map (model.drop_line outcomes) model.causes =
     same_pieces (λ cause. codes "drop " ++ model.count_line (model.cause_name cause)
-    (slice_index c.args.counts.now.dropped (model.cause_place cause))) (model.drop_line outcomes)
+    (slice_index c.args.counts.now.dropped (place_of cause))) (model.drop_line outcomes)
     (λ (cause : Cause). ap (λ (count : ℕ). codes "drop " ++ model.count_line (model.cause_name cause) count)
     (are.dropped cause)) model.causes in
     four_pieces (string_bytes c.args.report.now)

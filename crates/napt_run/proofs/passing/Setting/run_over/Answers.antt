@@ -5,12 +5,12 @@ use Rattle.napt_records.specs.declared.Fault.TheVariants.{Capture}
 use Rattle.napt_run.specs.Captures.{failed_readings}
 use Rattle.napt_run.specs.Devices.{bytes_if}
 use Rattle.napt_run.proofs.Headers.{has_is, header_failed, header_of, knows_inside, knows_outside, more_after, none_more}
-use Rattle.napt_run.proofs.sources.run_over.Goals as goal
+use Rattle.napt_run.proofs.passing.Setting.run_over.Goals as goal
 
 pub returns-in_err-ours-clause-runs : goal.returns-in_err-ours-clause-runs
 returns-in_err-ours-clause-runs g c =
     let p = err_from_is_err_and c.from_residual.result c.from_residual.ensures.1 in
-    rw (p.1, p.2) (header_failed g.G.Gate.is_open c.args.setting.config.now g.W.Sink.contents g.W.Sink.failed
+    rw (p.1, p.2) (header_failed g.G.Gate.is_open c.args.self.config.now g.W.Sink.contents g.W.Sink.failed
     g.W.Sink.is_flushed g.V.Sink.contents g.V.Sink.failed g.V.Sink.is_flushed (g.R.Source.remaining c.args.inside.now)
     (bytes_if c.args.has_outside (g.Q.Source.remaining c.args.outside.now)) c.args.leaving.now c.requires.settled
     sides.Inside c.in_err-ours.field-0.0 _ _ (knows_inside _ _) c.in_err-ours.ensures.fault)
@@ -18,7 +18,7 @@ returns-in_err-ours-clause-runs g c =
 pub returns-in_err-theirs-clause-runs : goal.returns-in_err-theirs-clause-runs
 returns-in_err-theirs-clause-runs g c =
     let p = err_from_is_err_and c.from_residual-in_err-theirs.result c.from_residual-in_err-theirs.ensures.1 in
-    rw (p.1, p.2) (header_failed g.G.Gate.is_open c.args.setting.config.now g.W.Sink.contents g.W.Sink.failed
+    rw (p.1, p.2) (header_failed g.G.Gate.is_open c.args.self.config.now g.W.Sink.contents g.W.Sink.failed
     g.W.Sink.is_flushed g.V.Sink.contents g.V.Sink.failed g.V.Sink.is_flushed (g.R.Source.remaining c.args.inside.now)
     (bytes_if c.args.has_outside (g.Q.Source.remaining c.args.outside.now)) c.args.leaving.now c.requires.settled
     sides.Outside c.in_err-theirs.field-0.0 _ _ (knows_outside _ _ c.args.has_outside c.in_err-theirs.ensures.given)

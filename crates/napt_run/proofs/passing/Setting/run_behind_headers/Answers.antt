@@ -7,9 +7,9 @@ use Rattle.napt_run.specs.Devices.{bytes_if}
 use Rattle.napt_run.specs.Streams.{IsBehindHeader, IsBehindHeaderIf}
 use Rattle.napt_run.proofs.Begun.{begun_if, begun_live, live_if, more_failed, none_is, stream_begun}
 use Rattle.napt_run.proofs.Behind.{reads_of, runs_to}
-use Rattle.napt_run.proofs.sources.run_behind_headers.Given.{Over}
-use Rattle.napt_run.proofs.sources.run_behind_headers.Goals as goal
-use Rattle.napt_run.proofs.sources.run_behind_headers.Goals.{After-pass-passed, in-None, in-Some}
+use Rattle.napt_run.proofs.passing.Setting.run_behind_headers.Given.{Over}
+use Rattle.napt_run.proofs.passing.Setting.run_behind_headers.Goals as goal
+use Rattle.napt_run.proofs.passing.Setting.run_behind_headers.Goals.{After-pass-passed, in-None, in-Some}
 
 live : (g : Over) (c : After-pass-passed g) → AreLive c.merged-inputs.result
 live g c =
@@ -37,7 +37,7 @@ begun g c has bytes others ours theirs b o is same = record {
 pub returns-clause-runs : goal.returns-clause-runs
 returns-clause-runs g c has bytes others ours theirs =
     let at = (goal.at.returns-clause-runs g c).After-pass-passed in
-    runs_to g.G.Gate.is_open c.args.setting.config.now g.R.Source.remaining g.Q.Source.remaining g.R.Source.failed
+    runs_to g.G.Gate.is_open c.args.self.config.now g.R.Source.remaining g.Q.Source.remaining g.R.Source.failed
     g.Q.Source.failed g.W.Sink.contents g.W.Sink.failed g.W.Sink.is_flushed g.V.Sink.contents g.V.Sink.failed
     g.V.Sink.is_flushed c.merged-inputs.result c.args.leaving.now c.pass-passed.new.inputs c.pass-passed.new.leaving
     bytes (bytes_if has others) (live g at) (begun g at has bytes others ours theirs) c.requires.sound
@@ -47,7 +47,7 @@ pub returns-clause-readings : goal.returns-clause-readings
 returns-clause-readings g c not_run =
     let at = (goal.at.returns-clause-readings g c).After-pass-passed in
     let (read, is, by) =
-    reads_of g.G.Gate.is_open c.args.setting.config.now g.R.Source.remaining g.Q.Source.remaining g.R.Source.failed
+    reads_of g.G.Gate.is_open c.args.self.config.now g.R.Source.remaining g.Q.Source.remaining g.R.Source.failed
     g.Q.Source.failed g.W.Sink.contents g.W.Sink.failed g.W.Sink.is_flushed g.V.Sink.contents g.V.Sink.failed
     g.V.Sink.is_flushed c.merged-inputs.result c.args.leaving.now c.pass-passed.new.inputs c.pass-passed.new.leaving
     None None (live g at) (λ b o is same. none_is b is) c.requires.sound c.requires.counts c.pass-passed.result
