@@ -79,27 +79,30 @@ returns-in_ok-end-in-Onward c = λ state address are later at.
 
 pub returns-in-ToOutside : goal.returns-in-ToOutside
 returns-in-ToOutside c = λ state address are later at.
+    let rules : Rules = c.args.config.now in
     let left = c.in_ok-end.ensures.left state address are later at in
-    steps_once c.args.config.now address c.args.leg state c.take.new.translators c.in_ok-end.end (ToOutside c.in-ToOutside.packet)
+    steps_once rules address c.args.leg state c.take.new.translators c.in_ok-end.end (ToOutside c.in-ToOutside.packet)
     (c.in_ok-end.ensures.end state address are later at) c.in-ToOutside.is refl left c.of-seen.result c.by-went.result
-    c.passage-first.result c.of-seen.ensures c.by-went.ensures (c.passage-first.ensures c.args.config.now
-    (state_after c.args.config.now address c.args.leg state) address left (omega arith) at) c.stepped.result
-    c.stepped.ensures.outcome c.stepped.ensures.trace
+    c.passage-first.result c.of-seen.ensures c.by-went.ensures
+    (c.passage-first.ensures rules (state_after rules address c.args.leg state) address left (omega arith) at)
+    c.stepped.result c.stepped.ensures.outcome c.stepped.ensures.trace
 
 pub returns-in-ToInside : goal.returns-in-ToInside
 returns-in-ToInside c = λ state address are later at.
+    let rules : Rules = c.args.config.now in
     let left = c.in_ok-end.ensures.left state address are later at in
-    steps_once c.args.config.now address c.args.leg state c.take.new.translators c.in_ok-end.end (ToInside c.in-ToInside.packet)
+    steps_once rules address c.args.leg state c.take.new.translators c.in_ok-end.end (ToInside c.in-ToInside.packet)
     (c.in_ok-end.ensures.end state address are later at) c.in-ToInside.is refl left c.of-seen.result c.by-went.result
-    c.passage-first.result c.of-seen.ensures c.by-went.ensures (c.passage-first.ensures c.args.config.now
-    (state_after c.args.config.now address c.args.leg state) address left (omega arith) at) c.stepped-in-ToInside.result
-    c.stepped-in-ToInside.ensures.outcome c.stepped-in-ToInside.ensures.trace
+    c.passage-first.result c.of-seen.ensures c.by-went.ensures
+    (c.passage-first.ensures rules (state_after rules address c.args.leg state) address left (omega arith) at)
+    c.stepped-in-ToInside.result c.stepped-in-ToInside.ensures.outcome c.stepped-in-ToInside.ensures.trace
 
 pub returns-in-Dropped : goal.returns-in-Dropped
 returns-in-Dropped c = λ state address are later at.
+    let rules : Rules = c.args.config.now in
     let left = c.in_ok-end.ensures.left state address are later at in
-    steps_once c.args.config.now address c.args.leg state c.take.new.translators c.in_ok-end.end (Dropped c.in-Dropped.cause)
+    steps_once rules address c.args.leg state c.take.new.translators c.in_ok-end.end (Dropped c.in-Dropped.cause)
     (c.in_ok-end.ensures.end state address are later at) c.in-Dropped.is refl left c.of-seen.result c.by-went.result
-    c.passage-first.result c.of-seen.ensures c.by-went.ensures (c.passage-first.ensures c.args.config.now
-    (state_after c.args.config.now address c.args.leg state) address left (omega arith) at) c.stepped-in-Dropped.result
-    c.stepped-in-Dropped.ensures.outcome c.stepped-in-Dropped.ensures.trace
+    c.passage-first.result c.of-seen.ensures c.by-went.ensures
+    (c.passage-first.ensures rules (state_after rules address c.args.leg state) address left (omega arith) at)
+    c.stepped-in-Dropped.result c.stepped-in-Dropped.ensures.outcome c.stepped-in-Dropped.ensures.trace
