@@ -41,7 +41,7 @@ pub trait Arrivals {
 pub enum NoFault {}
 
 impl Arrivals for VecDeque<Input> {
-    ghost use Rattle.std.specs.Prelude.{refl};
+    ghost use Rattle.std.specs.Prelude.{◌≡◌, false, refl};
     ghost use Rattle.napt_sequential.specs.Inputs.{fronts_join};
 
     type Fault = NoFault;
@@ -56,7 +56,9 @@ impl Arrivals for VecDeque<Input> {
 
     ghost hands_more = { λ x y z xs ys first second. fronts_join x.items y.items z.items xs ys first second };
 
-    fn asks_device(&self) -> bool {
+    fn asks_device(&self) -> bool
+        ensures { result ≡ false }
+    {
         false
     }
 
