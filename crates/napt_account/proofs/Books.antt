@@ -145,8 +145,11 @@ module _ (now most : ℕ) (es : List Entry) (places : Places) (kept : AreKept no
 
 pub kept_set : (now most : ℕ) (es : List Entry) (places : Places) → AreKept now most es places → (w : Row) (i : ℕ)
     (e : Entry) → slice_get es i ≡ Some e → is_of now w e ≡ true → (x : Entry) → x.binding ≡ e.binding →
-    x.sent ≤ most + 1 → x.received ≤ most + 1 → AreKept now (most + 1) (set es i x) places
-kept_set now most es places kept w i e at passed x same sent received =
+    x.sent ≤ e.sent + 1 → x.received ≤ e.received + 1 → AreKept now (most + 1) (set es i x) places
+kept_set now most es places kept w i e at passed x same one_sent one_received =
+    let few = kept.few i e at in
+    let sent : x.sent ≤ most + 1 = omega (arith, few.0) in
+    let received : x.received ≤ most + 1 = omega (arith, few.1) in
     let opened : is_before now e.end ≡ true = (and_parts _ _ passed).0 in
     let within : i < length es = slice_get_within es i e at in
     let placed : place_at places x.binding.protocol x.binding.external ≡ Some i =
@@ -178,7 +181,7 @@ kept_set now most es places kept w i e at passed x same sent received =
       ] refl;
     }
 
--- another place was put
+-- a place was set
 abbrev pub IsPut : Row → ℕ → Places → Places → Type 0
 IsPut r place old new = (p : Protocol) (e : Endpoint) → place_at new p e
     ≡ cond (same_protocol r.protocol p && same_endpoint r.external e) (Some place) (place_at old p e)

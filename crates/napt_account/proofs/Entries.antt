@@ -1,5 +1,4 @@
--- The entries that have not ended are the bindings that live, each with its end; a step keeps that, and leaves the
--- past.
+-- The open entries are the live bindings, each with its end; a step keeps it so, and does not change the past.
 use Rattle.std.proofs.Common.{◌≡◌, ℕ, ◌<◌, ◌≤◌, Bool, true, false, not, ◌&&◌, ◌||◌, cond, List, [], ◌∷◌, ◌++◌, map, Option, Some, None, refl, sym, ◌∙◌, ap, subst, arith, append-nil}
 use Rattle.std.specs.Prelude.{filter, find, nat_le}
 use Rattle.std.specs.List.{list_any}

@@ -1,4 +1,4 @@
--- A place that was put.
+-- A place that was set.
 use Rattle.std.proofs.Common.{◌≡◌, ℕ, false, ◌&&◌, cond, Some, refl, sym, ◌∙◌, ap}
 use Rattle.napt_wire.specs.declared.Protocol.{Protocol}
 use Rattle.napt_wire.specs.declared.Protocol.TheVariants.{Icmp, Tcp, Udp}
@@ -23,7 +23,7 @@ put_own Udp old new external place put others Icmp e = others Icmp refl e
 put_own Udp old new external place put others Tcp e = others Tcp refl e
 put_own Udp old new external place put others Udp e = put e
 
--- the map of one protocol has a place put, and the others are as they were
+-- the map of one protocol has a place set, and the others are unchanged
 pub put_at : (at protocol : Protocol) → protocol ≡ at → (old new : Places) (external : Endpoint) (place : ℕ) →
     ((e : Endpoint) → place_at new at e ≡ cond (pair_eq (external.address, external.number) (e.address, e.number))
     (Some place) (place_at old at e)) → ((p : Protocol) → same_protocol at p ≡ false → (e : Endpoint)

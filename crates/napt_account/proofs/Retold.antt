@@ -1,4 +1,4 @@
--- The entries of a run are those that its traces tell, leg by leg.
+-- The entries of a run are those that its traces make, leg by leg.
 use Rattle.std.proofs.Common.{◌≡◌, ℕ, ◌+◌, ◌≤◌, max, Bool, true, false, not, ◌&&◌, ◌||◌, cond, List, [], ◌∷◌, ◌++◌, length, map, Option, Some, None, Result, Ok, Err, refl, sym, ◌∙◌, ap, subst, arith, append-nil}
 use Rattle.std.specs.Prelude.{find, filter, IfSome}
 use Rattle.std.specs.Option.{option_map}
@@ -141,7 +141,7 @@ none_shares (x ∷ xs) w apart =
     ap (λ v. v || list_any (shares w) xs) (apart_shares x w (last_of (AreRowsApart x) xs w apart.0))
     ∙ none_shares xs w apart.1
 
--- WHAT A FIRST LEG TELLS LIVES, AND A SECOND GOES OUT THROUGH NO BINDING
+-- THE BINDING OF A FIRST LEG IS LIVE, AND A SECOND LEG GOES OUT THROUGH NONE
 
 in_not_out : (o : Option TimedRow) → IsNotOut (in_through o)
 in_not_out None = tt
@@ -159,7 +159,7 @@ module _ (timers : Timers) (now : ℕ) (list : List Binding) where
       IsNotOut (passage_by timers now list address (seen_of packet) None (went_by e))
   error_ended address packet e = tt
 
-  -- what is told of a packet that went out is in the list
+  -- the binding of a packet that went out is in the list
   seen_there : (p : Binding → Bool) (o : Option Binding) → find p (living timers now list) ≡ o → (c : Binding) →
       option_map (with_live_flows timers now) o ≡ Some c →
       list_any (is_row (row c)) (map row (living timers now list)) ≡ true

@@ -1,4 +1,4 @@
--- The shortages of a run are those that its traces tell; the times of the traces do not fall.
+-- The shortages of a run are those of its traces; the times of the traces never decrease.
 use Rattle.std.proofs.Common.{◌≡◌, ℕ, ◌+◌, max, List, [], ◌∷◌, ◌++◌, length, Option, Some, None, refl, sym, ◌∙◌, ap, arith, append-nil, append_assoc}
 use Rattle.std.specs.Prelude.{flat_map}
 use Rattle.std.specs.Option.{option_map}

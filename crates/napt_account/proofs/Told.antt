@@ -1,26 +1,21 @@
--- The rows that a run tells, one nanosecond or more after its last input, are those that the log of all inputs names
--- then.
+-- The bindings of the run over the inputs up to a time are those that the log of all inputs names then.
 use Rattle.std.proofs.Common.{◌≡◌, ℕ, ◌+◌, ◌≤◌, max, Bool, true, false, ◌&&◌, ◌||◌, cond, ◌==◌, zero, suc, ◌<◌, length, take, drop, get_or, List, [], ◌∷◌, ◌++◌, map, Result, Err, refl, sym, ◌∙◌, ap, arith}
-use Rattle.std.specs.Prelude.{filter, flat_map, nat_le}
+use Rattle.std.specs.Prelude.{flat_map, nat_le}
 use Rattle.std.specs.List.{list_any}
 use Rattle.std.proofs.lemmas.Bool.Decides.{nat_tests}
 use Rattle.napt_wire.specs.declared.Side.TheVariants.{Outside}
 use Rattle.napt_wire.specs.declared.Cause.{Cause}
 use Rattle.napt_wire.specs.declared.Cause.TheVariants.{Truncated}
-use Rattle.napt_wire.specs.declared.Protocol.{Protocol}
-use Rattle.napt_wire.specs.declared.Endpoint.{Endpoint}
 use Rattle.napt_wire.specs.Reading.{reading}
 use Rattle.napt_config.specs.Rules.{Rules, KeepsRules, pair_of, has}
 use Rattle.napt_config.specs.declared.settings.Timers.{Timers}
 use Rattle.napt_config.proofs.Pools.{paired_in_pool}
-use Rattle.napt_rules.specs.Prelude.{Binding, Each, same_protocol, same_endpoint, is_at, of, is_live, purge, opening, Arrival, admission_as, row, put, in_order, rows, first_leg, step_as, step, run_from, run, last_clock, ran, IsPaired, IsSound, RunsAreSound}
-use Rattle.napt_rules.proofs.Lists.{any_narrow}
+use Rattle.napt_rules.specs.Prelude.{Binding, Each, is_at, of, is_live, purge, opening, Arrival, admission_as, row, put, in_order, rows, first_leg, step_as, step, run_from, run, last_clock, ran, IsPaired, IsSound, RunsAreSound}
 use Rattle.napt_laws.proofs.Lists.{each_weaker}
 use Rattle.napt_rules.specs.declared.Row.{Row}
 use Rattle.napt_account.specs.Fronts.{nothing_at, came_by, IsFrontAt}
 use Rattle.napt_account.specs.Log.{living, log_of}
-use Rattle.napt_account.specs.Passages.{has_ends}
-use Rattle.napt_account.specs.Attribution.{is_held, is_named, LogNamesTheHolders}
+use Rattle.napt_account.specs.Attribution.{standing_rows, LogListsTheLiving}
 use Rattle.napt_account.proofs.Lists.{any_joined, any_seen_of, any_among, each_shown}
 use Rattle.napt_account.proofs.Steps.{rows_purge}
 
@@ -121,49 +116,33 @@ clock_then : (clock at : ℕ) (front : List Arrival) → last_clock clock front 
 clock_then clock at [] le = omega (arith, le)
 clock_then clock at (input ∷ front) le = clock_then (max clock input.clock) at front le
 
--- the rows that the run over a front tells at a time, asked for one protocol and two endpoints
+-- the rows that the run over a front has at a time, by any test
 pub told_at : (rules : Rules) → KeepsRules rules → (front : List Arrival) (at : ℕ) → last_clock 0 front ≤ at →
-    IsSound (pair_of rules) (run rules front (opening rules)).list →
-    (protocol : Protocol) (inside external : Endpoint) →
-    list_any (has_ends protocol inside external) (ran rules (front ++ nothing_at at ∷ [])).bindings
-    ≡ is_held rules.timers at protocol inside external (run rules front (opening rules)).list
+    IsSound (pair_of rules) (run rules front (opening rules)).list → (test : Row → Bool) →
+    list_any test (ran rules (front ++ nothing_at at ∷ [])).bindings
+    ≡ list_any (λ b. test (row b) && is_live rules.timers at b) (run rules front (opening rules)).list
 unfolding ran
-told_at rules keeps front at le sound protocol inside external =
-    let q : Row → Bool = has_ends protocol inside external in
+told_at rules keeps front at le sound test =
     let list : List Binding = (run rules front (opening rules)).list in
-    ap (λ (now : ℕ). list_any q (flat_map (λ address. rows rules.timers now
+    ap (λ (now : ℕ). list_any test (flat_map (λ address. rows rules.timers now
     (of address (run rules (front ++ nothing_at at ∷ []) (opening rules)).list)) rules.pool))
     (clock_then 0 at front le)
-    ∙ (ap (λ (left : List Binding). list_any q (flat_map (λ address. rows rules.timers at (of address left))
+    ∙ (ap (λ (left : List Binding). list_any test (flat_map (λ address. rows rules.timers at (of address left))
     rules.pool)) (left_alone rules 0 0 at front (opening rules))
-    ∙ any_all q rules.timers at list rules.pool (at_the_pool rules keeps list sound))
+    ∙ any_all test rules.timers at list rules.pool (at_the_pool rules keeps list sound))
 
--- ONE EXTERNAL ENDPOINT
-
-end_of_both : (a b c : Bool) → (a && (b && c)) ≡ true → c ≡ true
-end_of_both true true c h = h
-end_of_both true false c h = cc
-end_of_both false b c h = cc
-
--- rows of other external endpoints answer nothing
-pub any_of_external : (protocol : Protocol) (inside external : Endpoint) (rs : List Row) →
-    list_any (has_ends protocol inside external) (filter (λ r. same_endpoint external r.external) rs)
-    ≡ list_any (has_ends protocol inside external) rs
-any_of_external protocol inside external rs =
-    any_narrow (λ (r : Row). same_endpoint external r.external) (has_ends protocol inside external) rs
-    (λ r h. end_of_both (same_protocol protocol r.protocol) (same_endpoint inside r.inside)
-    (same_endpoint external r.external) h)
-
--- what the run over a front tells is what the log of all inputs names
-pub told_is_named : (rules : Rules) → KeepsRules rules → LogNamesTheHolders → RunsAreSound → (at : ℕ)
-    (inputs cut : List Arrival) → IsFrontAt at inputs cut → (protocol : Protocol) (inside external : Endpoint) →
-    list_any (has_ends protocol inside external) (ran rules cut).bindings
-    ≡ is_named at protocol inside external (log_of rules inputs).entries
-told_is_named rules keeps names sound at inputs cut is protocol inside external =
-    ap (λ (given : List Arrival). list_any (has_ends protocol inside external) (ran rules given).bindings) is.is_cut
-    ∙ (told_at rules keeps is.front at is.by (sound rules keeps is.front) protocol inside external
-    ∙ (names rules keeps is.front is.rest at is.by is.next protocol inside external
-    ∙ ap (λ (given : List Arrival). is_named at protocol inside external (log_of rules given).entries) (sym is.all)))
+-- what the run over a front has is what the log of all inputs names
+pub told_is_named : (rules : Rules) → KeepsRules rules → LogListsTheLiving → RunsAreSound → (at : ℕ)
+    (inputs cut : List Arrival) → IsFrontAt at inputs cut → (test : Row → Bool) →
+    list_any test (ran rules cut).bindings ≡ list_any test (standing_rows at (log_of rules inputs).entries)
+told_is_named rules keeps lists sound at inputs cut is test =
+    let list : List Binding = (run rules is.front (opening rules)).list in
+    ap (λ (given : List Arrival). list_any test (ran rules given).bindings) is.is_cut
+    ∙ (told_at rules keeps is.front at is.by (sound rules keeps is.front) test
+    ∙ (sym (any_among (λ b. test (row b)) (is_live rules.timers at) list)
+    ∙ (sym (any_seen_of test row (living rules.timers at list))
+    ∙ (ap (list_any test) (lists rules keeps is.front is.rest at is.by is.next)
+    ∙ ap (λ (given : List Arrival). list_any test (standing_rows at (log_of rules given).entries)) (sym is.all)))))
 
 -- FRONTS
 

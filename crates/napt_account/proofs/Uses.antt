@@ -1,4 +1,4 @@
--- What a packet did to the bindings, leg by leg, and what the logs before it and after it tell of that.
+-- What a packet did to the bindings, leg by leg, by the logs before and after it.
 use Rattle.std.proofs.Common.{◌≡◌, ℕ, zero, suc, ◌+◌, max, Bool, true, false, ◌||◌, cond, List, [], ◌∷◌, ◌++◌, length, map, set, Option, Some, None, refl, sym, ◌∙◌, ap, subst, arith}
 use Rattle.std.specs.Prelude.{nat_lt}
 use Rattle.std.specs.Option.{option_map, option_or}
@@ -107,7 +107,7 @@ use_of before others out into out_is into_is =
 pub none_used : (es : List Entry) → use_between es es ≡ use_by es None None
 none_used es = use_of es es None None (grown_same (map sent es)) (grown_same (map received es))
 
--- an entry with one packet more that went out, with one more that came in, and a new one
+-- an entry with one more packet sent, with one more received, and a new one
 sent_used : (es : List Entry) (i : ℕ) (e x : Entry) → slice_get es i ≡ Some e → x.sent ≡ e.sent + 1 →
     x.received ≡ e.received → use_between es (set es i x) ≡ use_by es (Some i) None
 sent_used es i e x at more same = use_of es (set es i x) (Some i) None
@@ -136,7 +136,7 @@ made_used es x one none = use_of es (es ++ x ∷ []) (Some (length es)) None (ma
     (ap (grown (map received es)) (map_joined received es (x ∷ []) ∙ ap (λ n. map received es ++ n ∷ []) none)
     ∙ (sym (grown_zero (map received es) (map received es ++ 0 ∷ [])) ∙ grown_same (map received es ++ 0 ∷ [])))
 
--- what such a leg tells of its packet
+-- the use that such a leg makes
 pub found_out : (es : List Entry) (i : ℕ) (e x : Entry) (n : Note) → slice_get es i ≡ Some e → n ≡ noted_by (Some e) →
     x.sent ≡ e.sent + 1 → x.received ≡ e.received → used_as n (Some i) None ≡ use_between es (set es i x)
 found_out es i e x n at noted_is more same =

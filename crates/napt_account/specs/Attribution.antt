@@ -6,6 +6,7 @@ use Rattle.napt_wire.specs.declared.Endpoint.{Endpoint}
 use Rattle.napt_config.specs.Rules.{Rules, KeepsRules}
 use Rattle.napt_config.specs.declared.settings.Timers.{Timers}
 use Rattle.napt_rules.specs.Prelude.{Binding, is_live, opening, Arrival, row, run, last_clock}
+use Rattle.napt_rules.specs.declared.Row.{Row}
 use Rattle.napt_account.specs.declared.log.Entry.{Entry}
 use Rattle.napt_account.specs.Passages.{has_ends}
 use Rattle.napt_account.specs.Log.{log_of, stands_at}
@@ -25,6 +26,10 @@ abbrev pub is_named : ℕ → Protocol → Endpoint → Endpoint → List Entry 
 is_named now protocol inside external entries =
     list_any (λ e. has_ends protocol inside external e.binding && stands_at now e) entries
 
+-- the rows of the entries that were made by a time and have not ended by then
+abbrev pub standing_rows : ℕ → List Entry → List Row
+standing_rows now entries = map (λ e. e.binding) (filter (stands_at now) entries)
+
 -- after every front of the inputs, and at each time up to the next input's, a binding lives exactly where the log of
 -- all inputs names it
 abbrev pub LogNamesTheHolders : Type 0
@@ -39,4 +44,4 @@ abbrev pub LogListsTheLiving : Type 0
 LogListsTheLiving = (rules : Rules) → KeepsRules rules → (front rest : List Arrival) (now : ℕ) →
     last_clock 0 front ≤ now → IsBeforeNext now rest →
     map row (filter (is_live rules.timers now) (run rules front (opening rules)).list)
-    ≡ map (λ e. e.binding) (filter (stands_at now) (log_of rules (front ++ rest)).entries)
+    ≡ standing_rows now (log_of rules (front ++ rest)).entries

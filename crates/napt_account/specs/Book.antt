@@ -1,6 +1,4 @@
--- How entries change leg by leg: an open entry of the binding that the packet went through changes, and where
--- there is
--- none, one begins.
+-- How entries change leg by leg: a packet changes the open entry of its binding, or begins one if there is none.
 use Rattle.std.specs.Prelude.{ℕ, ◌+◌, Bool, ◌&&◌, cond, List, [], ◌∷◌, ◌++◌, map, Option}
 use Rattle.std.specs.List.{list_any, fold}
 use Rattle.std.specs.Option.{option_or}

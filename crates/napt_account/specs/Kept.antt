@@ -1,4 +1,4 @@
--- What the log keeps while it is written.
+-- What holds of the log as it is written.
 use Rattle.std.specs.Prelude.{◌≡◌, ℕ, ◌≤◌, true, List, [], ◌∷◌, Some}
 use Rattle.std.specs.List.{slice_get}
 use Rattle.napt_binding.specs.Ends.{is_before}
@@ -21,8 +21,8 @@ abbrev pub IsIndex : List Entry → Places → Type 0
 IsIndex entries places = (protocol : Protocol) (external : Endpoint) →
     place_at places protocol external ≡ last_place (is_at protocol external) entries
 
--- an entry that has not ended by a time is the latest of its external endpoint, each of these has its last entry, and
--- none has more than so many packets either way
+-- an entry that has not ended by a time is the last of its external endpoint; each endpoint has the place of its last
+-- entry; and no entry counts more than `most` packets either way
 pub record AreKept (now most : ℕ) (entries : List Entry) (places : Places) : Type 0 where
   pub latest : (i : ℕ) (e : Entry) → slice_get entries i ≡ Some e → is_before now e.end ≡ true →
       place_at places e.binding.protocol e.binding.external ≡ Some i
@@ -32,23 +32,23 @@ pub record AreKept (now most : ℕ) (entries : List Entry) (places : Places) : T
 abbrev pub IsBook : ℕ → ℕ → Book → Type 0
 IsBook now most book = AreKept now most book.log.entries.items book.latest
 
--- the entry at a place has not ended and has the external endpoint of a row
-abbrev pub StandsAt : ℕ → Row → ℕ → List Entry → Type 0
-StandsAt now wanted place entries = (e : Entry) × (slice_get entries place ≡ Some e) × (is_of now wanted e ≡ true)
+-- the entry at a place is this one, has not ended and has the external endpoint of a row
+abbrev pub StandsAt : ℕ → Row → ℕ → Entry → List Entry → Type 0
+StandsAt now wanted place entry entries = (slice_get entries place ≡ Some entry) × (is_of now wanted entry ≡ true)
 
--- the times of the traces do not fall, from a clock on
+-- the times of the traces never decrease, from a clock on
 abbrev pub AreInTime : ℕ → List Trace → Type 0
 AreInTime clock [] = Unit {0}
 AreInTime clock (trace ∷ traces) = (clock ≤ trace.now) × AreInTime trace.now traces
 
--- what went through no binding as it went out
+-- it did not go out through a binding
 abbrev pub IsNotOut : Passage → Type 0
 IsNotOut Nothing = Unit {0}
 IsNotOut (Out timed) = ⊥
 IsNotOut (In timed) = Unit {0}
 IsNotOut (Dropped loss) = Unit {0}
 
--- what went through none
+-- it went through no binding
 abbrev pub IsIdle : Passage → Type 0
 IsIdle Nothing = Unit {0}
 IsIdle (Out timed) = ⊥

@@ -1,8 +1,8 @@
 -- The log of a run: an entry for each binding that was ever made, redirects too, in the order in which they were made,
--- and what packets got none.
+-- and the packets that got none.
 --
--- RFC 6888, section 4: who had which external endpoint at a time can be told afterwards. RFC 8158: a host that has its
--- quota and a pool that has no port left are events of their own.
+-- RFC 6888, section 4: it can be found out afterwards who had which external endpoint at a time. RFC 8158: that a host
+-- has its quota, and that a pool has no port left, are events of their own.
 use Rattle.std.specs.Prelude.{ℕ, ◌+◌, nat_lt, nat_le, max, Bool, true, false, not, ◌&&◌, cond, List, [], ◌∷◌, ◌++◌, map, filter, find, flat_map, Option, Some, None}
 use Rattle.std.specs.List.{list_any}
 use Rattle.napt_wire.specs.declared.Protocol.{Protocol}
@@ -49,7 +49,7 @@ abbrev pub made_between : Timers → ℕ → List Binding → List Binding → L
 made_between timers now before after =
     filter (λ b. not (list_any (has_row (row b)) (living timers now before))) (living timers now after)
 
--- the end of an entry, told anew from its binding as a step at a time left it
+-- the end of an entry, updated from its binding after a step at a time
 abbrev pub end_by_found : Timers → Option ℕ → Option Binding → Option ℕ
 end_by_found timers end None = end
 end_by_found timers end (Some binding) = end_of timers binding

@@ -1,8 +1,7 @@
--- What each packet of a run did to the bindings: what the log has after it that it had not before it.
+-- What each packet of a run did to the bindings, by the logs before and after it.
 --
--- An entry with a packet more that went out is the one that the packet went out through, one with a packet more that
--- came in the one that it came in through. A packet made the binding whose entry was not there before it, and found any
--- other.
+-- It went out through the entry whose count of sent packets grew, and came in through the one whose count of received
+-- packets grew. It made the binding if the entry is new, and found it if not.
 use Rattle.std.specs.Prelude.{ℕ, suc, nat_lt, cond, List, [], ◌∷◌, ◌++◌, map, Option, Some, None}
 use Rattle.std.specs.Option.{option_map, option_or}
 use Rattle.std.specs.List.{slice_get}
@@ -27,7 +26,7 @@ out_between before after = grown (map (λ e. e.sent) before) (map (λ e. e.sent)
 abbrev pub in_between : List Entry → List Entry → Option ℕ
 in_between before after = grown (map (λ e. e.received) before) (map (λ e. e.received) after)
 
--- what a packet did to a binding by the entry that this had before it
+-- what a packet did to a binding, by the binding's entry before it
 abbrev pub noted_by : Option Entry → Note
 noted_by None = Made
 noted_by (Some entry) = cond entry.binding.fixed Redirect Found

@@ -30,7 +30,7 @@ pub enum Note {
     Redirect,
 }
 
-/// What a packet did to the bindings, and where the log has their entries.
+/// What a packet did to the bindings, and which entries of the log are theirs.
 #[derive(Clone, Copy, Debug, PartialEq, Eq)]
 pub struct Use {
     /// What it did to the binding that it used first.

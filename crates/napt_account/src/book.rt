@@ -1,4 +1,4 @@
-//! The log while it is written, input by input.
+//! The log as it is written, input by input.
 
 ghost use Rattle.std.specs.Prelude.{◌≡◌, ◌+◌, ◌<◌, ◌≤◌, ◌^◌, ◌++◌, ℕ, [], ◌∷◌, false, length, map, flat_map, Some, IfOk, OnOk, IfSome, IfNone};
 ghost use Rattle.std.specs.List.{list_any, fold};
@@ -93,7 +93,7 @@ fn is_shortage(cause: Cause) -> bool
     matches!(cause, Cause::OverQuota | Cause::NoPort)
 }
 
-/// What a packet did that found its binding.
+/// What a packet did to a binding that was there before it.
 fn found(entry: Entry) -> Note
     ensures { result ≡ uses.noted_by (Some entry) }
 {
@@ -128,7 +128,7 @@ fn both_uses(first: Use, second: Use) -> Use
 impl Book {
     ghost use Rattle.napt_account.specs.Kept.{IsBook, StandsAt};
 
-    /// A log that has the redirects.
+    /// Begins a log with the redirects.
     pub(crate) fn begin(alloc: Global, config: &Config) -> Result<Book, AllocError>
         ensures entries { IfOk result (λ book. book.log.entries.items
             ≡ map (begun config.now.timers 0) (opening config.now)) }
@@ -174,23 +174,25 @@ impl Book {
         Ok(place)
     }
 
-    /// The place of the entry of an external endpoint that has not ended by a time, in ns.
-    fn place_of(&self, now: u64, row: Row) -> Option<usize>
+    /// The entry of an external endpoint that has not ended by a time, in ns, and its place.
+    fn open_entry(&self, now: u64, row: Row) -> Option<(usize, Entry)>
         requires { (most : ℕ) × IsBook now most self.now }
-        ensures some { IfSome result (λ place. StandsAt now row place self.now.log.entries.items) }
+        ensures some { IfSome result (λ found.
+            StandsAt now row found.0 found.1 self.now.log.entries.items) }
+        ensures within { IfSome result (λ found. found.0 < length self.now.log.entries.items) }
         ensures none { IfNone result
             (list_any (books.is_of now row) self.now.log.entries.items ≡ false) }
     {
         let place = self.latest.get(row.protocol, row.external)?;
         let entry = self.log.entries.get(place)?;
         if is_of(now, row, *entry) {
-            Some(place)
+            Some((place, *entry))
         } else {
             None
         }
     }
 
-    /// Counts a packet that went out through the binding, which then has this end; returns what it did to it.
+    /// Counts a packet that left through the binding, which now has this end; returns what it did to the binding.
     fn go_out(&mut self, now: u64, timed: TimedRow) -> Result<Use, AllocError>
         requires { (most : ℕ) × IsBook now most self.old × (most + 1 < 2 ^ 64) }
         ensures entries { OnOk result (self.new.log.entries.items
@@ -201,42 +203,29 @@ impl Book {
         ensures uses { IfOk result (λ used. used ≡ use_between
             self.old.log.entries.items self.new.log.entries.items) }
     {
-        match self.place_of(now, timed.row) {
-            Some(place) => {
-                let entry = self.log.entries[place];
-                self.log.entries[place] = Entry {
-                    end: timed.end,
-                    sent: entry.sent + 1,
-                    last: now,
-                    last_sent: now,
-                    ..entry
-                };
-                Ok(Use {
-                    note: found(entry),
-                    out: Some(place),
-                    into: None,
-                })
-            }
-            None => {
-                let made = self.put(Entry {
-                    binding: timed.row,
-                    made: now,
-                    end: timed.end,
-                    sent: 1,
-                    received: 0,
-                    last: now,
-                    last_sent: now,
-                })?;
-                Ok(Use {
-                    note: Note::Made,
-                    out: Some(made),
-                    into: None,
-                })
-            }
-        }
+        let Some((place, entry)) = self.open_entry(now, timed.row) else {
+            let made = self.put(Entry::by_packet(now, timed))?;
+            return Ok(Use {
+                note: Note::Made,
+                out: Some(made),
+                into: None,
+            });
+        };
+        self.log.entries[place] = Entry {
+            end: timed.end,
+            sent: entry.sent + 1,
+            last: now,
+            last_sent: now,
+            ..entry
+        };
+        Ok(Use {
+            note: found(entry),
+            out: Some(place),
+            into: None,
+        })
     }
 
-    /// Counts a packet that came in through the binding, which then has this end; returns what it did to it.
+    /// Counts a packet that came in through the binding, which now has this end; returns what it did to the binding.
     fn come_in(&mut self, now: u64, timed: TimedRow) -> Use
         requires { (most : ℕ) × IsBook now most self.old × (most + 1 < 2 ^ 64) }
         ensures entries { self.new.log.entries.items
@@ -246,10 +235,9 @@ impl Book {
         ensures uses { result ≡ use_between
             self.old.log.entries.items self.new.log.entries.items }
     {
-        let Some(place) = self.place_of(now, timed.row) else {
+        let Some((place, entry)) = self.open_entry(now, timed.row) else {
             return NO_USE;
         };
-        let entry = self.log.entries[place];
         self.log.entries[place] = Entry {
             end: timed.end,
             received: entry.received + 1,
@@ -263,7 +251,7 @@ impl Book {
         }
     }
 
-    /// Notes that a packet was dropped, if no binding could be made for it.
+    /// Records the loss of a packet, if no binding could be made for it.
     fn lose(&mut self, now: u64, loss: Loss) -> Result<(), AllocError>
         ensures entries { self.new.log.entries.items ≡ self.old.log.entries.items }
         ensures latest { self.new.latest ≡ self.old.latest }
@@ -281,7 +269,7 @@ impl Book {
         Ok(())
     }
 
-    /// Enters one leg; returns what it did to the bindings.
+    /// Records one leg; returns what it did to the bindings.
     fn pass(&mut self, now: u64, passage: Passage) -> Result<Use, AllocError>
         requires { (most : ℕ) × IsBook now most self.old × (most + 1 < 2 ^ 64) }
         ensures entries { OnOk result (self.new.log.entries.items
@@ -322,7 +310,7 @@ impl Book {
         Ok(both_uses(first, second))
     }
 
-    /// Enters the legs of all inputs; returns what they did, input by input.
+    /// Records the legs of all inputs; returns what they did, input by input.
     pub(crate) fn tell_all(
         &mut self,
         alloc: Global,

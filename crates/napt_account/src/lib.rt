@@ -1,5 +1,5 @@
-//! The account of a run: the sequential run over its inputs, what each packet did to the bindings, and how long each binding lived;
-//! and the log of a run, which is proved to name whoever had an external endpoint.
+//! The account of a run: the sequential run over its inputs, what each packet did to the bindings, and how long each
+//! binding lived; and the log of a run, which is proved to name whoever had an external endpoint.
 #![tactic(auto)]
 
 mod account;

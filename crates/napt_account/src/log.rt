@@ -9,7 +9,7 @@ ghost use Rattle.napt_binding.specs.Ends.{EndsAreFirst};
 use crate::account::account_of;
 use napt_config::Config;
 use napt_sequential::{Input, RunFault};
-use napt_table::{Row, opening_is_sound, steps_leave_live, steps_stay_sound};
+use napt_table::{Row, TimedRow, opening_is_sound, steps_leave_live, steps_stay_sound};
 use napt_wire::{Cause, Protocol, packets_carry_numbers};
 use std::alloc::Global;
 
@@ -31,6 +31,25 @@ pub struct Entry {
     pub last: u64,
     /// When a packet last went out through it; 0 for a redirect if none has.
     pub last_sent: u64,
+}
+
+impl Entry {
+    ghost use Rattle.napt_account.specs.Book.{made_by};
+
+    /// The entry of a binding that a packet made at a time, in ns, and left through.
+    pub(crate) fn by_packet(now: u64, timed: TimedRow) -> Entry
+        ensures { result ≡ made_by now timed }
+    {
+        Entry {
+            binding: timed.row,
+            made: now,
+            end: timed.end,
+            sent: 1,
+            received: 0,
+            last: now,
+            last_sent: now,
+        }
+    }
 }
 
 /// An outgoing packet for which no binding could be made: its host has its quota, or each number of

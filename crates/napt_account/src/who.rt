@@ -1,18 +1,15 @@
 //! Who had an external endpoint at a time (RFC 6888, section 4; RFC 6269, section 12).
 
-ghost use Rattle.std.specs.Prelude.{◌≡◌, ◌≢◌, ◌↔◌, ◌+◌, ◌<◌, ◌≤◌, ◌^◌, length, take, drop, filter, IfOk, Err};
+ghost use Rattle.std.specs.Prelude.{◌≡◌, ◌≢◌, ◌↔◌, ◌+◌, ◌<◌, ◌≤◌, ◌^◌, Bool, length, take, drop, filter, AllPairs, IfOk, Err};
 ghost use Rattle.std.specs.List.{list_any};
-ghost use Rattle.napt_wire.specs.declared.Protocol.{Protocol};
-ghost use Rattle.napt_wire.specs.declared.Endpoint.{Endpoint};
-ghost use Rattle.napt_rules.specs.Prelude.{same_endpoint, last_clock};
+ghost use Rattle.napt_rules.specs.Prelude.{same_endpoint, AreRowsApart, last_clock};
 ghost use Rattle.napt_account.specs.Fronts.{IsFrontAt, came_by};
-ghost use Rattle.napt_account.specs.Passages.{has_ends};
 ghost use Rattle.napt_account.specs.Log.{log_of};
-ghost use Rattle.napt_account.specs.Attribution.{IsBeforeNext, is_named};
+ghost use Rattle.napt_account.specs.Attribution.{IsBeforeNext, standing_rows};
 
 use crate::log::log_attributes;
 use napt_config::Config;
-use napt_sequential::{Input, RunFault, run_plain, runs_are_sound};
+use napt_sequential::{Input, MOST_INPUTS, RunFault, run_plain, runs_are_sound};
 use napt_table::Row;
 use napt_wire::{Endpoint, Side};
 use std::alloc::{AllocError, Global};
@@ -64,7 +61,7 @@ fn front(alloc: Global, inputs: Vec<Input>, came: usize, at: u64) -> Result<Vec<
     Ok(front)
 }
 
-/// The rows of the bindings that live at a time, in ns: those that the log of all inputs names then.
+/// The rows of the bindings that are live at a time, in ns: those that the log of all inputs names then.
 fn living_at(
     alloc: Global,
     config: &Config,
@@ -76,14 +73,14 @@ fn living_at(
     requires by { last_clock 0 (take came inputs.items) ≤ at }
     requires next { IsBeforeNext at (drop came inputs.items) }
     requires few { came + 1 < 2 ^ 32 }
-    ensures named { IfOk result (λ rows. (protocol : Protocol) (inside external : Endpoint) →
-        list_any (has_ends protocol inside external) rows.items
-        ≡ is_named at protocol inside external (log_of config.now inputs.items).entries) }
+    ensures named { IfOk result (λ rows. (test : Row → Bool) → list_any test rows.items
+        ≡ list_any test (standing_rows at (log_of config.now inputs.items).entries)) }
+    ensures apart { IfOk result (λ rows. AllPairs AreRowsApart rows.items) }
     ensures few { result ≢ Err RunFault.TooMany }
 {
     log_attributes();
     runs_are_sound();
-    // a configuration keeps its rules, as each of its calls says
+    // called for its clause alone: a configuration keeps its rules
     let _kept = config.pool();
     let front = front(alloc, inputs, came, at)?;
     let run = run_plain(alloc, config, &front)?;
@@ -103,13 +100,15 @@ pub fn holders(
     external: Endpoint,
     at: u64,
 ) -> Result<Vec<Row>, RunFault>
-    ensures named { IfOk result (λ holders. (protocol : Protocol) (inside : Endpoint) →
-        list_any (has_ends protocol inside external) holders.items
-        ≡ is_named at protocol inside external (log_of config.now inputs.items).entries) }
+    ensures named { IfOk result (λ holders. (test : Row → Bool) → list_any test holders.items
+        ≡ list_any test (filter (λ r. same_endpoint external r.external)
+        (standing_rows at (log_of config.now inputs.items).entries))) }
+    ensures apart { IfOk result (λ holders. AllPairs AreRowsApart holders.items) }
     ensures too_many { (result ≡ Err RunFault.TooMany) ↔ (2 ^ 32 ≤ came_by at inputs.items + 1) }
 {
     let came = count_by(&inputs, at);
-    if came > 4_294_967_294 {
+    // one input more is run, at the time asked about
+    if came >= MOST_INPUTS {
         return Err(RunFault::TooMany);
     }
     let rows = living_at(alloc, config, inputs, came, at)?;

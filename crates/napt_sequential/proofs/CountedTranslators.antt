@@ -100,7 +100,7 @@ other_counted rules place address state counted is at differ leg later = record 
 
 -- ALL TRANSLATORS
 
--- one address stands at one place
+-- an address has one place
 apart_places : (rules : Rules) → KeepsRules rules → (i j a b : ℕ) → slice_get rules.pool i ≡ Some a →
     slice_get rules.pool j ≡ Some b → j ≢ i → b ≢ a
 apart_places rules keeps i j a b at_i at_j ne = λ e.

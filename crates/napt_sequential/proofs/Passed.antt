@@ -1,10 +1,10 @@
--- What a leg did, at its translator and in the whole list; and the traces of one input more.
-use Rattle.std.proofs.Common.{◌≡◌, ℕ, ◌+◌, ◌<◌, ◌≤◌, ◌&&◌, max, List, [], ◌∷◌, ◌++◌, length, take, get_or, Option, Some, None, refl, sym, ◌∙◌, ap, subst, arith, eqb}
+-- What a leg did, at its translator and in the whole list; and the traces of one more input.
+use Rattle.std.proofs.Common.{◌≡◌, ℕ, ◌+◌, ◌<◌, ◌≤◌, ◌^◌, ◌&&◌, max, List, [], ◌∷◌, ◌++◌, length, take, get_or, Option, Some, None, refl, sym, ◌∙◌, ap, subst, arith, eqb, length-append}
 use Rattle.std.specs.Prelude.{find}
 use Rattle.std.specs.Option.{option_map}
 use Rattle.std.specs.List.{slice_get}
 use Rattle.std.proofs.lemmas.List.{take_more, length-take-le}
-use Rattle.std.proofs.lemmas.Option.{get_or_from_slice_get}
+use Rattle.std.proofs.lemmas.Option.{get_or_from_slice_get, slice_get-get_or}
 use Rattle.napt_wire.specs.declared.Protocol.{Protocol}
 use Rattle.napt_wire.specs.declared.Endpoint.{Endpoint}
 use Rattle.napt_wire.specs.declared.Cause.{Cause}
@@ -30,8 +30,10 @@ use Rattle.napt_sequential.specs.declared.passage.Trace.{Trace}
 use Rattle.napt_sequential.specs.declared.passage.Went.{Went}
 use Rattle.napt_sequential.specs.declared.passage.Went.TheVariants as ways
 use Rattle.napt_laws.specs.Agreeing.{Agrees}
-use Rattle.napt_sequential.specs.CountedTranslators.{RunState, IsCountedTranslator, AreCountedTranslators, Follows, Steps, passage_seen, state_after, state_of}
+use Rattle.napt_sequential.specs.CountedTranslators.{RunState, IsCountedTranslator, AreCountedTranslators, CanTake, Follows, Steps, passage_seen, state_after, state_of}
 use Rattle.napt_sequential.specs.Traces.{seen_of, out_through, in_through, went_by, passage_by, passage_at, trace_of, traces_from, traces}
+use Rattle.napt_laws.proofs.Pools.{stands_at}
+use Rattle.napt_laws.proofs.Onward.{onward_place}
 use Rattle.napt_laws.proofs.LegsLocal.{agrees_later}
 use Rattle.napt_laws.proofs.RunsLocal.{latest}
 use Rattle.napt_sequential.proofs.Steps.{follows_once, follows_twice, follows_none}
@@ -124,7 +126,7 @@ traced_twice rules address leg list place packet is first second_passage first_i
     } in t) second_is
     ∙ sym (ap (trace_of rules.timers leg.now) e))
 
--- ONE INPUT MORE
+-- ONE MORE INPUT
 
 traces_grow : (rules : Rules) (number clock : ℕ) (inputs : List Arrival) (input : Arrival) (list : List Binding)
     (at : ℕ) → number + length inputs ≡ at →
@@ -158,6 +160,29 @@ traces_next rules inputs n input lt at number now is clock all told =
 
 -- STEPS
 
+-- where a first leg goes onward, the translators after it can take the second, at the address that it goes to
+pub goes_onward : (rules : Rules) (place : ℕ) (leg : Leg) (before after : List CountedTranslator) (end : End) →
+    place < length rules.pool → CanTake rules leg.now 2 before →
+    ((state : RunState) (address : ℕ) → AreCountedTranslators rules state before → state.clock ≤ leg.now →
+    slice_get rules.pool place ≡ Some address → end ≡ (act rules address leg state.list).end) →
+    ((state : RunState) (address : ℕ) → AreCountedTranslators rules state before → state.clock ≤ leg.now →
+    slice_get rules.pool place ≡ Some address →
+    AreCountedTranslators rules (state_after rules address leg state) after) → (to : ℕ) (packet : List ℕ) →
+    end ≡ Onward to packet →
+    CanTake rules leg.now 1 after × (slice_get rules.pool to ≡ Some (destination packet).address)
+goes_onward rules place leg before after end within can_take ends leaves to packet is =
+    let state : RunState = can_take.0 in
+    let address : ℕ = get_or rules.pool place 0 in
+    let at : slice_get rules.pool place ≡ Some address = slice_get-get_or rules.pool place 0 within in
+    let room : length state.acts + 2 < 2 ^ 64 = can_take.3 in
+    let next : RunState = state_after rules address leg state in
+    let long : length next.acts ≡ length state.acts + 1 = length-append state.acts _ in
+    let acted : (act rules address leg state.list).end ≡ Onward to packet =
+    sym (ends state address can_take.1 can_take.2 at) ∙ is in (
+      (next, leaves state address can_take.1 can_take.2 at, omega arith, omega arith),
+      stands_at rules.pool (destination packet).address to (onward_place rules address leg state.list to packet acted),
+    )
+
 pub passage_of_end : (rules : Rules) (now : ℕ) (list : List Binding) (address : ℕ) (seen : Seen) (went : Went)
     (packet : List ℕ) (end : End) → seen ≡ seen_of packet → went ≡ went_by end →
     passage_at rules.timers now list address seen went ≡ passage_at rules.timers now list address (seen_of packet)
@@ -166,19 +191,24 @@ passage_of_end rules now list address seen went packet end same how =
     ap (λ (s : Seen). passage_at rules.timers now list address s went) same
     ∙ ap (passage_at rules.timers now list address (seen_of packet)) how
 
+-- a first leg that ended so, as the last one of its input, seen and passed on as these say
 pub steps_once : (rules : Rules) (address : ℕ) (leg : Leg) (state : RunState) (translators : List CountedTranslator)
-    (end : End) → (act rules address leg state.list).end ≡ end →
-    follow_by rules address leg (act rules address leg state.list) end
+    (end last : End) → end ≡ (act rules address leg state.list).end → end ≡ last →
+    follow_by rules address leg (act rules address leg state.list) last
     ≡ once address leg (act rules address leg state.list) →
-    AreCountedTranslators rules (state_after rules address leg state) translators → (stepped : Stepped)
-    (outcome : Outcome) → outcome ≡ outcome_of end → stepped.outcome ≡ outcome → (first : Passage) →
+    AreCountedTranslators rules (state_after rules address leg state) translators → (seen : Seen) (went : Went)
+    (first : Passage) → seen ≡ seen_of leg.packet → went ≡ went_by end →
+    first ≡ passage_at rules.timers leg.now (act rules address leg state.list).list address seen went →
+    (stepped : Stepped) → stepped.outcome ≡ outcome_of last →
     stepped.trace ≡ record { now = leg.now; first = first; second = passages.Nothing } →
-    first ≡ passage_at rules.timers leg.now (act rules address leg state.list).list address (seen_of leg.packet)
-    (went_by end) → Steps rules leg.now (admitted rules address leg state.list) state translators stepped
-steps_once rules address leg state translators end is alone are stepped outcome told same first trace first_is = (
-  follows_once rules address leg state translators end is alone are stepped.outcome (same ∙ told),
-  traced_once rules address leg state.list end is alone stepped.trace first trace first_is,
-)
+    Steps rules leg.now (admitted rules address leg state.list) state translators stepped
+steps_once rules address leg state translators end last ends is alone are seen went first same how first_is stepped
+    told trace = let acted : (act rules address leg state.list).end ≡ last = sym ends ∙ is in (
+      follows_once rules address leg state translators last acted alone are stepped.outcome told,
+      traced_once rules address leg state.list last acted alone stepped.trace first trace
+          (first_is ∙ passage_of_end rules leg.now (act rules address leg state.list).list address seen went leg.packet
+          last same (how ∙ ap went_by is)),
+    )
 
 pub steps_twice : (rules : Rules) (address : ℕ) (leg : Leg) (state : RunState) (translators : List CountedTranslator)
     (place : ℕ) (packet : List ℕ) → (act rules address leg state.list).end ≡ Onward place packet →

@@ -1,4 +1,4 @@
--- What holds of a result, carried on.
+-- From one fact about a result to another.
 use Rattle.std.proofs.Common.{Result, Ok, Err}
 use Rattle.std.specs.Prelude.{IfOk, OnOk}
 

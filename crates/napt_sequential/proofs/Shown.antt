@@ -1,4 +1,4 @@
--- What the translators show is what a run gives.
+-- The translators after all inputs have the bindings and counts of the run.
 use Rattle.std.proofs.Common.{◌≡◌, ℕ, ◌≤◌, max, List, length, map, refl, sym, ◌∙◌, ap, arith}
 use Rattle.std.specs.Prelude.{flat_map}
 use Rattle.napt_config.specs.Rules.{Rules}

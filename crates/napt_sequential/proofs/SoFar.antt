@@ -1,4 +1,4 @@
--- What a run at the translators has come to, and one input more.
+-- A run at the translators so far, and after one more input.
 use Rattle.std.proofs.Common.{◌≡◌, ℕ, ◌+◌, ◌*◌, ◌^◌, ◌<◌, ◌≤◌, max, List, [], ◌∷◌, ◌++◌, length, take, sym, ◌∙◌, ap, subst, arith, get_or}
 use Rattle.std.proofs.lemmas.List.{take_more, length-take-le}
 use Rattle.napt_config.specs.Rules.{Rules}
@@ -8,9 +8,9 @@ use Rattle.napt_sequential.specs.declared.counted_translator.CountedTranslator.{
 use Rattle.napt_sequential.specs.CountedTranslators.{AreCountedTranslators, CanTake, Follows, state_of}
 use Rattle.napt_laws.proofs.Grown.{grows, clock_more, acts_few}
 
--- ONE MORE OF A LIST OF INPUTS
+-- ONE MORE INPUT
 
--- what a run has come to: its clock, its outcomes, and the translators of its state
+-- a run so far: its clock, its outcomes, and the translators of its state
 pub record RunSoFar (rules : Rules) (done : List Arrival) (now : ℕ) (told : List Outcome)
     (left : List CountedTranslator) : Type 0 where
   pub clock : now ≡ last_clock 0 done
@@ -70,7 +70,7 @@ module _ (rules : Rules) (inputs : List Arrival) (n : ℕ) (input : Arrival) (lt
       subst (λ (done : List Arrival). RunSoFar rules done now (outcomes ++ outcome ∷ []) translators) (sym more)
       (after_one rules (take n inputs) input number now (is ∙ sym long) clock outcomes translators outcome told follows)
 
--- there is room to count two legs more
+-- two more legs can be counted
 pub can_take : (rules : Rules) (inputs : List Arrival) (n now : ℕ) (translators : List CountedTranslator) →
     n < length inputs → length inputs < 2 ^ 32 → last_clock 0 (take n inputs) ≤ now →
     AreCountedTranslators rules (state_of rules (take n inputs)) translators → CanTake rules now 2 translators

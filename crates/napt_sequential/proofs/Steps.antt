@@ -87,7 +87,7 @@ abbrev pub arrival_of : fields.Inside → Arrival
 arrival_of input =
     record { side = input.side; time = input.time; clock = input.clock; bytes = input.bytes.items }
 
--- the bytes that were copied read as the input's
+-- a copy of the bytes reads as the input does
 pub reads_as : (input copy : Arrival) (bytes : List ℕ) (read : Result (List ℕ) Cause) → copy ≡ input →
     bytes ≡ copy.bytes → reading copy.side bytes ≡ read → reading input.side input.bytes ≡ read
 reads_as input copy bytes read shown copied is = ap (λ (a : Arrival). reading a.side a.bytes) (sym shown)

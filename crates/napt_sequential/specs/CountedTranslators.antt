@@ -1,5 +1,5 @@
--- The translators of a sequential run, one for each external address in the order of the pool, beside the one list
--- that they stand for.
+-- The translators of a sequential run, one for each external address in the order of the pool, and the one list of
+-- bindings that they split between them.
 use Rattle.std.specs.Prelude.{◌≡◌, ℕ, ◌+◌, ◌<◌, ◌≤◌, ◌^◌, max, length, List, [], ◌∷◌, ◌++◌, Some}
 use Rattle.std.specs.List.{slice_get}
 use Rattle.napt_config.specs.Rules.{Rules}
@@ -59,17 +59,17 @@ end_at leg counted =
 abbrev pub counted_after : Leg → CountedTranslator → CountedTranslator
 counted_after leg counted = record { translator = left_by leg counted.translator; legs = counted.legs + 1 }
 
--- the rows that a counted translator tells at a time
+-- the rows of a counted translator at a time
 abbrev pub rows_at : ℕ → CountedTranslator → List Row
 rows_at now counted = rows counted.translator.rules.timers (max now counted.translator.table.at)
     counted.translator.table.list
 
--- what it tells of a leg at a time
+-- what a leg did there, as of a time
 abbrev pub passage_seen : ℕ → Seen → Went → CountedTranslator → Passage
 passage_seen now seen went counted = passage_at counted.translator.rules.timers (max now counted.translator.table.at)
     counted.translator.table.list counted.translator.table.address seen went
 
--- the translators are those of some state up to a time, and so many more legs can be counted
+-- the translators are those of some state up to a time, and this many more legs can be counted
 abbrev pub CanTake : Rules → ℕ → ℕ → List CountedTranslator → Type 0
 CanTake rules now more translators = (state : RunState) × AreCountedTranslators rules state translators
     × (state.clock ≤ now) × (length state.acts + more < 2 ^ 64)

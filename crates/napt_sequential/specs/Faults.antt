@@ -1,4 +1,4 @@
--- Why a run over inputs ends early.
+-- Why a run over inputs fails.
 use Rattle.std.specs.Prelude.{⊤, Bool, false}
 use Rattle.napt_pool.specs.Faults.{is_shut}
 use Rattle.napt_sequential.specs.declared.fault.RunFault.{RunFault}

@@ -1,7 +1,7 @@
--- What each input of a run did to the bindings: which of them its packet went through, and when those end if no packet
--- comes.
+-- What each input of a run did to the bindings: which of them its packet went through, and when they expire if no
+-- packet follows.
 --
--- RFC 3022, section 4: out through the binding of the source, which is made where there is none; in through that of the
+-- RFC 3022, section 4: out through the binding of the source, which is made if there is none; in through that of the
 -- destination. An ICMP error goes through none (RFC 5508, REQ-3 to REQ-6).
 use Rattle.std.specs.Prelude.{ℕ, ◌+◌, max, List, [], ◌∷◌, Option, Some, None}
 use Rattle.std.specs.Option.{option_map}
@@ -42,7 +42,7 @@ went_by (ends.Onward place packet) = ways.Out
 went_by (ends.ToInside packet) = ways.In
 went_by (ends.Dropped cause) = ways.Dropped cause
 
--- by what the packet was and how its leg at the address went; the list is what the input's legs left
+-- by the packet before its leg at the address and how the leg went; the list is that after all legs of the input
 abbrev pub passage_by : Timers → ℕ → List Binding → ℕ → Seen → Option Protocol → Went → Passage
 passage_by timers now list address seen None went = Nothing
 passage_by timers now list address seen (Some protocol) ways.Out =
@@ -58,7 +58,7 @@ passage_at timers now list address seen went = passage_by timers now list addres
 abbrev pub passage_of : Timers → ℕ → List Binding → Act → Passage
 passage_of timers now list a = passage_at timers now list a.address (seen_of a.leg.packet) (went_by a.end)
 
--- ALL INPUTS, of which each has two legs at most
+-- ALL INPUTS, each with two legs at most
 abbrev pub first_of : Timers → ℕ → List Binding → List Act → Passage
 first_of timers now list [] = Nothing
 first_of timers now list (a ∷ acts) = passage_of timers now list a

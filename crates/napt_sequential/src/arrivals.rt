@@ -1,4 +1,4 @@
-//! What hands a run its inputs.
+//! The source of a run's inputs.
 
 ghost use Rattle.std.specs.Prelude.{◌≡◌, ◌++◌, [], List, Option, false};
 ghost use Rattle.napt_rules.specs.Prelude.{Arrival};
@@ -7,15 +7,15 @@ ghost use Rattle.napt_sequential.specs.Inputs.{Hands};
 use crate::input::Input;
 use std::collections::VecDeque;
 
-/// What hands a run its inputs, one after another, until its end or its first fault.
+/// A source of inputs. A run takes them one at a time, until the end or the first fault.
 pub trait Arrivals {
-    /// Why no more can be handed out.
+    /// Why no more inputs can be had.
     type Fault: Drop;
 
-    // These inputs were handed out, in this order, and it was left so.
+    // The first state hands out these inputs, in this order, and becomes the second.
     ghost hands: { Self → List Arrival → Self → Type 0 };
 
-    // The end was told, or a fault, and it was left so.
+    // The first state reports the end, or a fault, and becomes the second.
     ghost ends: { Self → Option Self.Fault → Self → Type 0 };
 
     // The next call of `next` may have to wait for a device.
@@ -25,8 +25,8 @@ pub trait Arrivals {
     fn asks_device(&self) -> bool
         ensures { result ≡ false → ¬ asks self.now };
 
-    /// The next input, which moves out; none at the end. Its bytes may be put into the room of the spare vector, whose own
-    /// bytes are dropped. After the end or a fault a run does not call it again.
+    /// The next input, or none at the end. Its bytes may reuse the allocation of the spare vector, whose contents are
+    /// dropped. A run does not call this again after the end or a fault.
     fn next(&mut self, spare: Vec<u8>) -> Result<Option<Input>, Self::Fault>
         ensures { Hands hands ends self.old result self.new };
 
@@ -36,12 +36,12 @@ pub trait Arrivals {
         hands x (xs ++ ys) z };
 }
 
-/// The fault of what never fails: there is none.
+/// The fault of a source that never fails: it has no value.
 #[derive(Drop)]
 pub enum NoFault {}
 
 impl Arrivals for VecDeque<Input> {
-    ghost use Rattle.std.specs.Prelude.{refl};
+    ghost use Rattle.std.specs.Prelude.{◌≡◌, false, refl};
     ghost use Rattle.napt_sequential.specs.Inputs.{fronts_join};
 
     type Fault = NoFault;
@@ -56,7 +56,9 @@ impl Arrivals for VecDeque<Input> {
 
     ghost hands_more = { λ x y z xs ys first second. fronts_join x.items y.items z.items xs ys first second };
 
-    fn asks_device(&self) -> bool {
+    fn asks_device(&self) -> bool
+        ensures { result ≡ false }
+    {
         false
     }
 

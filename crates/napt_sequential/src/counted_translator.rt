@@ -1,4 +1,4 @@
-//! The translators of a run, each with the number of its legs.
+//! The translators of a run, each with a count of its legs.
 
 ghost use Rattle.std.specs.Prelude.{◌≡◌, ◌-◌, ◌^◌, ◌<◌, IfOk, OnOk};
 
@@ -17,7 +17,7 @@ pub(crate) struct CountedTranslator {
 impl CountedTranslator {
     ghost use Rattle.napt_sequential.specs.CountedTranslators.{end_at, counted_after, rows_at, passage_seen};
 
-    /// Takes a leg, and answers how it ends.
+    /// Translates and counts a leg; returns how it ended.
     pub(crate) fn take(&mut self, alloc: Global, leg: Leg) -> Result<End, AllocError>
         requires { self.old.legs < 2 ^ 64 - 1 }
         ensures end { IfOk result (λ end. end ≡ end_at leg self.old) }
@@ -28,7 +28,7 @@ impl CountedTranslator {
         Ok(answer.end)
     }
 
-    /// What a leg did that went so, of a packet that was this before; with the end of its binding at a time, in ns.
+    /// What a leg did, by its packet before it and how it went. The end of its binding is as of `now`, in ns.
     pub(crate) fn passage(&self, now: u64, seen: Seen, went: Went) -> Passage
         ensures { result ≡ passage_seen now seen went self.now }
     {
@@ -49,7 +49,7 @@ impl CountedTranslator {
         }
     }
 
-    /// The bindings that live at a time, in ns.
+    /// The bindings that are live at a time, in ns.
     pub(crate) fn bindings(&self, alloc: Global, now: u64) -> Result<Vec<Row>, AllocError>
         ensures { IfOk result (λ made. made.items ≡ rows_at now self.now) }
     {

@@ -1,4 +1,4 @@
-//! Why a run over inputs ends early.
+//! Why a run over inputs fails.
 
 ghost use Rattle.std.specs.Prelude.{◌≡◌};
 ghost use Rattle.napt_sequential.specs.declared.fault.RunFault.TheVariants.{Memory, Pool};
@@ -6,12 +6,12 @@ ghost use Rattle.napt_sequential.specs.declared.fault.RunFault.TheVariants.{Memo
 use napt_pool::PoolFault;
 use std::alloc::AllocError;
 
-/// Why a run over inputs gives no outcomes.
+/// Why a run over inputs fails.
 #[derive(Clone, Copy, Debug, PartialEq, Eq)]
 pub enum RunFault {
     /// Memory ran out.
     Memory,
-    /// There are more than 4,294,967,295 inputs.
+    /// There are more than 4,294,967,295 inputs (`MOST_INPUTS`).
     TooMany,
     /// A worker stopped early, or the workers could not be started.
     Pool(PoolFault),

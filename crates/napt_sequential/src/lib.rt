@@ -1,7 +1,7 @@
-//! The sequential translator: what a run over a list of inputs gives.
+//! The sequential translator: a run over a list of inputs, on one thread.
 //!
-//! [`run_plain`] takes the inputs through the translators of all external addresses on one thread. The laws, of `napt_laws`,
-//! say of every run what holds of its bindings, and what whoever runs each address apart can rely on.
+//! [`run_plain`] passes the inputs through the translators of all external addresses. The laws, from `napt_laws`, say
+//! what holds of the bindings of every run, and that each address can be run on its own.
 #![tactic(auto)]
 
 mod arrivals;
@@ -14,7 +14,7 @@ mod run;
 
 pub use arrivals::{Arrivals, NoFault};
 pub use fault::RunFault;
-pub use input::Input;
+pub use input::{Input, MOST_INPUTS};
 pub use napt_laws::{
     legs_are_local, places_stand_for_legs, right_answers, runs_are_sound, runs_keep_the_quota,
     translators_are_local,

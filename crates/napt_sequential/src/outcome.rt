@@ -1,17 +1,17 @@
-//! What a run gives.
+//! The result of a run.
 
 use crate::passage::Trace;
 use napt_rules::{Outcome, Row};
 use std::marker::Model;
 
-/// What one input gives.
+/// The result of one input.
 #[derive(Drop)]
 pub(crate) struct Stepped {
     pub(crate) outcome: Outcome,
     pub(crate) trace: Trace,
 }
 
-/// A run, and beside each of its outcomes what the legs of that input did.
+/// A run, and what the legs of each input did.
 #[derive(Drop)]
 pub struct Traced {
     pub run: Run,
@@ -19,13 +19,13 @@ pub struct Traced {
     pub traces: Vec<Trace>,
 }
 
-/// What a run over a list of inputs gives.
+/// The result of a run over a list of inputs.
 #[derive(Drop)]
 pub struct Run {
     /// One for each input, in their order.
     pub outcomes: Vec<Outcome>,
-    /// The bindings that live at the last clock, 0 without an input: those of each external address in the order of the
-    /// pool, and of one address by protocol (ICMP, TCP, UDP) and external number.
+    /// The bindings that are live at the last clock (0 if there is no input): by external address in the order of the
+    /// pool, then by protocol (ICMP, TCP, UDP) and external number.
     pub bindings: Vec<Row>,
     /// How many legs acted at each external address, in the order of the pool.
     pub legs: Vec<u64>,

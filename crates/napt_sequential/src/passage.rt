@@ -10,7 +10,7 @@ use napt_wire::{Cause, Endpoint, Kind, Packet, Protocol};
 /// What a leg did to the bindings of its external address.
 #[derive(Clone, Copy, Debug, PartialEq, Eq)]
 pub enum Passage {
-    /// An ICMP error: it goes through no binding.
+    /// There was no such leg, or its packet is an ICMP error, which goes through no binding.
     Nothing,
     /// It went out through the binding of its source.
     Out(TimedRow),
@@ -20,29 +20,29 @@ pub enum Passage {
     Dropped(Loss),
 }
 
-/// A packet that a leg dropped, and is no ICMP error.
+/// A packet, not an ICMP error, that a leg dropped.
 #[derive(Clone, Copy, Debug, PartialEq, Eq)]
 pub struct Loss {
     pub protocol: Protocol,
-    /// The address that it came from.
+    /// Its source address.
     pub host: u32,
     pub cause: Cause,
 }
 
-/// What the legs of one input did. Each binding has the end that it has after both.
+/// What the legs of one input did. The end of each binding is as of after both legs.
 #[derive(Clone, Copy, Debug, PartialEq, Eq)]
 pub struct Trace {
     /// The time of the legs, in ns.
     pub now: u64,
     pub first: Passage,
-    /// That of the second leg, of a packet from inside to an external address (RFC 4787, REQ-9).
+    /// That of the second leg, of a hairpin: a packet from inside to an external address (RFC 4787, REQ-9).
     pub second: Passage,
 }
 
-/// What a packet is before a leg changes it.
+/// The protocol and endpoints of a packet before a leg changes it.
 #[derive(Clone, Copy)]
 pub(crate) struct Seen {
-    /// None of an ICMP error.
+    /// `None` for an ICMP error.
     pub(crate) protocol: Option<Protocol>,
     pub(crate) source: Endpoint,
     pub(crate) destination: Endpoint,

@@ -12,7 +12,7 @@ ghost use Rattle.napt_sequential.specs.Faults.{IsOneThreadFault};
 use crate::counted_translator::CountedTranslator;
 use crate::outcome::{Stepped, Traced};
 use crate::passage::{Passage, Seen, Trace, Went};
-use crate::{Input, Run, RunFault};
+use crate::{Input, MOST_INPUTS, Run, RunFault};
 use napt_config::Config;
 use napt_laws::runs_are_sound;
 use napt_rules::{End, Leg, Outcome, Row};
@@ -20,7 +20,7 @@ use napt_translate::{Translator, route, way_from};
 use napt_wire::{Packet, Way};
 use std::alloc::{AllocError, Global};
 
-/// Takes a leg at a place of the pool, from 0, and answers how it ends.
+/// Takes a leg at a place of the pool, from 0; returns how it ended.
 fn take(
     alloc: Global,
     config: &Config,
@@ -54,8 +54,8 @@ fn outcome_of(end: End) -> Outcome
     }
 }
 
-/// What a leg at a place of the pool did that went so, of a packet that was this before; with the end of its binding at
-/// a time, in ns.
+/// What a leg at a place of the pool did, by its packet before it and how it went. The end of its binding is as of
+/// `now`, in ns.
 fn passage(
     translators: &[CountedTranslator],
     place: u32,
@@ -72,7 +72,7 @@ fn passage(
     translators[place as usize].passage(now, seen, went)
 }
 
-/// What an input gives that had at most one leg.
+/// The result of an input that had at most one leg.
 fn stepped(now: u64, outcome: Outcome, first: Passage) -> Stepped
     ensures outcome { result.outcome ≡ outcome }
     ensures trace { result.trace ≡ record { now = now; first = first; second = Passage.Nothing } }
@@ -87,7 +87,19 @@ fn stepped(now: u64, outcome: Outcome, first: Passage) -> Stepped
     }
 }
 
-/// Takes a first leg at a place of the pool, and where its packet goes onward the second, which comes in there at once.
+/// The second leg of a hairpin: its packet comes in.
+fn second_leg(number: u64, now: u64, packet: Packet) -> Leg
+    ensures { result ≡ record { number = number; now = now; way = Way.Incoming; packet = packet } }
+{
+    Leg {
+        number,
+        now,
+        way: Way::Incoming,
+        packet,
+    }
+}
+
+/// Takes a first leg at a place of the pool and, if its packet goes onward, the second leg at once.
 fn follow(
     alloc: Global,
     config: &Config,
@@ -112,12 +124,7 @@ fn follow(
     let first = passage(translators, place, now, seen, went);
     match end {
         End::Onward(to, packet) => {
-            let next = Leg {
-                number,
-                now,
-                way: Way::Incoming,
-                packet,
-            };
+            let next = second_leg(number, now, packet);
             let seen_next = Seen::of(&next.packet);
             let end = take(alloc, config, translators, to, next)?;
             let first = passage(translators, place, now, seen, went);
@@ -133,7 +140,7 @@ fn follow(
     }
 }
 
-/// Takes an input through the translators at a time, in ns, and answers what became of it and what its legs did.
+/// Passes an input through the translators at a time, in ns; returns its outcome and what its legs did.
 fn step(
     alloc: Global,
     config: &Config,
@@ -188,7 +195,7 @@ fn begin(alloc: Global, config: &Config) -> Result<Vec<CountedTranslator>, Alloc
     Ok(translators)
 }
 
-/// What all inputs give, and the last clock.
+/// The results of all inputs, and the last clock.
 #[derive(Drop)]
 struct All {
     outcomes: Vec<Outcome>,
@@ -196,7 +203,7 @@ struct All {
     last: u64,
 }
 
-/// Puts a trace behind the others where they are kept.
+/// Appends a trace, if traces are wanted.
 fn keep(traces: &mut Vec<Trace>, trace: Trace, traced: bool) -> Result<(), AllocError>
     ensures asked { OnOk result (traced ≡ true →
         traces.new.items ≡ traces.old.items ++ trace ∷ []) }
@@ -208,7 +215,7 @@ fn keep(traces: &mut Vec<Trace>, trace: Trace, traced: bool) -> Result<(), Alloc
     Ok(())
 }
 
-/// Takes all inputs through the translators, and answers what became of each; the traces only where they are asked for.
+/// Passes all inputs through the translators; returns their outcomes, and their traces if these are wanted.
 fn step_all(
     alloc: Global,
     config: &Config,
@@ -245,7 +252,7 @@ fn step_all(
     })
 }
 
-/// The bindings that live at a time, in ns, address by address.
+/// The bindings that are live at a time, in ns, address by address.
 fn bindings(
     alloc: Global,
     translators: &[CountedTranslator],
@@ -272,7 +279,7 @@ fn legs(alloc: Global, translators: &[CountedTranslator]) -> Result<Vec<u64>, Al
     Ok(made)
 }
 
-/// The run over so many inputs as their numbers can count; its traces only where they are asked for.
+/// The run over at most `MOST_INPUTS` inputs, with its traces if these are wanted.
 #[tactic(auto, unfolding(napt_rules::specs::Sequential::ran))]
 fn run(alloc: Global, config: &Config, inputs: &[Input], traced: bool) -> Result<Traced, AllocError>
     requires { length inputs.now < 2 ^ 32 }
@@ -295,13 +302,12 @@ fn run(alloc: Global, config: &Config, inputs: &[Input], traced: bool) -> Result
     })
 }
 
-/// Runs over the inputs on one thread: each is read, judged by its side, and taken through the bindings of the external
-/// address that serves it; what an inside host sends to an external address of the pool comes in again there at once
-/// (RFC 3022, RFC 4787 REQ-9). The time of an input is the greatest clock so far, in ns. The bytes of each input are
-/// copied once.
+/// Runs over the inputs on one thread. Each is read, checked against its side, and translated at the external address
+/// that serves it; a packet from inside to an address of the pool comes in there at once (RFC 3022; RFC 4787, REQ-9).
+/// The time of an input is the latest clock so far, in ns. The bytes of each input are copied once.
 ///
-/// `RunFault::TooMany` comes exactly where there are more than 4,294,967,295 inputs, `RunFault::Memory` only where
-/// memory is refused, and `RunFault::Pool` never.
+/// Fails with `RunFault::TooMany` exactly if there are more than `MOST_INPUTS` inputs, with `RunFault::Memory` only if
+/// memory is refused, and never with `RunFault::Pool`.
 pub fn run_plain(alloc: Global, config: &Config, inputs: &[Input]) -> Result<Run, RunFault>
     ensures run { IfOk result (λ run. run ≡ model.ran config.now inputs.now) }
     ensures too_many { (result ≡ Err RunFault.TooMany) ↔ (2 ^ 32 ≤ length inputs.now) }
@@ -310,7 +316,7 @@ pub fn run_plain(alloc: Global, config: &Config, inputs: &[Input]) -> Result<Run
     ensures apart { IfOk result (λ run. AllPairs AreRowsApart run.bindings) }
 {
     runs_are_sound();
-    if inputs.len() > 4_294_967_295 {
+    if inputs.len() > MOST_INPUTS {
         return Err(RunFault::TooMany);
     }
     Ok(run(alloc, config, inputs, false)?.run)
@@ -318,8 +324,8 @@ pub fn run_plain(alloc: Global, config: &Config, inputs: &[Input]) -> Result<Run
 
 /// The same run, with what the legs of each input did to the bindings.
 ///
-/// `RunFault::TooMany` comes exactly where there are more than 4,294,967,295 inputs, `RunFault::Memory` only where
-/// memory is refused, and `RunFault::Pool` never.
+/// Fails with `RunFault::TooMany` exactly if there are more than `MOST_INPUTS` inputs, with `RunFault::Memory` only if
+/// memory is refused, and never with `RunFault::Pool`.
 pub fn run_traced(alloc: Global, config: &Config, inputs: &[Input]) -> Result<Traced, RunFault>
     ensures run { IfOk result (λ told. told.run ≡ model.ran config.now inputs.now) }
     ensures traces { IfOk result (λ told. told.traces.items ≡ traces config.now inputs.now) }
@@ -327,9 +333,9 @@ pub fn run_traced(alloc: Global, config: &Config, inputs: &[Input]) -> Result<Tr
     ensures never_pool { IfErr result IsOneThreadFault }
     ensures kept { KeepsRules config.now }
 {
-    let few = 4_294_967_296;
+    // called for its clause alone: a configuration keeps its rules
     let _pool = config.pool();
-    if inputs.len() >= few {
+    if inputs.len() > MOST_INPUTS {
         return Err(RunFault::TooMany);
     }
     Ok(run(alloc, config, inputs, true)?)

@@ -1,4 +1,4 @@
--- What a translator shows: its place in the pool, its configuration, and the table of its external address.
+-- What contracts see of a translator: its place in the pool, its configuration, and the table of its external address.
 use Rattle.std.specs.Prelude.{◌≡◌, ℕ, ◌<◌, List, length, slice_index}
 use Rattle.napt_wire.specs.declared.Protocol.{Protocol}
 use Rattle.napt_wire.specs.declared.Flags.{Flags}
@@ -17,7 +17,7 @@ pub record TranslatorState : Type 0 where
 abbrev pub begun : ℕ → Rules → TranslatorState
 begun index rules = record { index = index; rules = rules; table = opened rules (slice_index rules.pool index) }
 
--- the table is one of the configuration, at the address of its place
+-- the table is that of the configuration, at the address of its place
 pub record IsTranslator (state : TranslatorState) : Type 0 where
   pub place : state.index < length state.rules.pool
   pub rules : KeepsRules state.rules

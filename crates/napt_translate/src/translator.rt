@@ -17,7 +17,7 @@ use napt_wire::{Cause, Endpoint, Flags, Inner, Kind, Packet, Protocol, Way};
 use std::alloc::{AllocError, Global};
 use std::marker::Model;
 
-/// Flags count only for TCP.
+/// The flags of a packet that is not TCP.
 const NO_FLAGS: Flags = Flags {
     fin: false,
     syn: false,

@@ -4,7 +4,7 @@ use Rattle.napt_account.specs.Kept.{IsBook}
 use Rattle.napt_account.specs.Log.{begun}
 use Rattle.napt_account.proofs.book.Book.begin.Given as goal
 
--- the redirects so far stand in it
+-- it has the redirects so far
 abbrev pub invariant-loop-redirect : goal.invariant-loop-redirect
 invariant-loop-redirect l = record {
   entries : l.book.log.entries.items

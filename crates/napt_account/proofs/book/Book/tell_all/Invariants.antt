@@ -5,7 +5,7 @@ use Rattle.napt_account.specs.Book.{after_trace, lost_by, uses_told}
 use Rattle.napt_account.specs.Kept.{IsBook, HaveLegs, AreInTime}
 use Rattle.napt_account.proofs.book.Book.tell_all.Given as goal
 
--- what the traces so far tell
+-- the log and the uses of the traces so far
 abbrev pub invariant-loop-trace : goal.invariant-loop-trace
 invariant-loop-trace l = record {
   entries : l.self.log.entries.items

@@ -3,7 +3,7 @@ use Rattle.std.specs.Prelude.{slice_index}
 use Rattle.napt_table.specs.Tables.{TableState}
 use Rattle.napt_translate.proofs.translator.Translator.new.Goals as goal
 
--- the table that was made is the one that the configuration opens with
+-- the table is the one that the configuration opens with
 pub invariant_of-result : goal.invariant_of-result
 invariant_of-result c =
     let shown = c.in_ok-table.ensures.shown in

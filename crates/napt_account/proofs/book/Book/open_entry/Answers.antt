@@ -3,7 +3,7 @@ use Rattle.std.specs.List.{slice_get}
 use Rattle.std.proofs.lemmas.Option.{slice_get-get_or}
 use Rattle.napt_account.specs.declared.log.Entry.{Entry}
 use Rattle.napt_account.proofs.Books.{if_none, slice_none, none_placed, none_there, none_open}
-use Rattle.napt_account.proofs.book.Book.place_of.Goals as goal
+use Rattle.napt_account.proofs.book.Book.open_entry.Goals as goal
 
 pub returns-in_err-place-clause-none : goal.returns-in_err-place-clause-none
 returns-in_err-place-clause-none c =
@@ -19,7 +19,6 @@ returns-in_err-entry-clause-none c =
 
 pub returns-then-is_of-clause-some : goal.returns-then-is_of-clause-some
 returns-then-is_of-clause-some c = (
-  c.in_ok-entry.entry.now,
   ap (λ (xs : List Entry). slice_get xs c.in_ok-place.place) (sym c.deref.ensures.value)
       ∙ (slice_get-get_or c.deref.result.now c.in_ok-place.place c.in_ok-entry.entry.now
       c.in_ok-entry.ensures.lookup.3.0 ∙ ap Some (sym c.in_ok-entry.ensures.lookup.1)),
