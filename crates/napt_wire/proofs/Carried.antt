@@ -21,9 +21,13 @@ module _ (side : Side) (bytes : List ℕ) where
   carried_by : (form : Form) → refusal (message_checks form side bytes) ≡ None → form ≡ form_at 0 bytes →
       is_error (kind_of form bytes) ≡ false →
       CanCarry (kind_of form bytes) (number_at (transport 0 bytes) (number_place form Source) bytes)
-  carried_by Udp h e plain = let ports = no_zero_port Udp (first_passed (has_zero_port (form_at 0 bytes) (transport 0 bytes) bytes) BadPort [] h) e in
+  carried_by Udp h e plain =
+      let passed = first_passed (has_zero_port (form_at 0 bytes) (transport 0 bytes) bytes) BadPort [] h in
+      let ports = no_zero_port Udp passed e in
       grind (arith, nat_tests, ports)
-  carried_by Tcp h e plain = let ports = no_zero_port Tcp (first_passed (has_zero_port (form_at 0 bytes) (transport 0 bytes) bytes) BadPort [] h) e in
+  carried_by Tcp h e plain =
+      let passed = first_passed (has_zero_port (form_at 0 bytes) (transport 0 bytes) bytes) BadPort [] h in
+      let ports = no_zero_port Tcp passed e in
       grind (arith, nat_tests, ports)
   carried_by Request h e plain = tt
   carried_by Reply h e plain = tt

@@ -12,7 +12,8 @@ put_two place rest high low old new room rest_is new_is =
     let both : List ℕ = slice_set first (place + 1) low in
     let all : take rest (drop place old) ≡ drop place old =
     take_all rest (drop place old) (omega (arith, length-drop place old)) in
-    let none : drop rest (drop place old) ≡ [] = drop_all rest (drop place old) (omega (arith, length-drop place old)) in
+    let none : drop rest (drop place old) ≡ [] =
+    drop_all rest (drop place old) (omega (arith, length-drop place old)) in
     let two : place + 2 ≡ place + 1 + 1 = omega arith in
     let tail : drop 2 (drop place old) ≡ behind = drop-drop 2 place old ∙ ap (λ (n : ℕ). drop n old) two in
     let front : take (place + 1 + 1) both ≡ (take place old ++ high ∷ []) ++ low ∷ [] =
@@ -31,5 +32,5 @@ put_two place rest high low old new room rest_is new_is =
 pub returns : goal.returns
 returns c =
     let high : c.args.word / 256 % 256 ≡ c.args.word / 256 = omega arith in
-    put_two c.args.place (length c.args.bytes.now - c.args.place) (c.args.word / 256) (c.args.word % 256) c.args.bytes.now
-    c.write_u16.new.buf c.requires refl (c.write_u16.ensures ∙ rw high refl)
+    put_two c.args.place (length c.args.bytes.now - c.args.place) (c.args.word / 256) (c.args.word % 256)
+    c.args.bytes.now c.write_u16.new.buf c.requires refl (c.write_u16.ensures ∙ rw high refl)

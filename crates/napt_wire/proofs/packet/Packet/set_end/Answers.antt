@@ -21,7 +21,13 @@ is_new : (c : goal.After-self-1) → take c.self.inside.bytes.len (c.write.new.b
 is_new c =
     let new_is : c.write.new.bytes ≡ changed (end_changes 0 c.args.end c.args.new c.self.inside.bytes.items)
     c.self.inside.bytes.items =
-    rw (c.write.ensures, c.rewrite_end-rewrite.ensures, c.header.ensures.at_is, c.deref_mut.ensures.value, c.deref.ensures.value) refl in
+    rw (
+      c.write.ensures,
+      c.rewrite_end-rewrite.ensures,
+      c.header.ensures.at_is,
+      c.deref_mut.ensures.value,
+      c.deref.ensures.value,
+    ) refl in
     let long : length c.write.new.bytes ≡ c.self.inside.bytes.len =
     ap length new_is ∙ length-changed (end_changes 0 c.args.end c.args.new c.self.inside.bytes.items)
     c.self.inside.bytes.items
