@@ -29,11 +29,6 @@ get_behind [] ys n i e = let same : n ≡ i = omega arith in ap (slice_get ys) s
 get_behind (x ∷ xs) ys zero i e = absurd (omega arith)
 get_behind (x ∷ xs) ys (suc n) i e = get_behind xs ys n i (omega arith)
 
-set_past : {X : Type 0} (xs : List X) (n : ℕ) (x : X) → length xs ≤ n → set xs n x ≡ xs
-set_past [] n x le = refl
-set_past (y ∷ xs) zero x le = absurd (omega arith)
-set_past (y ∷ xs) (suc n) x le = ap (λ (l : List _). y ∷ l) (set_past xs n x (omega arith))
-
 get_at : {X : Type 0} (xs : List X) (i : ℕ) (x : X) → i < length xs → x ≡ get_or xs i x → slice_get xs i ≡ Some x
 get_at [] i x lt is = absurd (omega arith)
 get_at (y ∷ xs) zero x lt is = ap Some (sym is)
@@ -198,12 +193,7 @@ times_long window =
     length_of (map time_in window.left) (map arrived window.under_way) (length-map window.left time_in)
     (length-map window.under_way arrived) ∙ sym (length_all window)
 
--- no open input has this number
-pub set_outside : (window : Window) (number : ℕ) (m : Bool) →
-    length window.left + length window.under_way ≤ number → slice_set (marks_in window) number m ≡ marks_in window
-set_outside window number m le = set_past (marks_in window) number m (omega (arith, le, length_marks window))
-
--- nor of one that was not read
+-- a number that no open input has
 pub unread_unknown : (left : List (ℕ × Outcome)) (items : List OpenInput) (number : ℕ) →
     length left + length items ≤ number → is_unknown (slice_get (progress_in (window_of left items)) number) ≡ true
 unread_unknown left items number le =

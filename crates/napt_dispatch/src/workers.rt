@@ -18,7 +18,7 @@ use crate::inputs::last_clock;
 use crate::stopped::Stopped;
 use napt_config::Config;
 use napt_pool::{Ended, Gate, Machine, Pool, PoolFault};
-use napt_sequential::{Arrivals, Input, NoFault, Run, RunFault, runs_are_sound};
+use napt_sequential::{Arrivals, Input, MOST_INPUTS, NoFault, Run, RunFault, runs_are_sound};
 use napt_table::Row;
 use napt_translate::Translator;
 use std::alloc::{AllocError, Global};
@@ -125,7 +125,7 @@ pub fn run_workers<
     runs_are_sound();
     // called for its clause alone: a configuration keeps its rules
     let _pool = config.pool();
-    if inputs.len() > 4_294_967_295 {
+    if inputs.len() > MOST_INPUTS {
         return Err(RunFault::TooMany);
     }
     let mut pool = start(rt, alloc, config, gate)?;

@@ -12,7 +12,7 @@ use napt_config::Config;
 use napt_dispatch::{TimedRun, run_on_pool};
 use napt_pool::Gate;
 use napt_records::{Fault, Merged, Which, report_text, write_packets};
-use napt_sequential::{Outcome, RunFault};
+use napt_sequential::{MOST_INPUTS, Outcome, RunFault};
 use napt_wire::Side;
 use std::alloc::Global;
 use std::sync::{Arc, Wait};
@@ -71,7 +71,7 @@ impl Captures {
     fn are_too_many(&self) -> bool
         ensures { (result ≡ true) ↔ AreTooMany self.now }
     {
-        self.count() > 4_294_967_295
+        self.count() > MOST_INPUTS
     }
 }
 
