@@ -1,5 +1,5 @@
 //! Texts that are read as configurations, each setting by what it answers. Texts that are refused are those of
-//! `tests/configurations`.
+//! `refused_configurations` and of `tests/configurations`.
 
 use napt_config::{
     Address, Config, ConfigFault, Filter, Prefix, Redirect, Refresh, Timers, TransportAddress,

@@ -28,6 +28,8 @@ mod plain;
 #[cfg(test)]
 mod records;
 #[cfg(test)]
+mod refused_configurations;
+#[cfg(test)]
 mod remotes;
 #[cfg(test)]
 mod sizes;
