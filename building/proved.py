@@ -15,8 +15,9 @@ RLIB, KEPT = "out/rlib", "out/incremental"
 GIGABYTES = 4
 # seconds that a crate takes on a quiet machine: for itself, for each crate below it, for a line of src/, and to compile a program
 FIRST, BELOW, LINE, COMPILED = 13.5, 2.8, 0.05, 34
-# processor seconds of that for each second: the large crates take two processors
-BUSY = 1.5
+# processor seconds of that for each second: the large crates take two processors, and provers side by side slow one another. A build
+# of all beside other work took 38 minutes and 95 processor minutes, which is more than on a quiet machine
+BUSY = 2.1
 # seconds of a quiet machine that are taken as seen when a build begins, so that the first crates do not decide its pace alone
 SEEN = 120
 # lines of src/ that are worth one processor more, which reads all crates below once more
@@ -122,8 +123,8 @@ class Build:
         self.lanes = len(os.sched_getaffinity(0))
         self.running, self.done = [], []
         self.began = time.time()
-        # what crates were to take on a quiet machine, and what they took
-        self.foreseen, self.taken = SEEN, SEEN
+        # what crates were to take on a quiet machine, and what they took: at first what the work of others lets expect
+        self.foreseen, self.taken = SEEN, SEEN * (1 + os.getloadavg()[0] / self.lanes)
 
     def seconds_for(self, name):
         """Returns about how long the proof of a crate takes on a quiet machine, and for a program its code."""
@@ -138,15 +139,23 @@ class Build:
     def say(self, what):
         say(self.title, what)
 
-    def minutes(self):
-        """Returns about how long the rest takes, at the pace of what was proved so far."""
-        pace, now = self.taken / self.foreseen, time.time()
+    def processor_minutes(self):
+        """Returns about how much time of its processors a quiet machine needs for what is not begun."""
+        return max(1, round(BUSY * sum(self.seconds[name] for name in self.left) / 60))
+
+    def minutes(self, pace=None):
+        """Returns about how long the rest takes, at this pace, or that of what was proved so far."""
+        pace, now = pace or self.taken / self.foreseen, time.time()
         rest = {name: self.seconds[name] * pace for name in self.left}
         for it in self.running:
             whole = self.seconds[it.name] * pace
             rest[it.name] = max(whole / 10, whole - (now - it.began))
         longest = max([self.chain(name, rest) for name in rest], default=0)
         return max(1, round(max(longest, BUSY * sum(rest.values()) / self.lanes) / 60))
+
+    def forecast(self):
+        """Returns how long all of it takes on this machine while it is quiet, and the time of its processors in that."""
+        return f"{self.minutes(1)} minutes of {self.lanes} quiet processors ({self.processor_minutes()} processor minutes)"
 
     def note_pace(self, attempt):
         """Notes how long an attempt took, unless it found most of its crate proved before."""
@@ -206,7 +215,7 @@ class Build:
     def all(self):
         """Builds all, and returns whether that succeeded. After a failure those that run come to their end, and no other starts."""
         what = "program" if len(self.programs) == 1 else "programs"
-        self.tell(f"proving and building the {what}")
+        self.tell(f"proving and building the {what}, in about {self.processor_minutes()} processor minutes")
         failed = False
         try:
             while self.running or self.left and not failed:

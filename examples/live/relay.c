@@ -1,0 +1,588 @@
+// Puts a translator between two TUN devices; the text of --help, below, says how.
+#define _GNU_SOURCE
+#include <errno.h>
+#include <fcntl.h>
+#include <linux/if_tun.h>
+#include <net/if.h>
+#include <poll.h>
+#include <sched.h>
+#include <signal.h>
+#include <stdarg.h>
+#include <stdbool.h>
+#include <stdint.h>
+#include <stdio.h>
+#include <stdlib.h>
+#include <string.h>
+#include <sys/ioctl.h>
+#include <sys/socket.h>
+#include <sys/stat.h>
+#include <sys/wait.h>
+#include <time.h>
+#include <unistd.h>
+
+static const char HELP[] =
+    "Runs a translator between two TUN devices: what they receive goes to it as captures over pipes, while it comes, and\n"
+    "what it writes leaves through them.\n"
+    "\n"
+    "usage: %s [--keep DIR] [--ready-fd N] INSIDE OUTSIDE PROGRAM [WORD ..]\n"
+    "       %s --help\n"
+    "\n"
+    "INSIDE and OUTSIDE are the names of TUN devices that are there; NAME@FILE is one of another network namespace, as\n"
+    "outside0@/run/netns/outside. PROGRAM (%s) is started with the words given, and with --inside, --outside,\n"
+    "--to-outside and --to-inside, each with a pipe. Once it has opened its files and the devices carry packets, the relay\n"
+    "says that it is ready.\n"
+    "\n"
+    "  --keep DIR      keeps the captures that went to PROGRAM and came from it in DIR, under the names of its options, with\n"
+    "                  .pcap behind them\n"
+    "  --ready-fd N    writes the line 'ready' to the open file N too, and closes it; it is closed without the line where the\n"
+    "                  relay ends before\n"
+    "\n"
+    "A packet is a record of raw IP (link type 101) with the time at which it was read; the times of all records differ and\n"
+    "grow. Behind the packets that were there at once, the other side gets a record without bytes: it tells that time has\n"
+    "passed, so that no packet waits for the next one of the other side. These records are no packets: captures that are\n"
+    "kept do not have them, and in the report (--report FILE of the words) the relay takes them from the packets and from\n"
+    "those that are truncated.\n"
+    "\n"
+    "SIGTERM, SIGINT and SIGHUP end the captures: what came is translated and leaves. Where PROGRAM ends by itself the relay ends\n"
+    "too. The status is that of PROGRAM; it is 1 where a device, a folder or PROGRAM cannot be opened, and 2 for a mistake\n"
+    "in the words.\n";
+
+enum {
+    HEADER_BYTES = 24,
+    RECORD_BYTES = 16,
+    MOST_PACKET = 65536,
+    // packets of a device that are taken before what came is handed on
+    AT_ONCE = 256,
+    // a side whose packets wait in so many bytes is not read
+    MOST_WAITING = 1 << 20,
+    PIPE_BYTES = 1 << 20,
+    PIECE = 1 << 18,
+    // how long a device may take until it carries packets, in milliseconds
+    MOST_CARRIER = 2000,
+};
+
+static const char *name = "relay";
+
+// What hinders the work, in a line.
+static void fail(int status, const char *format, ...) {
+    va_list words;
+    va_start(words, format);
+    fprintf(stderr, "%s: ", name);
+    vfprintf(stderr, format, words);
+    fputc('\n', stderr);
+    va_end(words);
+    exit(status);
+}
+
+static void *some(void *memory) {
+    if (!memory) fail(1, "memory ran out");
+    return memory;
+}
+
+// BYTES THAT WAIT
+
+typedef struct {
+    uint8_t *at;
+    size_t begin, end, room;
+} Bytes;
+
+static size_t length(const Bytes *bytes) { return bytes->end - bytes->begin; }
+
+// Makes room for so many bytes more, and returns their place; `end` is the caller's to move.
+static uint8_t *room_for(Bytes *bytes, size_t more) {
+    if (bytes->begin == bytes->end) bytes->begin = bytes->end = 0;
+    if (bytes->end + more > bytes->room && bytes->begin > 0) {
+        memmove(bytes->at, bytes->at + bytes->begin, length(bytes));
+        bytes->end -= bytes->begin;
+        bytes->begin = 0;
+    }
+    if (bytes->end + more > bytes->room) {
+        bytes->room = 2 * (bytes->end + more);
+        bytes->at = some(realloc(bytes->at, bytes->room));
+    }
+    return bytes->at + bytes->end;
+}
+
+static void put(Bytes *bytes, const void *data, size_t many) {
+    memcpy(room_for(bytes, many), data, many);
+    bytes->end += many;
+}
+
+// THE CLOCK
+
+// Tells the time in nanoseconds, and no time twice.
+static uint64_t now(void) {
+    static uint64_t last;
+    struct timespec time;
+    clock_gettime(CLOCK_REALTIME, &time);
+    uint64_t told = (uint64_t)time.tv_sec * 1000000000u + (uint64_t)time.tv_nsec;
+    last = told > last ? told : last + 1;
+    return last;
+}
+
+// DEVICES
+
+typedef struct {
+    const char *word;
+    char name[IFNAMSIZ];
+    int file;
+    // a socket of the device's namespace
+    int socket;
+} Device;
+
+static void enter(int namespace, const char *word) {
+    if (setns(namespace, CLONE_NEWNET)) fail(1, "%s: %s", word, strerror(errno));
+}
+
+static short flags_of(const Device *device) {
+    struct ifreq asked = {0};
+    memcpy(asked.ifr_name, device->name, IFNAMSIZ);
+    return ioctl(device->socket, SIOCGIFFLAGS, &asked) ? -1 : asked.ifr_flags;
+}
+
+// Opens a TUN device that is there, in the namespace that the process is in.
+static void open_here(Device *device) {
+    device->socket = socket(AF_INET, SOCK_DGRAM | SOCK_CLOEXEC, 0);
+    if (device->socket < 0) fail(1, "%s: %s", device->word, strerror(errno));
+    // TUNSETIFF would make it
+    if (flags_of(device) == -1) fail(1, "%s: there is no such device (ip tuntap add mode tun name %s makes it)", device->word, device->name);
+    device->file = open("/dev/net/tun", O_RDWR | O_NONBLOCK | O_CLOEXEC);
+    if (device->file < 0) fail(1, "/dev/net/tun: %s", strerror(errno));
+    // packets that it sends come in through NAPI, which joins those of one TCP flow
+    struct ifreq asked = {.ifr_flags = IFF_TUN | IFF_NO_PI | IFF_NAPI};
+    memcpy(asked.ifr_name, device->name, IFNAMSIZ);
+    if (ioctl(device->file, TUNSETIFF, &asked))
+        fail(1, "%s: %s", device->word, errno == EINVAL ? "it is no TUN device" : strerror(errno));
+}
+
+// Opens the device that a word names, of this namespace or of that which stands behind an @.
+static Device open_device(const char *word) {
+    Device device = {.word = word};
+    const char *mark = strchrnul(word, '@');
+    size_t many = (size_t)(mark - word);
+    if (many == 0 || many >= IFNAMSIZ) fail(1, "%s: no device has such a name", word);
+    memcpy(device.name, word, many);
+    int own = open("/proc/self/ns/net", O_RDONLY | O_CLOEXEC);
+    if (own < 0) fail(1, "/proc/self/ns/net: %s", strerror(errno));
+    if (*mark) {
+        int namespace = open(mark + 1, O_RDONLY | O_CLOEXEC);
+        if (namespace < 0) fail(1, "%s: %s", mark + 1, strerror(errno));
+        enter(namespace, word);
+        close(namespace);
+    }
+    open_here(&device);
+    enter(own, word);
+    close(own);
+    return device;
+}
+
+// Waits until a device carries packets, where it is up.
+static void wait_for_carrier(const Device *device) {
+    for (int waited = 0; waited < MOST_CARRIER; waited += 5) {
+        short flags = flags_of(device);
+        if (flags == -1 || !(flags & IFF_UP) || flags & IFF_RUNNING) return;
+        usleep(5000);
+    }
+}
+
+// CAPTURES
+
+static FILE *kept_file(const char *folder, const char *option) {
+    char path[4096];
+    if (!folder) return NULL;
+    snprintf(path, sizeof path, "%s/%s.pcap", folder, option);
+    FILE *file = fopen(path, "wbe");
+    if (!file) fail(1, "%s: %s", path, strerror(errno));
+    setvbuf(file, NULL, _IOFBF, PIECE);
+    return file;
+}
+
+static void keep(FILE *file, const void *data, size_t many) {
+    if (file) fwrite(data, 1, many, file);
+}
+
+static bool close_kept(FILE *file) { return !file || fclose(file) == 0; }
+
+// The packets of a device, on their way to the program.
+typedef struct {
+    Device *device;
+    int pipe, far;
+    Bytes waiting;
+    FILE *kept;
+    // records without bytes
+    uint64_t clocks;
+    bool is_open;
+} Side;
+
+static void pipe_of(int *reads, int *writes) {
+    int ends[2];
+    if (pipe2(ends, O_CLOEXEC)) fail(1, "pipe: %s", strerror(errno));
+    fcntl(ends[1], F_SETPIPE_SZ, PIPE_BYTES);
+    *reads = ends[0];
+    *writes = ends[1];
+}
+
+static void set_record(uint8_t *record, uint32_t bytes) {
+    uint64_t time = now();
+    uint32_t fields[4] = {(uint32_t)(time / 1000000000u), (uint32_t)(time % 1000000000u), bytes, bytes};
+    memcpy(record, fields, RECORD_BYTES);
+}
+
+static Side side_of(Device *device, const char *folder, const char *option) {
+    // magic of nanoseconds, version 2.4, zone, significant figures, most bytes of a packet, raw IP
+    static const uint32_t HEADER[6] = {0xA1B23C4D, 0x00040002, 0, 0, 262144, 101};
+    Side side = {.device = device, .kept = kept_file(folder, option), .is_open = true};
+    pipe_of(&side.far, &side.pipe);
+    fcntl(side.pipe, F_SETFL, O_NONBLOCK);
+    put(&side.waiting, HEADER, HEADER_BYTES);
+    keep(side.kept, HEADER, HEADER_BYTES);
+    return side;
+}
+
+// Tells a side that time has passed.
+static void tick(Side *side) {
+    uint8_t record[RECORD_BYTES];
+    set_record(record, 0);
+    put(&side->waiting, record, RECORD_BYTES);
+    side->clocks++;
+}
+
+// Takes the packets that are there, up to some, and tells whether there were any.
+static bool read_packets(Side *side) {
+    for (int taken = 0; taken < AT_ONCE; taken++) {
+        uint8_t *record = room_for(&side->waiting, RECORD_BYTES + MOST_PACKET);
+        ssize_t many = read(side->device->file, record + RECORD_BYTES, MOST_PACKET);
+        if (many <= 0) return taken > 0;
+        set_record(record, (uint32_t)many);
+        keep(side->kept, record, RECORD_BYTES + (size_t)many);
+        side->waiting.end += RECORD_BYTES + (size_t)many;
+    }
+    return true;
+}
+
+// Hands on what waits, as far as the pipe takes it, and tells whether the program still reads.
+static bool write_on(Side *side) {
+    while (length(&side->waiting) > 0) {
+        ssize_t many = write(side->pipe, side->waiting.at + side->waiting.begin, length(&side->waiting));
+        if (many < 0) return errno == EAGAIN || errno == EINTR;
+        side->waiting.begin += (size_t)many;
+    }
+    return true;
+}
+
+static void close_side(Side *side) {
+    if (side->is_open) close(side->pipe);
+    side->is_open = false;
+}
+
+// The packets of the program, on their way to a device.
+typedef struct {
+    Device *device;
+    int pipe, far;
+    Bytes text;
+    FILE *kept;
+    bool has_begun, is_open;
+} Exit;
+
+static Exit exit_of(Device *device, const char *folder, const char *option) {
+    Exit leaves = {.device = device, .kept = kept_file(folder, option), .is_open = true};
+    pipe_of(&leaves.pipe, &leaves.far);
+    return leaves;
+}
+
+// Sends the packets that are there whole. One that the device does not take is lost, as on any link.
+static void send_whole(Exit *leaves) {
+    Bytes *text = &leaves->text;
+    uint32_t fields[4];
+    while (length(text) >= RECORD_BYTES) {
+        const uint8_t *record = text->at + text->begin;
+        memcpy(fields, record, RECORD_BYTES);
+        if (length(text) - RECORD_BYTES < fields[2]) return;
+        if (write(leaves->device->file, record + RECORD_BYTES, fields[2]) < 0) errno = 0;
+        text->begin += RECORD_BYTES + fields[2];
+    }
+}
+
+// Takes what the program wrote, and sends its packets.
+static void read_on(Exit *leaves) {
+    ssize_t many = read(leaves->pipe, room_for(&leaves->text, PIECE), PIECE);
+    if (many < 0 && errno == EINTR) return;
+    if (many <= 0) {
+        close(leaves->pipe);
+        leaves->is_open = false;
+        return;
+    }
+    keep(leaves->kept, leaves->text.at + leaves->text.end, (size_t)many);
+    leaves->text.end += (size_t)many;
+    if (!leaves->has_begun && length(&leaves->text) >= HEADER_BYTES) {
+        leaves->text.begin += HEADER_BYTES;
+        leaves->has_begun = true;
+    }
+    if (leaves->has_begun) send_whole(leaves);
+}
+
+// THE REPORT
+
+typedef struct {
+    const char *path;
+    int pipe, far, file;
+    Bytes text;
+    bool is_open;
+} Report;
+
+// Opens the file of the report, and leaves what is in it until there is another.
+static void open_report(Report *report) {
+    if (!report->path) return;
+    report->file = open(report->path, O_WRONLY | O_CREAT | O_CLOEXEC, 0666);
+    if (report->file < 0) fail(1, "%s: %s", report->path, strerror(errno));
+    pipe_of(&report->pipe, &report->far);
+    report->is_open = true;
+}
+
+static void read_report(Report *report) {
+    ssize_t many = read(report->pipe, room_for(&report->text, PIECE), PIECE);
+    if (many < 0 && errno == EINTR) return;
+    if (many > 0) {
+        report->text.end += (size_t)many;
+        return;
+    }
+    close(report->pipe);
+    report->is_open = false;
+}
+
+// Writes a line of the report: records without bytes are no packets.
+static void write_line(FILE *file, const char *line, size_t many, uint64_t clocks) {
+    static const char *const COUNTS[] = {"packets ", "drop truncated "};
+    for (size_t at = 0; at < 2; at++) {
+        size_t word = strlen(COUNTS[at]);
+        if (many > word && memcmp(line, COUNTS[at], word) == 0) {
+            uint64_t told = strtoull(line + word, NULL, 10);
+            fprintf(file, "%s%llu\n", COUNTS[at], (unsigned long long)(told - clocks));
+            return;
+        }
+    }
+    fwrite(line, 1, many, file);
+}
+
+// Writes the report, where the program wrote one; tells whether that succeeded.
+static bool write_report(Report *report, uint64_t clocks) {
+    if (!report->path || length(&report->text) == 0) return true;
+    put(&report->text, "", 1);
+    if (ftruncate(report->file, 0) && errno != EINVAL) return false;
+    FILE *file = fdopen(report->file, "wb");
+    if (!file) return false;
+    const char *line = (const char *)report->text.at + report->text.begin;
+    for (const char *end; (end = strchr(line, '\n')); line = end + 1) write_line(file, line, (size_t)(end + 1 - line), clocks);
+    return fclose(file) == 0;
+}
+
+// THE PROGRAM
+
+typedef struct {
+    Side sides[2];
+    Exit exits[2];
+    Report report;
+    pid_t program;
+    int ready_fd;
+    bool is_ready;
+    // signals that were blocked at first: those that end the captures come while the relay waits, and at no other time
+    sigset_t mask;
+} Relay;
+
+static volatile sig_atomic_t is_over;
+
+static void note_end(int number) {
+    (void)number;
+    is_over = 1;
+}
+
+// Takes --report and its file out of the words.
+static void take_report(Relay *relay, char **words, int *many) {
+    int kept = 0;
+    for (int at = 0; at < *many; at++) {
+        if (strcmp(words[at], "--report") == 0 && at + 1 < *many)
+            relay->report.path = words[++at];
+        else if (strncmp(words[at], "--report=", 9) == 0)
+            relay->report.path = words[at] + 9;
+        else
+            words[kept++] = words[at];
+    }
+    *many = kept;
+}
+
+static void add_option(char **words, int *many, const char *option, int end) {
+    char path[32];
+    snprintf(path, sizeof path, "/dev/fd/%d", end);
+    words[(*many)++] = some(strdup(option));
+    words[(*many)++] = some(strdup(path));
+    fcntl(end, F_SETFD, 0);
+}
+
+// Starts the program with its ends of the pipes.
+static void start(Relay *relay, char **given, int many) {
+    char **words = some(calloc((size_t)many + 11, sizeof *words));
+    memcpy(words, given, (size_t)many * sizeof *words);
+    relay->program = fork();
+    if (relay->program < 0) fail(1, "fork: %s", strerror(errno));
+    if (relay->program == 0) {
+        signal(SIGPIPE, SIG_DFL);
+        sigprocmask(SIG_SETMASK, &relay->mask, NULL);
+        if (relay->ready_fd >= 0) close(relay->ready_fd);
+        add_option(words, &many, "--inside", relay->sides[0].far);
+        add_option(words, &many, "--outside", relay->sides[1].far);
+        add_option(words, &many, "--to-inside", relay->exits[0].far);
+        add_option(words, &many, "--to-outside", relay->exits[1].far);
+        if (relay->report.path) add_option(words, &many, "--report", relay->report.far);
+        // a Ctrl-C is the relay's to see: it ends the captures, and so the program
+        setpgid(0, 0);
+        execvp(words[0], words);
+        fprintf(stderr, "%s: %s: %s\n", name, words[0], strerror(errno));
+        _exit(1);
+    }
+    for (int at = 0; at < 2; at++) {
+        close(relay->sides[at].far);
+        close(relay->exits[at].far);
+    }
+    if (relay->report.path) close(relay->report.far);
+    free(words);
+}
+
+// Says that packets get through, once the program has begun both captures that it writes.
+static void tell_ready(Relay *relay) {
+    if (relay->is_ready || !relay->exits[0].has_begun || !relay->exits[1].has_begun) return;
+    relay->is_ready = true;
+    for (int at = 0; at < 2; at++) wait_for_carrier(relay->sides[at].device);
+    fprintf(stderr, "%s: ready\n", name);
+    if (relay->ready_fd >= 0) {
+        if (write(relay->ready_fd, "ready\n", 6) < 0) errno = 0;
+        close(relay->ready_fd);
+    }
+}
+
+// THE LOOP
+
+static struct pollfd watched(int file, short events) { return (struct pollfd){.fd = events ? file : -1, .events = events}; }
+
+// What is waited for: a device while its packets find room, a pipe while something waits for it, and what the program writes.
+static void watch(const Relay *relay, struct pollfd *files) {
+    for (int at = 0; at < 2; at++) {
+        const Side *side = &relay->sides[at];
+        bool has_room = !is_over && side->is_open && length(&side->waiting) < MOST_WAITING;
+        files[at] = watched(side->device->file, has_room ? POLLIN : 0);
+        files[2 + at] = watched(side->pipe, side->is_open && length(&side->waiting) > 0 ? POLLOUT : 0);
+        files[4 + at] = watched(relay->exits[at].pipe, relay->exits[at].is_open ? POLLIN : 0);
+    }
+    files[6] = watched(relay->report.pipe, relay->report.is_open ? POLLIN : 0);
+}
+
+// Takes packets of both devices. The side that was not the last gets a record behind them, whose time lets them go on.
+static void take_packets(Relay *relay, const struct pollfd *files) {
+    int last = -1;
+    for (int at = 0; at < 2; at++)
+        if (files[at].revents & POLLIN && read_packets(&relay->sides[at])) last = at;
+    if (last >= 0 && relay->sides[1 - last].is_open) tick(&relay->sides[1 - last]);
+}
+
+static void hand_on(Relay *relay) {
+    for (int at = 0; at < 2; at++) {
+        Side *side = &relay->sides[at];
+        if (!side->is_open) continue;
+        // the program's end shows at what it writes
+        bool is_read = write_on(side);
+        if (!is_read || (is_over && length(&side->waiting) == 0)) close_side(side);
+    }
+}
+
+static bool is_done(const Relay *relay) {
+    return !relay->exits[0].is_open && !relay->exits[1].is_open && !relay->report.is_open;
+}
+
+// Hands on until the program has closed all that it writes.
+static void run(Relay *relay) {
+    struct pollfd files[7];
+    while (!is_done(relay)) {
+        hand_on(relay);
+        watch(relay, files);
+        if (ppoll(files, 7, NULL, &relay->mask) < 0) continue;
+        take_packets(relay, files);
+        for (int at = 0; at < 2; at++)
+            if (files[4 + at].revents) read_on(&relay->exits[at]);
+        if (files[6].revents) read_report(&relay->report);
+        tell_ready(relay);
+    }
+}
+
+static void note_signals(Relay *relay) {
+    static const int ENDING[] = {SIGTERM, SIGINT, SIGHUP};
+    struct sigaction ends = {.sa_handler = note_end};
+    sigset_t blocked;
+    sigemptyset(&blocked);
+    for (size_t at = 0; at < 3; at++) {
+        sigaddset(&blocked, ENDING[at]);
+        sigaction(ENDING[at], &ends, NULL);
+    }
+    sigprocmask(SIG_BLOCK, &blocked, &relay->mask);
+    signal(SIGPIPE, SIG_IGN);
+}
+
+static int end_of(Relay *relay) {
+    int status = 0;
+    for (int at = 0; at < 2; at++) close_side(&relay->sides[at]);
+    while (waitpid(relay->program, &status, 0) < 0 && errno == EINTR) continue;
+    bool are_kept = write_report(&relay->report, relay->sides[0].clocks + relay->sides[1].clocks);
+    for (int at = 0; at < 2; at++) {
+        are_kept = close_kept(relay->sides[at].kept) && are_kept;
+        are_kept = close_kept(relay->exits[at].kept) && are_kept;
+    }
+    if (WIFSIGNALED(status)) fail(128 + WTERMSIG(status), "the program was ended by signal %d", WTERMSIG(status));
+    if (WEXITSTATUS(status) == 0 && !are_kept) fail(1, "a capture or the report could not be written");
+    return WEXITSTATUS(status);
+}
+
+// WORDS
+
+static int help(void) {
+    bool is_installed = strcmp(name, "napt-relay") == 0;
+    const char *call = is_installed ? name : "examples/live/relay";
+    printf(HELP, call, call, is_installed ? "napt-stream" : "./stream");
+    return 0;
+}
+
+// A number of an open file.
+static int file_number(const char *word) {
+    char *end;
+    long number = strtol(word, &end, 10);
+    if (!*word || *end || number < 0 || number > 1000000 || fcntl((int)number, F_GETFD) < 0)
+        fail(2, "--ready-fd %s: no open file has this number", word);
+    return (int)number;
+}
+
+int main(int many, char **words) {
+    const char *slash = strrchr(words[0], '/');
+    if (strcmp(slash ? slash + 1 : words[0], "napt-relay") == 0) name = "napt-relay";
+    if (many == 2 && (strcmp(words[1], "--help") == 0 || strcmp(words[1], "-h") == 0)) return help();
+    Relay relay = {.ready_fd = -1};
+    const char *folder = NULL;
+    int at = 1;
+    for (; at + 1 < many && strncmp(words[at], "--", 2) == 0; at += 2) {
+        if (strcmp(words[at], "--keep") == 0)
+            folder = words[at + 1];
+        else if (strcmp(words[at], "--ready-fd") == 0)
+            relay.ready_fd = file_number(words[at + 1]);
+        else
+            break;
+    }
+    if (many - at < 3 || words[at][0] == '-') fail(2, "unknown words (see %s --help)", name);
+    Device devices[2] = {open_device(words[at]), open_device(words[at + 1])};
+    int left = many - at - 2;
+    take_report(&relay, words + at + 2, &left);
+    open_report(&relay.report);
+    note_signals(&relay);
+    relay.sides[0] = side_of(&devices[0], folder, "inside");
+    relay.sides[1] = side_of(&devices[1], folder, "outside");
+    relay.exits[0] = exit_of(&devices[0], folder, "to-inside");
+    relay.exits[1] = exit_of(&devices[1], folder, "to-outside");
+    start(&relay, words + at + 2, left);
+    run(&relay);
+    return end_of(&relay);
+}
