@@ -1,5 +1,5 @@
 //! Reading a capture.
-ghost use Rattle.std.specs.Prelude.{◌≡◌, ◌+◌, ◌-◌, ◌*◌, ◌^◌, ◌<◌, ◌≤◌, ℕ, All, length, take, IfSome, IfOk, IfErr};
+ghost use Rattle.std.specs.Prelude.{◌≡◌, ◌+◌, ◌-◌, ◌*◌, ◌^◌, ◌<◌, ◌≤◌, ℕ, All, length, take, Err, IfSome, IfOk, IfErr};
 ghost use Rattle.std.specs.Io.KnownBytes.{Consumes, IsAtEnd};
 ghost use Rattle.napt_capture.specs.Device.{failed_calls};
 ghost use Rattle.napt_capture.specs.Capture.{Answers, ReadsNoFurther, IsFileHeader, IsRefusedFile, IsRefusedRecord, MayAsk, failed_reads};
@@ -143,6 +143,7 @@ fn read_record<R: Source>(
         (R.remaining reader.new) next) }
     ensures err { IfErr result (λ fault. StopsBy fault
         (RefusesRecord spelling asked number fault (R.remaining reader.old) (R.remaining reader.new))) }
+    ensures large { (¬ MayAsk asked 16) → result ≡ Err CaptureFault.TooLarge }
     ensures writable { IfOk result IsWritableNext }
     ensures count { R.failed reader.new ≡ R.failed reader.old + failed_reads result }
 {
