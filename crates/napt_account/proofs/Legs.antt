@@ -28,7 +28,6 @@ use Rattle.napt_rules.proofs.Lists.{each_filter}
 use Rattle.napt_rules.specs.declared.Received.{Received}
 use Rattle.napt_rules.specs.declared.Row.{Row}
 use Rattle.napt_laws.proofs.Endpoints.{protocol_is, end_is, same_itself, end_itself}
-use Rattle.napt_laws.proofs.StepsSound.{sent_row, received_row}
 use Rattle.napt_rules.specs.declared.Leg.{Leg}
 use Rattle.napt_rules.specs.declared.End.{End}
 use Rattle.napt_rules.specs.declared.End.TheVariants.{ToOutside, ToInside, Onward, Dropped}
@@ -160,15 +159,15 @@ module _ (r : Row) where
         (granted quota list address packet) is))
     keeps_found quota list address packet (Some b) e missed =
         ap (option_map (end_of timers)) (find_unchanged (of_source address packet) (has_row r) (sent_by packet)
-        (λ c. ap (has_ends r.protocol r.inside r.external) (sent_row packet.remote packet.flags packet.now c)) list b e
+        (λ c. refl) list b e
         (other_ends (is_of_source address packet.protocol packet.inside) (λ p i x f g. refl) r (row b)
-        (missed b.external.number refl) (passes (of_source address packet) list b e)))
+        (missed b.row.external.number refl) (passes (of_source address packet) list b e)))
 
     keeps_passed : (inbound : Inbound) (list : List Binding) (address : ℕ) (packet : Received) (b : Binding) →
         find (of_destination address packet) list ≡ Some b → (let_in : Bool) →
         (let came : In = cond let_in
         (record {
-          inside = Ok b.inside;
+          inside = Ok b.row.inside;
           list = change_first (of_destination address packet) (received_by inbound packet) list;
         })
         (record { inside = Err Filtered; list = list }) in
@@ -177,10 +176,9 @@ module _ (r : Row) where
     keeps_passed inbound list address packet b e true missed =
         ap (option_map (end_of timers)) (find_unchanged (of_destination address packet) (has_row r)
         (received_by inbound packet)
-        (λ c. ap (has_ends r.protocol r.inside r.external)
-        (received_row inbound packet.remote packet.flags packet.now c)) list b e
+        (λ c. refl) list b e
         (other_ends (is_of_destination address packet.protocol packet.number) (λ p i x f g. refl) r (row b)
-        (missed b.inside refl) (passes (of_destination address packet) list b e)))
+        (missed b.row.inside refl) (passes (of_destination address packet) list b e)))
     keeps_passed inbound list address packet b e false missed = refl
 
     keeps_entered : (inbound : Inbound) (list : List Binding) (address : ℕ) (packet : Received)
@@ -327,7 +325,7 @@ makes_found : (T : Row → Bool) (quota : Option ℕ) (list : List Binding) (add
     Makes T list (out_found quota list address packet found).list
 makes_found T quota list address packet (Some b) passed =
     makes_none T list (change_first (of_source address packet) (sent_by packet) list)
-    (rows_change (of_source address packet) (sent_by packet) (sent_row packet.remote packet.flags packet.now) list)
+    (rows_change (of_source address packet) (sent_by packet) (λ b. refl) list)
 makes_found T quota list address packet None passed = makes_made T list address packet
     (granted quota list address packet) (λ n is. passed n (made_number list address packet n
     (granted quota list address packet) is))
@@ -335,13 +333,13 @@ makes_found T quota list address packet None passed = makes_made T list address 
 passed_rows : (inbound : Inbound) (list : List Binding) (address : ℕ) (packet : Received) (b : Binding)
     (let_in : Bool) → (let came : In = cond let_in
     (record {
-      inside = Ok b.inside;
+      inside = Ok b.row.inside;
       list = change_first (of_destination address packet) (received_by inbound packet) list;
     })
     (record { inside = Err Filtered; list = list }) in map row came.list ≡ map row list)
 passed_rows inbound list address packet b true =
     rows_change (of_destination address packet) (received_by inbound packet)
-    (received_row inbound packet.remote packet.flags packet.now) list
+    (λ b. refl) list
 passed_rows inbound list address packet b false = refl
 
 entered_rows : (inbound : Inbound) (list : List Binding) (address : ℕ) (packet : Received) (found : Option Binding) →

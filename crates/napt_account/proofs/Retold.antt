@@ -153,7 +153,7 @@ module _ (timers : Timers) (now : ℕ) (list : List Binding) where
   ended_in address packet None left = tt
   ended_in address packet (Some p) (Err cause) = tt
   ended_in address packet (Some p) (Ok inside) = in_not_out (option_map (timed timers)
-      (find (has_number address p (destination packet).number) (purge timers now list)))
+      (find (λ b. has_number address p (destination packet).number b.row) (purge timers now list)))
 
   error_ended : (address : ℕ) (packet : List ℕ) (e : End) →
       IsNotOut (passage_by timers now list address (seen_of packet) None (went_by e))
@@ -191,13 +191,13 @@ module _ (timers : Timers) (now : ℕ) (list : List Binding) where
   passage_seen address packet None e told h = cc
   passage_seen address packet (Some p) (ends.Dropped cause) told h = cc
   passage_seen address packet (Some p) (ends.ToInside left) told h = absurd (never_out (option_map (timed timers)
-      (find (has_number address p (destination packet).number) (purge timers now list))) told h)
+      (find (λ b. has_number address p (destination packet).number b.row) (purge timers now list))) told h)
   passage_seen address packet (Some p) (ends.ToOutside left) told h =
-      seen_left (is_of_inside address p (source packet)) (λ b. refl)
-      (find (is_of_inside address p (source packet)) (purge timers now list)) refl told h
+      seen_left (λ b. is_of_inside address p (source packet) b.row) (λ b. refl)
+      (find (λ b. is_of_inside address p (source packet) b.row) (purge timers now list)) refl told h
   passage_seen address packet (Some p) (ends.Onward place left) told h =
-      seen_left (is_of_inside address p (source packet)) (λ b. refl)
-      (find (is_of_inside address p (source packet)) (purge timers now list)) refl told h
+      seen_left (λ b. is_of_inside address p (source packet) b.row) (λ b. refl)
+      (find (λ b. is_of_inside address p (source packet) b.row) (purge timers now list)) refl told h
 
   pub first_seen : (acts : List Act) (told : TimedRow) → first_of timers now list acts ≡ Out told →
       list_any (is_row told.row) (map row (living timers now list)) ≡ true

@@ -16,7 +16,6 @@ use Rattle.napt_rules.specs.declared.Sent.{Sent}
 use Rattle.napt_rules.specs.Prelude.{Binding, change_first, with_live_flows, purge, permits, inbound_of, granted, of_source, sent_by, fresh, out_made, out_found, step_out, of_destination, received_by, In, in_found, step_in, Acted, sent_of, received_of, act_out, act_in, act_by, act, Arrival, row, Course, follow_by, first_leg, step, OutLeavesLive, InLeavesLive}
 use Rattle.napt_rules.specs.declared.Received.{Received}
 use Rattle.napt_rules.specs.declared.Row.{Row}
-use Rattle.napt_laws.proofs.StepsSound.{sent_row, received_row}
 use Rattle.napt_rules.specs.declared.Leg.{Leg}
 use Rattle.napt_rules.specs.declared.End.{End}
 use Rattle.napt_rules.specs.declared.End.TheVariants.{ToOutside, ToInside, Onward, Dropped}
@@ -69,7 +68,7 @@ adds_found : (quota : Option ℕ) (list : List Binding) (address : ℕ) (packet 
     Adds list (out_found quota list address packet found).list
 adds_found quota list address packet (Some binding) =
     adds_none list (change_first (of_source address packet) (sent_by packet) list)
-    (rows_change (of_source address packet) (sent_by packet) (sent_row packet.remote packet.flags packet.now) list)
+    (rows_change (of_source address packet) (sent_by packet) (λ b. refl) list)
 adds_found quota list address packet None = adds_made list address packet (granted quota list address packet)
 
 -- a packet that comes in through a binding, which lets it pass or not
@@ -77,7 +76,7 @@ abbrev in_passed : Inbound → List Binding → ℕ → Received → Binding →
 in_passed inbound list address packet binding passes =
     cond passes
     (record {
-      inside = Ok binding.inside;
+      inside = Ok binding.row.inside;
       list = change_first (of_destination address packet) (received_by inbound packet) list;
     })
     (record { inside = Err Filtered; list = list })
@@ -87,7 +86,7 @@ adds_passed : (inbound : Inbound) (list : List Binding) (address : ℕ) (packet 
 adds_passed inbound list address packet b true =
     adds_none list (change_first (of_destination address packet) (received_by inbound packet) list)
     (rows_change (of_destination address packet) (received_by inbound packet)
-    (received_row inbound packet.remote packet.flags packet.now) list)
+    (λ b. refl) list)
 adds_passed inbound list address packet b false = adds_none list list refl
 
 adds_entered : (inbound : Inbound) (list : List Binding) (address : ℕ) (packet : Received) (found : Option Binding) →

@@ -45,12 +45,12 @@ shares_itself r = and_from (same_protocol r.protocol r.protocol) (same_endpoint 
     (same_itself r.protocol) (end_itself r.external)
 
 shares_number : (r : Row) (b : Binding) → shares r (row b) ≡ true →
-    has_number r.external.address r.protocol r.external.number b ≡ true
+    has_number r.external.address r.protocol r.external.number b.row ≡ true
 shares_number r b h =
-    let p : (same_protocol r.protocol b.protocol ≡ true) × (same_endpoint r.external b.external ≡ true) =
+    let p : (same_protocol r.protocol b.row.protocol ≡ true) × (same_endpoint r.external b.row.external ≡ true) =
     and_parts _ _ h in
-    let e : r.external ≡ b.external = end_is r.external b.external p.1 in
-    has_its_number r.external.address r.protocol r.external.number b (protocol_is r.protocol b.protocol p.0)
+    let e : r.external ≡ b.row.external = end_is r.external b.row.external p.1 in
+    has_its_number r.external.address r.protocol r.external.number b.row (protocol_is r.protocol b.row.protocol p.0)
     (sym (ap (λ (x : Endpoint). x.address) e)) (sym (ap (λ (x : Endpoint). x.number) e))
 
 -- by the binding that was found for a leg
@@ -95,9 +95,10 @@ module _ (timers : Timers) (t : AreTimers timers) (now : ℕ) (list : List Bindi
     same_left c h None e f = cc
     same_left c h (Some d) e f =
         let is : with_live_flows timers now d ≡ c = same_Some (with_live_flows timers now d) c f in
-        let U : Binding → Bool = has_number c.external.address c.protocol c.external.number in
+        let U : Binding → Bool =
+        λ b. has_number c.row.external.address c.row.protocol c.row.external.number b.row in
         let once_u : Once U (living timers now list) =
-        once_number c.external.address c.protocol c.external.number (living timers now list) apart in
+        once_number c.row.external.address c.row.protocol c.row.external.number (living timers now list) apart in
         let d_has : U d ≡ true = shares_number (row c) d
         (ap (λ (x : Binding). shares (row x) (row d)) (sym is) ∙ shares_itself (row d)) in
         let b_has : U b ≡ true = shares_number (row c) b
@@ -155,20 +156,22 @@ module _ (timers : Timers) (t : AreTimers timers) (now : ℕ) (list : List Bindi
     over_in (Some c) = refl
 
     gone : (address : ℕ) (packet : List ℕ) (p : Protocol) →
-        over now (out_through (option_map (timed timers) (find (is_of_inside address p (source packet))
+        over now (out_through (option_map (timed timers) (find (λ b. is_of_inside address p (source packet) b.row)
         (purge timers now list)))) x
         ≡ touched now end (is_of_source address p (source packet) r) false x
     gone address packet p =
-        let o : Option Binding = find (is_of_inside address p (source packet)) (purge timers now list) in
+        let o : Option Binding = find (λ b. is_of_inside address p (source packet) b.row) (purge timers now list) in
         over_out o ∙ changed_by (is_of_source address p (source packet)) (λ q i e f g. refl)
         (once_inside address p (source packet) (living timers now list) apart) (sent_through now) x same opened o refl
 
     came : (address : ℕ) (packet : List ℕ) (p : Protocol) →
-        over now (in_through (option_map (timed timers) (find (has_number address p (destination packet).number)
+        over now (in_through (option_map (timed timers)
+        (find (λ b. has_number address p (destination packet).number b.row)
         (purge timers now list)))) x
         ≡ touched now end false (is_of_destination address p (destination packet).number r) x
     came address packet p =
-        let o : Option Binding = find (has_number address p (destination packet).number) (purge timers now list) in
+        let o : Option Binding = find (λ b. has_number address p (destination packet).number b.row)
+        (purge timers now list) in
         over_in o ∙ changed_by (is_of_destination address p (destination packet).number) (λ q i e f g. refl)
         (once_number address p (destination packet).number (living timers now list) apart) (received_through now) x
         same opened o refl

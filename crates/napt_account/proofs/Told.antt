@@ -54,28 +54,28 @@ module _ (q : Row → Bool) (timers : Timers) (now : ℕ) (list : List Binding) 
   passes binding = q (row binding) && is_live timers now binding
 
   any_rows : (address : ℕ) → list_any q (rows timers now (of address list))
-      ≡ list_any (λ b. passes b && is_at address b) list
+      ≡ list_any (λ b. passes b && is_at address b.row) list
   any_rows address =
       any_ordered q (map row (purge timers now (of address list)))
       ∙ (ap (list_any q) (rows_purge timers now (of address list))
       ∙ (any_seen_of q row (living timers now (of address list))
       ∙ (any_among (λ b. q (row b)) (is_live timers now) (of address list)
-      ∙ any_among passes (is_at address) list)))
+      ∙ any_among passes (λ b. is_at address b.row) list)))
 
   any_pool : (pool : List ℕ) → list_any q (flat_map (λ address. rows timers now (of address list)) pool)
-      ≡ list_any (λ b. passes b && list_any (λ address. is_at address b) pool) list
+      ≡ list_any (λ b. passes b && list_any (λ address. is_at address b.row) pool) list
   any_pool [] = sym (any_never passes list)
   any_pool (address ∷ pool) =
       any_joined q (rows timers now (of address list)) (flat_map (λ other. rows timers now (of other list)) pool)
       ∙ (ap (λ v. v || list_any q (flat_map (λ other. rows timers now (of other list)) pool)) (any_rows address)
-      ∙ (ap (λ v. list_any (λ b. passes b && is_at address b) list || v) (any_pool pool)
-      ∙ any_either passes (is_at address) (λ b. list_any (λ other. is_at other b) pool) list))
+      ∙ (ap (λ v. list_any (λ b. passes b && is_at address b.row) list || v) (any_pool pool)
+      ∙ any_either passes (λ b. is_at address b.row) (λ b. list_any (λ other. is_at other b.row) pool) list))
 
-  pub any_all : (pool : List ℕ) → Each (λ b. list_any (λ address. is_at address b) pool ≡ true) list →
+  pub any_all : (pool : List ℕ) → Each (λ b. list_any (λ address. is_at address b.row) pool ≡ true) list →
       list_any q (flat_map (λ address. rows timers now (of address list)) pool)
       ≡ list_any (λ b. q (row b) && is_live timers now b) list
   any_all pool sure =
-      any_pool pool ∙ any_surely passes (λ b. list_any (λ address. is_at address b) pool) list sure
+      any_pool pool ∙ any_surely passes (λ b. list_any (λ address. is_at address b.row) pool) list sure
 
 any_turned : (pool : List ℕ) (address : ℕ) → list_any (λ other. address == other) pool ≡ has pool address
 any_turned [] address = refl
@@ -83,7 +83,7 @@ any_turned (other ∷ pool) address = grind (arith, any_turned pool address, nat
 
 -- each binding of a sound list is at an address of the pool
 pub at_the_pool : (rules : Rules) → KeepsRules rules → (list : List Binding) → IsSound (pair_of rules) list →
-    Each (λ b. list_any (λ address. is_at address b) rules.pool ≡ true) list
+    Each (λ b. list_any (λ address. is_at address b.row) rules.pool ≡ true) list
 at_the_pool rules keeps list sound =
     each_shown (λ (r : Row). list_any (λ address. r.external.address == address) rules.pool ≡ true) row list
     (each_weaker (IsPaired (pair_of rules))

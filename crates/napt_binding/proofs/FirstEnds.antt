@@ -45,8 +45,9 @@ either_fixed true now end = refl
 either_fixed false now end = refl
 
 pub ends_are_first : EndsAreFirst
-ends_are_first timers t now binding = ap (λ v. binding.fixed || v) (by_before binding.protocol timers t now binding)
-    ∙ either_fixed binding.fixed now (end_by binding.protocol timers binding)
+ends_are_first timers t now binding = ap (λ v. binding.row.fixed || v)
+    (by_before binding.row.protocol timers t now binding)
+    ∙ either_fixed binding.row.fixed now (end_by binding.row.protocol timers binding)
 
 -- what is before an end now was so earlier
 pub before_sooner : (n m : ℕ) → n ≤ m → (end : Option ℕ) → is_before m end ≡ true → is_before n end ≡ true

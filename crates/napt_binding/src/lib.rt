@@ -7,6 +7,7 @@ mod addresses;
 mod flows;
 mod idle_timers;
 mod inbound;
+mod kept_row;
 mod life;
 mod sent;
 mod session;
@@ -16,10 +17,11 @@ pub use addresses::Addresses;
 pub use flows::Flows;
 pub use idle_timers::IdleTimers;
 pub use inbound::inbound_of;
+pub use kept_row::KeptRow;
 pub use life::{end_of, is_live, until};
 pub use napt_rules::{Flow, Inbound, Marks, Sent};
 pub use traffic::{send, take_in};
 
 /// An inside endpoint and the external endpoint it is mapped to under one protocol (RFC 3022, section 2.2), with its
 /// flows.
-pub type Binding = napt_rules::Binding<Flows>;
+pub type Binding = napt_rules::Binding<KeptRow, Flows>;

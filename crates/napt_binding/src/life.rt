@@ -79,10 +79,10 @@ pub(crate) fn is_standing(flow: &Flow, timers: IdleTimers, now: u64, protocol: P
 pub fn is_live(binding: &Binding, timers: IdleTimers, now: u64) -> bool
     ensures { result ≡ life.is_live timers now binding.now }
 {
-    if binding.fixed {
+    if binding.row.is_fixed() {
         return true;
     }
-    match binding.protocol {
+    match binding.row.protocol() {
         Protocol::Icmp => is_recent(now, binding.last, timers.seconds.icmp),
         Protocol::Udp => is_recent(now, binding.last, timers.seconds.udp),
         Protocol::Tcp => binding.flows.has_live(timers, now),
@@ -94,10 +94,10 @@ pub fn is_live(binding: &Binding, timers: IdleTimers, now: u64) -> bool
 pub fn end_of(binding: &Binding, timers: IdleTimers) -> Option<u128>
     ensures { result ≡ end_of timers binding.now }
 {
-    if binding.fixed {
+    if binding.row.is_fixed() {
         return None;
     }
-    let end = match binding.protocol {
+    let end = match binding.row.protocol() {
         Protocol::Icmp => end_after(binding.last, timers.seconds.icmp),
         Protocol::Udp => end_after(binding.last, timers.seconds.udp),
         Protocol::Tcp => binding.flows.last_end(timers),
@@ -110,13 +110,13 @@ pub fn end_of(binding: &Binding, timers: IdleTimers) -> Option<u128>
 pub fn until(binding: &Binding, timers: IdleTimers, now: u64) -> u64
     requires live { life.is_live timers now binding.now ≡ true }
     ensures later { now ≤ result }
-    ensures near { result < now + least_timer binding.now.protocol timers * life.second }
+    ensures near { result < now + least_timer binding.now.row.protocol timers * life.second }
     ensures lives { (t : ℕ) → t ≤ result → life.is_live timers t binding.now ≡ true }
 {
-    if binding.fixed {
+    if binding.row.is_fixed() {
         return now;
     }
-    match binding.protocol {
+    match binding.row.protocol() {
         Protocol::Icmp => {
             last_moment(binding.last, timers.seconds.icmp)
                 .min(last_moment(now, timers.seconds.icmp))
@@ -141,7 +141,7 @@ pub fn until(binding: &Binding, timers: IdleTimers, now: u64) -> u64
 pub(crate) fn purge_flows(binding: &mut Binding, timers: IdleTimers, now: u64)
     ensures { binding.new ≡ life.with_live_flows timers now binding.old }
 {
-    if let Protocol::Tcp = binding.protocol {
+    if let Protocol::Tcp = binding.row.protocol() {
         binding.flows.keep_live(timers, now);
     }
 }

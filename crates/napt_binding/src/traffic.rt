@@ -54,7 +54,7 @@ pub(crate) fn used(flow: Flow, protocol: Protocol, way: Way, flags: Flags, now: 
 fn permits(binding: &Binding, inbound: Inbound, remote: Endpoint) -> bool
     ensures { result ≡ filtering.permits inbound binding.now remote }
 {
-    if binding.fixed {
+    if binding.row.is_fixed() {
         return true;
     }
     match inbound.filter {
@@ -75,13 +75,13 @@ pub fn send(
     ensures ok { OnOk result (life.with_live_flows timers packet.now binding.new
         ≡ steps.sent_by packet (life.with_live_flows timers packet.now binding.old)) }
     ensures live { OnOk result (life.is_live timers packet.now binding.new ≡ true) }
-    ensures found { OnOk result (binding.new.external ≡ binding.old.external) }
+    ensures found { OnOk result (binding.new.row ≡ binding.old.row) }
     ensures err { OnErr result (binding.new ≡ binding.old) }
 {
-    if binding.fixed {
+    if binding.row.is_fixed() {
         return Ok(());
     }
-    let protocol = binding.protocol;
+    let protocol = binding.row.protocol();
     let flows = &mut binding.flows;
     flows.use_flow(alloc, timers, Sent { protocol, ..packet })?;
     binding.last = packet.now;
@@ -90,10 +90,10 @@ pub fn send(
 
 /// Whether incoming packets keep the binding alive (RFC 4787, REQ-6).
 fn is_refreshed(binding: &Binding, refresh: Refresh) -> bool
-    ensures { result ≡ traffic.refreshes refresh binding.now }
+    ensures { result ≡ traffic.refreshes refresh binding.now.row }
 {
-    match (refresh, binding.protocol) {
-        (Refresh::Both, Protocol::Udp) => !binding.fixed,
+    match (refresh, binding.row.protocol()) {
+        (Refresh::Both, Protocol::Udp) => !binding.row.is_fixed(),
         _ => false,
     }
 }
@@ -102,7 +102,7 @@ fn is_refreshed(binding: &Binding, refresh: Refresh) -> bool
 fn receive(binding: &mut Binding, inbound: Inbound, packet: Received)
     ensures { binding.new ≡ steps.received_by inbound packet binding.old }
 {
-    if let Protocol::Tcp = binding.protocol {
+    if let Protocol::Tcp = binding.row.protocol() {
         let flows = &mut binding.flows;
         flows.refresh_flow(packet.now, packet.remote, packet.flags);
     } else if is_refreshed(binding, inbound.refresh) {
@@ -128,5 +128,5 @@ pub fn take_in(
         return Err(Cause::Filtered);
     }
     receive(binding, inbound, packet);
-    Ok(binding.inside)
+    Ok(binding.row.inside())
 }

@@ -1,11 +1,11 @@
 -- The laws for a dispatcher.
-use Rattle.std.proofs.Common.{◌≡◌, ℕ, suc, ◌+◌, ◌-◌, ◌≤◌, max, List, [], ◌∷◌, ◌++◌, length, Option, Some, None, IfSome, refl, sym, ◌∙◌, ap, subst, arith, append_assoc}
+use Rattle.std.proofs.Common.{◌≡◌, ℕ, suc, ◌+◌, ◌-◌, ◌≤◌, List, [], ◌∷◌, ◌++◌, length, Option, Some, None, IfSome, refl, sym, ◌∙◌, ap, subst, arith, append_assoc}
 use Rattle.std.specs.List.{slice_get}
 use Rattle.napt_wire.specs.declared.Way.TheVariants.{Incoming}
 use Rattle.napt_wire.specs.Fields.{destination, kind}
 use Rattle.napt_wire.specs.Laws.{SourcesLeaveDestinations, ErrorsLeaveDestinations}
 use Rattle.napt_config.specs.Rules.{Rules, place_of}
-use Rattle.napt_rules.specs.Prelude.{Binding, Each, of, Acted, act, Arrival, Act, Course, outcome_of, follow_by, first_leg, step, run_from, run, Kept, kept_after, kept_answer, kept_replies, answers_at}
+use Rattle.napt_rules.specs.Prelude.{Binding, Each, of, Acted, act, Arrival, Act, Course, outcome_of, follow_by, run_from, run, Kept, kept_after, kept_answer, kept_replies, answers_at}
 use Rattle.napt_laws.proofs.Lists.{each_weaker, each_append}
 use Rattle.napt_rules.specs.declared.Leg.{Leg}
 use Rattle.napt_rules.specs.declared.Answer.{Answer}
@@ -13,8 +13,8 @@ use Rattle.napt_rules.specs.declared.End.{End}
 use Rattle.napt_rules.specs.declared.End.TheVariants.{ToOutside, ToInside, Onward, Dropped}
 use Rattle.napt_rules.specs.declared.Outcome.{Outcome}
 use Rattle.napt_laws.specs.Dispatching.{IsFront, RightAnswersAreTheRuns, RunsGrow, outcome_told, IsTold, AnswersTellOutcomes, OnwardIsForetold}
-use Rattle.napt_laws.proofs.AnyStep.{of_step}
-use Rattle.napt_laws.proofs.Grown.{grows, step_one}
+use Rattle.napt_laws.proofs.EachLeg.{each_leg}
+use Rattle.napt_laws.proofs.Grown.{grows}
 use Rattle.napt_laws.proofs.RunsLocal.{translators_answer_alone}
 use Rattle.napt_laws.proofs.Onward.{OnwardBy, onward}
 
@@ -93,16 +93,8 @@ later_from number outcome first all a (Some x) one le h =
 tells_from : (rules : Rules) (number clock : ℕ) (inputs : List Arrival) (list : List Binding) →
     Each (TellsFrom number (run_from rules number clock inputs list).outcomes)
     (run_from rules number clock inputs list).acts
-tells_from rules number clock [] list = tt
-tells_from rules number clock (input ∷ inputs) list =
-    let now : ℕ = max clock input.clock in
-    let first : Course = step rules number now input list in
-    let rest : Course = run_from rules (number + 1) now inputs first.list in
-    let one = (step_one rules number now input list).0 in
-    let here : Each (TellsHere number first.outcomes) first.acts =
-    of_step rules number now list (λ (s : Course). Each (TellsHere number s.outcomes) s.acts) (λ cause. tt)
-    (λ address side packet. let leg : Leg = first_leg number now side packet in
-    let acted : Acted = act rules address leg list in follow_tells rules address leg acted.list acted.end) input in
+tells_from rules = each_leg rules (λ number course. TellsHere number course.outcomes)
+    (λ number course. TellsFrom number course.outcomes) (follow_tells rules) (λ number first rest one here later.
     let all : List Outcome = first.outcomes ++ rest.outcomes in
     each_append (TellsFrom number all) first.acts rest.acts
     (each_weaker (TellsHere number first.outcomes) (TellsFrom number all) (λ a h.
@@ -110,8 +102,8 @@ tells_from rules number clock (input ∷ inputs) list =
     (omega arith, here_from number first.outcomes rest.outcomes a (outcome_told a.end) h.0 h.1)) first.acts here)
     (each_weaker (TellsFrom (number + 1) rest.outcomes) (TellsFrom number all) (λ a h.
     let e : number + 1 ≤ a.leg.number = h.0 in
-    (omega arith, later_from number one.0 first.outcomes rest.outcomes a (outcome_told a.end) one.1 h.0 h.1)) rest.acts
-    (tells_from rules (number + 1) now inputs first.list))
+    (omega arith, later_from number one.0.0 first.outcomes rest.outcomes a (outcome_told a.end) one.0.1 h.0 h.1))
+    rest.acts later))
 
 told_from : (all : List Outcome) (a : Act) (o : Option Outcome) →
     IfSome o (λ x. slice_get all (a.leg.number - 0) ≡ Some x) → IfSome o (λ x. slice_get all a.leg.number ≡ Some x)

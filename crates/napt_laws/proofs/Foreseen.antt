@@ -39,7 +39,8 @@ module _ (rules : Rules) (leg : Leg) (sources : (end : Endpoint) → (destinatio
 
   error_sent : is_error (kind leg.packet) ≡ true → (found : Option Binding) →
       IsForeseen (place_of rules (destination leg.packet).address) (error_out rules leg.packet found)
-  error_sent is (Some binding) = gone (reverted Outgoing binding.external leg.packet) (errors is binding.external)
+  error_sent is (Some binding) = gone (reverted Outgoing binding.row.external leg.packet)
+      (errors is binding.row.external)
   error_sent is None = dropped_is (place_of rules (destination leg.packet).address) _
 
   leg_sent : (address : ℕ) (list : List Binding) (k : Kind) → kind leg.packet ≡ k →

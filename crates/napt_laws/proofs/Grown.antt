@@ -49,7 +49,7 @@ clock_more clock (i ∷ inputs) input = clock_more (max clock i.clock) inputs in
 -- HOW MANY OUTCOMES, AND LEGS
 
 -- one outcome, and two legs at most
-abbrev IsOfOne : Course → Type 0
+abbrev pub IsOfOne : Course → Type 0
 IsOfOne course = ((outcome : Outcome) × (course.outcomes ≡ outcome ∷ [])) × (length course.acts ≤ 2)
 
 follow_one : (rules : Rules) (address : ℕ) (leg : Leg) (first : Acted) (end : End) →

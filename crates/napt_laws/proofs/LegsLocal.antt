@@ -65,15 +65,17 @@ module _ (rules : Rules) (address : ℕ) (leg : Leg) (own list : List Binding) (
   alike_by Incoming Echo = alike_in protocols.Icmp no_flags
   alike_by Outgoing (ErrorOf inner) = record {
     end = ap (error_out rules leg.packet)
-        (ap (find (is_of_inside address inner.protocol inner.destination)) same ∙ find_filter (is_at address) (λ b.
-        same_protocol inner.protocol b.protocol && same_endpoint inner.destination b.inside)
+        (ap (find (λ b. is_of_inside address inner.protocol inner.destination b.row)) same
+        ∙ find_filter (λ b. is_at address b.row) (λ b.
+        same_protocol inner.protocol b.row.protocol && same_endpoint inner.destination b.row.inside)
         (purge rules.timers leg.now list));
     list = record { same = same ∙ of_purge rules.timers leg.now address list };
   }
   alike_by Incoming (ErrorOf inner) = record {
     end = ap (error_in leg.packet)
-        (ap (find (has_number address inner.protocol inner.source.number)) same ∙ find_filter (is_at address) (λ b.
-        same_protocol inner.protocol b.protocol && eqb b.external.number inner.source.number)
+        (ap (find (λ b. has_number address inner.protocol inner.source.number b.row)) same
+        ∙ find_filter (λ b. is_at address b.row) (λ b.
+        same_protocol inner.protocol b.row.protocol && eqb b.row.external.number inner.source.number)
         (purge rules.timers leg.now list));
     list = record { same = same ∙ of_purge rules.timers leg.now address list };
   }

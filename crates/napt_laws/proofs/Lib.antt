@@ -11,6 +11,7 @@ pub mod Endpoints
 -- STEPS: how a list of bindings begins, and what a packet does to it
 
 pub mod Passes
+pub mod StepRows
 pub mod Quotas
 pub mod StepsLocal
 pub mod StepsLive
@@ -30,6 +31,7 @@ pub mod LegsLocal
 -- RUNS
 
 pub mod AnyStep
+pub mod Turns
 pub mod Routes
 pub mod RunsLocal
 pub mod Alone
@@ -37,6 +39,7 @@ pub mod RunsSound
 pub mod RunsQuota
 pub mod Rows
 pub mod Grown
+pub mod EachLeg
 pub mod Dispatched
 pub mod OneInput
 pub mod Places

@@ -34,54 +34,58 @@ of_rows P (b ∷ list) h = (h.0, of_rows P list h.1)
 
 module _ (pair : ℕ → ℕ) (address : ℕ) (protocol : Protocol) where
   found_number : (number : ℕ) (list : List Binding) → IsSound pair list → (b : Binding) →
-      find (has_number address protocol number) list ≡ Some b → IsNumber protocol b.inside.number
+      find (λ b. has_number address protocol number b.row) list ≡ Some b → IsNumber protocol b.row.inside.number
   found_number number list s b e =
-      let found = find_passes (has_number address protocol number) (λ b. IsPaired pair (row b)) list b
+      let found = find_passes (λ b. has_number address protocol number b.row) (λ b. IsPaired pair (row b)) list b
       (of_rows (IsPaired pair) list s.each) e in
       let tests = and_parts _ _ (and_parts _ _ found.0).1 in
-      number_of protocol b.protocol b.inside.number tests.0 found.1.inside
+      number_of protocol b.row.protocol b.row.inside.number tests.0 found.1.inside
 
   found_inside : (inside : Endpoint) (list : List Binding) → IsSound pair list → (b : Binding) →
-      find (is_of_inside address protocol inside) list ≡ Some b → IsNumber protocol b.external.number
-      × (b.external.address ≡ address)
+      find (λ b. is_of_inside address protocol inside b.row) list ≡ Some b → IsNumber protocol b.row.external.number
+      × (b.row.external.address ≡ address)
   found_inside inside list s b e =
-      let found = find_passes (is_of_inside address protocol inside) (λ b. IsPaired pair (row b)) list b
+      let found = find_passes (λ b. is_of_inside address protocol inside b.row) (λ b. IsPaired pair (row b)) list b
       (of_rows (IsPaired pair) list s.each) e in
       let at = and_parts _ _ found.0 in
       let tests = and_parts _ _ at.1 in
-      (number_of protocol b.protocol b.external.number tests.0 found.1.external, eqb-true _ _ at.0)
+      (number_of protocol b.row.protocol b.row.external.number tests.0 found.1.external, eqb-true _ _ at.0)
 
   -- LOOK-UPS
 
   number_named : (number : ℕ) (list : List Binding) → IsSound pair list → (found : Option Binding) →
-      find (has_number address protocol number) list ≡ found →
-      IfSome (option_map (λ b. b.inside) found) (λ inside. IsNumber protocol inside.number)
+      find (λ b. has_number address protocol number b.row) list ≡ found →
+      IfSome (option_map (λ b. b.row.inside) found) (λ inside. IsNumber protocol inside.number)
   number_named number list s None e = tt
   number_named number list s (Some b) e = found_number number list s b e
 
   pub by_number_named : (number : ℕ) (list : List Binding) → IsSound pair list →
-      IfSome (option_map (λ b. b.inside) (find (has_number address protocol number) list)) (λ inside.
+      IfSome (option_map (λ b. b.row.inside) (find (λ b. has_number address protocol number b.row) list)) (λ inside.
       IsNumber protocol inside.number)
-  by_number_named number list s = number_named number list s (find (has_number address protocol number) list) refl
+  by_number_named number list s = number_named number list s (find (λ b. has_number address protocol number b.row) list)
+      refl
 
   inside_named : (inside : Endpoint) (list : List Binding) → IsSound pair list → (found : Option Binding) →
-      find (is_of_inside address protocol inside) list ≡ found →
-      IfSome (option_map (λ b. b.external.number) found) (IsNumber protocol) × IfSome found (λ b. b.external.address
+      find (λ b. is_of_inside address protocol inside b.row) list ≡ found →
+      IfSome (option_map (λ b. b.row.external.number) found) (IsNumber protocol) × IfSome found
+      (λ b. b.row.external.address
       ≡ address)
   inside_named inside list s None e = (tt, tt)
   inside_named inside list s (Some b) e = found_inside inside list s b e
 
   pub by_inside_named : (inside : Endpoint) (list : List Binding) → IsSound pair list →
-      IfSome (option_map (λ b. b.external.number) (find (is_of_inside address protocol inside) list))
-      (IsNumber protocol) × IfSome (find (is_of_inside address protocol inside) list) (λ b. b.external.address
+      IfSome (option_map (λ b. b.row.external.number) (find (λ b. is_of_inside address protocol inside b.row) list))
+      (IsNumber protocol) × IfSome (find (λ b. is_of_inside address protocol inside b.row) list)
+      (λ b. b.row.external.address
       ≡ address)
-  by_inside_named inside list s = inside_named inside list s (find (is_of_inside address protocol inside) list) refl
+  by_inside_named inside list s = inside_named inside list s
+      (find (λ b. is_of_inside address protocol inside b.row) list) refl
 
 -- STEPS
 
 module _ (pair : ℕ → ℕ) (address : ℕ) where
   module _ (inbound : Inbound) (packet : Received) (list : List Binding) (s : IsSound pair list) where
-    entered_named : (b : Binding) (passes : Bool) → IsNumber packet.protocol b.inside.number →
+    entered_named : (b : Binding) (passes : Bool) → IsNumber packet.protocol b.row.inside.number →
         IfOk (in_passed inbound list address packet b passes).inside (λ inside. IsNumber packet.protocol inside.number)
     entered_named b true h = h
     entered_named b false h = tt

@@ -8,14 +8,14 @@ use Rattle.napt_wire.specs.declared.Way.TheVariants.{Outgoing}
 use Rattle.napt_wire.specs.Fields.{destination}
 use Rattle.napt_wire.specs.Packet.{IsPacket}
 use Rattle.napt_config.specs.Rules.{Rules}
-use Rattle.napt_rules.specs.Prelude.{Binding, Each, opening, way_from, served_at, Acted, act, Arrival, admission, Act, Course, follow_by, first_leg, step, run_from, run, last_clock, acts_at, legs_at}
+use Rattle.napt_rules.specs.Prelude.{Binding, Each, opening, way_from, served_at, Acted, act, Arrival, admission, Act, Course, follow_by, run, last_clock, acts_at, legs_at}
 use Rattle.napt_laws.proofs.Lists.{each_weaker, each_append}
 use Rattle.napt_rules.specs.declared.Leg.{Leg}
 use Rattle.napt_rules.specs.declared.End.{End}
 use Rattle.napt_rules.specs.declared.End.TheVariants.{ToOutside, ToInside, Onward, Dropped}
 use Rattle.napt_laws.specs.Dispatching.{IsFront, OnwardIsForetold}
 use Rattle.napt_laws.specs.Places.{first_act, acts_of, numbered, all_but_first, second_legs, second_of, IsSeconded, AnswersFillPlaces, PlacesStandForLegs}
-use Rattle.napt_laws.proofs.AnyStep.{of_step}
+use Rattle.napt_laws.proofs.EachLeg.{each_leg}
 use Rattle.napt_laws.proofs.OneInput.{acts_begin, grown}
 
 -- the legs of an address in acts, and in more
@@ -91,31 +91,18 @@ module _ (number : ℕ) (firsts rests : List Act) (here : Each (SecondsHere numb
         λ way. ap (λ (xs : List Act). map (λ (x : Act). x.leg) (all_but_first xs)) (of_rest a.leg.number le) ∙ h.1 way,
       )
 
-  pub seconds_more : Each (SecondsFrom number (firsts ++ rests)) (firsts ++ rests)
+  seconds_more : Each (SecondsFrom number (firsts ++ rests)) (firsts ++ rests)
   seconds_more =
       each_append (SecondsFrom number (firsts ++ rests)) firsts rests
       (each_weaker (SecondsHere number firsts) (SecondsFrom number (firsts ++ rests)) first_seconded firsts here)
       (each_weaker (SecondsFrom (number + 1) rests) (SecondsFrom number (firsts ++ rests)) rest_seconded rests later)
 
-seconds_from : (rules : Rules) (number clock : ℕ) (inputs : List Arrival) (list : List Binding) →
-    Each (SecondsFrom number (run_from rules number clock inputs list).acts)
-    (run_from rules number clock inputs list).acts
-seconds_from rules number clock [] list = tt
-seconds_from rules number clock (input ∷ inputs) list =
-    let now : ℕ = max clock input.clock in
-    let first : Course = step rules number now input list in
-    let rest : Course = run_from rules (number + 1) now inputs first.list in
-    seconds_more number first.acts rest.acts
-    (of_step rules number now list (λ (s : Course). Each (SecondsHere number s.acts) s.acts) (λ cause. tt)
-    (λ address side packet. let leg : Leg = first_leg number now side packet in
-    let acted : Acted = act rules address leg list in follow_seconds rules address leg acted.list acted.end) input)
-    (seconds_from rules (number + 1) now inputs first.list)
-
 pub answers_fill : AnswersFillPlaces
 answers_fill rules inputs list =
     let course : Course = run rules inputs list in
     each_weaker (SecondsFrom 0 course.acts) (IsSeconded course.acts) (λ a h. h.1) course.acts
-    (seconds_from rules 0 0 inputs list)
+    (each_leg rules (λ number course. SecondsHere number course.acts) (λ number course. SecondsFrom number course.acts)
+    (follow_seconds rules) (λ number first rest one. seconds_more number first.acts rest.acts) 0 0 inputs list)
 
 -- ONE INPUT MORE
 

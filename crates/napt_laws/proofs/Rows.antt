@@ -1,203 +1,142 @@
 -- The rows of bindings that share no endpoint share none.
-use Rattle.std.proofs.Common.{◌≡◌, ◌≢◌, ℕ, zero, suc, ◌<◌, Bool, true, false, cond, List, [], ◌∷◌, ◌++◌, map, length, refl, sym, ◌∙◌, arith, eqb, get_or}
-use Rattle.std.specs.Prelude.{AllPairs, filter, flat_map, nat_le}
-use Rattle.std.proofs.lemmas.Bool.{eqb-true}
+use Rattle.std.proofs.Common.{◌≡◌, ◌≢◌, ℕ, suc, ◌<◌, ◌⊎◌, inl, inr, Bool, true, false, cond, List, [], ◌∷◌, ◌++◌, map, length, refl, sym, ◌∙◌, ap, subst, arith, get_or}
+use Rattle.std.specs.Prelude.{All, AllPairs, filter, flat_map, nat_le}
+use Rattle.std.proofs.lemmas.Bool.{cases_lt, eqb-true}
+use Rattle.std.proofs.lemmas.List.{get_or_default}
+use Rattle.std.proofs.lemmas.List.Elements.{All-nil, All-cons, All-head, All-tail, All-append, All-map, All-filter, filter_passes}
+use Rattle.std.proofs.lemmas.List.Kept.{AllPairs-cons, AllPairs-filter}
+use Rattle.std.proofs.lemmas.List.Sorted.{All-permutation}
 use Rattle.napt_config.specs.Rules.{Rules, KeepsRules}
 use Rattle.napt_config.specs.declared.settings.Timers.{Timers}
-use Rattle.napt_rules.specs.Prelude.{Binding, Each, is_at, of, is_live, with_live_flows, purge, opening, Arrival, row, rank, put, in_order, rows, Course, run, last_clock, ran, AreRowsApart, AreApart, RunsStayApart}
+use Rattle.napt_rules.specs.Prelude.{Binding, is_at, of, is_live, with_live_flows, purge, opening, Arrival, row, rank, put, in_order, rows, Course, run, last_clock, ran, AreRowsApart, AreApart, RunsStayApart}
 use Rattle.napt_rules.specs.declared.Row.{Row}
-use Rattle.napt_laws.proofs.Lists.{each_true, each_weaker, each_append}
+use Rattle.napt_laws.proofs.Orders.{put-moves, in_order-moves}
 
--- each stands in the relation to all that come after it
-abbrev AreEach : {X : Type 0} → (X → X → Type 0) → List X → Type 0
-AreEach R [] = Unit {0}
-AreEach R (x ∷ xs) = Each (R x) xs × AreEach R xs
+-- PAIRS OF A LIST
 
--- AND BY PLACES
+module _ {X : Type 0} (R : X → X → Type 0) where
+  head_pairs : (x : X) (xs : List X) → AllPairs R (x ∷ xs) → All (R x) xs
+  head_pairs x xs h k d lt = h 0 (suc k) d (omega arith) (omega arith)
 
-each_from : {X : Type 0} (P : X → Type 0) (xs : List X) → ((k : ℕ) (d : X) → k < length xs → P (get_or xs k d)) →
-    Each P xs
-each_from P [] h = tt
-each_from P (x ∷ xs) h = (h 0 x (omega arith), each_from P xs (λ k d lt. h (suc k) d (omega arith)))
+  tail_pairs : (x : X) (xs : List X) → AllPairs R (x ∷ xs) → AllPairs R xs
+  tail_pairs x xs h i j d lt within = h (suc i) (suc j) d (omega arith) (omega arith)
 
-each_at : {X : Type 0} (P : X → Type 0) (xs : List X) (k : ℕ) (d : X) → k < length xs → Each P xs → P (get_or xs k d)
-each_at P [] k d lt h = absurd (omega arith)
-each_at P (x ∷ xs) zero d lt h = h.0
-each_at P (x ∷ xs) (suc k) d lt h = each_at P xs k d (omega arith) h.1
+  joined : (xs ys : List X) → AllPairs R xs → AllPairs R ys → All (λ x. All (R x) ys) xs → AllPairs R (xs ++ ys)
+  joined [] ys h g across = g
+  joined (x ∷ xs) ys h g across =
+      AllPairs-cons R x (xs ++ ys)
+      (All-append (R x) xs ys (head_pairs x xs h) (All-head (λ z. All (R z) ys) x xs across))
+      (joined xs ys (tail_pairs x xs h) g (All-tail (λ z. All (R z) ys) x xs across))
 
-from_pairs : {X : Type 0} (R : X → X → Type 0) (xs : List X) → AllPairs R xs → AreEach R xs
-from_pairs R [] h = tt
-from_pairs R (x ∷ xs) h = (
-  each_from (R x) xs (λ k d lt. h 0 (suc k) d (omega arith) (omega arith)),
-  from_pairs R xs (λ i j d lt within. h (suc i) (suc j) d (omega arith) (omega arith)),
-)
-
-pairs_more : {X : Type 0} (R : X → X → Type 0) (x : X) (xs : List X) → Each (R x) xs → AllPairs R xs →
-    (i j : ℕ) (d : X) → i < j → j < length (x ∷ xs) → R (get_or (x ∷ xs) i d) (get_or (x ∷ xs) j d)
-pairs_more R x xs h more i zero d lt within = absurd (omega arith)
-pairs_more R x xs h more zero (suc j) d lt within = each_at (R x) xs j d (omega arith) h
-pairs_more R x xs h more (suc i) (suc j) d lt within = more i j d (omega arith) (omega arith)
-
-to_pairs : {X : Type 0} (R : X → X → Type 0) (xs : List X) → AreEach R xs → AllPairs R xs
-to_pairs R [] h = λ i j d lt within. absurd (omega arith)
-to_pairs R (x ∷ xs) h = pairs_more R x xs h.0 (to_pairs R xs h.1)
-
--- LISTS
-
-each_kept : {X : Type 0} (P : X → Type 0) (p : X → Bool) (xs : List X) → Each P xs → Each P (filter p xs)
-each_kept P p [] h = tt
-each_kept P p (x ∷ xs) h = elim (p x) as (λ v. Each P (cond v (x ∷ filter p xs) (filter p xs)))
-    [ true ↦ (h.0, each_kept P p xs h.1) | false ↦ each_kept P p xs h.1 ]
-
-are_kept : {X : Type 0} (R : X → X → Type 0) (p : X → Bool) (xs : List X) → AreEach R xs → AreEach R (filter p xs)
-are_kept R p [] h = tt
-are_kept R p (x ∷ xs) h = elim (p x) as (λ v. AreEach R (cond v (x ∷ filter p xs) (filter p xs)))
-    [ true ↦ (each_kept (R x) p xs h.0, are_kept R p xs h.1) | false ↦ are_kept R p xs h.1 ]
-
-each_mapped : {X Y : Type 0} (P : Y → Type 0) (f : X → Y) (xs : List X) → Each (λ x. P (f x)) xs → Each P (map f xs)
-each_mapped P f [] h = tt
-each_mapped P f (x ∷ xs) h = (h.0, each_mapped P f xs h.1)
-
-are_mapped : {X Y : Type 0} (R : Y → Y → Type 0) (f : X → Y) (xs : List X) → AreEach (λ x y. R (f x) (f y)) xs →
-    AreEach R (map f xs)
-are_mapped R f [] h = tt
-are_mapped R f (x ∷ xs) h = (each_mapped (R (f x)) f xs h.0, are_mapped R f xs h.1)
-
-are_joined : {X : Type 0} (R : X → X → Type 0) (xs ys : List X) → AreEach R xs → AreEach R ys →
-    Each (λ x. Each (R x) ys) xs → AreEach R (xs ++ ys)
-are_joined R [] ys h g across = g
-are_joined R (x ∷ xs) ys h g across = (each_append (R x) xs ys h.0 across.0, are_joined R xs ys h.1 g across.1)
+mapped : {X Y : Type 0} (R : Y → Y → Type 0) (f : X → Y) (xs : List X) → AllPairs (λ x y. R (f x) (f y)) xs →
+    AllPairs R (map f xs)
+mapped R f [] h = λ i j d lt within. absurd (omega arith)
+mapped R f (x ∷ xs) h =
+    AllPairs-cons R (f x) (map f xs) (All-map (R (f x)) f xs (head_pairs (λ x y. R (f x) (f y)) x xs h))
+    (mapped R f xs (tail_pairs (λ x y. R (f x) (f y)) x xs h))
 
 -- IN ORDER
-
-each_put : (P : Row → Type 0) (x : Row) (xs : List Row) → P x → Each P xs → Each P (put x xs)
-each_put P x [] here h = (here, tt)
-each_put P x (y ∷ xs) here h = elim (nat_le (rank x) (rank y)) as (λ v. Each P (cond v (x ∷ y ∷ xs) (y ∷ put x xs)))
-    [ true ↦ (here, h) | false ↦ (h.0, each_put P x xs here h.1) ]
-
-each_ordered : (P : Row → Type 0) (xs : List Row) → Each P xs → Each P (in_order xs)
-each_ordered P [] h = tt
-each_ordered P (x ∷ xs) h = each_put P x (in_order xs) h.0 (each_ordered P xs h.1)
-
-module _ (R : Row → Row → Type 0) (turn : (a b : Row) → R a b → R b a) where
-  are_put : (x : Row) (xs : List Row) → Each (R x) xs → AreEach R xs → AreEach R (put x xs)
-  are_put x [] here h = (tt, tt)
-  are_put x (y ∷ xs) here h = elim (nat_le (rank x) (rank y)) as (λ v. AreEach R (cond v (x ∷ y ∷ xs) (y ∷ put x xs))) [
-    | true ↦ (here, h)
-    | false ↦ (each_put (R y) x xs (turn x y here.0) h.0, are_put x xs here.1 h.1)
-  ]
-
-  are_ordered : (xs : List Row) → AreEach R xs → AreEach R (in_order xs)
-  are_ordered [] h = tt
-  are_ordered (x ∷ xs) h = are_put x (in_order xs) (each_ordered (R x) xs h.0) (are_ordered xs h.1)
-
--- THE ROWS OF EACH ADDRESS
-
-each_rows : (P : Row → Type 0) (timers : Timers) (now : ℕ) (list : List Binding) → Each (λ b. P (row b)) list →
-    Each P (rows timers now list)
-each_rows P timers now list h =
-    each_ordered P (map row (purge timers now list))
-    (each_mapped P row (purge timers now list)
-    (each_mapped (λ b. P (row b)) (with_live_flows timers now) (filter (is_live timers now) list)
-    (each_kept (λ b. P (row b)) (is_live timers now) list h)))
 
 turned : (a b : Row) → AreRowsApart a b → AreRowsApart b a
 turned a b h = λ same. let p = h (sym same) in ((λ e. p.0 (sym e)), (λ e. p.1 (sym e)))
 
-are_rows : (timers : Timers) (now : ℕ) (list : List Binding) → AreEach AreApart list →
-    AreEach AreRowsApart (rows timers now list)
-are_rows timers now list h =
-    are_ordered AreRowsApart turned (map row (purge timers now list))
-    (are_mapped AreRowsApart row (purge timers now list)
-    (are_mapped (λ a b. AreRowsApart (row a) (row b)) (with_live_flows timers now) (filter (is_live timers now) list)
-    (are_kept AreApart (is_live timers now) list h)))
+apart_put : (x : Row) (xs : List Row) → All (AreRowsApart x) xs → AllPairs AreRowsApart xs →
+    AllPairs AreRowsApart (put x xs)
+apart_put x [] here h = AllPairs-cons AreRowsApart x [] here h
+apart_put x (y ∷ xs) here h = elim (nat_le (rank x) (rank y)) as (λ v.
+    AllPairs AreRowsApart (cond v (x ∷ y ∷ xs) (y ∷ put x xs))) [
+      | true ↦ AllPairs-cons AreRowsApart x (y ∷ xs) here h
+      | false ↦ AllPairs-cons AreRowsApart y (put x xs) (All-permutation (AreRowsApart y) (x ∷ xs) (put x xs)
+          (put-moves x xs) (All-cons (AreRowsApart y) x xs (turned x y (All-head (AreRowsApart x) y xs here))
+          (head_pairs AreRowsApart y xs h)))
+          (apart_put x xs (All-tail (AreRowsApart x) y xs here) (tail_pairs AreRowsApart y xs h))
+    ]
 
--- two addresses
-across : (a b : ℕ) → a ≢ b → (list : List Binding) → AreEach AreApart list → Each (λ x. Each (AreApart x) (of b list))
-    (of a list)
-across a b differ [] h = tt
-across a b differ (z ∷ list) h =
-    elim (eqb z.external.address a) as (λ u. eqb z.external.address a ≡ u →
-    Each (λ x. Each (AreApart x) (cond (eqb z.external.address b) (z ∷ of b list) (of b list)))
-    (cond u (z ∷ of a list) (of a list))) [
-      | true ↦ λ at_a.
-          elim (eqb z.external.address b) as (λ v. eqb z.external.address b ≡ v →
-          Each (λ x. Each (AreApart x) (cond v (z ∷ of b list) (of b list))) (z ∷ of a list)) [
-            | true ↦ λ at_b.
-                absurd (differ (sym (eqb-true z.external.address a at_a) ∙ eqb-true z.external.address b at_b))
-            | false ↦ λ at_b. (each_kept (AreApart z) (is_at b) list h.0, across a b differ list h.1)
-          ] refl
-      | false ↦ λ at_a.
-          elim (eqb z.external.address b) as (λ v. Each (λ x. Each (AreApart x) (cond v (z ∷ of b list) (of b list)))
-          (of a list)) [
-            | true ↦ both a b z list (each_kept (AreApart z) (is_at a) list h.0) (across a b differ list h.1)
-            | false ↦ across a b differ list h.1
+apart_ordered : (xs : List Row) → AllPairs AreRowsApart xs → AllPairs AreRowsApart (in_order xs)
+apart_ordered [] h = h
+apart_ordered (x ∷ xs) h =
+    apart_put x (in_order xs)
+    (All-permutation (AreRowsApart x) xs (in_order xs) (in_order-moves xs) (head_pairs AreRowsApart x xs h))
+    (apart_ordered xs (tail_pairs AreRowsApart x xs h))
+
+-- TWO ADDRESSES
+
+module _ (list : List Binding) (apart : AllPairs AreApart list) (a b : ℕ) (differ : a ≢ b) where
+  -- at two places of the list
+  meet : (i j : ℕ) (d : Binding) → i < length list → j < length list → is_at a (get_or list i d).row ≡ true →
+      is_at b (get_or list j d).row ≡ true → AreApart (get_or list i d) (get_or list j d)
+  meet i j d i_in j_in at_a at_b =
+      let same : i ≡ j → a ≡ b = λ e. sym (eqb-true _ _ at_a)
+      ∙ (ap (λ (k : ℕ). (get_or list k d).row.external.address) e ∙ eqb-true _ _ at_b) in
+      elim (cases_lt i j) [
+        | inl lt ↦ apart i j d lt j_in
+        | inr le ↦ elim (cases_lt j i) [
+            | inl lt ↦ turned (row (get_or list j d)) (row (get_or list i d)) (apart j i d lt i_in)
+            | inr ge ↦ absurd (differ (same (omega arith)))
           ]
-    ] refl
-  where
-    pairs : (z : Binding) (ys xs : List Binding) → Each (AreApart z) xs → Each (λ x. Each (AreApart x) ys) xs →
-        Each (λ x. Each (AreApart x) (z ∷ ys)) xs
-    pairs z ys [] p q = tt
-    pairs z ys (x ∷ xs) p q = ((turned (row z) (row x) p.0, q.0), pairs z ys xs p.1 q.1)
+      ]
 
-    both : (a b : ℕ) (z : Binding) (list : List Binding) → Each (AreApart z) (of a list) →
-        Each (λ x. Each (AreApart x) (of b list)) (of a list) → Each (λ x. Each (AreApart x) (z ∷ of b list))
-        (of a list)
-    both a b z list p q = pairs z (of b list) (of a list) p q
+  across : All (λ x. All (AreApart x) (of b list)) (of a list)
+  across k d lt =
+      All-filter (λ c. is_at a c.row) (λ x. is_at a x.row ≡ true → All (AreApart x) (of b list)) list
+      (λ i e i_in at_a m f below. All-filter (λ c. is_at b c.row)
+      (λ y. is_at b y.row ≡ true → AreApart (get_or list i e) y) list
+      (λ j g j_in at_b. subst (AreApart (get_or list i e)) (get_or_default list j e g j_in)
+      (meet i j e i_in j_in at_a (subst (λ (y : Binding). is_at b y.row ≡ true) (get_or_default list j g e j_in)
+      at_b))) m f below (filter_passes (λ c. is_at b c.row) list m f below)) k d lt
+      (filter_passes (λ c. is_at a c.row) list k d lt)
 
-each_both : {X : Type 0} (P Q S : X → Type 0) → ((x : X) → P x → Q x → S x) → (xs : List X) → Each P xs → Each Q xs →
-    Each S xs
-each_both P Q S f [] p q = tt
-each_both P Q S f (x ∷ xs) p q = (f x p.0 q.0, each_both P Q S f xs p.1 q.1)
+-- THE ROWS OF A POOL
 
-across_rows : (timers : Timers) (now a b : ℕ) → a ≢ b → (list : List Binding) → AreEach AreApart list →
-    Each (λ x. Each (AreRowsApart (row x)) (rows timers now (of b list))) (of a list)
-across_rows timers now a b differ list h =
-    each_weaker (λ x. Each (AreApart x) (of b list)) (λ x. Each (AreRowsApart (row x)) (rows timers now (of b list)))
-    (λ x p. each_rows (AreRowsApart (row x)) timers now (of b list) p) (of a list) (across a b differ list h)
+module _ (timers : Timers) (now : ℕ) where
+  all_rows : (P : Row → Type 0) (list : List Binding) → All (λ b. P (row b)) list → All P (rows timers now list)
+  all_rows P list h =
+      let live : List Binding = filter (is_live timers now) list in
+      let seen : List Row = map row (purge timers now list) in
+      All-permutation P seen (rows timers now list) (in_order-moves seen)
+      (All-map P row (purge timers now list) (All-map (λ b. P (row b)) (with_live_flows timers now) live
+      (All-filter (is_live timers now) (λ b. P (row b)) list h)))
 
-across_all : (timers : Timers) (now a : ℕ) (pool : List ℕ) → Each (λ b. a ≢ b) pool → (list : List Binding) →
-    AreEach AreApart list →
-    Each (λ x. Each (AreRowsApart (row x)) (flat_map (λ (b : ℕ). rows timers now (of b list)) pool)) (of a list)
-across_all timers now a [] differ list h = each_true (of a list)
-across_all timers now a (b ∷ pool) differ list h =
-    each_both (λ x. Each (AreRowsApart (row x)) (rows timers now (of b list))) (λ x.
-    Each (AreRowsApart (row x)) (flat_map (λ (c : ℕ). rows timers now (of c list)) pool))
-    (λ x. Each (AreRowsApart (row x)) (flat_map (λ (c : ℕ). rows timers now (of c list)) (b ∷ pool)))
-    (λ x p q. each_append (AreRowsApart (row x)) (rows timers now (of b list))
-    (flat_map (λ (c : ℕ). rows timers now (of c list)) pool) p q)
-    (of a list) (across_rows timers now a b differ.0 list h) (across_all timers now a pool differ.1 list h)
+  rows_of_one : (list : List Binding) → AllPairs AreApart list → AllPairs AreRowsApart (rows timers now list)
+  rows_of_one list h =
+      apart_ordered (map row (purge timers now list))
+      (mapped AreRowsApart row (purge timers now list)
+      (mapped AreApart (with_live_flows timers now) (filter (is_live timers now) list)
+      (AllPairs-filter AreApart (is_live timers now) list h)))
 
-are_all : (timers : Timers) (now : ℕ) (pool : List ℕ) → AreEach (λ a b. a ≢ b) pool → (list : List Binding) →
-    AreEach AreApart list → AreEach AreRowsApart (flat_map (λ (a : ℕ). rows timers now (of a list)) pool)
-are_all timers now [] differ list h = tt
-are_all timers now (a ∷ pool) differ list h =
-    are_joined AreRowsApart (rows timers now (of a list)) (flat_map (λ (b : ℕ). rows timers now (of b list)) pool)
-    (are_rows timers now (of a list) (are_kept AreApart (is_at a) list h))
-    (are_all timers now pool differ.1 list h)
-    (each_rows (λ x. Each (AreRowsApart x) (flat_map (λ (b : ℕ). rows timers now (of b list)) pool)) timers now
-    (of a list) (across_all timers now a pool differ.0 list h))
+  module _ (list : List Binding) (apart : AllPairs AreApart list) where
+    abbrev rows_at : ℕ → List Row
+    rows_at a = rows timers now (of a list)
 
--- a pool's addresses
-each_zero : (P : ℕ → Type 0) (xs : List ℕ) → ((k : ℕ) → k < length xs → P (get_or xs k 0)) → Each P xs
-each_zero P [] h = tt
-each_zero P (x ∷ xs) h = (h 0 (omega arith), each_zero P xs (λ k lt. h (suc k) (omega arith)))
+    all_pool : (P : Row → Type 0) (pool : List ℕ) → All (λ b. All P (rows_at b)) pool → All P (flat_map rows_at pool)
+    all_pool P [] h = All-nil P
+    all_pool P (b ∷ pool) h =
+        All-append P (rows_at b) (flat_map rows_at pool) (All-head (λ b. All P (rows_at b)) b pool h)
+        (all_pool P pool (All-tail (λ b. All P (rows_at b)) b pool h))
 
-distinct_each : (xs : List ℕ) → ((i j : ℕ) → i < length xs → j < length xs → get_or xs i 0 ≡ get_or xs j 0 → i ≡ j) →
-    AreEach (λ a b. a ≢ b) xs
-distinct_each [] h = tt
-distinct_each (x ∷ xs) h = (
-  each_zero (λ b. x ≢ b) xs (λ k lt. λ e. let bad : 0 ≡ suc k = h 0 (suc k) (omega arith) (omega arith) e in
-      absurd (omega arith)),
-  distinct_each xs (λ i j i_in j_in e. let same : suc i ≡ suc j = h (suc i) (suc j) (omega arith) (omega arith) e in
-      omega arith),
-)
+    pool_apart : (pool : List ℕ) → AllPairs (λ a b. a ≢ b) pool → AllPairs AreRowsApart (flat_map rows_at pool)
+    pool_apart [] differ = λ i j d lt within. absurd (omega arith)
+    pool_apart (a ∷ pool) differ =
+        joined AreRowsApart (rows_at a) (flat_map rows_at pool)
+        (rows_of_one (of a list) (AllPairs-filter AreApart (λ b. is_at a b.row) list apart))
+        (pool_apart pool (tail_pairs (λ a b. a ≢ b) a pool differ))
+        (all_rows (λ x. All (AreRowsApart x) (flat_map rows_at pool)) (of a list) (λ k d lt.
+        let x : Row = row (get_or (of a list) k d) in
+        all_pool (AreRowsApart x) pool (λ m e below. let b : ℕ = get_or pool m e in
+        all_rows (AreRowsApart x) (of b list)
+        (across list apart a b (head_pairs (λ a b. a ≢ b) a pool differ m e below) k d lt))))
+
+distinct : (xs : List ℕ) → ((i j : ℕ) → i < length xs → j < length xs → get_or xs i 0 ≡ get_or xs j 0 → i ≡ j) →
+    AllPairs (λ a b. a ≢ b) xs
+distinct xs h i j d lt within same =
+    let e : i ≡ j = h i j (omega arith) within
+    (get_or_default xs i 0 d (omega arith) ∙ (same ∙ get_or_default xs j d 0 within)) in
+    absurd (omega arith)
 
 pub rows_apart : RunsStayApart → (rules : Rules) → KeepsRules rules → (inputs : List Arrival) →
     AllPairs AreRowsApart (ran rules inputs).bindings
 unfolding ran
 rows_apart apart rules keeps inputs =
     let course : Course = run rules inputs (opening rules) in
-    to_pairs AreRowsApart (flat_map (λ (a : ℕ). rows rules.timers (last_clock 0 inputs) (of a course.list)) rules.pool)
-    (are_all rules.timers (last_clock 0 inputs) rules.pool (distinct_each rules.pool keeps.pool.distinct) course.list
-    (from_pairs AreApart course.list (apart rules keeps inputs)))
+    pool_apart rules.timers (last_clock 0 inputs) course.list (apart rules keeps inputs) rules.pool
+    (distinct rules.pool keeps.pool.distinct)

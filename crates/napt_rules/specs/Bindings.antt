@@ -8,11 +8,12 @@ use Rattle.napt_wire.specs.declared.Protocol.{Protocol}
 use Rattle.napt_wire.specs.declared.Protocol.TheVariants.{Icmp, Tcp, Udp}
 use Rattle.napt_wire.specs.declared.Endpoint.{Endpoint}
 use Rattle.napt_rules.specs.declared.Flow.{Flow}
+use Rattle.napt_rules.specs.declared.Row.{Row}
 use Rattle.napt_rules.specs.declared.Binding.{Binding as BindingOf}
 
 -- with its flows as a list, in the order in which they began
 abbrev pub Binding : Type 0
-Binding = BindingOf (List Flow)
+Binding = BindingOf Row (List Flow)
 
 abbrev pub same_protocol : Protocol → Protocol → Bool
 same_protocol Icmp Icmp = true
@@ -29,21 +30,21 @@ is_udp protocol = same_protocol protocol Udp
 abbrev pub same_endpoint : Endpoint → Endpoint → Bool
 same_endpoint a b = (a.address == b.address) && (a.number == b.number)
 
--- WHICH BINDING
+-- WHICH BINDING, by its row
 
-abbrev pub is_at : ℕ → Binding → Bool
-is_at address binding = binding.external.address == address
+abbrev pub is_at : ℕ → Row → Bool
+is_at address row = row.external.address == address
 
 -- the bindings of one external address
 abbrev pub of : ℕ → List Binding → List Binding
-of address list = filter (is_at address) list
+of address list = filter (λ b. is_at address b.row) list
 
 -- at the address, under the protocol, of this inside endpoint
-abbrev pub is_of_inside : ℕ → Protocol → Endpoint → Binding → Bool
-is_of_inside address protocol inside binding = is_at address binding && (same_protocol protocol binding.protocol
-    && same_endpoint inside binding.inside)
+abbrev pub is_of_inside : ℕ → Protocol → Endpoint → Row → Bool
+is_of_inside address protocol inside row =
+    is_at address row && (same_protocol protocol row.protocol && same_endpoint inside row.inside)
 
 -- at the address, under the protocol, with this external number
-abbrev pub has_number : ℕ → Protocol → ℕ → Binding → Bool
-has_number address protocol number binding = is_at address binding && (same_protocol protocol binding.protocol
-    && (binding.external.number == number))
+abbrev pub has_number : ℕ → Protocol → ℕ → Row → Bool
+has_number address protocol number row =
+    is_at address row && (same_protocol protocol row.protocol && (row.external.number == number))

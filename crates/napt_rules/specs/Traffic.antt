@@ -13,6 +13,7 @@ use Rattle.napt_config.specs.declared.settings.Refresh.{Refresh}
 use Rattle.napt_config.specs.declared.settings.Refresh.TheVariants.{Outbound, Both}
 use Rattle.napt_rules.specs.declared.Inbound.{Inbound}
 use Rattle.napt_rules.specs.declared.Flow.{Flow}
+use Rattle.napt_rules.specs.declared.Row.{Row}
 use Rattle.napt_rules.specs.Bindings.{Binding, is_tcp, is_udp, same_endpoint}
 use Rattle.napt_rules.specs.Lists.{change_first}
 use Rattle.napt_rules.specs.Marks.{no_marks, marked}
@@ -45,26 +46,25 @@ with_flow remote now flows = cond (list_any (is_flow_of remote) flows) flows (fl
 -- a binding after a packet went out through it: a redirect stays as it is
 abbrev pub sent : Endpoint → Flags → ℕ → Binding → Binding
 sent remote flags now binding =
-    cond binding.fixed binding
-    (record binding {
-      last = now;
-      flows = change_first (is_flow_of remote) (used binding.protocol Outgoing flags now)
-          (with_flow remote now binding.flows);
-    })
+    let row : Row = binding.row in
+    record binding {
+      last = cond row.fixed binding.last now;
+      flows = cond row.fixed binding.flows
+          (change_first (is_flow_of remote) (used row.protocol Outgoing flags now)
+          (with_flow remote now binding.flows));
+    }
 
 -- whether packets that come in keep the binding alive (RFC 4787, REQ-6): UDP's, where the configuration says so
-abbrev pub refreshes : Refresh → Binding → Bool
-refreshes Outbound binding = false
-refreshes Both binding = is_udp binding.protocol && not binding.fixed
-
-abbrev pub refreshed : Refresh → ℕ → Binding → Binding
-refreshed refresh now binding = cond (refreshes refresh binding) (record binding { last = now }) binding
+abbrev pub refreshes : Refresh → Row → Bool
+refreshes Outbound row = false
+refreshes Both row = is_udp row.protocol && not row.fixed
 
 -- a binding after a packet came in through it: a TCP flow that stands is marked and refreshed
 abbrev pub received : Inbound → Endpoint → Flags → ℕ → Binding → Binding
 received inbound remote flags now binding =
-    cond (is_tcp binding.protocol)
-    (record binding {
-      flows = change_first (is_flow_of remote) (used binding.protocol Incoming flags now) binding.flows;
-    })
-    (refreshed inbound.refresh now binding)
+    let row : Row = binding.row in
+    record binding {
+      last = cond (refreshes inbound.refresh row) now binding.last;
+      flows = cond (is_tcp row.protocol)
+          (change_first (is_flow_of remote) (used row.protocol Incoming flags now) binding.flows) binding.flows;
+    }

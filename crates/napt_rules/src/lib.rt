@@ -27,29 +27,25 @@ pub struct Flow {
     pub last: u64,
 }
 
-/// An inside endpoint and the external endpoint that stands for it under one protocol (RFC 3022, section 2.2), with its flows kept in
-/// an `F`; contracts see these as a list.
-#[derive(Drop)]
-pub struct Binding<F> {
-    pub protocol: Protocol,
-    pub inside: Endpoint,
-    pub external: Endpoint,
-    /// A static redirect: it never expires, passes every remote and keeps no flows.
-    pub fixed: bool,
-    /// The time of the last outgoing packet, in ns; 0 for a redirect.
-    pub last: u64,
-    /// One for each remote endpoint to which a packet went out.
-    pub flows: F,
-}
-
-/// What a table tells of one binding.
+/// An inside endpoint and the external endpoint that stands for it under one protocol (RFC 3022, section 2.2): what a table tells of
+/// a binding, and what no packet changes.
 #[derive(Clone, Copy, Debug, PartialEq, Eq)]
 pub struct Row {
     pub protocol: Protocol,
     pub inside: Endpoint,
     pub external: Endpoint,
-    /// A static redirect.
+    /// A static redirect: it never expires, passes every remote and keeps no flows.
     pub fixed: bool,
+}
+
+/// A row, kept in an `R`, and what packets did last, with its flows kept in an `F`; contracts see a `Row` and a list.
+#[derive(Drop)]
+pub struct Binding<R, F> {
+    pub row: R,
+    /// The time of the last outgoing packet, in ns; 0 for a redirect.
+    pub last: u64,
+    /// One for each remote endpoint to which a packet went out.
+    pub flows: F,
 }
 
 /// Whom a binding lets in, and which of those packets keep it alive (RFC 4787, REQ-8 and REQ-6).

@@ -118,7 +118,7 @@ module _ (old new : Inside) (key : ExternalKey) (dead : Binding) (is : IsHeld ol
     (address : new.address ≡ old.address) (quota : new.quota ≡ old.quota)
     (holds : (k : ExternalKey) → held_in new k ≡ cond (key_eq key k) None (held_in old k))
     (insides : (q : Protocol) (e : Endpoint) → number_at new q e
-    ≡ cond (inside_eq (inside_key dead.protocol dead.inside) (inside_key q e)) None (number_at old q e)) where
+    ≡ cond (inside_eq (inside_key dead.row.protocol dead.row.inside) (inside_key q e)) None (number_at old q e)) where
   gone_stays : (k : ExternalKey) (b : Binding) → held_in new k ≡ Some b → (k ≢ key) × (held_in old k ≡ Some b)
   gone_stays k b h = elim (key_eq key k) as (λ v. key_eq key k ≡ v → (k ≢ key) × (held_in old k ≡ Some b)) [
     | true ↦ λ t. let z : None ≡ Some b = sym (holds k ∙ ap (λ v. cond v None (held_in old k)) t) ∙ h in cc
@@ -129,39 +129,39 @@ module _ (old new : Inside) (key : ExternalKey) (dead : Binding) (is : IsHeld ol
   ] refl
 
   gone_inside : (k : ExternalKey) (b : Binding) → held_in new k ≡ Some b →
-      number_at new k.protocol b.inside ≡ Some k.number
+      number_at new k.protocol b.row.inside ≡ Some k.number
   gone_inside k b h =
       let s = gone_stays k b h in
-      let there : number_at old k.protocol b.inside ≡ Some k.number = is.inside_is k b s.1 in
-      elim (inside_eq (inside_key dead.protocol dead.inside) (inside_key k.protocol b.inside)) as (λ v.
-      inside_eq (inside_key dead.protocol dead.inside) (inside_key k.protocol b.inside) ≡ v →
-      number_at new k.protocol b.inside ≡ Some k.number) [
+      let there : number_at old k.protocol b.row.inside ≡ Some k.number = is.inside_is k b s.1 in
+      elim (inside_eq (inside_key dead.row.protocol dead.row.inside) (inside_key k.protocol b.row.inside)) as (λ v.
+      inside_eq (inside_key dead.row.protocol dead.row.inside) (inside_key k.protocol b.row.inside) ≡ v →
+      number_at new k.protocol b.row.inside ≡ Some k.number) [
         | true ↦ λ t.
-            let p = inside_ends dead.protocol k.protocol dead.inside b.inside t in
+            let p = inside_ends dead.row.protocol k.protocol dead.row.inside b.row.inside t in
             let q : key.protocol ≡ k.protocol = sym (is.named.protocol_is key dead here) ∙ p.0 in
-            let m : number_at old key.protocol dead.inside ≡ number_at old k.protocol b.inside =
-            ap (λ (x : Protocol). number_at old x dead.inside) q ∙ ap (number_at old k.protocol) p.1 in
+            let m : number_at old key.protocol dead.row.inside ≡ number_at old k.protocol b.row.inside =
+            ap (λ (x : Protocol). number_at old x dead.row.inside) q ∙ ap (number_at old k.protocol) p.1 in
             let n : key.number ≡ k.number = same_Some key.number k.number
             (sym (is.inside_is key dead here) ∙ (m ∙ there)) in
             let e : k ≡ key = λ i. record { number = (sym n) i; protocol = (sym q) i } in
             absurd (s.0 e)
-        | false ↦ λ t. insides k.protocol b.inside
-            ∙ (ap (λ v. cond v None (number_at old k.protocol b.inside)) t ∙ there)
+        | false ↦ λ t. insides k.protocol b.row.inside
+            ∙ (ap (λ v. cond v None (number_at old k.protocol b.row.inside)) t ∙ there)
       ] refl
 
   gone_number : (q : Protocol) (e : Endpoint) (n : ℕ) → number_at new q e ≡ Some n →
-      (b : Binding) × (held_in new (external_key q n) ≡ Some b) × (b.inside ≡ e)
+      (b : Binding) × (held_in new (external_key q n) ≡ Some b) × (b.row.inside ≡ e)
   gone_number q e n h =
-      elim (inside_eq (inside_key dead.protocol dead.inside) (inside_key q e)) as (λ v.
-      inside_eq (inside_key dead.protocol dead.inside) (inside_key q e) ≡ v →
-      (b : Binding) × (held_in new (external_key q n) ≡ Some b) × (b.inside ≡ e)) [
+      elim (inside_eq (inside_key dead.row.protocol dead.row.inside) (inside_key q e)) as (λ v.
+      inside_eq (inside_key dead.row.protocol dead.row.inside) (inside_key q e) ≡ v →
+      (b : Binding) × (held_in new (external_key q n) ≡ Some b) × (b.row.inside ≡ e)) [
         | true ↦ λ t. let z : None ≡ Some n = sym (insides q e ∙ ap (λ v. cond v None (number_at old q e)) t) ∙ h in cc
         | false ↦ λ t.
             let o = is.number_is q e n (sym (insides q e ∙ ap (λ v. cond v None (number_at old q e)) t) ∙ h) in
             let differs : external_key q n ≢ key = λ x.
             let d : dead ≡ o.0 = same_Some dead o.0 (sym here ∙ (ap (held_in old) (sym x) ∙ o.1)) in
-            true≢false (sym (inside_same dead.protocol q dead.inside e (is.named.protocol_is key dead here
-            ∙ sym (ap (λ (y : ExternalKey). y.protocol) x)) (ap (λ (y : Binding). y.inside) d ∙ o.2)) ∙ t) in (
+            true≢false (sym (inside_same dead.row.protocol q dead.row.inside e (is.named.protocol_is key dead here
+            ∙ sym (ap (λ (y : ExternalKey). y.protocol) x)) (ap (λ (y : Binding). y.row.inside) d ∙ o.2)) ∙ t) in (
               o.0,
               holds (external_key q n) ∙ (past_key key None (held_in old (external_key q n)) (external_key q n)
                   differs ∙ o.1),
@@ -178,7 +178,7 @@ module _ (old new : Inside) (key : ExternalKey) (dead : Binding) (is : IsHeld ol
   gone_held by_protocol uses counting counts = record {
     named = record {
       protocol_is = λ k b h. is.named.protocol_is k b (gone_stays k b h).1;
-      external_is = λ k b h. at_address new.address old.address k.number address b.external
+      external_is = λ k b h. at_address new.address old.address k.number address b.row.external
           (is.named.external_is k b (gone_stays k b h).1);
       small = λ k b h. is.named.small k b (gone_stays k b h).1;
     };
@@ -211,12 +211,13 @@ module _ (old new : Inside) (key : ExternalKey) (dead : Binding) (is : IsHeld ol
 -- A BINDING COMES
 
 module _ (old new : Inside) (fresh : Binding) (is : IsHeld old)
-    (free : held_in old (key_of fresh) ≡ None) (absent : IsAbsent (holdings_of old) fresh.protocol fresh.inside)
-    (at : fresh.external.address ≡ old.address) (fits : fresh.external.number < 2 ^ 16)
+    (free : held_in old (key_of fresh) ≡ None) (absent : IsAbsent (holdings_of old) fresh.row.protocol fresh.row.inside)
+    (at : fresh.row.external.address ≡ old.address) (fits : fresh.row.external.number < 2 ^ 16)
     (address : new.address ≡ old.address) (quota : new.quota ≡ old.quota)
     (holds : (k : ExternalKey) → held_in new k ≡ cond (key_eq (key_of fresh) k) (Some fresh) (held_in old k))
     (insides : (q : Protocol) (e : Endpoint) → number_at new q e
-    ≡ cond (inside_eq (inside_key fresh.protocol fresh.inside) (inside_key q e)) (Some fresh.external.number)
+    ≡ cond (inside_eq (inside_key fresh.row.protocol fresh.row.inside) (inside_key q e))
+    (Some fresh.row.external.number)
     (number_at old q e)) where
   come_by : (P : ExternalKey → Binding → Type 0) → P (key_of fresh) fresh →
       ((k : ExternalKey) (b : Binding) → held_in old k ≡ Some b → P k b) →
@@ -232,34 +233,34 @@ module _ (old new : Inside) (fresh : Binding) (is : IsHeld old)
   come_here = holds (key_of fresh) ∙ at_key (key_of fresh) (Some fresh) (held_in old (key_of fresh))
 
   come_inside_old : (k : ExternalKey) (b : Binding) → held_in old k ≡ Some b →
-      number_at new k.protocol b.inside ≡ Some k.number
+      number_at new k.protocol b.row.inside ≡ Some k.number
   come_inside_old k b h =
-      elim (inside_eq (inside_key fresh.protocol fresh.inside) (inside_key k.protocol b.inside)) as (λ v.
-      inside_eq (inside_key fresh.protocol fresh.inside) (inside_key k.protocol b.inside) ≡ v →
-      number_at new k.protocol b.inside ≡ Some k.number) [
+      elim (inside_eq (inside_key fresh.row.protocol fresh.row.inside) (inside_key k.protocol b.row.inside)) as (λ v.
+      inside_eq (inside_key fresh.row.protocol fresh.row.inside) (inside_key k.protocol b.row.inside) ≡ v →
+      number_at new k.protocol b.row.inside ≡ Some k.number) [
         | true ↦ λ t.
-            let p = inside_ends fresh.protocol k.protocol fresh.inside b.inside t in
+            let p = inside_ends fresh.row.protocol k.protocol fresh.row.inside b.row.inside t in
             absurd (absent k.number b (ap (λ (x : Protocol). held_in old (external_key x k.number)) p.0 ∙ h) (sym p.1))
-        | false ↦ λ t. insides k.protocol b.inside
-            ∙ (ap (λ v. cond v (Some fresh.external.number) (number_at old k.protocol b.inside)) t
+        | false ↦ λ t. insides k.protocol b.row.inside
+            ∙ (ap (λ v. cond v (Some fresh.row.external.number) (number_at old k.protocol b.row.inside)) t
             ∙ is.inside_is k b h)
       ] refl
 
   come_number : (q : Protocol) (e : Endpoint) (n : ℕ) → number_at new q e ≡ Some n →
-      (b : Binding) × (held_in new (external_key q n) ≡ Some b) × (b.inside ≡ e)
+      (b : Binding) × (held_in new (external_key q n) ≡ Some b) × (b.row.inside ≡ e)
   come_number q e n h =
-      elim (inside_eq (inside_key fresh.protocol fresh.inside) (inside_key q e)) as (λ v.
-      inside_eq (inside_key fresh.protocol fresh.inside) (inside_key q e) ≡ v →
-      (b : Binding) × (held_in new (external_key q n) ≡ Some b) × (b.inside ≡ e)) [
+      elim (inside_eq (inside_key fresh.row.protocol fresh.row.inside) (inside_key q e)) as (λ v.
+      inside_eq (inside_key fresh.row.protocol fresh.row.inside) (inside_key q e) ≡ v →
+      (b : Binding) × (held_in new (external_key q n) ≡ Some b) × (b.row.inside ≡ e)) [
         | true ↦ λ t.
-            let p = inside_ends fresh.protocol q fresh.inside e t in
-            let m : fresh.external.number ≡ n = same_Some fresh.external.number n
-            (sym (insides q e ∙ ap (λ v. cond v (Some fresh.external.number) (number_at old q e)) t) ∙ h) in
+            let p = inside_ends fresh.row.protocol q fresh.row.inside e t in
+            let m : fresh.row.external.number ≡ n = same_Some fresh.row.external.number n
+            (sym (insides q e ∙ ap (λ v. cond v (Some fresh.row.external.number) (number_at old q e)) t) ∙ h) in
             let k : key_of fresh ≡ external_key q n = λ i. record { number = m i; protocol = p.0 i } in
             (fresh, ap (held_in new) (sym k) ∙ come_here, p.1)
         | false ↦ λ t.
             let o = is.number_is q e n
-            (sym (insides q e ∙ ap (λ v. cond v (Some fresh.external.number) (number_at old q e)) t) ∙ h) in
+            (sym (insides q e ∙ ap (λ v. cond v (Some fresh.row.external.number) (number_at old q e)) t) ∙ h) in
             let differs : external_key q n ≢ key_of fresh = λ x.
             let z : None ≡ Some o.0 = sym free ∙ (ap (held_in old) (sym x) ∙ o.1) in cc in (
               o.0,
@@ -277,16 +278,17 @@ module _ (old new : Inside) (fresh : Binding) (is : IsHeld old)
       + cond {A = ℕ} (held_for host (Some fresh)) 1 0) → IsHeld new
   come_held by_protocol uses counting counts = record {
     named = record {
-      protocol_is = come_by (λ k b. b.protocol ≡ k.protocol) refl is.named.protocol_is;
-      external_is = come_by (λ k b. b.external ≡ record { address = new.address; number = k.number })
-          (λ i. record { address = (at ∙ sym address) i; number = fresh.external.number })
-          (λ k b h. at_address new.address old.address k.number address b.external (is.named.external_is k b h));
+      protocol_is = come_by (λ k b. b.row.protocol ≡ k.protocol) refl is.named.protocol_is;
+      external_is = come_by (λ k b. b.row.external ≡ record { address = new.address; number = k.number })
+          (λ i. record { address = (at ∙ sym address) i; number = fresh.row.external.number })
+          (λ k b h. at_address new.address old.address k.number address b.row.external (is.named.external_is k b h));
       small = come_by (λ k b. k.number < 2 ^ 16) fits is.named.small;
     };
-    inside_is = come_by (λ k b. number_at new k.protocol b.inside ≡ Some k.number)
-        (insides fresh.protocol fresh.inside
-        ∙ ap (λ v. cond v (Some fresh.external.number) (number_at old fresh.protocol fresh.inside))
-        (inside_same fresh.protocol fresh.protocol fresh.inside fresh.inside refl refl)) come_inside_old;
+    inside_is = come_by (λ k b. number_at new k.protocol b.row.inside ≡ Some k.number)
+        (insides fresh.row.protocol fresh.row.inside
+        ∙ ap (λ v. cond v (Some fresh.row.external.number) (number_at old fresh.row.protocol fresh.row.inside))
+        (inside_same fresh.row.protocol fresh.row.protocol fresh.row.inside fresh.row.inside refl refl))
+        come_inside_old;
     number_is = come_number;
     by_protocol = by_protocol;
     used_is = λ k lt. uses k lt
@@ -305,7 +307,7 @@ module _ (old new : Inside) (fresh : Binding) (is : IsHeld old)
         (subst (λ (o : Option Binding). count_all (holdings_of new) host
         + cond {A = ℕ} (held_for host (held_in old (key_of fresh))) 1 0 ≡ count_all (holdings_of old) host
         + cond {A = ℕ} (held_for host o) 1 0) come_here
-        (count_all_changed (holdings_of old) (holdings_of new) host fresh.protocol fresh.external.number fits
+        (count_all_changed (holdings_of old) (holdings_of new) host fresh.row.protocol fresh.row.external.number fits
         (λ k d. holds k ∙ past_key (key_of fresh) (Some fresh) (held_in old k) k d)))
         (ap (λ (o : Option Binding). cond {A = ℕ} (held_for host o) 1 0) free)
         (is.counted was host) (counts was host);
@@ -328,30 +330,30 @@ module _ (old new : Inside) (key : ExternalKey) (is : IsHeld old) (b c : Binding
       (λ y g. subst (P key) (same_Some c y (sym there ∙ g)) at_it) (λ d y g. rest k y (sym (others k d) ∙ g)) x h
 
   changed_number : (q : Protocol) (e : Endpoint) (n : ℕ) → number_at new q e ≡ Some n →
-      (x : Binding) × (held_in new (external_key q n) ≡ Some x) × (x.inside ≡ e)
+      (x : Binding) × (held_in new (external_key q n) ≡ Some x) × (x.row.inside ≡ e)
   changed_number q e n h =
       let o = is.number_is q e n (sym (insides q e) ∙ h) in
       by_key key (external_key q n) (λ k. held_in old k ≡ Some o.0 →
-      (x : Binding) × (held_in new k ≡ Some x) × (x.inside ≡ e))
+      (x : Binding) × (held_in new k ≡ Some x) × (x.row.inside ≡ e))
       (λ g. let s : b ≡ o.0 = same_Some b o.0 (sym here ∙ g) in
-      (c, there, ap (λ (r : Row). r.inside) rows ∙ (ap (λ (y : Binding). y.inside) s ∙ o.2)))
+      (c, there, ap (λ (r : Row). r.inside) rows ∙ (ap (λ (y : Binding). y.row.inside) s ∙ o.2)))
       (λ d g. (o.0, others (external_key q n) d ∙ g, o.2)) o.1
 
   pub changed_held : new.numbers ≡ old.numbers → new.hosts ≡ old.hosts → IsHeld new
   changed_held numbers hosts = record {
     named = record {
-      protocol_is = changed_by (λ k x. x.protocol ≡ k.protocol)
+      protocol_is = changed_by (λ k x. x.row.protocol ≡ k.protocol)
           (ap (λ (r : Row). r.protocol) rows ∙ is.named.protocol_is key b here) is.named.protocol_is;
-      external_is = changed_by (λ k x. x.external ≡ record { address = new.address; number = k.number })
-          (at_address new.address old.address key.number address c.external (ap (λ (r : Row). r.external) rows
+      external_is = changed_by (λ k x. x.row.external ≡ record { address = new.address; number = k.number })
+          (at_address new.address old.address key.number address c.row.external (ap (λ (r : Row). r.external) rows
           ∙ is.named.external_is key b here))
-          (λ k x h. at_address new.address old.address k.number address x.external (is.named.external_is k x h));
+          (λ k x h. at_address new.address old.address k.number address x.row.external (is.named.external_is k x h));
       small = changed_by (λ k x. k.number < 2 ^ 16) (is.named.small key b here) is.named.small;
     };
-    inside_is = changed_by (λ k x. number_at new k.protocol x.inside ≡ Some k.number)
-        (insides key.protocol c.inside ∙ (ap (λ (r : Row). number_at old key.protocol r.inside) rows
+    inside_is = changed_by (λ k x. number_at new k.protocol x.row.inside ≡ Some k.number)
+        (insides key.protocol c.row.inside ∙ (ap (λ (r : Row). number_at old key.protocol r.inside) rows
         ∙ is.inside_is key b here))
-        (λ k x h. insides k.protocol x.inside ∙ is.inside_is k x h);
+        (λ k x h. insides k.protocol x.row.inside ∙ is.inside_is k x h);
     number_is = changed_number;
     by_protocol = subst AreByProtocol (sym numbers) is.by_protocol;
     used_is = λ k lt. ap (λ (u : _). is_in_use u k) numbers ∙ (is.used_is k lt
@@ -377,11 +379,11 @@ pub same_held : (old new : Inside) → IsHeld old → new.address ≡ old.addres
 same_held old new is address quota holds insides numbers counting counts = record {
   named = record {
     protocol_is = λ k b h. is.named.protocol_is k b (sym (holds k) ∙ h);
-    external_is = λ k b h. at_address new.address old.address k.number address b.external
+    external_is = λ k b h. at_address new.address old.address k.number address b.row.external
         (is.named.external_is k b (sym (holds k) ∙ h));
     small = λ k b h. is.named.small k b (sym (holds k) ∙ h);
   };
-  inside_is = λ k b h. insides k.protocol b.inside ∙ is.inside_is k b (sym (holds k) ∙ h);
+  inside_is = λ k b h. insides k.protocol b.row.inside ∙ is.inside_is k b (sym (holds k) ∙ h);
   number_is = λ q e n h. let o = is.number_is q e n (sym (insides q e) ∙ h) in
       (o.0, holds (external_key q n) ∙ o.1, o.2);
   by_protocol = subst AreByProtocol (sym numbers) is.by_protocol;
@@ -441,7 +443,7 @@ choice_held it is protocol number =
 pub gone_held_by : (old new : Inside) (key : ExternalKey) (dead : Binding) → IsHeld old → held_in old key ≡ Some dead →
     new.address ≡ old.address → new.quota ≡ old.quota →
     ((k : ExternalKey) → held_in new k ≡ cond (key_eq key k) None (held_in old k)) → (ends : InsideKey) →
-    ends ≡ inside_key dead.protocol dead.inside →
+    ends ≡ inside_key dead.row.protocol dead.row.inside →
     ((q : Protocol) (e : Endpoint) → number_at new q e
     ≡ cond (inside_eq ends (inside_key q e)) None (number_at old q e)) → AreByProtocol new.numbers →
     ((k : ExternalKey) → k.number < 2 ^ 16 → is_in_use new.numbers k
@@ -454,9 +456,9 @@ gone_held_by old new key dead is here address quota holds ends ends_is insides =
     ≡ cond (inside_eq x (inside_key q e)) None (number_at old q e)) ends_is insides)
 
 pub come_held_by : (old new : Inside) (fresh : Binding) → IsHeld old → held_in old (key_of fresh) ≡ None →
-    IsAbsent (holdings_of old) fresh.protocol fresh.inside → fresh.external.address ≡ old.address →
+    IsAbsent (holdings_of old) fresh.row.protocol fresh.row.inside → fresh.row.external.address ≡ old.address →
     new.address ≡ old.address → new.quota ≡ old.quota → (key : ExternalKey) → key ≡ key_of fresh →
-    key.number < 2 ^ 16 → (ends : InsideKey) → ends ≡ inside_key fresh.protocol fresh.inside →
+    key.number < 2 ^ 16 → (ends : InsideKey) → ends ≡ inside_key fresh.row.protocol fresh.row.inside →
     ((k : ExternalKey) → held_in new k ≡ cond (key_eq key k) (Some fresh) (held_in old k)) →
     ((q : Protocol) (e : Endpoint) → number_at new q e
     ≡ cond (inside_eq ends (inside_key q e)) (Some key.number) (number_at old q e)) → AreByProtocol new.numbers →
@@ -469,7 +471,8 @@ come_held_by old new fresh is free absent at address quota key key_is fits ends 
     quota (subst (λ (x : ExternalKey). (k : ExternalKey) → held_in new k ≡ cond (key_eq x k) (Some fresh)
     (held_in old k)) key_is holds)
     (subst (λ (x : ExternalKey). (q : Protocol) (e : Endpoint) → number_at new q e
-    ≡ cond (inside_eq (inside_key fresh.protocol fresh.inside) (inside_key q e)) (Some x.number) (number_at old q e))
+    ≡ cond (inside_eq (inside_key fresh.row.protocol fresh.row.inside) (inside_key q e)) (Some x.number)
+    (number_at old q e))
     key_is (subst (λ (x : InsideKey). (q : Protocol) (e : Endpoint) → number_at new q e
     ≡ cond (inside_eq x (inside_key q e)) (Some key.number) (number_at old q e)) ends_is insides)) by_protocol
     (subst (λ (x : ExternalKey). (k : ExternalKey) → k.number < 2 ^ 16 → is_in_use new.numbers k
@@ -504,19 +507,20 @@ module _ (old new : Inside) (key : ExternalKey) (is : IsHeld old) (b w : Binding
 -- NO LIVE BINDING OF AN INSIDE ENDPOINT
 
 module _ (it : Inside) (is : IsHeld it) (timers : Timers) (now : ℕ) (q : Protocol) (inside : Endpoint) where
-  seen_number : (n : ℕ) (b : Binding) → seen timers now (held_in it (external_key q n)) ≡ Some b → b.inside ≡ inside →
+  seen_number : (n : ℕ) (b : Binding) → seen timers now (held_in it (external_key q n)) ≡ Some b → b.row.inside
+      ≡ inside →
       number_at it q inside ≡ Some n
   seen_number n b s e =
       let c = seen_is timers now (held_in it (external_key q n)) b s in
-      ap (number_at it q) (sym (ap (λ (x : Binding). x.inside) c.3 ∙ e)) ∙ is.inside_is (external_key q n) c.0 c.1
+      ap (number_at it q) (sym (ap (λ (x : Binding). x.row.inside) c.3 ∙ e)) ∙ is.inside_is (external_key q n) c.0 c.1
 
   pub none_seen : number_at it q inside ≡ None → (n : ℕ) (b : Binding) →
-      seen timers now (held_in it (external_key q n)) ≡ Some b → b.inside ≢ inside
+      seen timers now (held_in it (external_key q n)) ≡ Some b → b.row.inside ≢ inside
   none_seen none n b s e = let z : None ≡ Some n = sym none ∙ seen_number n b s e in cc
 
   pub dead_seen : (number : ℕ) → number_at it q inside ≡ Some number →
       seen timers now (held_in it (external_key q number)) ≡ None → (n : ℕ) (b : Binding) →
-      seen timers now (held_in it (external_key q n)) ≡ Some b → b.inside ≢ inside
+      seen timers now (held_in it (external_key q n)) ≡ Some b → b.row.inside ≢ inside
   dead_seen number found dead n b s e =
       let m : number ≡ n = same_Some number n (sym found ∙ seen_number n b s e) in
       let z : None ≡ Some b = sym dead ∙ (ap (λ (k : ℕ). seen timers now (held_in it (external_key q k))) m ∙ s) in cc

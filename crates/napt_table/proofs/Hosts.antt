@@ -96,50 +96,53 @@ count_few held host = below_few (λ n. held_for host (held n)) (2 ^ 16)
 module _ (many address host : ℕ) where
   -- whether what is found at a number of the protocol counts for the host
   abbrev found_for : List Binding → Protocol → ℕ → Bool
-  found_for list q n = held_for host (find (has_number address q n) list)
+  found_for list q n = held_for host (find (λ b. has_number address q n b.row) list)
 
   abbrev found : List Binding → Protocol → ℕ
   found list q = count_below (found_for list q) many
 
   -- what is found has a number below the bound
   abbrev AreBelow : List Binding → Type 0
-  AreBelow list = (q : Protocol) (n : ℕ) (b : Binding) → find (has_number address q n) list ≡ Some b → n < many
+  AreBelow list = (q : Protocol) (n : ℕ) (b : Binding) → find (λ b. has_number address q n b.row) list ≡ Some b →
+      n < many
 
   below_tail : (x : Binding) (xs : List Binding) → AreBelow (x ∷ xs) → AreBelow xs
   below_tail x xs below q n b e =
-      let head : Bool → Option Binding = λ v. cond v (Some x) (find (has_number address q n) xs) in
-      elim (has_number address q n x) as (λ v. has_number address q n x ≡ v → n < many) [
+      let head : Bool → Option Binding = λ v. cond v (Some x) (find (λ b. has_number address q n b.row) xs) in
+      elim (has_number address q n x.row) as (λ v. has_number address q n x.row ≡ v → n < many) [
         | true ↦ λ h. below q n x (ap head h)
         | false ↦ λ h. below q n b (ap head h ∙ e)
       ] refl
 
   -- a binding at the address is counted at its number, under its protocol alone
-  module _ (x : Binding) (xs : List Binding) (at : is_at address x ≡ true) where
+  module _ (x : Binding) (xs : List Binding) (at : is_at address x.row ≡ true) where
     abbrev counted : Bool
-    counted = eqb x.inside.address host && not x.fixed
+    counted = eqb x.row.inside.address host && not x.row.fixed
 
-    elsewhere : (q : Protocol) (n : ℕ) → has_number address q n x ≡ false → found_for (x ∷ xs) q n ≡ found_for xs q n
-    elsewhere q n h = ap (λ v. held_for host (cond v (Some x) (find (has_number address q n) xs))) h
+    elsewhere : (q : Protocol) (n : ℕ) → has_number address q n x.row ≡ false → found_for (x ∷ xs) q n
+        ≡ found_for xs q n
+    elsewhere q n h = ap (λ v. held_for host (cond v (Some x) (find (λ b. has_number address q n b.row) xs))) h
 
-    not_number : (q : Protocol) (n : ℕ) → n ≢ x.external.number → has_number address q n x ≡ false
-    not_number q n differs = elim (has_number address q n x) as (λ v. has_number address q n x ≡ v → v ≡ false) [
-      | true ↦ λ h. absurd (differs (sym (number_of_it address q n x h)))
+    not_number : (q : Protocol) (n : ℕ) → n ≢ x.row.external.number → has_number address q n x.row ≡ false
+    not_number q n differs = elim (has_number address q n x.row) as (λ v. has_number address q n x.row ≡ v → v ≡ false) [
+      | true ↦ λ h. absurd (differs (sym (number_of_it address q n x.row h)))
       | false ↦ λ h. refl
     ] refl
 
-    of_other : (q : Protocol) → q ≢ x.protocol → found (x ∷ xs) q ≡ found xs q
+    of_other : (q : Protocol) → q ≢ x.row.protocol → found (x ∷ xs) q ≡ found xs q
     of_other q differs =
         below_same (found_for (x ∷ xs) q) (found_for xs q) many
-        (λ n less. elsewhere q n (not_has address q n x differs))
+        (λ n less. elsewhere q n (not_has address q n x.row differs))
 
-    of_own : Apart (map row (x ∷ xs)) → AreBelow (x ∷ xs) → (q : Protocol) → q ≡ x.protocol →
+    of_own : Apart (map row (x ∷ xs)) → AreBelow (x ∷ xs) → (q : Protocol) → q ≡ x.row.protocol →
         found (x ∷ xs) q ≡ found xs q + one counted
     of_own apart below q p =
-        let number : ℕ = x.external.number in
-        let head : Bool → Option Binding = λ v. cond v (Some x) (find (has_number address q number) xs) in
-        let has : has_number address q number x ≡ true = has_it address q number x p (eqb-true _ _ at) refl in
-        let once : Once (has_number address q number) (x ∷ xs) = once_number address q number (x ∷ xs) apart in
-        let none : find (has_number address q number) xs ≡ None = find_nowhere _ xs (once.0 has) in
+        let number : ℕ = x.row.external.number in
+        let head : Bool → Option Binding = λ v. cond v (Some x) (find (λ b. has_number address q number b.row) xs) in
+        let has : has_number address q number x.row ≡ true = has_it address q number x.row p (eqb-true _ _ at) refl in
+        let once : Once (λ b. has_number address q number b.row) (x ∷ xs) =
+        once_number address q number (x ∷ xs) apart in
+        let none : find (λ b. has_number address q number b.row) xs ≡ None = find_nowhere _ xs (once.0 has) in
         let before : one (found_for xs q number) ≡ 0 = ap (λ o. one (held_for host o)) none in
         let after : one (found_for (x ∷ xs) q number) ≡ one counted = ap (λ v. one (held_for host (head v))) has in
         let changed : found (x ∷ xs) q + one (found_for xs q number)
@@ -149,20 +152,20 @@ module _ (many address host : ℕ) where
         omega (arith, changed, before, after)
 
     of_each : Apart (map row (x ∷ xs)) → AreBelow (x ∷ xs) → (q : Protocol) →
-        found (x ∷ xs) q ≡ found xs q + one (same_protocol q x.protocol && counted)
+        found (x ∷ xs) q ≡ found xs q + one (same_protocol q x.row.protocol && counted)
     of_each apart below q =
-        elim (same_protocol q x.protocol) as
-        (λ v. same_protocol q x.protocol ≡ v → found (x ∷ xs) q ≡ found xs q + one (v && counted)) [
-          | true ↦ λ h. of_own apart below q (protocol_is q x.protocol h)
+        elim (same_protocol q x.row.protocol) as
+        (λ v. same_protocol q x.row.protocol ≡ v → found (x ∷ xs) q ≡ found xs q + one (v && counted)) [
+          | true ↦ λ h. of_own apart below q (protocol_is q x.row.protocol h)
           | false ↦ λ h.
-              let differs : q ≢ x.protocol =
+              let differs : q ≢ x.row.protocol =
               λ e. true≢false (sym (ap (same_protocol q) (sym e) ∙ same_itself q) ∙ h) in
               omega (arith, of_other q differs)
         ] refl
 
     one_more : count_for address host (x ∷ xs) ≡ one counted + count_for address host xs
     one_more =
-        let rest : List Binding = filter (counts_for address host) xs in
+        let rest : List Binding = filter (λ b. counts_for address host b.row) xs in
         ap (λ v. length (cond (v && counted) (x ∷ rest) rest)) at
         ∙ (elim counted as (λ v. length (cond v (x ∷ rest) rest) ≡ one v + length rest) [
           | true ↦ omega arith
@@ -186,25 +189,26 @@ module _ (many address host : ℕ) where
       omega (arith, none Icmp, none Tcp, none Udp)
   count_found (x ∷ xs) apart below =
       let rest : count_for address host xs ≡ found_in_all xs = count_found xs apart.1 (below_tail x xs below) in
-      let passing : List Binding = filter (counts_for address host) xs in
-      elim (is_at address x) as
-      (λ v. is_at address x ≡ v → count_for address host (x ∷ xs) ≡ found_in_all (x ∷ xs)) [
+      let passing : List Binding = filter (λ b. counts_for address host b.row) xs in
+      elim (is_at address x.row) as
+      (λ v. is_at address x.row ≡ v → count_for address host (x ∷ xs) ≡ found_in_all (x ∷ xs)) [
         | true ↦ λ at.
             let each = of_each x xs at apart below in
-            let own = one_protocol x.protocol (counted x xs at) in
+            let own = one_protocol x.row.protocol (counted x xs at) in
             omega (arith, rest, one_more x xs at, each Icmp, each Tcp, each Udp, own)
         | false ↦ λ away.
             let without : count_for address host (x ∷ xs) ≡ count_for address host xs =
-            ap (λ v. length (cond (v && (eqb x.inside.address host && not x.fixed)) (x ∷ passing) passing)) away in
-            let not_there : (q : Protocol) (n : ℕ) → has_number address q n x ≡ false =
-            λ q n. ap (λ v. v && (same_protocol q x.protocol && eqb x.external.number n)) away in
+            ap (λ v. length (cond (v && (eqb x.row.inside.address host && not x.row.fixed)) (x ∷ passing) passing))
+            away in
+            let not_there : (q : Protocol) (n : ℕ) → has_number address q n x.row ≡ false =
+            λ q n. ap (λ v. v && (same_protocol q x.row.protocol && eqb x.row.external.number n)) away in
             let same : (q : Protocol) → found (x ∷ xs) q ≡ found xs q =
             λ q. below_same (found_for (x ∷ xs) q) (found_for xs q) many (λ n less. missed q n (not_there q n)) in
             omega (arith, rest, without, same Icmp, same Tcp, same Udp)
       ] refl
     where
-      missed : (q : Protocol) (n : ℕ) → has_number address q n x ≡ false → found_for (x ∷ xs) q n ≡ found_for xs q n
-      missed q n h = ap (λ v. held_for host (cond v (Some x) (find (has_number address q n) xs))) h
+      missed : (q : Protocol) (n : ℕ) → has_number address q n x.row ≡ false → found_for (x ∷ xs) q n ≡ found_for xs q n
+      missed q n h = ap (λ v. held_for host (cond v (Some x) (find (λ b. has_number address q n b.row) xs))) h
 
 -- WHAT LIVES
 

@@ -56,7 +56,7 @@ begun rules address k = of address (map (redirected (pair_of rules)) (take k rul
 module _ (rules : Rules) (address k : ℕ) where
   pub begun_apart : KeepsRules rules → Apart (map row (begun rules address k))
   begun_apart keeps =
-      apart_kept (is_at address) (map (redirected (pair_of rules)) (take k rules.redirects))
+      apart_kept (λ b. is_at address b.row) (map (redirected (pair_of rules)) (take k rules.redirects))
       (apart_redirects (pair_of rules) (take k rules.redirects)
       (single_front (pair_of rules) k rules.redirects keeps.single))
 
@@ -65,12 +65,13 @@ module _ (rules : Rules) (address k : ℕ) where
     abbrev next : Binding
     next = redirected (pair_of rules) redirect
 
-    begun_more : begun rules address (k + 1) ≡ begun rules address k ++ cond (is_at address next) (next ∷ []) []
+    begun_more : begun rules address (k + 1) ≡ begun rules address k ++ cond (is_at address next.row) (next ∷ []) []
     begun_more =
-        ap (filter (is_at address)) (map_more (redirected (pair_of rules)) rules.redirects k other below)
-        ∙ (filter-append (is_at address) (map (redirected (pair_of rules)) (take k rules.redirects))
+        ap (filter (λ b. is_at address b.row)) (map_more (redirected (pair_of rules)) rules.redirects k other below)
+        ∙ (filter-append (λ b. is_at address b.row) (map (redirected (pair_of rules)) (take k rules.redirects))
         (redirected (pair_of rules) (get_or rules.redirects k other) ∷ [])
-        ∙ ap (λ (r : Redirect). begun rules address k ++ filter (is_at address) (redirected (pair_of rules) r ∷ []))
+        ∙ ap (λ (r : Redirect). begun rules address k ++ filter (λ b. is_at address b.row)
+        (redirected (pair_of rules) r ∷ []))
         (sym is))
 
     -- a redirect of another address
@@ -83,12 +84,13 @@ module _ (rules : Rules) (address k : ℕ) where
     -- one of this address
     pub begun_pushed : pair_of rules redirect.address ≡ address →
         begun rules address (k + 1) ≡ begun rules address k
-        ++ redirect_of next.protocol address next.inside redirect.external ∷ []
+        ++ redirect_of next.row.protocol address next.row.inside redirect.external ∷ []
     begun_pushed here =
         begun_more
         ∙ (ap (λ v. begun rules address k ++ cond v (next ∷ []) [])
         (eq-eqb (pair_of rules redirect.address) address here)
-        ∙ ap (λ (a : ℕ). begun rules address k ++ redirect_of next.protocol a next.inside redirect.external ∷ []) here)
+        ∙ ap (λ (a : ℕ). begun rules address k ++ redirect_of next.row.protocol a next.row.inside
+        redirect.external ∷ []) here)
 
 -- A NEW ONE
 
@@ -107,32 +109,33 @@ module _ {X : Type 0} (t : X → Bool) (y : X) (passes : t y ≡ true) where
 
 -- what is held is what the list has
 abbrev pub AreHeld : ℕ → Holdings → List Binding → Type 0
-AreHeld address all list = (q : Protocol) (n : ℕ) → held_at all q n ≡ find (has_number address q n) list
+AreHeld address all list = (q : Protocol) (n : ℕ) → held_at all q n ≡ find (λ b. has_number address q n b.row) list
 
 module _ (address : ℕ) (protocol : Protocol) (inside : Endpoint) (number : ℕ) (list : List Binding) where
   abbrev fresh : Binding
   fresh = redirect_of protocol address inside number
 
   lacks : (q : Protocol) (n : ℕ) → external_key q n ≢ external_key protocol number →
-      has_number address q n fresh ≡ false
-  lacks q n d = elim (has_number address q n fresh) as (λ v. has_number address q n fresh ≡ v → v ≡ false) [
+      has_number address q n fresh.row ≡ false
+  lacks q n d = elim (has_number address q n fresh.row) as (λ v. has_number address q n fresh.row ≡ v → v ≡ false) [
     | true ↦ λ h.
-        let m : n ≡ number = sym (number_of_it address q n fresh h) in
-        let p : q ≡ protocol = has_protocol address q n fresh h in
+        let m : n ≡ number = sym (number_of_it address q n fresh.row h) in
+        let p : q ≡ protocol = has_protocol address q n fresh.row h in
         let e : external_key q n ≡ external_key protocol number = λ i. record { number = m i; protocol = p i } in
         absurd (d e)
     | false ↦ λ h. refl
   ] refl
 
   module _ (apart : Apart (map row (list ++ fresh ∷ []))) where
-    free_number : find (has_number address protocol number) list ≡ None
-    free_number = none_earlier (has_number address protocol number) fresh
-        (has_it address protocol number fresh refl refl refl) list (once_number address protocol number (list ++ fresh
+    free_number : find (λ b. has_number address protocol number b.row) list ≡ None
+    free_number = none_earlier (λ b. has_number address protocol number b.row) fresh
+        (has_it address protocol number fresh.row refl refl refl) list
+        (once_number address protocol number (list ++ fresh
         ∷ []) apart)
 
-    absent_inside : find (is_of_inside address protocol inside) list ≡ None
-    absent_inside = none_earlier (is_of_inside address protocol inside) fresh
-        (inside_it address protocol inside fresh refl refl refl) list (once_inside address protocol inside
+    absent_inside : find (λ b. is_of_inside address protocol inside b.row) list ≡ None
+    absent_inside = none_earlier (λ b. is_of_inside address protocol inside b.row) fresh
+        (inside_it address protocol inside fresh.row refl refl refl) list (once_inside address protocol inside
         (list ++ fresh ∷ []) apart)
 
     module _ (old : Holdings) (named : IsNamed old) (at : old.address ≡ address) (are : AreHeld address old list) where
@@ -142,14 +145,16 @@ module _ (address : ℕ) (protocol : Protocol) (inside : Endpoint) (number : ℕ
 
       pub absent : IsAbsent old protocol inside
       absent m b h e =
-          let there : find (has_number address protocol m) list ≡ Some b = sym (are protocol m) ∙ h in
-          let same : protocol ≡ b.protocol = sym (named.protocol_is (external_key protocol m) b h) in
-          let here : b.external.address ≡ address =
+          let there : find (λ b. has_number address protocol m b.row) list ≡ Some b = sym (are protocol m) ∙ h in
+          let same : protocol ≡ b.row.protocol = sym (named.protocol_is (external_key protocol m) b h) in
+          let here : b.row.external.address ≡ address =
           ap (λ (x : Endpoint). x.address) (named.external_is (external_key protocol m) b h) ∙ at in
-          let passes : is_of_inside address protocol inside b ≡ true = inside_it address protocol inside b same here
+          let passes : is_of_inside address protocol inside b.row ≡ true =
+          inside_it address protocol inside b.row same here
           (sym e) in
-          true≢false (sym (any_found (has_number address protocol m) (is_of_inside address protocol inside) list b there
-          passes) ∙ none_passes (is_of_inside address protocol inside) list absent_inside)
+          true≢false (sym (any_found (λ b. has_number address protocol m b.row)
+          (λ b. is_of_inside address protocol inside b.row) list b there
+          passes) ∙ none_passes (λ b. is_of_inside address protocol inside b.row) list absent_inside)
 
       -- it is held as the others are
       pub held_more : (new : Holdings) →
@@ -157,14 +162,14 @@ module _ (address : ℕ) (protocol : Protocol) (inside : Endpoint) (number : ℕ
           AreHeld address new (list ++ fresh ∷ [])
       held_more new holds q n =
           by_key (external_key protocol number) (external_key q n) (λ k. held new k
-          ≡ find (has_number address k.protocol k.number) (list ++ fresh ∷ []))
+          ≡ find (λ b. has_number address k.protocol k.number b.row) (list ++ fresh ∷ []))
           (holds (external_key protocol number)
           ∙ (at_key (external_key protocol number) (Some fresh) (held old (external_key protocol number))
-          ∙ sym (find_pushed (has_number address protocol number) list fresh free_number
-          ∙ ap (λ v. cond v (Some fresh) None) (has_it address protocol number fresh refl refl refl))))
+          ∙ sym (find_pushed (λ b. has_number address protocol number b.row) list fresh free_number
+          ∙ ap (λ v. cond v (Some fresh) None) (has_it address protocol number fresh.row refl refl refl))))
           (λ d. holds (external_key q n)
           ∙ (past_key (external_key protocol number) (Some fresh) (held old (external_key q n)) (external_key q n) d
-          ∙ (are q n ∙ sym (find_passed_over (has_number address q n) list fresh (lacks q n d)))))
+          ∙ (are q n ∙ sym (find_passed_over (λ b. has_number address q n b.row) list fresh (lacks q n d)))))
 
 -- THE TABLE
 

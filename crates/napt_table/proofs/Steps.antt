@@ -1,5 +1,5 @@
 -- The protocols that a step leaves as they are, and one event more.
-use Rattle.std.proofs.Common.{◌≡◌, ◌≢◌, ℕ, true, false, ◌&&◌, List, [], ◌∷◌, ◌++◌, Option, Some, None, Result, Ok, Err, refl, sym, ◌∙◌, ap, subst, eqb, eqb-true}
+use Rattle.std.proofs.Common.{◌≡◌, ◌≢◌, ℕ, true, false, List, [], ◌∷◌, ◌++◌, Option, Some, None, Result, Ok, Err, refl, sym, ◌∙◌, ap, subst, eqb, eqb-true}
 use Rattle.std.specs.Prelude.{find, OnErr}
 use Rattle.std.proofs.lemmas.Bool.{eq-eqb, true≢false}
 use Rattle.napt_wire.specs.declared.Protocol.{Protocol}
@@ -7,49 +7,50 @@ use Rattle.napt_config.specs.declared.settings.Timers.{Timers}
 use Rattle.napt_rules.specs.declared.Inbound.{Inbound}
 use Rattle.napt_rules.specs.declared.Sent.{Sent}
 use Rattle.napt_rules.specs.declared.Received.{Received}
-use Rattle.napt_rules.specs.declared.Row.{Row}
 use Rattle.napt_rules.specs.Prelude.{Binding, same_protocol, has_number, permits, granted, of_source, sent_by, fresh, out_made, out_found, out_purged, of_destination, received_by, in_found, in_purged}
 use Rattle.napt_laws.proofs.Finds.{find_other, find_passed_over}
 use Rattle.napt_table.specs.declared.event.Event.{Event}
 use Rattle.napt_table.specs.Events.{played, played_all}
 use Rattle.napt_laws.proofs.Passes.{in_passed}
-use Rattle.napt_laws.proofs.StepsSound.{sent_row, received_row}
 use Rattle.napt_laws.proofs.Endpoints.{protocol_is, same_itself, changed_other, inside_protocol, not_has}
 
 -- other protocols are as before
 pub in_others : (inbound : Inbound) (timers : Timers) (address : ℕ) (packet : Received) (list : List Binding)
     (q : Protocol) → q ≢ packet.protocol → (n : ℕ) →
-    find (has_number address q n) (in_purged inbound address packet list).list ≡ find (has_number address q n) list
+    find (λ b. has_number address q n b.row) (in_purged inbound address packet list).list
+    ≡ find (λ b. has_number address q n b.row) list
 in_others inbound timers address packet list q differs n =
     elim (find (of_destination address packet) list) as (λ o.
-    find (has_number address q n) (in_found inbound list address packet o).list ≡ find (has_number address q n) list) [
+    find (λ b. has_number address q n b.row) (in_found inbound list address packet o).list
+    ≡ find (λ b. has_number address q n b.row) list) [
       | None ↦ refl
       | Some b ↦ elim (permits inbound b packet.remote) as (λ v.
-          find (has_number address q n) (in_passed inbound list address packet b v).list
-          ≡ find (has_number address q n) list) [
-            | true ↦ changed_other timers packet.now address packet.protocol packet.number (received_by inbound packet)
-                (received_row inbound packet.remote packet.flags packet.now) list q n (λ p. absurd (differs p))
+          find (λ b. has_number address q n b.row) (in_passed inbound list address packet b v).list
+          ≡ find (λ b. has_number address q n b.row) list) [
+            | true ↦ changed_other address packet.protocol packet.number (received_by inbound packet)
+                (λ b. refl) list q n (λ p. absurd (differs p))
             | false ↦ refl
           ]
     ]
 
 pub out_others : (quota : Option ℕ) (timers : Timers) (address : ℕ) (packet : Sent) (list : List Binding)
     (q : Protocol) → q ≢ packet.protocol → (n : ℕ) →
-    find (has_number address q n) (out_purged quota address packet list).list ≡ find (has_number address q n) list
+    find (λ b. has_number address q n b.row) (out_purged quota address packet list).list
+    ≡ find (λ b. has_number address q n b.row) list
 out_others quota timers address packet list q differs n =
     elim (find (of_source address packet) list) as (λ o.
-    find (has_number address q n) (out_found quota list address packet o).list ≡ find (has_number address q n) list) [
+    find (λ b. has_number address q n b.row) (out_found quota list address packet o).list
+    ≡ find (λ b. has_number address q n b.row) list) [
       | None ↦ elim (granted quota list address packet) as (λ m.
-          find (has_number address q n) (out_made list address packet m).list ≡ find (has_number address q n) list) [
+          find (λ b. has_number address q n b.row) (out_made list address packet m).list
+          ≡ find (λ b. has_number address q n b.row) list) [
             | Err cause ↦ refl
-            | Ok m ↦ find_passed_over (has_number address q n) list (sent_by packet (fresh address packet m))
-                (not_has address q n (sent_by packet (fresh address packet m)) differs)
+            | Ok m ↦ find_passed_over (λ b. has_number address q n b.row) list (sent_by packet (fresh address packet m))
+                (not_has address q n (sent_by packet (fresh address packet m)).row differs)
           ]
-      | Some b ↦ find_other (of_source address packet) (sent_by packet) (has_number address q n)
-          (λ x. ap (λ (k : Row). eqb k.external.address address
-          && (same_protocol q k.protocol && eqb k.external.number n))
-          (sent_row packet.remote packet.flags packet.now x)) (λ x h. not_has address q n x (λ p. differs (p ∙ sym
-          (inside_protocol address packet.protocol packet.inside x h)))) list
+      | Some b ↦ find_other (of_source address packet) (sent_by packet) (λ b. has_number address q n b.row)
+          (λ x. refl) (λ x h. not_has address q n x.row (λ p. differs (p ∙ sym
+          (inside_protocol address packet.protocol packet.inside x.row h)))) list
     ]
 
 -- what holds of the protocol, and of each other one

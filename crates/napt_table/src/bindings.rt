@@ -72,7 +72,7 @@ fn requeue_or_remove(
     let Some(binding) = held.get(key) else {
         return;
     };
-    if binding.fixed {
+    if binding.row.is_fixed() {
         return;
     }
     if is_live(binding, timers, at) {
@@ -131,11 +131,11 @@ impl Bindings {
 
     /// The inside endpoint of the live binding with the number.
     pub(crate) fn inside_of(&self, now: u64, protocol: Protocol, number: u16) -> Option<Endpoint>
-        ensures { result ≡ option_map (λ b. b.inside)
+        ensures { result ≡ option_map (λ b. b.row.inside)
             (seen self.now.timers now (held_at self.now.held protocol number)) }
     {
         match self.held.get(ExternalKey { number, protocol }) {
-            Some(binding) if is_live(binding, self.timers, now) => Some(binding.inside),
+            Some(binding) if is_live(binding, self.timers, now) => Some(binding.row.inside()),
             _ => None,
         }
     }

@@ -53,13 +53,13 @@ impl HostCounts {
     /// Counts the binding, for whose host there is room. A redirect does not count.
     pub(crate) fn put(&mut self, binding: &Binding)
         requires room { 0 < place_of self.old }
-        requires fits { count_in self.old binding.now.inside.address + 1 < 2 ^ 64 }
+        requires fits { count_in self.old binding.now.row.inside.address + 1 < 2 ^ 64 }
         ensures counted { are_counted self.new ≡ are_counted self.old }
         ensures counts { are_counted self.old ≡ true →
             (host : ℕ) → count_in self.new host ≡ count_in self.old host + cond {A = ℕ} (held_for host (Some binding.now)) 1 0 }
     {
         match &mut self.counts {
-            Some(counts) if !binding.fixed => counts.put(binding.inside.address),
+            Some(counts) if !binding.row.is_fixed() => counts.put(binding.row.inside().address),
             _ => {}
         }
     }
@@ -72,7 +72,7 @@ impl HostCounts {
         ensures room { place_of self.old ≤ place_of self.new }
     {
         match &mut self.counts {
-            Some(counts) if !binding.fixed => counts.take(binding.inside.address),
+            Some(counts) if !binding.row.is_fixed() => counts.take(binding.row.inside().address),
             _ => {}
         }
     }

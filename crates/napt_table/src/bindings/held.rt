@@ -138,15 +138,15 @@ impl Held {
     /// Adds a binding, for which there is room and whose ends are free.
     pub(crate) fn insert(&mut self, binding: Binding)
         requires room { 0 < self.old.room }
-        requires at { binding.external.address ≡ self.old.address }
+        requires at { binding.row.external.address ≡ self.old.address }
         requires free { held self.old (key_of binding) ≡ None }
-        requires absent { IsAbsent self.old binding.protocol binding.inside }
+        requires absent { IsAbsent self.old binding.row.protocol binding.row.inside }
         ensures place { IsSamePlace self.old self.new }
         ensures held { (key : Key) → held self.new key ≡ cond (key_eq (key_of binding) key)
             (Some binding) (held self.old key) }
     {
         let key = key_of(&binding);
-        let inside = inside_key(binding.protocol, binding.inside);
+        let inside = inside_key(binding.row.protocol(), binding.row.inside());
         let hosts = &mut self.hosts;
         hosts.put(&binding);
         match self.by_inside.insert(inside, key.number) {
@@ -172,7 +172,7 @@ impl Held {
             return;
         };
         self.by_inside
-            .remove(&inside_key(binding.protocol, binding.inside));
+            .remove(&inside_key(binding.row.protocol(), binding.row.inside()));
         let hosts = &mut self.hosts;
         hosts.take(&binding);
         let numbers = &mut self.numbers;

@@ -40,6 +40,6 @@ pub(crate) fn key_of(binding: &Binding) -> ExternalKey
 {
     ExternalKey {
         number: number_of(binding),
-        protocol: binding.protocol,
+        protocol: binding.row.protocol(),
     }
 }

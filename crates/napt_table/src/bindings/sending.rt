@@ -4,8 +4,8 @@ ghost use Rattle.std.specs.Prelude.{◌≡◌, ◌≤◌, true, false, Some, Non
 
 use crate::bindings::Bindings;
 use crate::bindings::keys::key_of;
-use napt_binding::{Binding, Flows, until};
-use napt_rules::Sent;
+use napt_binding::{Binding, Flows, KeptRow, until};
+use napt_rules::{Row, Sent};
 use napt_wire::{Cause, Endpoint, Protocol};
 use std::alloc::{AllocError, Global};
 
@@ -31,10 +31,10 @@ impl Bindings {
     fn insert(&mut self, binding: Binding)
         requires room { HasRoom self.old }
         requires live { is_live self.old.timers self.old.at binding ≡ true }
-        requires loose { binding.fixed ≡ false }
-        requires at { binding.external.address ≡ self.old.held.address }
+        requires loose { binding.row.fixed ≡ false }
+        requires at { binding.row.external.address ≡ self.old.held.address }
         requires free { held self.old.held (key_of binding) ≡ None }
-        requires absent { IsAbsent self.old.held binding.protocol binding.inside }
+        requires absent { IsAbsent self.old.held binding.row.protocol binding.row.inside }
         ensures timers { self.new.timers ≡ self.old.timers }
         ensures at { self.new.at ≡ self.old.at }
         ensures place { IsSamePlace self.old.held self.new.held }
@@ -81,13 +81,15 @@ impl Bindings {
     {
         self.make_room()?;
         let binding = Binding {
-            protocol,
-            inside,
-            external: Endpoint {
-                address: self.held.address(),
-                number,
-            },
-            fixed: true,
+            row: KeptRow::new(Row {
+                protocol,
+                inside,
+                external: Endpoint {
+                    address: self.held.address(),
+                    number,
+                },
+                fixed: true,
+            }),
             last: 0,
             flows: Flows::new(alloc),
         };
@@ -145,13 +147,15 @@ impl Bindings {
             return Err(Cause::NoPort);
         };
         let binding = Binding {
-            protocol: packet.protocol,
-            inside: packet.inside,
-            external: Endpoint {
-                address: self.held.address(),
-                number,
-            },
-            fixed: false,
+            row: KeptRow::new(Row {
+                protocol: packet.protocol,
+                inside: packet.inside,
+                external: Endpoint {
+                    address: self.held.address(),
+                    number,
+                },
+                fixed: false,
+            }),
             last: packet.now,
             flows,
         };

@@ -8,10 +8,11 @@ use Rattle.std.proofs.lemmas.Bool.{not-true}
 use Rattle.napt_wire.specs.declared.Cause.TheVariants.{NoPort}
 use Rattle.napt_config.specs.Rules.{AreTimers}
 use Rattle.napt_rules.specs.Prelude.{Binding, candidates, change_first, is_live, live_flows, is_flow_of, used, with_flow, sent_by, fresh}
+use Rattle.napt_rules.specs.declared.Row.{Row}
 use Rattle.napt_laws.proofs.Finds.{passes}
 use Rattle.napt_table.specs.Bindings.{BindingsState, Begins}
 use Rattle.napt_table.specs.Holdings.{held, held_at}
-use Rattle.napt_table.specs.Keys.{key_eq, external_key}
+use Rattle.napt_table.specs.Keys.{key_eq, external_key, key_of}
 use Rattle.napt_table.proofs.Granted.{made_all}
 use Rattle.napt_table.proofs.Sends.{none_from, choice_is, made_live, made_seen}
 use Rattle.napt_table.proofs.bindings.Bindings.begin.Goals as goal
@@ -32,12 +33,12 @@ pub insert-requires-clause-live : goal.insert-requires-clause-live
 insert-requires-clause-live c =
     let limits : AreTimers c.args.self.now.timers =
     subst (λ (x : BindingsState). AreTimers x.timers) c.self.view_is c.keep_limits.ensures in
-    rw c.requires.at (made_live c.args.self.now.timers limits c.address.result c.args.packet c.in-Some.number
+    rw (c.requires.at, c.new.ensures) (made_live c.args.self.now.timers limits c.address.result c.args.packet c.in-Some.number
     c.args.flows c.requires.flows)
 
 pub insert-requires-clause-at : goal.insert-requires-clause-at
-insert-requires-clause-at c = subst (λ (x : BindingsState). c.address.result ≡ x.held.address) c.self.view_is
-    c.address.ensures
+insert-requires-clause-at c = ap (λ (r : Row). r.external.address) c.new.ensures
+    ∙ subst (λ (x : BindingsState). c.address.result ≡ x.held.address) c.self.view_is c.address.ensures
 
 pub insert-requires-clause-free : goal.insert-requires-clause-free
 insert-requires-clause-free c =
@@ -48,7 +49,7 @@ insert-requires-clause-free c =
     (not-true (is_some (held_at s.held p.protocol number))
     (passes (λ n. not (is_some (held_at s.held p.protocol n))) (candidates p.protocol p.inside.number) number
     (sym c.in-Some.ensures))) in
-    subst (λ (x : BindingsState). held_at x.held p.protocol number ≡ None) c.self.view_is free
+    rw c.new.ensures (subst (λ (x : BindingsState). held_at x.held p.protocol number ≡ None) c.self.view_is free)
 
 pub returns-clause-begins : goal.returns-clause-begins
 returns-clause-begins c =
@@ -59,20 +60,22 @@ returns-clause-begins c =
     (not-true (is_some (held_at s.held p.protocol number))
     (passes (λ n. not (is_some (held_at s.held p.protocol n))) (candidates p.protocol p.inside.number) number
     (sym c.in-Some.ensures))) in
-    let binding : Binding = record {
+    let row : Row = record {
       protocol = p.protocol;
       inside = p.inside;
       external = record { address = c.address.result; number = number };
       fixed = false;
-      last = p.now;
-      flows = c.args.flows;
     } in
+    let of_row : Row → Binding = λ r. record { row = r; last = p.now; flows = c.args.flows } in
+    let binding : Binding = of_row row in
     let new = c.insert.new.self in
     let state : BindingsState = record { timers = s.timers; at = s.at; held = s.held; due = s.due } in
     let holds : (k : ExternalKey) → held new.held k ≡ cond (key_eq (external_key p.protocol number) k) (Some binding)
     (held s.held k) = subst (λ (x : BindingsState). (k : ExternalKey) → held new.held k
     ≡ cond (key_eq (external_key p.protocol number) k) (Some binding) (held x.held k)) (sym c.self.view_is)
-    c.insert.ensures.held in
+    (subst (λ (r : Row). (k : ExternalKey) → held new.held k
+    ≡ cond (key_eq (key_of (of_row r)) k) (Some (of_row r)) (held c.args.self.now.held k)) c.new.ensures
+    c.insert.ensures.held) in
     let begun = subst (λ (x : BindingsState). live_flows x.timers p.now p.protocol c.args.flows
     ≡ change_first (is_flow_of p.remote) (used p.protocol Outgoing p.flags p.now) (with_flow p.remote p.now []))
     (sym c.self.view_is) c.requires.flows in
