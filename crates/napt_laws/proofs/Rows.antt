@@ -71,9 +71,9 @@ module _ (list : List Binding) (apart : AllPairs AreApart list) (a b : ℕ) (dif
       elim (cases_lt i j) [
         | inl lt ↦ apart i j d lt j_in
         | inr le ↦ elim (cases_lt j i) [
-            | inl lt ↦ turned (row (get_or list j d)) (row (get_or list i d)) (apart j i d lt i_in)
-            | inr ge ↦ absurd (differ (same (omega arith)))
-          ]
+          | inl lt ↦ turned (row (get_or list j d)) (row (get_or list i d)) (apart j i d lt i_in)
+          | inr ge ↦ absurd (differ (same (omega arith)))
+        ]
       ]
 
   across : All (λ x. All (AreApart x) (of b list)) (of a list)

@@ -124,10 +124,11 @@ module _ (many address host : ℕ) where
     elsewhere q n h = ap (λ v. held_for host (cond v (Some x) (find (λ b. has_number address q n b.row) xs))) h
 
     not_number : (q : Protocol) (n : ℕ) → n ≢ x.row.external.number → has_number address q n x.row ≡ false
-    not_number q n differs = elim (has_number address q n x.row) as (λ v. has_number address q n x.row ≡ v → v ≡ false) [
-      | true ↦ λ h. absurd (differs (sym (number_of_it address q n x.row h)))
-      | false ↦ λ h. refl
-    ] refl
+    not_number q n differs =
+        elim (has_number address q n x.row) as (λ v. has_number address q n x.row ≡ v → v ≡ false) [
+          | true ↦ λ h. absurd (differs (sym (number_of_it address q n x.row h)))
+          | false ↦ λ h. refl
+        ] refl
 
     of_other : (q : Protocol) → q ≢ x.row.protocol → found (x ∷ xs) q ≡ found xs q
     of_other q differs =

@@ -33,8 +33,8 @@ pub insert-requires-clause-live : goal.insert-requires-clause-live
 insert-requires-clause-live c =
     let limits : AreTimers c.args.self.now.timers =
     subst (λ (x : BindingsState). AreTimers x.timers) c.self.view_is c.keep_limits.ensures in
-    rw (c.requires.at, c.new.ensures) (made_live c.args.self.now.timers limits c.address.result c.args.packet c.in-Some.number
-    c.args.flows c.requires.flows)
+    rw (c.requires.at, c.new.ensures) (made_live c.args.self.now.timers limits c.address.result c.args.packet
+    c.in-Some.number c.args.flows c.requires.flows)
 
 pub insert-requires-clause-at : goal.insert-requires-clause-at
 insert-requires-clause-at c = ap (λ (r : Row). r.external.address) c.new.ensures

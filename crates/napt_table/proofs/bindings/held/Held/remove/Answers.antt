@@ -11,5 +11,6 @@ invariant_of-self c = same_held c.self.inside _ c.self.invariant refl refl
 pub invariant_of-self-2 : goal.invariant_of-self-2
 invariant_of-self-2 c = gone_held_by c.self.inside _ c.args.key c.in-Some.binding c.self.invariant
     (sym c.remove.ensures.value ∙ c.in-Some.is) refl refl (λ k. c.remove.ensures.updates.0 k)
-    c.inside_key.result (c.inside_key.ensures ∙ λ i. inside_key (c.protocol.ensures i) (c.inside.ensures i)) (λ q e. c.remove-2.ensures.updates.0 (inside_key q e))
+    c.inside_key.result (c.inside_key.ensures ∙ λ i. inside_key (c.protocol.ensures i) (c.inside.ensures i))
+    (λ q e. c.remove-2.ensures.updates.0 (inside_key q e))
     c.take-2.ensures.by_protocol c.take-2.ensures.used c.take.ensures.counted c.take.ensures.counts
