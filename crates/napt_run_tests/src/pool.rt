@@ -1,5 +1,6 @@
 //! What no contract says: that answers come, that workers step at the same time and unasked, and how often a gate is asked.
 
+mod batches;
 mod checked;
 mod keeper;
 mod messages;

@@ -4,7 +4,7 @@ ghost use Rattle.std.specs.Prelude.{◌≡◌, length};
 ghost use Rattle.napt_pool.specs.Pools.{starts};
 
 use super::MOST_LOOKS;
-use napt_pool::{Ended, Gate, Machine, OfferRefused, Pool, PoolFault};
+use napt_pool::{Batch, Ended, Gate, Machine, OfferRefused, Pool, PoolFault, Taken};
 use std::alloc::Global;
 use std::process::Abort;
 use std::sync::{Arc, Wait};
@@ -37,6 +37,22 @@ impl<M: Machine, G: Gate> CheckedPool<M, G> {
         assert!(rt; offered, "the item of worker {w}");
     }
 
+    pub(crate) fn offer_all(
+        &mut self,
+        rt: &impl Abort,
+        w: u32,
+        batch: Batch<M::Item, M::Answer>,
+    ) -> Result<(), OfferRefused<Batch<M::Item, M::Answer>>> {
+        assert!(rt; w < self.workers);
+        self.pool.offer_all(self.alloc, w, batch)
+    }
+
+    /// Offers a batch that is not refused.
+    pub(crate) fn give_all(&mut self, rt: &impl Abort, w: u32, batch: Batch<M::Item, M::Answer>) {
+        let offered = self.offer_all(rt, w, batch).is_ok();
+        assert!(rt; offered, "the batch of worker {w}");
+    }
+
     pub(crate) fn take(&mut self, rt: &impl Abort, w: u32) -> Result<Option<M::Answer>, PoolFault> {
         assert!(rt; w < self.workers);
         self.pool.take(rt, self.alloc, w)
@@ -51,6 +67,30 @@ impl<M: Machine, G: Gate> CheckedPool<M, G> {
         for _ in 0..MOST_LOOKS {
             if let Some(answer) = self.take(rt, w)? {
                 return Ok(Some(answer));
+            }
+            thread::yield_now();
+        }
+        Ok(None)
+    }
+
+    pub(crate) fn take_all(
+        &mut self,
+        rt: &impl Abort,
+        w: u32,
+    ) -> Result<Option<Taken<M::Item, M::Answer>>, PoolFault> {
+        assert!(rt; w < self.workers);
+        self.pool.take_all(rt, self.alloc, w)
+    }
+
+    /// Takes until worker `w` has answers or tells why it stopped.
+    pub(crate) fn take_all_soon(
+        &mut self,
+        rt: &impl Abort,
+        w: u32,
+    ) -> Result<Option<Taken<M::Item, M::Answer>>, PoolFault> {
+        for _ in 0..MOST_LOOKS {
+            if let Some(taken) = self.take_all(rt, w)? {
+                return Ok(Some(taken));
             }
             thread::yield_now();
         }

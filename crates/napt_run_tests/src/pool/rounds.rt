@@ -49,7 +49,7 @@ fn machines_and_answers_come_back(rt: HostRuntime) -> Result<(), Fail> {
 }
 
 /// A pool of keepers, where nothing is refused.
-fn keepers<R: Threads + Wait + Abort + AllocGlobal + Copy + Send + 'static>(
+pub(super) fn keepers<R: Threads + Wait + Abort + AllocGlobal + Copy + Send + 'static>(
     rt: &R,
     workers: u32,
     capacity: u16,

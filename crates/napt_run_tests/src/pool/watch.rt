@@ -16,6 +16,8 @@ pub(crate) enum Says {
     NoTo(u32),
     /// No at each first ask of a turn.
     NoFirst,
+    /// No from this turn on.
+    NoFrom(u64),
 }
 
 /// A gate, and the counts of a pool.
@@ -115,7 +117,7 @@ impl Watch {
     }
 
     /// How many steps a machine has begun.
-    fn begun(&self, place: usize) -> Option<u64> {
+    pub(crate) fn begun(&self, place: usize) -> Option<u64> {
         let steps = self.steps.get(place)?;
         Some(steps.load(Ordering::SeqCst))
     }
@@ -140,6 +142,7 @@ impl Gate for Watch {
             Says::Yes => true,
             Says::NoTo(shut) => worker != shut,
             Says::NoFirst => asks % 2 == 1,
+            Says::NoFrom(first) => turn < first,
         }
     }
 
@@ -150,6 +153,9 @@ impl Gate for Watch {
         }
     }
 }
+
+/// The item that each machine refuses as where there is no memory.
+pub(crate) const REFUSED: u64 = 99;
 
 /// Answers each item with itself, or refuses it as where there is no memory. Its steps and its drop are counted, and its size
 /// is the number of its steps.
@@ -181,7 +187,7 @@ impl Machine for Echo {
 
     fn step(&mut self, _alloc: Global, item: u64) -> Result<u64, AllocError> {
         self.watch.begin(self.place);
-        if self.refuses {
+        if self.refuses || item == REFUSED {
             return Err(AllocError);
         }
         Ok(item)

@@ -9,14 +9,14 @@ use std::test::Fail;
 use std::thread::Threads;
 
 /// A pool of machines, some of which refuse their items, and the watch over it.
-struct Watched {
-    pool: CheckedPool<Echo, Watch>,
-    watch: Arc<Watch>,
+pub(super) struct Watched {
+    pub(super) pool: CheckedPool<Echo, Watch>,
+    pub(super) watch: Arc<Watch>,
 }
 
 /// Starts a pool with rings for four items. Where it is refused memory or a thread, it has dropped each machine when it returns: here
 /// nothing is refused, and `tests/refused_calls` refuses each growth in turn, in a program of its own.
-fn make_watched<R: Threads + Wait + Abort + AllocGlobal + Copy + Send + 'static>(
+pub(super) fn make_watched<R: Threads + Wait + Abort + AllocGlobal + Copy + Send + 'static>(
     rt: &R,
     refuse: &[bool],
     says: Says,

@@ -1,0 +1,253 @@
+//! Many items in one message: they are answered in order, alone or together, and a worker asks and stops among them as among
+//! items that come alone.
+
+use super::checked::CheckedPool;
+use super::keeper::Keeper;
+use super::rounds::keepers;
+use super::watch::{Echo, REFUSED, Says, Watch};
+use super::watched::{Watched, make_watched};
+use napt_pool::{Answered, Batch, OfferRefused, OpenGate, PoolFault, Taken};
+use std::alloc::{AllocError, Global};
+use std::process::Abort;
+use std::sync::Wait;
+use std::test::Fail;
+use std::thread::Threads;
+
+/// These items in one message.
+fn batch(rt: &impl Abort, alloc: Global, items: &[u64]) -> Result<Batch<u64, u64>, AllocError> {
+    let items = items.to_vec(alloc)?;
+    let room = Vec::with_capacity(alloc, items.len())?;
+    assert!(rt; items.len() <= room.capacity());
+    Ok(Batch::new(items, room))
+}
+
+/// A batch of so many numbers from `from` on.
+fn numbers(
+    rt: &impl Abort,
+    alloc: Global,
+    from: u64,
+    count: u64,
+) -> Result<Batch<u64, u64>, AllocError> {
+    let mut items = Vec::new(alloc);
+    for k in 0..count {
+        items.push(from.saturating_add(k))?;
+    }
+    batch(rt, alloc, &items)
+}
+
+/// The answers to the next batch, which come together.
+fn together(rt: &impl Abort, pool: &mut CheckedPool<Keeper, OpenGate>) -> Answered<u64, u64> {
+    match pool.take_all_soon(rt, 0) {
+        Ok(Some(Taken::All(answered))) => Some(answered),
+        _ => None,
+    }
+    .expect(rt, "the answers of a batch")
+}
+
+/// The next answer, which comes alone.
+fn alone(rt: &impl Abort, pool: &mut CheckedPool<Keeper, OpenGate>) -> u64 {
+    match pool.take_all_soon(rt, 0) {
+        Ok(Some(Taken::One(answer))) => Some(answer),
+        _ => None,
+    }
+    .expect(rt, "an answer")
+}
+
+#[test]
+fn batches_and_items_are_answered_in_order(rt: HostRuntime) -> Result<(), Fail> {
+    let alloc = rt.alloc();
+    let all = [
+        batch(&rt, alloc, &[40, 41, 42, 43])?,
+        batch(&rt, alloc, &[45, 46])?,
+    ];
+    let mut pool = keepers(&rt, 1, 7)?;
+    let [first, second] = all;
+    pool.give_all(&rt, 0, first);
+    pool.give(&rt, 0, 44);
+    pool.give_all(&rt, 0, second);
+    assert!(rt; matches!(pool.offer(&rt, 0, 47), Err(OfferRefused::Full(47))));
+    // One of the first batch alone, and then what is left of it.
+    assert!(rt; pool.take_soon(&rt, 0) == Ok(Some(0)));
+    for count in 1..5 {
+        assert_eq!(rt; alone(&rt, &mut pool), count);
+    }
+    let Answered { answers, spent } = together(&rt, &mut pool);
+    assert_eq!(rt; answers.as_slice(), [5, 6].as_slice());
+    assert!(rt; spent.is_empty() && spent.capacity() >= 2);
+    assert!(rt; matches!(pool.take_all(&rt, 0), Ok(None)));
+    let ended = pool.closed(&rt);
+    assert_eq!(rt; ended[0].machine.items.as_slice(), [40, 41, 42, 43, 44, 45, 46].as_slice());
+    assert!(rt; ended[0].answers.is_empty());
+    Ok(())
+}
+
+/// What `take` left of a batch comes back before what is in the ring.
+#[test]
+fn close_hands_back_the_rest_of_a_batch(rt: HostRuntime) -> Result<(), Fail> {
+    let alloc = rt.alloc();
+    let all = [batch(&rt, alloc, &[7, 8, 9])?, batch(&rt, alloc, &[10, 11])?];
+    let mut pool = keepers(&rt, 1, 5)?;
+    for more in all {
+        pool.give_all(&rt, 0, more);
+    }
+    assert!(rt; pool.take_soon(&rt, 0) == Ok(Some(0)));
+    let ended = pool.closed(&rt);
+    assert_eq!(rt; ended[0].machine.items.as_slice(), [7, 8, 9, 10, 11].as_slice());
+    assert_eq!(rt; ended[0].answers.as_slice(), [1, 2, 3, 4].as_slice());
+    Ok(())
+}
+
+/// A batch goes whole or not at all, and one of no items takes no slot of a ring.
+#[test]
+fn batch_that_does_not_fit_comes_back(rt: HostRuntime) -> Result<(), Fail> {
+    let alloc = rt.alloc();
+    let two = batch(&rt, alloc, &[8, 9])?;
+    let mut none = Vec::new(alloc);
+    for _ in 0..20 {
+        none.push(batch(&rt, alloc, &[])?)?;
+    }
+    let mut pool = keepers(&rt, 1, 2)?;
+    for empty in none {
+        pool.give_all(&rt, 0, empty);
+    }
+    pool.give(&rt, 0, 7);
+    let Err(OfferRefused::Full(two)) = pool.offer_all(&rt, 0, two) else {
+        pool.closed(&rt);
+        return Err("a batch too large was accepted".into());
+    };
+    assert!(rt; pool.take_soon(&rt, 0) == Ok(Some(0)));
+    pool.give_all(&rt, 0, two);
+    let ended = pool.closed(&rt);
+    assert_eq!(rt; ended[0].machine.items.as_slice(), [7, 8, 9].as_slice());
+    assert_eq!(rt; ended[0].answers.as_slice(), [1, 2].as_slice());
+    Ok(())
+}
+
+/// Offers a batch, and takes the answers to it as they come.
+fn round<R: Threads + Wait + Abort + AllocGlobal + Copy + Send + 'static>(
+    rt: &R,
+    pool: &mut CheckedPool<Keeper, OpenGate>,
+    from: u64,
+    count: u64,
+) {
+    let more = numbers(rt, rt.alloc(), from, count).ok().expect(rt, "a batch");
+    pool.give_all(rt, 0, more);
+    let answered = together(rt, pool);
+    assert_eq!(rt; answered.answers.len() as u64, count);
+    for (k, answer) in answered.answers.iter().enumerate() {
+        assert_eq!(rt; *answer, from.saturating_add(k as u64));
+    }
+}
+
+/// Batches of each size up to that of the ring, one after another: no slot of a ring is lost.
+#[test]
+fn batch_rounds(rt: HostRuntime) -> Result<(), Fail> {
+    for capacity in [1u16, 2, 64] {
+        let mut pool = keepers(&rt, 1, capacity)?;
+        let mut from = 0u64;
+        for _ in 0..8 {
+            for count in 1..=u64::from(capacity) {
+                round(&rt, &mut pool, from, count);
+                from = from.saturating_add(count);
+            }
+        }
+        let ended = pool.closed(&rt);
+        assert_eq!(rt; ended[0].machine.items.len() as u64, from);
+        assert!(rt; ended[0].answers.is_empty());
+    }
+    Ok(())
+}
+
+/// A worker asks the gate before each step of a batch, with the number of the steps that it has made, and shows it the size of
+/// its machine after each.
+fn take_turns<R: Threads + Wait + Abort + AllocGlobal + Copy + Send + 'static>(
+    rt: &R,
+    says: Says,
+    asks: u64,
+) -> Result<(), Fail> {
+    let all = [batch(rt, rt.alloc(), &[7, 8])?, batch(rt, rt.alloc(), &[9, 10])?];
+    let Watched { mut pool, watch } = make_watched(rt, &[false], says)?;
+    for more in all {
+        pool.give_all(rt, 0, more);
+    }
+    let ended = pool.closed(rt);
+    assert_eq!(rt; ended[0].answers.as_slice(), [7, 8, 9, 10].as_slice());
+    assert_eq!(rt; watch.asks(), asks);
+    assert_eq!(rt; watch.shown(), 4);
+    assert_eq!(rt; watch.strange(), 0);
+    Ok(())
+}
+
+#[test]
+fn gate_is_asked_before_each_step_of_a_batch(rt: HostRuntime) -> Result<(), Fail> {
+    take_turns(&rt, Says::Yes, 4)
+}
+
+#[test]
+fn gate_is_asked_again_in_a_batch(rt: HostRuntime) -> Result<(), Fail> {
+    take_turns(&rt, Says::NoFirst, 8)
+}
+
+/// Takes the answers 0, 1, .. of a worker that stops, and returns how many came and why it stopped.
+fn until_stopped(
+    rt: &impl Abort,
+    pool: &mut CheckedPool<Echo, Watch>,
+) -> (u64, Option<PoolFault>) {
+    for count in 0..100 {
+        match pool.take_soon(rt, 0) {
+            Ok(Some(answer)) => assert_eq!(rt; answer, count),
+            Ok(None) => return (count, None),
+            Err(fault) => return (count, Some(fault)),
+        }
+    }
+    (100, None)
+}
+
+/// The gate is shut at a step of a batch: the answers before it come, then why the worker stopped, and it has not made that step.
+#[test]
+fn gate_is_shut_in_a_batch(rt: HostRuntime) -> Result<(), Fail> {
+    for shut in 0..4u64 {
+        let four = numbers(&rt, rt.alloc(), 0, 4)?;
+        let Watched { mut pool, watch } = make_watched(&rt, &[false], Says::NoFrom(shut))?;
+        pool.give_all(&rt, 0, four);
+        let (count, told) = until_stopped(&rt, &mut pool);
+        let begun = watch.begun(0);
+        let ended = pool.close(&rt).err();
+        assert_eq!(rt; count, shut);
+        assert_eq!(rt; told, Some(PoolFault::GateShut(0)));
+        assert_eq!(rt; ended, Some(PoolFault::GateShut(0)));
+        assert_eq!(rt; begun, Some(shut));
+        assert_eq!(rt; watch.asks(), 1_000_000 + shut);
+    }
+    Ok(())
+}
+
+/// The gate is shut to the first item: the one slot of the ring is for the word that the worker stopped.
+#[test]
+fn gate_is_shut_to_a_batch(rt: HostRuntime) -> Result<(), Fail> {
+    let alloc = rt.alloc();
+    let one = batch(&rt, alloc, &[7])?;
+    let watch = Watch::new(alloc, 1, Says::NoFrom(0), false)?;
+    let machines = Echo::several(alloc, &watch, &[false])?;
+    let mut pool = CheckedPool::start(&rt, alloc, machines, 1, watch)?;
+    pool.give_all(&rt, 0, one);
+    let told = pool.take_soon(&rt, 0).err();
+    let ended = pool.close(&rt).err();
+    assert_eq!(rt; told, Some(PoolFault::GateShut(0)));
+    assert_eq!(rt; ended, Some(PoolFault::GateShut(0)));
+    Ok(())
+}
+
+/// Memory is refused to the third step of a batch.
+#[test]
+fn memory_is_refused_in_a_batch(rt: HostRuntime) -> Result<(), Fail> {
+    let four = batch(&rt, rt.alloc(), &[0, 1, REFUSED, 3])?;
+    let Watched { mut pool, watch: _ } = make_watched(&rt, &[false], Says::Yes)?;
+    pool.give_all(&rt, 0, four);
+    let (count, told) = until_stopped(&rt, &mut pool);
+    let ended = pool.close(&rt).err();
+    assert_eq!(rt; count, 2);
+    assert_eq!(rt; told, Some(PoolFault::Memory));
+    assert_eq!(rt; ended, Some(PoolFault::Memory));
+    Ok(())
+}
