@@ -76,7 +76,10 @@ fn batches_and_items_are_answered_in_order(rt: HostRuntime) -> Result<(), Fail> 
     assert!(rt; spent.is_empty() && spent.capacity() >= 2);
     assert!(rt; matches!(pool.take_all(&rt, 0), Ok(None)));
     let ended = pool.closed(&rt);
-    assert_eq!(rt; ended[0].machine.items.as_slice(), [40, 41, 42, 43, 44, 45, 46].as_slice());
+    assert_eq!(rt;
+        ended[0].machine.items.as_slice(),
+        [40, 41, 42, 43, 44, 45, 46].as_slice()
+    );
     assert!(rt; ended[0].answers.is_empty());
     Ok(())
 }
@@ -85,14 +88,20 @@ fn batches_and_items_are_answered_in_order(rt: HostRuntime) -> Result<(), Fail> 
 #[test]
 fn close_hands_back_the_rest_of_a_batch(rt: HostRuntime) -> Result<(), Fail> {
     let alloc = rt.alloc();
-    let all = [batch(&rt, alloc, &[7, 8, 9])?, batch(&rt, alloc, &[10, 11])?];
+    let all = [
+        batch(&rt, alloc, &[7, 8, 9])?,
+        batch(&rt, alloc, &[10, 11])?,
+    ];
     let mut pool = keepers(&rt, 1, 5)?;
     for more in all {
         pool.give_all(&rt, 0, more);
     }
     assert!(rt; pool.take_soon(&rt, 0) == Ok(Some(0)));
     let ended = pool.closed(&rt);
-    assert_eq!(rt; ended[0].machine.items.as_slice(), [7, 8, 9, 10, 11].as_slice());
+    assert_eq!(rt;
+        ended[0].machine.items.as_slice(),
+        [7, 8, 9, 10, 11].as_slice()
+    );
     assert_eq!(rt; ended[0].answers.as_slice(), [1, 2, 3, 4].as_slice());
     Ok(())
 }
@@ -130,7 +139,9 @@ fn round<R: Threads + Wait + Abort + AllocGlobal + Copy + Send + 'static>(
     from: u64,
     count: u64,
 ) {
-    let more = numbers(rt, rt.alloc(), from, count).ok().expect(rt, "a batch");
+    let more = numbers(rt, rt.alloc(), from, count)
+        .ok()
+        .expect(rt, "a batch");
     pool.give_all(rt, 0, more);
     let answered = together(rt, pool);
     assert_eq!(rt; answered.answers.len() as u64, count);
@@ -165,7 +176,10 @@ fn take_turns<R: Threads + Wait + Abort + AllocGlobal + Copy + Send + 'static>(
     says: Says,
     asks: u64,
 ) -> Result<(), Fail> {
-    let all = [batch(rt, rt.alloc(), &[7, 8])?, batch(rt, rt.alloc(), &[9, 10])?];
+    let all = [
+        batch(rt, rt.alloc(), &[7, 8])?,
+        batch(rt, rt.alloc(), &[9, 10])?,
+    ];
     let Watched { mut pool, watch } = make_watched(rt, &[false], says)?;
     for more in all {
         pool.give_all(rt, 0, more);
@@ -189,10 +203,7 @@ fn gate_is_asked_again_in_a_batch(rt: HostRuntime) -> Result<(), Fail> {
 }
 
 /// Takes the answers 0, 1, .. of a worker that stops, and returns how many came and why it stopped.
-fn until_stopped(
-    rt: &impl Abort,
-    pool: &mut CheckedPool<Echo, Watch>,
-) -> (u64, Option<PoolFault>) {
+fn until_stopped(rt: &impl Abort, pool: &mut CheckedPool<Echo, Watch>) -> (u64, Option<PoolFault>) {
     for count in 0..100 {
         match pool.take_soon(rt, 0) {
             Ok(Some(answer)) => assert_eq!(rt; answer, count),
