@@ -76,6 +76,7 @@ fn batches_and_items_are_answered_in_order(rt: HostRuntime) -> Result<(), Fail> 
     assert!(rt; spent.is_empty() && spent.capacity() >= 2);
     assert!(rt; matches!(pool.take_all(&rt, 0), Ok(None)));
     let ended = pool.closed(&rt);
+    assert_eq!(rt; ended.len(), 1);
     assert_eq!(rt;
         ended[0].machine.items.as_slice(),
         [40, 41, 42, 43, 44, 45, 46].as_slice()
@@ -98,6 +99,7 @@ fn close_hands_back_the_rest_of_a_batch(rt: HostRuntime) -> Result<(), Fail> {
     }
     assert!(rt; pool.take_soon(&rt, 0) == Ok(Some(0)));
     let ended = pool.closed(&rt);
+    assert_eq!(rt; ended.len(), 1);
     assert_eq!(rt;
         ended[0].machine.items.as_slice(),
         [7, 8, 9, 10, 11].as_slice()
@@ -127,6 +129,7 @@ fn batch_that_does_not_fit_comes_back(rt: HostRuntime) -> Result<(), Fail> {
     assert!(rt; pool.take_soon(&rt, 0) == Ok(Some(0)));
     pool.give_all(&rt, 0, two);
     let ended = pool.closed(&rt);
+    assert_eq!(rt; ended.len(), 1);
     assert_eq!(rt; ended[0].machine.items.as_slice(), [7, 8, 9].as_slice());
     assert_eq!(rt; ended[0].answers.as_slice(), [1, 2].as_slice());
     Ok(())
@@ -163,6 +166,7 @@ fn batch_rounds(rt: HostRuntime) -> Result<(), Fail> {
             }
         }
         let ended = pool.closed(&rt);
+        assert_eq!(rt; ended.len(), 1);
         assert_eq!(rt; ended[0].machine.items.len() as u64, from);
         assert!(rt; ended[0].answers.is_empty());
     }
@@ -185,6 +189,7 @@ fn take_turns<R: Threads + Wait + Abort + AllocGlobal + Copy + Send + 'static>(
         pool.give_all(rt, 0, more);
     }
     let ended = pool.closed(rt);
+    assert_eq!(rt; ended.len(), 1);
     assert_eq!(rt; ended[0].answers.as_slice(), [7, 8, 9, 10].as_slice());
     assert_eq!(rt; watch.asks(), asks);
     assert_eq!(rt; watch.shown(), 4);
