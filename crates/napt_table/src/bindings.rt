@@ -4,8 +4,8 @@
 //! number. Its queue entry has a time until which it is sure to live, kept lazily: a packet that keeps the binding alive
 //! does not move the entry, and when its time has come the binding is checked again.
 
-ghost use Rattle.std.specs.Prelude.{◌≡◌, ◌+◌, ◌≤◌, ◌<◌, All, true, false, Some, None, OnOk, IfOk};
-ghost use Rattle.std.specs.Option.{option_map};
+ghost use Rattle.std.specs.Prelude.{◌≡◌, ◌+◌, ◌^◌, ◌≤◌, ◌<◌, All, true, false, Some, None, OnOk, IfOk};
+ghost use Rattle.std.specs.Option.{option_map, is_some};
 ghost use Rattle.napt_table.specs.Held.{HeldIsPurgedLater};
 ghost use Rattle.napt_table.specs.Holdings.{KeepsSeen};
 ghost use Rattle.napt_table.specs.Bindings.{AreDue, AreDueBut, come_up};
@@ -221,6 +221,26 @@ impl Bindings {
     {
         self.at = now;
         self.purge();
+    }
+}
+
+impl Bindings {
+    ghost use Rattle.napt_collections.specs.Sets.{IsFirstAbsent};
+    ghost use Rattle.napt_table.specs.Held.{seen};
+    ghost use Rattle.napt_table.specs.Holdings.{held_at};
+    ghost use Rattle.napt_table.specs.Bindings.{IsPurged};
+
+    /// The least number from 1 on that no live binding has at `now`, which becomes the time. What is dead is removed
+    /// first, each binding once, and a search of numbers in use then looks at a few words.
+    pub(crate) fn spare(&mut self, now: u64, protocol: Protocol) -> Option<u16>
+        requires later { self.old.at ≤ now }
+        ensures purged { IsPurged now self.old self.new }
+        ensures spare { IsFirstAbsent (λ n.
+            is_some (seen self.old.timers now (held_at self.old.held protocol n)))
+            1 (2 ^ 16) result }
+    {
+        self.purge_at(now);
+        self.held.least_free(protocol)
     }
 }
 

@@ -3,7 +3,7 @@
 use napt_rules::{Received, Sent};
 use napt_wire::{Endpoint, Protocol};
 
-/// A redirect at the beginning, or a packet.
+/// A redirect at the beginning, a packet, or a time.
 #[derive(Clone, Copy)]
 pub(crate) enum Event {
     /// An inside endpoint gets the external number.
@@ -12,4 +12,6 @@ pub(crate) enum Event {
     Sent(Sent),
     /// A packet comes in.
     Received(Received),
+    /// What has ended by a time, in ns, is removed.
+    Purged(u64),
 }

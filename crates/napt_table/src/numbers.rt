@@ -1,9 +1,10 @@
 //! Which external numbers of a protocol are in use, and the choice of a free one (RFC 4787, REQ-3 and REQ-4; RFC 5508,
 //! section 3.1).
 
-ghost use Rattle.std.specs.Prelude.{◌≡◌, ℕ, ◌+◌, ◌-◌, ◌*◌, ◌^◌, ◌<◌, ◌≤◌, ◌==◌, false, not, ◌&&◌, ◌||◌, find, IfOk, Bool};
+ghost use Rattle.std.specs.Prelude.{◌≡◌, ℕ, ◌+◌, ◌-◌, ◌*◌, ◌^◌, ◌<◌, ◌≤◌, ◌==◌, false, not, ◌&&◌, ◌||◌, find, IfOk, IfSome, Bool};
 ghost use Rattle.napt_rules.specs.Prelude.{candidates};
-ghost use Rattle.napt_table.specs.Places.{place_of, is_used};
+ghost use Rattle.napt_collections.specs.Sets.{IsFirstAbsent};
+ghost use Rattle.napt_table.specs.Places.{port_place, place_of, is_used};
 
 use crate::class::class_of;
 use napt_collections::Bits;
@@ -36,6 +37,22 @@ fn place_of(protocol: Protocol, number: u16) -> u16
     match protocol {
         Protocol::Icmp => number,
         Protocol::Tcp | Protocol::Udp => (number % 2) * 32_768 + number / 2,
+    }
+}
+
+/// The lesser of two ports: that at a place of the even ports, and that at a place of the odd ones.
+fn least_port(even: Option<u32>, odd: Option<u32>) -> Option<u16>
+    requires even { IfSome even (λ place. place < 32768) }
+    requires odd { IfSome odd (λ place. (32768 ≤ place) × (place < 65536)) }
+    ensures { (used : ℕ → Bool) → IsFirstAbsent used 1 32768 even →
+        IsFirstAbsent used 32768 65536 odd →
+        IsFirstAbsent (λ port. used (port_place port)) 1 65536 result }
+{
+    match (even, odd) {
+        (Some(even), Some(odd)) => Some((2 * even).min(2 * (odd - 32_768) + 1) as u16),
+        (Some(even), None) => Some((2 * even) as u16),
+        (None, Some(odd)) => Some((2 * (odd - 32_768) + 1) as u16),
+        (None, None) => None,
     }
 }
 
@@ -74,6 +91,20 @@ impl Numbers {
         }
         let place = self.places.first_absent(start, first)?;
         Some((class.least + class.apart * (place - start)) as u16)
+    }
+
+    /// The least number from 1 on that is free; `None` if there is none.
+    pub fn least_free(&self) -> Option<u16>
+        ensures { IsFirstAbsent (is_used self.now) 1 (2 ^ 16) result }
+    {
+        let places = &self.places;
+        match self.protocol {
+            Protocol::Icmp => Some(places.first_absent(1, 65_536)? as u16),
+            Protocol::Tcp | Protocol::Udp => least_port(
+                places.first_absent(1, 32_768),
+                places.first_absent(32_768, 65_536),
+            ),
+        }
     }
 
     /// Marks the number as in use, if it is free.

@@ -1,7 +1,7 @@
 //! What is held of the bindings of one external address: those that live, and those that have ended and are not removed
 //! yet.
 
-ghost use Rattle.std.specs.Prelude.{◌≡◌, ◌<◌, not, Some, None, Ok, Err, OnOk, OnErr, IfOk, cond, find};
+ghost use Rattle.std.specs.Prelude.{◌≡◌, ◌<◌, ◌^◌, not, Some, None, Ok, Err, OnOk, OnErr, IfOk, cond, find};
 ghost use Rattle.std.specs.Option.{option_copied, is_some};
 ghost use Rattle.napt_wire.specs.declared.Cause.TheVariants.{NoBinding};
 ghost use Rattle.napt_binding.specs.Entering.{entered, left_by};
@@ -47,6 +47,7 @@ impl Model for Held {
 }
 
 impl Held {
+    ghost use Rattle.napt_collections.specs.Sets.{IsFirstAbsent};
     ghost use Rattle.napt_rules.specs.Prelude.{Binding, candidates, reaches};
     ghost use Rattle.napt_table.specs.Keys.{key_eq, key_of};
     ghost use Rattle.napt_table.specs.declared.bindings.keys.ExternalKey.{ExternalKey as Key};
@@ -110,6 +111,13 @@ impl Held {
             (candidates protocol number) }
     {
         self.numbers.choose(protocol, number)
+    }
+
+    /// The least number of the protocol from 1 on that no binding has; `None` if each has one.
+    pub(crate) fn least_free(&self, protocol: Protocol) -> Option<u16>
+        ensures { IsFirstAbsent (λ n. is_some (held_at self.now protocol n)) 1 (2 ^ 16) result }
+    {
+        self.numbers.least_free(protocol)
     }
 
     /// Whether the host has all the bindings that the quota allows.

@@ -16,6 +16,7 @@ pub(crate) struct NumbersInUse {
 }
 
 impl NumbersInUse {
+    ghost use Rattle.napt_collections.specs.Sets.{IsFirstAbsent};
     ghost use Rattle.napt_rules.specs.Prelude.{candidates};
     ghost use Rattle.napt_table.specs.Keys.{external_key, key_eq};
     ghost use Rattle.napt_table.specs.declared.bindings.keys.ExternalKey.{ExternalKey as Key};
@@ -44,6 +45,19 @@ impl NumbersInUse {
             Protocol::Icmp => self.icmp.choose(number),
             Protocol::Tcp => self.tcp.choose(number),
             Protocol::Udp => self.udp.choose(number),
+        }
+    }
+
+    /// The least number of the protocol from 1 on that is not in use; `None` if all are.
+    pub(crate) fn least_free(&self, protocol: Protocol) -> Option<u16>
+        requires { AreByProtocol self.now }
+        ensures { IsFirstAbsent (λ n. is_in_use self.now (external_key protocol n))
+            1 (2 ^ 16) result }
+    {
+        match protocol {
+            Protocol::Icmp => self.icmp.least_free(),
+            Protocol::Tcp => self.tcp.least_free(),
+            Protocol::Udp => self.udp.least_free(),
         }
     }
 

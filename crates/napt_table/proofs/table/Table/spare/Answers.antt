@@ -1,0 +1,42 @@
+use Rattle.std.proofs.Common.{◌≤◌, ◌∙◌, ap, refl, sym, subst}
+use Rattle.std.specs.Option.{is_some}
+use Rattle.napt_rules.specs.Prelude.{by_number}
+use Rattle.napt_table.specs.declared.event.Event.TheVariants.{Purged}
+use Rattle.napt_table.specs.Held.{seen}
+use Rattle.napt_table.specs.Holdings.{held_at}
+use Rattle.napt_table.specs.Keys.{external_key}
+use Rattle.napt_table.specs.Shown.{shown}
+use Rattle.napt_table.specs.Tables.{TableState}
+use Rattle.napt_table.proofs.LeastFree.{first_agrees}
+use Rattle.napt_table.specs.Shown.{list_of}
+use Rattle.napt_table.proofs.TableSteps.{show_now, shown_after, keeps_after}
+use Rattle.napt_table.proofs.Tables.{table_purged}
+use Rattle.napt_table.proofs.table.Table.spare.Goals as goal
+
+pub invariant_of-self : goal.invariant_of-self
+invariant_of-self c =
+    let t = c.self.inside in
+    let now = c.args.now in
+    let le : t.bindings.at ≤ now = subst (λ (s : TableState). s.at ≤ now) (sym c.self.view_is) c.requires.later in
+    let k = c.spare-number.ensures.purged in
+    keeps_after t _ now (Purged now) refl k.timers_is k.keeps.place k.at_is c.and-self-inside.ensures
+    (table_purged (shown t) c.self.invariant.state now)
+    (λ q n. show_now t c.self.invariant now le q n ∙ sym (k.keeps.seen_same (external_key q n)))
+
+pub returns-clause-answer : goal.returns-clause-answer
+returns-clause-answer c =
+    let t = c.self.inside in
+    let now = c.args.now in
+    let protocol = c.args.protocol in
+    let le : t.bindings.at ≤ now = subst (λ (s : TableState). s.at ≤ now) (sym c.self.view_is) c.requires.later in
+    rw (← c.self.view_is) (first_agrees (λ n. is_some (seen t.bindings.timers now (held_at t.bindings.held protocol n)))
+    (λ n. is_some (by_number t.bindings.timers t.bindings.held.address now protocol n (list_of t))) 1 65536
+    (λ n small. ap is_some (sym (show_now t c.self.invariant now le protocol n))) c.spare-number.result
+    c.spare-number.ensures.spare)
+
+pub returns-clause-left : goal.returns-clause-left
+returns-clause-left c =
+    let k = c.spare-number.ensures.purged in
+    rw (← c.self.view_is) (shown_after c.self.inside
+    (record c.self.inside { past = c.and-self-inside.result; bindings = c.spare-number.new.self }) c.args.now
+    (Purged c.args.now) refl k.timers_is k.keeps.place k.at_is c.and-self-inside.ensures)
