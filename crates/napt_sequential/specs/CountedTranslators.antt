@@ -69,6 +69,20 @@ abbrev pub passage_seen : ℕ → Seen → Went → CountedTranslator → Passag
 passage_seen now seen went counted = passage_at counted.translator.rules.timers (max now counted.translator.table.at)
     counted.translator.table.list counted.translator.table.address seen went
 
+-- it is a later time
+abbrev pub at_time : ℕ → RunState → RunState
+at_time now state = record { clock = now; acts = state.acts; list = state.list }
+
+-- a counted translator of a state is that of the state at a later time
+abbrev pub StaysCounted : ℕ → CountedTranslator → CountedTranslator → Type 0
+StaysCounted now before after = (rules : Rules) (place address : ℕ) (state : RunState) → state.clock ≤ now →
+    IsCountedTranslator rules place address state before →
+    IsCountedTranslator rules place address (at_time now state) after
+
+abbrev pub StayCounted : Rules → ℕ → List CountedTranslator → List CountedTranslator → Type 0
+StayCounted rules now before after = (state : RunState) → state.clock ≤ now →
+    AreCountedTranslators rules state before → AreCountedTranslators rules (at_time now state) after
+
 -- the translators are those of some state up to a time, and this many more legs can be counted
 abbrev pub CanTake : Rules → ℕ → ℕ → List CountedTranslator → Type 0
 CanTake rules now more translators = (state : RunState) × AreCountedTranslators rules state translators

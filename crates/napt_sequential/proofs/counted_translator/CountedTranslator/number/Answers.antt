@@ -1,0 +1,23 @@
+use Rattle.std.proofs.Common.{ℕ, max, sym, ◌∙◌}
+use Rattle.std.specs.Option.{is_some}
+use Rattle.napt_rules.specs.Prelude.{by_inside, by_number}
+use Rattle.napt_translate.specs.Translators.{TranslatorState}
+use Rattle.napt_sequential.proofs.Later.{unchanged, without_ended}
+use Rattle.napt_sequential.proofs.Numbers.{least_is, none_by}
+use Rattle.napt_sequential.proofs.counted_translator.CountedTranslator.number.Goals as goal
+
+pub returns-in-Some-clause-left : goal.returns-in-Some-clause-left
+returns-in-Some-clause-left c = unchanged c.args.now c.args.self.now
+
+pub returns-clause-value : goal.returns-clause-value
+returns-clause-value c =
+    let t : TranslatorState = c.args.self.now.translator in
+    let now : ℕ = max c.args.now t.table.at in
+    least_is (λ n. is_some (by_number t.rules.timers t.table.address now c.args.protocol n t.table.list))
+    c.spare.result c.spare.ensures.answer
+    ∙ sym (none_by t.rules t.table.address now t.table.list c.args.protocol
+    (by_inside t.rules.timers t.table.address now c.args.protocol c.args.inside t.table.list)
+    (sym c.in_default.is ∙ c.by_inside.ensures.answer))
+
+pub returns-clause-left : goal.returns-clause-left
+returns-clause-left c = without_ended c.args.now c.args.self.now c.spare.new.self c.spare.ensures.left
