@@ -3,9 +3,9 @@
 
 use crate::calls::workers_run;
 use crate::gates::{Hold, MOST_ASKS, Way};
-use crate::sample_inputs::THREE_ADDRESSES;
+use crate::sample_inputs::{THREE_ADDRESSES, input};
 use crate::steps::Want::Dropped;
-use crate::steps::{Worked, both_rows, input, inputs, lost_hairpin, query, row, sent};
+use crate::steps::{Worked, both_rows, inputs, lost_hairpin, query, row, sent};
 use napt_pool::PoolFault;
 use napt_run::RunFault;
 use napt_samples::hosts::{CLIENT, RESOLVER, SECOND, SECOND_CLIENT, external, host};

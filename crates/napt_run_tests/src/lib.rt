@@ -1,5 +1,6 @@
 //! Tests of runs, of workers on threads, and of the parts of the program, through what napt_run, napt_capture, napt_pool and
 //! napt_program make public. They are a crate of their own so that the gate does not prove those crates again for them.
+//! The inputs of large runs, `sample_inputs`, are public.
 #![tactic(auto)]
 
 #[cfg(test)]
@@ -22,7 +23,6 @@ mod logged;
 mod merged_streams;
 #[cfg(test)]
 mod merging;
-#[cfg(test)]
 mod packets;
 #[cfg(test)]
 mod pool;
@@ -30,7 +30,6 @@ mod pool;
 mod program;
 #[cfg(test)]
 mod report;
-#[cfg(test)]
 pub mod sample_inputs;
 #[cfg(test)]
 mod steps;

@@ -1,6 +1,6 @@
 //! Who had an external endpoint, by the log of a run and by the call that tells its holders.
 
-use crate::steps::input;
+use crate::sample_inputs::input;
 use napt_account::{Entry, Note, Shortage, account_of, holders, log_of};
 use napt_config::Config;
 use napt_run::Input;

@@ -3,4 +3,5 @@
 mod config_file;
 mod options;
 mod places;
+mod refused_words;
 mod stop;

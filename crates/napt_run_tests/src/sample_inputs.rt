@@ -1,10 +1,10 @@
 //! The inputs of large runs: a thousand, and those of sixteen hosts that each send to all others. An `Err` of a function here
 //! says that memory was refused.
 
-use crate::steps::input;
+use crate::packets::udp;
 use napt_run::Input;
 use napt_samples::hosts::{RESOLVER, external, host};
-use napt_wire::Side;
+use napt_wire::{Endpoint, Side};
 use std::alloc::{AllocError, Global};
 
 /// The settings of the thousand inputs.
@@ -52,4 +52,20 @@ pub fn all_to_all(alloc: Global) -> Result<Vec<Input>, AllocError> {
         inputs.push(input(alloc, Side::Inside, time, from, destination)?)?;
     }
     Ok(inputs)
+}
+
+/// A packet that comes from a side at its own time, by its own clock: the run takes the greatest so far.
+pub(crate) fn input(
+    alloc: Global,
+    side: Side,
+    time: u64,
+    source: Endpoint,
+    destination: Endpoint,
+) -> Result<Input, AllocError> {
+    Ok(Input {
+        side,
+        time,
+        clock: time,
+        bytes: udp(alloc, source, destination)?,
+    })
 }

@@ -1,6 +1,7 @@
 //! UDP packets of a run, each with what becomes of it, and what bindings and legs they leave.
 
 use crate::packets::udp;
+use crate::sample_inputs::input;
 use napt_run::{Input, Outcome, Run};
 use napt_samples::hosts::{CLIENT, RESOLVER, SECOND, external, host};
 use napt_table::Row;
@@ -72,22 +73,6 @@ pub(crate) fn lost_hairpin() -> [Step; 2] {
         sent(SECOND, CLIENT, served, lost),
         query(2 * SECOND, host(3, 7000), served),
     ]
-}
-
-/// A packet that comes from a side at its own time, by its own clock: the run takes the greatest so far.
-pub(crate) fn input(
-    alloc: Global,
-    side: Side,
-    time: u64,
-    source: Endpoint,
-    destination: Endpoint,
-) -> Result<Input, AllocError> {
-    Ok(Input {
-        side,
-        time,
-        clock: time,
-        bytes: udp(alloc, source, destination)?,
-    })
 }
 
 /// What comes.

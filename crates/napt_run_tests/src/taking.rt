@@ -3,7 +3,7 @@
 ghost use Rattle.std.specs.Prelude.{⊤, true};
 
 use crate::gates::MOST_ASKS;
-use crate::steps::input;
+use crate::sample_inputs::input;
 use napt_config::Config;
 use napt_dispatch::{Departures, Passed, Stopped, run_through};
 use napt_pool::Gate;

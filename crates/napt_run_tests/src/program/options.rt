@@ -1,11 +1,14 @@
-//! Which files a command line names. What is no command line, and the help, are seen in tests/end_to_end.
+//! Which files a command line names. The words of the help are seen in tests/end_to_end.
 
 use napt_program::{LineFault, Options, parse_words};
 use std::alloc::{AllocError, Global};
 use std::test::Fail;
 
 // What the program answers to its arguments.
-fn parsed(alloc: Global, arguments: &[&str]) -> Result<Result<Options, LineFault>, AllocError> {
+pub(crate) fn parsed(
+    alloc: Global,
+    arguments: &[&str],
+) -> Result<Result<Options, LineFault>, AllocError> {
     let mut words = Vec::new(alloc);
     words.push(String::from_str(alloc, "napt")?)?;
     for argument in arguments {
