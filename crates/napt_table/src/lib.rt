@@ -17,6 +17,7 @@ mod table;
 
 pub use class::Class;
 pub use napt_binding::{Binding, Flow, Flows, Inbound, Marks};
+pub use napt_collections::Due;
 pub use napt_laws::{
     candidates_are_the_class, no_host_exceeds_its_quota, opening_is_sound, rows_are_in_order,
     steps_are_local, steps_leave_live, steps_stay_sound,
