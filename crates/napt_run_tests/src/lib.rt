@@ -12,6 +12,8 @@ mod devices;
 #[cfg(test)]
 mod dispatching;
 #[cfg(test)]
+mod following;
+#[cfg(test)]
 mod gates;
 #[cfg(test)]
 mod held;
