@@ -1,13 +1,16 @@
 //! The same captures under two configurations: which packets end differently.
 
+use crate::following::copied;
+use crate::losses::Losses;
 use crate::names::{Seconds, side_name};
-use crate::options::Choice;
+use crate::options::{Choice, Options, Outside};
 use crate::shown::{add_arrival, add_packet, is_end_of_arrival};
 use crate::stop::Stop;
 use crate::summary::{count_dropped, count_to_inside, count_to_outside, leaves_with};
+use crate::warning::tell_warning;
 use napt_config::Config;
 use napt_records::cause_name;
-use napt_sequential::{Input, Outcome, run_plain};
+use napt_sequential::{Input, Outcome, Run, run_plain};
 use napt_wire::Cause;
 use std::alloc::{AllocError, Global};
 use std::fmt::Write;
@@ -31,26 +34,59 @@ struct Difference<'a> {
 
 /// Runs the inputs under both configurations, and prints a line for each selected packet that ends differently, then
 /// the counts of both runs. Fails with `Differ` if any packet, selected or not, ends differently.
-pub fn tell_against<R: Print + AllocGlobal>(
+pub fn tell_against<R: Print + Eprint + AllocGlobal>(
     rt: &R,
-    choice: Choice,
+    options: &Options<'_>,
+    other_path: &str,
     inputs: &[Input],
     configs: [&Config; 2],
 ) -> Result<(), Stop> {
-    let [first, second] = configs;
-    let first = run_plain(rt.alloc(), first, inputs)?;
-    let second = run_plain(rt.alloc(), second, inputs)?;
+    let [config, other] = configs;
+    let path = options.files.config.as_ref();
+    let path = path.map_or("the built-in configuration", |path| path.as_str());
+    let first = run_under(rt, path, config, options.outside, inputs)?;
+    let second = run_under(rt, other_path, other, options.outside, inputs)?;
     let both = Both {
         inputs,
         first: &first.outcomes,
         second: &second.outcomes,
     };
-    let different = both.tell_differences(rt, choice)?;
+    let different = both.tell_differences(rt, options.choice)?;
     both.tell_counts(rt, different)?;
     if different > 0 {
         return Err(Stop::Differ);
     }
     Ok(())
+}
+
+/// The run over the inputs under the configuration at a path. Replies follow that one alone. What there is to warn of is
+/// printed.
+fn run_under<R: Eprint + AllocGlobal>(
+    rt: &R,
+    path: &str,
+    config: &Config,
+    outside: Outside,
+    inputs: &[Input],
+) -> Result<Run, Stop> {
+    if !outside.follows() {
+        return run_and_warn(rt, path, config, outside, inputs);
+    }
+    let alloc = rt.alloc();
+    let inputs = outside.inputs_under(alloc, config, copied(alloc, inputs)?)?;
+    run_and_warn(rt, path, config, outside, &inputs)
+}
+
+fn run_and_warn<R: Eprint + AllocGlobal>(
+    rt: &R,
+    path: &str,
+    config: &Config,
+    outside: Outside,
+    inputs: &[Input],
+) -> Result<Run, Stop> {
+    let run = run_plain(rt.alloc(), config, inputs)?;
+    let losses = Losses::of(rt.alloc(), config, inputs, &run.outcomes)?;
+    tell_warning(rt, outside, Some(path), &losses);
+    Ok(run)
 }
 
 impl<'a> Both<'a> {

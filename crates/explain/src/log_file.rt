@@ -3,13 +3,11 @@
 use crate::changes::{Change, Event, changes_of};
 use crate::digits::address_text;
 use crate::names::date_of;
-use crate::options::Options;
-use crate::places::{picture_stop, tell_failed};
+use crate::places::{Output, tell_unwritten};
 use crate::stop::Stop;
 use csv::{ErrorKind, Writer, WriterBuilder};
 use napt_account::{Entry, Log, Shortage};
 use napt_config::Config;
-use napt_program::{is_same, place_of, unmade};
 use napt_wire::{Cause, Protocol};
 use serde::Serialize;
 use std::alloc::{AllocError, Global};
@@ -82,51 +80,6 @@ struct Source<'a> {
     log: &'a Log,
 }
 
-/// Refuses a log file that another option already names, or that cannot be created, and prints why.
-pub fn refuse_log<R: Files + Eprint>(rt: &R, options: &Options<'_>) -> Result<(), Stop> {
-    let Some(path) = options.log else {
-        return Ok(());
-    };
-    if let Some(name) = named_again(rt, options, path) {
-        let _ = eprintln!(rt; "explain: --log {path}: it is the file of {name}");
-    } else if let Some(error) = unmade(rt, path) {
-        tell_failed(rt, "log", path, &error);
-    } else {
-        return Ok(());
-    }
-    Err(picture_stop())
-}
-
-/// What else names the file of this path. Standard output always counts.
-fn named_again<R: Files>(rt: &R, options: &Options<'_>, path: &str) -> Option<&'static str> {
-    let files = &options.files;
-    let input = match files.inside {
-        Some(_) => None,
-        None => Some("/dev/stdin"),
-    };
-    let named = [
-        ("--config", text_of(files.config.as_ref())),
-        ("--inside", text_of(files.inside.as_ref())),
-        ("standard input", input),
-        ("--outside", text_of(files.outside.as_ref())),
-        ("standard output", Some("/dev/stdout")),
-        ("--to-outside", text_of(files.to_outside.as_ref())),
-        ("--to-inside", text_of(files.to_inside.as_ref())),
-        ("--report", text_of(files.report.as_ref())),
-        ("--svg", options.svg),
-    ];
-    let place = place_of(rt, path);
-    let again = named.iter().find(|(_, other)| match other {
-        Some(other) => is_same(place, place_of(rt, other)),
-        None => false,
-    });
-    again.map(|(name, _)| *name)
-}
-
-fn text_of(path: Option<&String>) -> Option<&str> {
-    path.map(|path| path.as_str())
-}
-
 /// Writes the log of a run to a file; `last` is the time of its last packet. If that fails, prints the file and the
 /// system's reason.
 pub fn write_log<R: Files + Eprint + AllocGlobal>(
@@ -152,10 +105,7 @@ pub fn write_log<R: Files + Eprint + AllocGlobal>(
 /// How the program stops if the log cannot be written.
 fn failed<R: Eprint>(rt: &R, path: &str, error: csv::Error) -> Stop {
     match error.into_kind() {
-        ErrorKind::Io(error) => {
-            tell_failed(rt, "log", path, &error);
-            picture_stop()
-        }
+        ErrorKind::Io(error) => tell_unwritten(rt, Output::Log, path, &error),
         _ => Stop::from(AllocError),
     }
 }

@@ -9,41 +9,52 @@ mod against;
 mod changes;
 mod digits;
 mod ended;
+mod following;
 mod log_file;
+mod losses;
 mod measures;
 mod names;
 mod objects;
 mod options;
 mod page;
 mod places;
+mod plan;
 mod progress;
 mod reading;
 mod refused;
+mod remotes;
+mod replies;
 mod scene;
 mod shown;
 mod sizes;
 mod stop;
 mod summary;
+mod warning;
 mod who;
 
 use crate::against::tell_against;
 use crate::ended::Ended;
+use crate::following::write_followed;
 use crate::log_file::write_log;
+use crate::losses::Losses;
 use crate::measures::tell_sizes;
 use crate::objects::Objects;
-use crate::options::{Form, Options};
+use crate::options::{Form, Options, Outside};
 use crate::page::Page;
-use crate::places::{picture_stop, tell_failed};
+use crate::places::{Output, tell_unwritten};
+use crate::plan::tell_plan;
 use crate::progress::Progress;
 use crate::reading::{Given, read_given};
+use crate::replies::ends_of;
 use crate::scene::{Shown, scene_of};
 use crate::stop::Stop;
 use crate::summary::{Told, Widths};
 use crate::who::tell_holders;
-use napt_account::{Account, account_of};
+use napt_account::account_of;
 use napt_config::Config;
 use napt_display::picture::drawing_of;
 use napt_program::Streams;
+use napt_wire::Endpoint;
 use std::alloc::{AllocError, Global};
 use std::env::Env;
 use std::io::ErrorKind;
@@ -94,6 +105,7 @@ fn explained_under<R: Files + Input + Print + Eprint + AllocGlobal>(
     let Given {
         config,
         other,
+        plans,
         inputs,
         cuts,
     } = read_given(rt, streams, options)?;
@@ -101,47 +113,98 @@ fn explained_under<R: Files + Input + Print + Eprint + AllocGlobal>(
         return Err(Stop::NoOutput);
     }
     cuts.tell(rt, options.form)?;
-    match &other {
-        Some(other) => tell_against(rt, options.choice, &inputs, [&config, other]),
-        None => run(rt, options, &config, &inputs),
+    match (options.form, &other) {
+        (Form::Differences(path), Some(other)) => {
+            tell_against(rt, options, path, &inputs, [&config, other])
+        }
+        (Form::Plans | Form::PlansInCsv, _) => tell_plan(rt, options, &inputs, &plans),
+        _ => run(rt, options, &config, inputs),
     }
 }
 
-/// Makes the run over the inputs, writes its log and its picture if requested, and prints it.
+/// Makes the run over the inputs, writes the files that are requested, and prints it.
 fn run<R: Files + Print + Eprint + AllocGlobal>(
     rt: &R,
     options: &Options<'_>,
     config: &Config,
-    inputs: &[napt_sequential::Input],
+    inputs: Vec<napt_sequential::Input>,
 ) -> Result<(), Stop> {
     let progress = Progress::of(rt, inputs.len());
     progress.tell_begin(rt);
-    let account = account_of(rt.alloc(), config, inputs)?;
-    let log = &account.log;
-    let last = inputs.last().map_or(0, |input| input.clock);
-    if let Some(path) = options.log {
-        write_log(rt, path, config, log, last)?;
+    let ends = named_ends(rt.alloc(), options, &inputs)?;
+    let inputs = options.outside.inputs_under(rt.alloc(), config, inputs)?;
+    let account = account_of(rt.alloc(), config, &inputs)?;
+    let losses = Losses::of(rt.alloc(), config, &inputs, &account.run.outcomes)?;
+    progress.tell_warning(rt, options.outside, None, &losses);
+    let shown = Shown {
+        config,
+        inputs: &inputs,
+        account: &account,
+        part: options.part,
+    };
+    write_files(rt, options, shown)?;
+    let told = Told {
+        choice: options.choice,
+        inputs: &inputs,
+        account: &account,
+        widths: Widths::of(&inputs),
+        losses: &losses,
+        replies: options.outside.replies(config, &ends),
+    };
+    tell_form(rt, options.form, config, told, progress)
+}
+
+/// The inside endpoints that the inputs name, if they are replies of which each may have a line; else none.
+fn named_ends(
+    alloc: Global,
+    options: &Options<'_>,
+    inputs: &[napt_sequential::Input],
+) -> Result<Vec<Option<Endpoint>>, AllocError> {
+    match (options.outside, options.form) {
+        (Outside::Replies, Form::Lines | Form::Objects) => ends_of(alloc, inputs),
+        _ => Ok(Vec::new(alloc)),
     }
-    if let Some(path) = options.svg {
-        let shown = Shown {
-            config,
-            inputs,
-            account: &account,
-            part: options.part,
-        };
-        draw(rt, path, shown)?;
-    }
-    match options.form {
+}
+
+/// Prints what is asked for of a run.
+fn tell_form<R: Print + Eprint + AllocGlobal>(
+    rt: &R,
+    form: Form<'_>,
+    config: &Config,
+    told: Told<'_>,
+    progress: Progress,
+) -> Result<(), Stop> {
+    let log = &told.account.log;
+    match form {
         Form::Holders(question) => {
             progress.tell_end(rt);
-            tell_holders(rt, question, config, log, last)
+            tell_holders(rt, question, config, log, told.last())
         }
         Form::Sizes => {
             progress.tell_end(rt);
-            tell_sizes(rt, config, log, last)
+            tell_sizes(rt, config, log, told.last())
         }
-        _ => tell_run(rt, options, inputs, &account, progress),
+        Form::Objects => tell_in_json(rt, told, progress),
+        _ => tell_run(rt, told, progress),
     }
+}
+
+/// Writes the outside capture that follows, the log and the picture of a run, each if it is requested.
+fn write_files<R: Files + Eprint + AllocGlobal>(
+    rt: &R,
+    options: &Options<'_>,
+    shown: Shown<'_>,
+) -> Result<(), Stop> {
+    if let Some(path) = options.followed {
+        write_followed(rt, path, shown.inputs)?;
+    }
+    if let Some(path) = options.log {
+        write_log(rt, path, shown.config, &shown.account.log, shown.last())?;
+    }
+    if let Some(path) = options.svg {
+        draw(rt, path, shown)?;
+    }
+    Ok(())
 }
 
 /// Writes the picture of a run to a file. If that fails, prints the file and the system's reason.
@@ -149,10 +212,7 @@ fn draw<R: Files + Eprint + AllocGlobal>(rt: &R, path: &str, shown: Shown<'_>) -
     let text = drawing(rt.alloc(), shown)?;
     match fs::write(rt, path, text.as_str()) {
         Ok(()) => Ok(()),
-        Err(error) => {
-            tell_failed(rt, "svg", path, &error);
-            Err(picture_stop())
-        }
+        Err(error) => Err(tell_unwritten(rt, Output::Picture, path, &error)),
     }
 }
 
@@ -165,21 +225,10 @@ fn drawing(alloc: Global, shown: Shown<'_>) -> Result<String, AllocError> {
 /// used.
 fn tell_run<R: Print + Eprint + AllocGlobal>(
     rt: &R,
-    options: &Options<'_>,
-    inputs: &[napt_sequential::Input],
-    account: &Account,
+    told: Told<'_>,
     progress: Progress,
 ) -> Result<(), Stop> {
-    let told = Told {
-        choice: options.choice,
-        inputs,
-        account,
-        widths: Widths::of(inputs),
-    };
-    if matches!(options.form, Form::Objects) {
-        return tell_in_json(rt, told, progress);
-    }
-    match options.choice.only {
+    match told.choice.only {
         Some(number) => {
             progress.tell_end(rt);
             told.tell_one(rt, number)
@@ -203,7 +252,7 @@ fn tell_lines<R: Print + Eprint + AllocGlobal>(
     }
     progress.tell_end(rt);
     summary::tell_bindings(rt, &mut page, told)?;
-    summary::add_counts(&mut page.text, told.account)?;
+    told.add_counts(rt.alloc(), &mut page.text)?;
     page.end(rt)
 }
 

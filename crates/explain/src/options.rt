@@ -34,6 +34,20 @@ const AT: &str =
     "Limits --who to this time: seconds since 1970, as in the lines, or an RFC 3339 date such as \
 2026-11-26T10:02:07Z";
 
+const REPLIES: &str =
+    "Capture of replies as inside hosts got them, in place of --outside: each follows its inside endpoint to \
+the external endpoint that this has here when it comes (docs/FORMATS.md)";
+
+const FOLLOWED: &str =
+    "Writes the outside capture in which each of --replies names its external endpoint into this file, which \
+nothing else may name: napt makes the same run of it";
+
+const PLAN: &str =
+    "Prints only a table with a line for the run under each of these configurations: what is dropped, and how much \
+there is at once (docs/FORMATS.md)";
+
+const CSV: &str = "Prints the table of --plan in CSV";
+
 const SIZES: &str =
     "Prints only how many bindings, ports and hosts there were at once, what quotas would have refused, \
 and how long bindings lived (docs/FORMATS.md)";
@@ -41,6 +55,7 @@ and how long bindings lived (docs/FORMATS.md)";
 const NOTES: &str = "Examples:
   explain --config napt.toml --inside inside.pcap --outside outside.pcap --dropped
   explain --config napt.toml --inside inside.pcap --outside outside.pcap --who 203.0.113.1:5000 --at 2.5
+  explain --plan small.toml large.toml --inside inside.pcap --replies replies.pcap
 
 Each line has a packet's number, time in seconds, side, the packet, what happened, and the packet as it leaves:
   1 1.000000 inside  udp 10.0.0.2:5000 > 198.51.100.7:3000 | made a binding | udp 203.0.113.1:5000 > 198.51.100.7:3000
@@ -67,6 +82,8 @@ const VALUES: &[(&str, &str, &str)] = &[
         "FILE",
         "Capture of what comes from the outside [default: no packets]",
     ),
+    ("replies", "FILE", REPLIES),
+    ("followed", "FILE", FOLLOWED),
     ("to-outside", "FILE", NOT_WRITTEN),
     ("to-inside", "FILE", NOT_WRITTEN),
     ("report", "FILE", NOT_WRITTEN),
@@ -109,10 +126,24 @@ const FLAGS: &[(&str, &str)] = &[
         "Prints only a JSON object for each packet, on a line of its own (docs/FORMATS.md)",
     ),
     ("sizes", SIZES),
+    ("csv", CSV),
 ];
 
 // Pairs that exclude each other: they want different texts on standard output, or different files.
 const APART: &[(&str, &str)] = &[
+    ("outside", "replies"),
+    ("against", "followed"),
+    ("plan", "config"),
+    ("plan", "against"),
+    ("plan", "followed"),
+    ("plan", "json"),
+    ("plan", "sizes"),
+    ("plan", "who"),
+    ("plan", "log"),
+    ("plan", "svg"),
+    ("plan", "only"),
+    ("plan", "host"),
+    ("plan", "dropped"),
     ("against", "json"),
     ("against", "sizes"),
     ("against", "who"),
@@ -132,17 +163,42 @@ const APART: &[(&str, &str)] = &[
 /// What to explain, and which lines to print.
 #[derive(Drop)]
 pub struct Options<'m> {
-    /// The files that `napt` would read and write with these arguments.
+    /// The files that `napt` would read and write with these arguments; the capture of replies is the outside one.
     pub files: napt_program::Options,
+    /// What the outside capture holds.
+    pub outside: Outside,
+    /// The file for the outside capture that follows, if one is requested.
+    pub followed: Option<&'m str>,
     /// The file for the picture, if one is requested.
     pub svg: Option<&'m str>,
     /// The part of the run that is drawn.
     pub part: Part,
     /// The file for the log, if one is requested.
     pub log: Option<&'m str>,
+    /// The configurations of a plan; none if no plan is asked for.
+    pub plans: Vec<String>,
     /// What is written to standard output.
     pub form: Form<'m>,
     pub choice: Choice,
+}
+
+/// What the outside capture holds.
+#[derive(Clone, Copy, PartialEq, Eq)]
+pub enum Outside {
+    /// Packets for external endpoints, as the gateway got them.
+    Packets,
+    /// Packets for inside endpoints, as inside hosts got them: they follow the run.
+    Replies,
+}
+
+impl Outside {
+    /// The name of its option, without its dashes.
+    pub fn name(self) -> &'static str {
+        match self {
+            Outside::Packets => "outside",
+            Outside::Replies => "replies",
+        }
+    }
 }
 
 /// What is written to standard output.
@@ -158,12 +214,16 @@ pub enum Form<'m> {
     Sizes,
     /// What ends differently under the configuration at this path.
     Differences(&'m str),
+    /// A table with a line for each of several configurations.
+    Plans,
+    /// The same in CSV.
+    PlansInCsv,
 }
 
 impl<'m> Form<'m> {
     /// Whether programs read it, so that it may hold nothing else.
     pub fn is_for_programs(self) -> bool {
-        matches!(self, Form::Objects | Form::Holders(_))
+        matches!(self, Form::Objects | Form::Holders(_) | Form::PlansInCsv)
     }
 }
 
@@ -215,6 +275,7 @@ fn explain_command<'a>(alloc: Global) -> Result<Command<'a>, AllocError> {
     for (name, value, meaning) in VALUES.iter() {
         command = command.arg(value_arg(alloc, *name, *value, *meaning))?;
     }
+    command = command.arg(value_arg(alloc, "plan", "FILE", PLAN).num_args(1..))?;
     for (name, meaning) in FLAGS.iter() {
         command = command.arg(flag_arg(alloc, *name, *meaning))?;
     }
@@ -250,14 +311,18 @@ pub fn options_of<'m, R: Eprint + AllocGlobal>(
     matches: &'m ArgMatches<'_>,
 ) -> Result<Options<'m>, Stop> {
     refuse_mixed(rt, matches)?;
+    let outside = outside_of(matches);
     let only = only_of(rt, matches)?;
     let host = party_at(rt, matches, "host")?;
     let part = part_of(rt, matches)?;
     Ok(Options {
-        files: files_of(rt.alloc(), matches)?,
+        files: files_of(rt.alloc(), matches, outside)?,
+        outside,
+        followed: followed_of(rt, matches, outside)?,
         svg: matches.get_str("svg"),
         part,
         log: matches.get_str("log"),
+        plans: plans_of(rt.alloc(), matches)?,
         form: form_of(rt, matches)?,
         choice: Choice {
             only,
@@ -296,6 +361,9 @@ fn form_of<'m, R: Eprint>(rt: &R, matches: &'m ArgMatches<'_>) -> Result<Form<'m
     if let Some(path) = matches.get_str("against") {
         return Ok(Form::Differences(path));
     }
+    if let Some(form) = plan_form_of(rt, matches)? {
+        return Ok(form);
+    }
     Ok(if matches.get_flag("json") {
         Form::Objects
     } else if matches.get_flag("sizes") {
@@ -303,6 +371,28 @@ fn form_of<'m, R: Eprint>(rt: &R, matches: &'m ArgMatches<'_>) -> Result<Form<'m
     } else {
         Form::Lines
     })
+}
+
+/// The form of a plan, if one is asked for. `--csv` without it is reported.
+fn plan_form_of<'m, R: Eprint>(rt: &R, matches: &ArgMatches<'_>) -> Result<Option<Form<'m>>, Stop> {
+    match (is_given(matches, "plan"), matches.get_flag("csv")) {
+        (true, true) => Ok(Some(Form::PlansInCsv)),
+        (true, false) => Ok(Some(Form::Plans)),
+        (false, false) => Ok(None),
+        (false, true) => {
+            let _ = eprintln!(rt; "explain: --csv is for the table of --plan");
+            Err(Stop::Told(napt_program::Stop::Usage))
+        }
+    }
+}
+
+/// The files that `--plan` names.
+fn plans_of(alloc: Global, matches: &ArgMatches<'_>) -> Result<Vec<String>, AllocError> {
+    let mut plans = Vec::new(alloc);
+    for path in matches.get_strs("plan").unwrap_or(&[]) {
+        plans.push(String::from_str(alloc, *path)?)?;
+    }
+    Ok(plans)
 }
 
 /// What `--who` asks, if it is given. `--at` without it is reported.
@@ -318,12 +408,38 @@ fn question_of<R: Eprint>(rt: &R, matches: &ArgMatches<'_>) -> Result<Option<Que
     }
 }
 
+/// What the outside capture holds, by its option.
+fn outside_of(matches: &ArgMatches<'_>) -> Outside {
+    match matches.get_str("replies") {
+        Some(_) => Outside::Replies,
+        None => Outside::Packets,
+    }
+}
+
+/// The file of `--followed`, if it is given. Without `--replies` it is reported.
+fn followed_of<'m, R: Eprint>(
+    rt: &R,
+    matches: &'m ArgMatches<'_>,
+    outside: Outside,
+) -> Result<Option<&'m str>, Stop> {
+    let followed = matches.get_str("followed");
+    if followed.is_some() && outside != Outside::Replies {
+        let _ = eprintln!(rt; "explain: --followed writes where those of --replies go");
+        return Err(Stop::Told(napt_program::Stop::Usage));
+    }
+    Ok(followed)
+}
+
 /// The files that the options of `napt` name.
-fn files_of(alloc: Global, matches: &ArgMatches<'_>) -> Result<napt_program::Options, AllocError> {
+fn files_of(
+    alloc: Global,
+    matches: &ArgMatches<'_>,
+    outside: Outside,
+) -> Result<napt_program::Options, AllocError> {
     Ok(napt_program::Options {
         config: file_of(alloc, matches, "config")?,
         inside: file_of(alloc, matches, "inside")?,
-        outside: file_of(alloc, matches, "outside")?,
+        outside: file_of(alloc, matches, outside.name())?,
         to_outside: file_of(alloc, matches, "to-outside")?,
         to_inside: file_of(alloc, matches, "to-inside")?,
         report: file_of(alloc, matches, "report")?,

@@ -1,7 +1,7 @@
 //! Prints why a file of the command line cannot be used. `napt_program` has already decided that it cannot, as for
 //! `napt`.
 
-use crate::options::Options;
+use crate::options::{Options, Outside};
 use crate::stop::Stop;
 use napt_program::{MOST_BYTES, Role, is_same, place_of, unmade};
 use std::fs::File;
@@ -18,11 +18,13 @@ struct Named<'a> {
 
 /// An output. It must not be a file that an earlier option names.
 #[derive(Clone, Copy)]
-enum Output {
+pub enum Output {
     ToOutside,
     ToInside,
     Report,
     Picture,
+    Log,
+    Followed,
 }
 
 /// Prints why the file of a role cannot be used, and returns how `napt` would stop.
@@ -30,8 +32,8 @@ pub fn tell_file<R: Files + Eprint>(rt: &R, options: &Options<'_>, role: Role) -
     let files = &options.files;
     match role {
         Role::Config => {}
-        Role::Inside => tell_input(rt, role, files.inside.as_ref()),
-        Role::Outside => tell_input(rt, role, files.outside.as_ref()),
+        Role::Inside => tell_input(rt, "inside", files.inside.as_ref()),
+        Role::Outside => tell_input(rt, options.outside.name(), files.outside.as_ref()),
         Role::ToOutside => tell_output(rt, options, Output::ToOutside, files.to_outside.as_ref()),
         Role::ToInside => tell_output(rt, options, Output::ToInside, files.to_inside.as_ref()),
         Role::Report => tell_output(rt, options, Output::Report, files.report.as_ref()),
@@ -52,28 +54,48 @@ pub fn tell_closed<R: Eprint>(rt: &R, role: Role) -> Stop {
     Stop::Told(napt_program::Stop::File(role))
 }
 
-/// Refuses a picture file that another option already names, or that cannot be created, and prints why.
-pub fn refuse_picture<R: Files + Eprint>(rt: &R, options: &Options<'_>) -> Result<(), Stop> {
-    let Some(path) = options.svg else {
+/// Refuses a file that `explain` is to write if another option already names it, or if it cannot be created, and prints
+/// why.
+pub fn refuse_output<R: Files + Eprint>(
+    rt: &R,
+    options: &Options<'_>,
+    output: Output,
+    path: Option<&str>,
+) -> Result<(), Stop> {
+    let Some(path) = path else {
         return Ok(());
     };
-    match named_again(rt, options, Output::Picture, path) {
-        Some(name) => tell_again(rt, "svg", path, name),
+    let option = option_of(output);
+    match named_again(rt, options, output, path) {
+        Some(name) => tell_again(rt, option, path, name),
         None => match unmade(rt, path) {
-            Some(error) => tell_failed(rt, "svg", path, &error),
+            Some(error) => tell_failed(rt, option, path, &error),
             None => return Ok(()),
         },
     }
-    Err(picture_stop())
+    Err(unwritten())
 }
 
-/// How the program stops if a picture cannot be written: as for an output of `napt`.
-pub fn picture_stop() -> Stop {
+/// Prints that a file of `explain` cannot be written, with the system's reason, and returns how the program stops.
+pub fn tell_unwritten<R: Eprint>(rt: &R, output: Output, path: &str, error: &io::Error) -> Stop {
+    tell_failed(rt, option_of(output), path, error);
+    unwritten()
+}
+
+/// The same where the system gives no reason.
+pub fn unexplained<R: Eprint>(rt: &R, output: Output, path: &str) -> Stop {
+    let option = option_of(output);
+    let _ = eprintln!(rt; "explain: --{option} {path}: it cannot be written whole");
+    unwritten()
+}
+
+/// How the program stops if a file cannot be written: as for an output of `napt`.
+fn unwritten() -> Stop {
     Stop::Told(napt_program::Stop::File(Role::Report))
 }
 
 /// Prints that a file of an option failed, with the system's reason.
-pub fn tell_failed<R: Eprint>(rt: &R, option: &str, path: &str, error: &io::Error) {
+fn tell_failed<R: Eprint>(rt: &R, option: &str, path: &str, error: &io::Error) {
     let hint = match path {
         "-" => "; a standard stream is /dev/stdin or /dev/stdout",
         _ => "",
@@ -114,12 +136,12 @@ fn failure_of_first<R: Files>(rt: &R, path: &str) -> Option<io::Error> {
 }
 
 /// Prints why a capture cannot be opened.
-fn tell_input<R: Files + Eprint>(rt: &R, role: Role, path: Option<&String>) {
+fn tell_input<R: Files + Eprint>(rt: &R, option: &str, path: Option<&String>) {
     let Some(path) = path else {
         return;
     };
     if let Err(error) = File::open(rt, path.as_str()) {
-        tell_failed(rt, role.name(), path, &error);
+        tell_failed(rt, option, path, &error);
     }
 }
 
@@ -152,6 +174,8 @@ fn option_of(output: Output) -> &'static str {
         Output::ToInside => "to-inside",
         Output::Report => "report",
         Output::Picture => "svg",
+        Output::Log => "log",
+        Output::Followed => "followed",
     }
 }
 
@@ -184,24 +208,41 @@ fn before(output: Output) -> usize {
         Output::ToInside => 6,
         Output::Report => 7,
         Output::Picture => 8,
+        Output::Log => 9,
+        Output::Followed => 10,
     }
 }
 
-/// All named files, in the order of the options. For a picture, standard output always counts.
-fn all_named<'a>(options: &'a Options<'_>, output: Output) -> [Named<'a>; 8] {
+/// All named files, in the order of the options. For those that only `explain` writes, standard output always counts.
+fn all_named<'a>(options: &'a Options<'_>, output: Output) -> [Named<'a>; 10] {
     let files = &options.files;
     let has_input = files.inside.is_none();
-    let has_output = files.to_outside.is_none() || matches!(output, Output::Picture);
+    let has_output = files.to_outside.is_none() || before(output) >= before(Output::Picture);
     [
         option_file("--config", files.config.as_ref()),
         option_file("--inside", files.inside.as_ref()),
         stream_file("standard input", "/dev/stdin", has_input),
-        option_file("--outside", files.outside.as_ref()),
+        option_file(outside_option(options.outside), files.outside.as_ref()),
         stream_file("standard output", "/dev/stdout", has_output),
         option_file("--to-outside", files.to_outside.as_ref()),
         option_file("--to-inside", files.to_inside.as_ref()),
         option_file("--report", files.report.as_ref()),
+        Named {
+            name: "--svg",
+            path: options.svg,
+        },
+        Named {
+            name: "--log",
+            path: options.log,
+        },
     ]
+}
+
+fn outside_option(outside: Outside) -> &'static str {
+    match outside {
+        Outside::Packets => "--outside",
+        Outside::Replies => "--replies",
+    }
 }
 
 fn option_file<'a>(name: &'static str, path: Option<&'a String>) -> Named<'a> {

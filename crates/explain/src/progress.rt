@@ -1,5 +1,8 @@
 //! Progress, for a user who waits at a terminal.
 
+use crate::losses::Losses;
+use crate::options::Outside;
+use crate::warning::{has_warning, tell_warning};
 use std::fs;
 use std::rt::Files;
 
@@ -31,6 +34,28 @@ impl Progress {
         if self.is_told {
             let _ = eprint!(rt; "explain: a run over {} packets", self.many);
         }
+    }
+
+    /// Reports the run of a plan that begins, by its index.
+    pub fn tell_plan<R: Eprint>(self, rt: &R, at: usize, many: usize) {
+        if self.is_told {
+            let number = at.saturating_add(1);
+            let _ = eprint!(rt; "\rexplain: run {number} of {many}    ");
+        }
+    }
+
+    /// Prints what there is to warn of, on lines of its own.
+    pub fn tell_warning<R: Eprint>(
+        self,
+        rt: &R,
+        outside: Outside,
+        under: Option<&str>,
+        losses: &Losses,
+    ) {
+        if self.is_told && has_warning(outside, losses) {
+            let _ = eprintln!(rt; "");
+        }
+        tell_warning(rt, outside, under, losses);
     }
 
     /// Reports progress, in place of the report before.

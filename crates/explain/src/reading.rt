@@ -1,9 +1,7 @@
 //! Reads the configuration and the captures as `napt` does, and explains what it refuses.
 
-use crate::log_file::refuse_log;
-use crate::names::side_name;
-use crate::options::{Form, Options};
-use crate::places::{refuse_picture, tell_closed, tell_config, tell_file};
+use crate::options::{Form, Options, Outside};
+use crate::places::{Output, refuse_output, tell_closed, tell_config, tell_file};
 use crate::refused;
 use crate::stop::Stop;
 use either::{Either, Left, Right};
@@ -34,6 +32,8 @@ pub struct Given {
     pub config: Config,
     /// The configuration to compare with.
     pub other: Option<Config>,
+    /// The configurations of a plan.
+    pub plans: Vec<Config>,
     /// The packets of both captures, in the order in which `napt` takes them.
     pub inputs: Vec<napt_sequential::Input>,
     pub cuts: Cuts,
@@ -44,13 +44,15 @@ pub struct Given {
 pub struct Cuts {
     inside: bool,
     outside: bool,
+    /// What the outside capture holds.
+    holds: Outside,
 }
 
 impl Cuts {
     /// Reports each capture that ends inside a record, whose last packet is left out; on standard error if programs
     /// read standard output.
     pub fn tell<R: Print + Eprint>(self, rt: &R, form: Form<'_>) -> Result<(), Stop> {
-        for (side, cut) in [("inside", self.inside), ("outside", self.outside)] {
+        for (side, cut) in [("inside", self.inside), (self.holds.name(), self.outside)] {
             if cut && form.is_for_programs() {
                 let _ = eprintln!(rt; "explain: the capture {side} {CUT}");
             } else if cut {
@@ -75,27 +77,36 @@ pub fn read_given<R: Files + Input + Eprint + AllocGlobal>(
     }
     let config = configuration(rt, options)?;
     let other = other_configuration(rt, options)?;
+    let plans = plans(rt, options)?;
     let InputFiles { inside, outside } = explain_file(
         rt,
         options,
         open_inputs(rt, &options.files),
     )?;
     explain_file(rt, options, refuse_unmade(rt, &options.files))?;
-    refuse_picture(rt, options)?;
-    refuse_log(rt, options)?;
-    let inside = capture(rt, Side::Inside, inside)?;
-    let outside = outside_capture(rt, outside)?;
+    refuse_outputs(rt, options)?;
+    let inside = capture(rt, Side::Inside, "inside", inside)?;
+    let outside = outside_capture(rt, options.outside, outside)?;
     let cuts = Cuts {
         inside: inside.cut,
         outside: outside.cut,
+        holds: options.outside,
     };
     let inputs = merge(rt.alloc(), inside.records, outside.records)?;
     Ok(Given {
         config,
         other,
+        plans,
         inputs,
         cuts,
     })
+}
+
+/// Refuses the first file that `explain` is to write and cannot, and prints why.
+fn refuse_outputs<R: Files + Eprint>(rt: &R, options: &Options<'_>) -> Result<(), Stop> {
+    refuse_output(rt, options, Output::Picture, options.svg)?;
+    refuse_output(rt, options, Output::Log, options.log)?;
+    refuse_output(rt, options, Output::Followed, options.followed)
 }
 
 /// What was opened. If a file was refused, prints why.
@@ -135,6 +146,18 @@ fn other_configuration<R: Files + Eprint + AllocGlobal>(
     }
 }
 
+/// The configurations of a plan. The first refusal is explained.
+fn plans<R: Files + Eprint + AllocGlobal>(
+    rt: &R,
+    options: &Options<'_>,
+) -> Result<Vec<Config>, Stop> {
+    let mut plans = Vec::new(rt.alloc());
+    for path in &options.plans {
+        plans.push(configuration_at(rt, "plan", path)?)?;
+    }
+    Ok(plans)
+}
+
 /// The configuration in the file that an option names. A refusal is explained.
 fn configuration_at<R: Files + Eprint + AllocGlobal>(
     rt: &R,
@@ -164,10 +187,11 @@ fn configuration_text<R: Files + AllocGlobal>(
 /// The outside capture, or an empty one if none is named.
 fn outside_capture<R: Eprint + AllocGlobal, F: Read + Drop>(
     rt: &R,
+    holds: Outside,
     file: Option<F>,
 ) -> Result<Capture, Stop> {
     match file {
-        Some(file) => capture(rt, Side::Outside, file),
+        Some(file) => capture(rt, Side::Outside, holds.name(), file),
         None => Ok(Capture {
             records: Vec::new(rt.alloc()),
             cut: false,
@@ -175,10 +199,11 @@ fn outside_capture<R: Eprint + AllocGlobal, F: Read + Drop>(
     }
 }
 
-/// Reads the capture of a side. A refusal is explained.
+/// Reads the capture of a side, which its option names. A refusal is explained.
 fn capture<R: Eprint + AllocGlobal, D: Read + Drop>(
     rt: &R,
     side: Side,
+    name: &str,
     device: D,
 ) -> Result<Capture, Stop> {
     let alloc = rt.alloc();
@@ -186,7 +211,7 @@ fn capture<R: Eprint + AllocGlobal, D: Read + Drop>(
     match read_whole(alloc, device, &mut head) {
         Ok(capture) => Ok(capture),
         Err(fault) => {
-            refused::tell_capture(rt, side_name(side), &head, fault)?;
+            refused::tell_capture(rt, name, &head, fault)?;
             Err(Stop::Told(napt_program::Stop::Run(Fault::Capture(side, fault))))
         }
     }

@@ -35,6 +35,11 @@ impl<'a> Shown<'a> {
         self.inputs.first().map_or(0, |input| input.clock)
     }
 
+    /// The time of the last packet.
+    pub fn last(self) -> u64 {
+        self.inputs.last().map_or(0, |input| input.clock)
+    }
+
     /// Converts a time since the first packet into ns since 1970.
     fn moment(self, since: Option<u64>) -> Option<u64> {
         since.map(|since| self.zero().saturating_add(since))

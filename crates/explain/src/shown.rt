@@ -118,6 +118,16 @@ fn addresses(bytes: &[u8]) -> Option<(Address, Address)> {
     Some((Address(from), Address(to)))
 }
 
+/// The source in an IPv4 header.
+pub fn source_of(bytes: &[u8]) -> Option<u32> {
+    address_at(bytes, 12)
+}
+
+/// The destination in an IPv4 header.
+pub fn destination_of(bytes: &[u8]) -> Option<u32> {
+    address_at(bytes, 16)
+}
+
 /// The version of an IP header; 0 if there are no bytes.
 fn version(bytes: &[u8]) -> u8 {
     match bytes.first() {

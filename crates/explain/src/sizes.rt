@@ -31,6 +31,10 @@ pub struct Sizes {
     /// What each quota would have refused, the lowest first.
     pub quotas: Vec<Quota>,
     pub lifetimes: Lifetimes,
+    /// All bindings, redirects included.
+    pub bindings: Level,
+    /// Packets refused a binding for either cause.
+    pub refused: Refusals,
     /// Packets refused because their host had reached its quota.
     pub over_quota: Refusals,
     /// Packets refused because every number of their class was taken.
@@ -79,6 +83,8 @@ pub fn sizes_of(
         hosts: Hosts::of(alloc, &log.entries)?,
         quotas: Vec::new(alloc),
         lifetimes: Lifetimes::NONE,
+        bindings: Level::EMPTY,
+        refused: Refusals::new(alloc),
         over_quota: Refusals::new(alloc),
         no_number: Refusals::new(alloc),
     };
@@ -134,6 +140,7 @@ impl Sizes {
 
     /// The binding of the entry at an index is made.
     fn make(&mut self, config: &Config, place: usize, entry: &Entry) -> Result<(), AllocError> {
+        self.bindings.rise(entry.made);
         if let Some(space) = self.space_of(config, entry) {
             space.make(entry)?;
         }
@@ -152,6 +159,7 @@ impl Sizes {
 
     /// The binding of the entry at an index expires at a time.
     fn end(&mut self, config: &Config, place: usize, entry: &Entry, at: u64) {
+        self.bindings.fall();
         if let Some(space) = self.space_of(config, entry) {
             space.end(entry);
         }
@@ -166,6 +174,7 @@ impl Sizes {
 
     /// A packet is refused a binding.
     fn refuse(&mut self, shortage: &Shortage) -> Result<(), AllocError> {
+        self.refused.add(shortage.host)?;
         match shortage.cause {
             Cause::OverQuota => self.over_quota.add(shortage.host),
             _ => self.no_number.add(shortage.host),

@@ -2,10 +2,13 @@
 
 use crate::digits::{add_number_within, add_seconds, add_spaces, pad};
 use crate::ended::Ended;
+use crate::losses::Losses;
 use crate::names::Seconds;
 use crate::objects::Objects;
 use crate::options::Choice;
 use crate::page::Page;
+use crate::remotes::are_answers;
+use crate::replies::{Replies, advice_of_replies};
 use crate::shown::{add_arrival, add_packet, is_end_of, is_end_of_arrival};
 use crate::stop::Stop;
 use napt_account::{Account, Entry, Note, Party};
@@ -13,7 +16,7 @@ use napt_display::reasons::{advice, meaning};
 use napt_records::{EndpointText, cause_name, protocol_name};
 use napt_sequential::{Input, Outcome};
 use napt_table::Row;
-use napt_wire::{Cause, Kind, Packet, Side};
+use napt_wire::{Cause, Endpoint, Kind, Packet, Side};
 use std::alloc::{AllocError, Global};
 use std::fmt::Write;
 
@@ -24,6 +27,10 @@ pub struct Told<'a> {
     pub inputs: &'a [Input],
     pub account: &'a Account,
     pub widths: Widths,
+    /// What became of the packets from outside.
+    pub losses: &'a Losses,
+    /// The packets from outside, if they are replies.
+    pub replies: Option<Replies<'a>>,
 }
 
 /// How wide the first columns of the lines are.
@@ -38,6 +45,11 @@ pub struct Widths {
 const BEFORE: usize = 50;
 
 const HAPPENED: usize = 21;
+
+/// What to do if many packets from outside find no binding although inside packets left for their remotes.
+const OTHER_NUMBERS: &str =
+    "inside packets left for their remotes just before, so the captured gateway seems to have chosen other numbers or \
+addresses: give what inside hosts got as --replies";
 
 impl Widths {
     /// The widths that the numbers and times of all packets need.
@@ -70,6 +82,8 @@ pub struct Line<'a> {
     pub input: &'a Input,
     pub outcome: &'a Outcome,
     pub note: Note,
+    /// The inside endpoint that it named, if it is a reply that reads.
+    pub end: Option<Endpoint>,
 }
 
 impl<'a> Told<'a> {
@@ -93,7 +107,7 @@ impl<'a> Told<'a> {
         let input = line.input;
         self.add_ended(text, ended, input.clock)?;
         if is_chosen(alloc, self.choice, line)? {
-            add_packet_line(alloc, text, self.widths, line)?;
+            self.add_packet_line(alloc, text, line)?;
         }
         Ok(())
     }
@@ -129,6 +143,7 @@ impl<'a> Told<'a> {
             input,
             outcome,
             note,
+            end: self.replies.and_then(|replies| replies.end_at(at)),
         })
     }
 
@@ -158,7 +173,7 @@ impl<'a> Told<'a> {
             return Err(Stop::Told(napt_program::Stop::Usage));
         };
         let mut text = String::new(rt.alloc());
-        add_packet_line(rt.alloc(), &mut text, self.widths, line)?;
+        self.add_packet_line(rt.alloc(), &mut text, line)?;
         print!(rt; "{text}")?;
         let at = number.saturating_sub(1) as usize;
         if let Some(used) = self.account.uses.get(at) {
@@ -185,34 +200,106 @@ impl<'a> Told<'a> {
         }
         Ok(())
     }
-}
 
-/// Appends the line of a packet. The columns of all lines align, except for an ICMP error, which quotes more than fits.
-fn add_packet_line(
-    alloc: Global,
-    text: &mut String,
-    widths: Widths,
-    line: Line<'_>,
-) -> Result<(), AllocError> {
-    let Line {
-        number,
-        input,
-        outcome,
-        note,
-    } = line;
-    add_number_within(text, number, widths.number)?;
-    text.push_str(" ")?;
-    add_seconds(text, input.time, widths.seconds)?;
-    text.push_str(match input.side {
-        Side::Inside => " inside  ",
-        Side::Outside => " outside ",
-    })?;
-    let begin = text.len();
-    add_arrival(alloc, text, input.side, &input.bytes)?;
-    pad(text, begin, BEFORE)?;
-    text.push_str(" | ")?;
-    add_rest(text, input.side, outcome, note)?;
-    text.push('\n')
+    /// Appends the line of a packet. The columns of all lines align, except for an ICMP error, which quotes more than
+    /// fits.
+    fn add_packet_line(
+        self,
+        alloc: Global,
+        text: &mut String,
+        line: Line<'_>,
+    ) -> Result<(), AllocError> {
+        let input = line.input;
+        add_number_within(text, line.number, self.widths.number)?;
+        text.push_str(" ")?;
+        add_seconds(text, input.time, self.widths.seconds)?;
+        text.push_str(match input.side {
+            Side::Inside => " inside  ",
+            Side::Outside => " outside ",
+        })?;
+        let begin = text.len();
+        add_arrival(alloc, text, input.side, &input.bytes)?;
+        pad(text, begin, BEFORE)?;
+        text.push_str(" | ")?;
+        self.add_rest(text, line)?;
+        text.push('\n')
+    }
+
+    /// Appends what happened to a packet, and the packet as it leaves.
+    fn add_rest(self, text: &mut String, line: Line<'_>) -> Result<(), AllocError> {
+        let (packet, way) = match line.outcome {
+            Outcome::Dropped(cause) => return self.add_loss(text, line, *cause),
+            Outcome::ToInside(packet) if line.input.side == Side::Inside => (packet, "hairpin: "),
+            Outcome::ToInside(packet) | Outcome::ToOutside(packet) => (packet, ""),
+        };
+        let begin = text.len();
+        text.push_str(used(packet, line.note))?;
+        pad(text, begin, HAPPENED)?;
+        text.push_str(" | ")?;
+        text.push_str(way)?;
+        add_packet(text, packet)
+    }
+
+    /// Appends why a packet was dropped.
+    fn add_loss(self, text: &mut String, line: Line<'_>, cause: Cause) -> Result<(), AllocError> {
+        let name = cause_name(cause);
+        write!(text, "dropped, {name}: ")?;
+        if let (Some(replies), Some(end)) = (self.replies, line.end) {
+            if replies.add_loss(text, cause, end, &line.input.bytes)? {
+                return Ok(());
+            }
+        }
+        text.push_str(meaning(cause))
+    }
+
+    /// Appends the counts of outcomes, and what to do if more than a fifth of the packets were dropped for one cause.
+    pub fn add_counts(self, alloc: Global, text: &mut String) -> Result<(), AllocError> {
+        let outcomes = self.account.run.outcomes.as_slice();
+        writeln!(text, "packets: {}", outcomes.len())?;
+        writeln!(text, "  {} to the outside", count_to_outside(outcomes))?;
+        writeln!(text, "  {} to the inside", count_to_inside(outcomes))?;
+        for cause in Cause::ALL {
+            self.add_cause(alloc, text, cause)?;
+        }
+        Ok(())
+    }
+
+    fn add_cause(self, alloc: Global, text: &mut String, cause: Cause) -> Result<(), AllocError> {
+        let outcomes = self.account.run.outcomes.as_slice();
+        let many = count_dropped(outcomes, cause);
+        if many == 0 {
+            return Ok(());
+        }
+        let name = cause_name(cause);
+        writeln!(text, "  {many} dropped, {name}: {}", meaning(cause))?;
+        if let Some(replies) = self.replies {
+            replies.add_losses(text, cause, self.losses)?;
+        }
+        if many > outcomes.len() / 5 {
+            self.add_advice(alloc, text, cause)?;
+        }
+        Ok(())
+    }
+
+    /// Appends what to do if many packets were dropped for a cause. That other numbers were chosen comes first where
+    /// they seem to be answers.
+    fn add_advice(self, alloc: Global, text: &mut String, cause: Cause) -> Result<(), AllocError> {
+        let is_answered = self.replies.is_none()
+            && matches!(cause, Cause::NoBinding | Cause::NotOurs)
+            && are_answers(alloc, self.inputs, &self.account.run.outcomes)?;
+        if is_answered {
+            writeln!(text, "    many packets end so: {OTHER_NUMBERS}")?;
+        }
+        let told = match self.replies {
+            Some(_) => advice_of_replies(cause).or(advice(cause)),
+            None => advice(cause),
+        };
+        match told {
+            Some(advice) if is_answered => writeln!(text, "    else: {advice}"),
+            Some(advice) => writeln!(text, "    many packets end so: {advice}"),
+            None => Ok(()),
+        }
+    }
 }
 
 /// Appends the line of a binding that expired at a time, aligned with those of packets.
@@ -249,6 +336,7 @@ fn is_chosen(alloc: Global, choice: Choice, line: Line<'_>) -> Result<bool, Allo
             let input = line.input;
             Ok(
                 leaves_with(line.outcome, host)
+                    || line.end.is_some_and(|end| host.has(end))
                     || is_end_of_arrival(host, alloc, input.side, &input.bytes)?,
             )
         }
@@ -261,29 +349,6 @@ pub fn leaves_with(outcome: &Outcome, host: Party) -> bool {
         Outcome::ToOutside(packet) | Outcome::ToInside(packet) => is_end_of(host, packet),
         Outcome::Dropped(_) => false,
     }
-}
-
-/// Appends what happened to a packet from this side, and the packet as it leaves.
-fn add_rest(
-    text: &mut String,
-    side: Side,
-    outcome: &Outcome,
-    note: Note,
-) -> Result<(), AllocError> {
-    let (packet, way) = match outcome {
-        Outcome::Dropped(cause) => {
-            let name = cause_name(*cause);
-            return write!(text, "dropped, {name}: {}", meaning(*cause));
-        }
-        Outcome::ToInside(packet) if side == Side::Inside => (packet, "hairpin: "),
-        Outcome::ToInside(packet) | Outcome::ToOutside(packet) => (packet, ""),
-    };
-    let begin = text.len();
-    text.push_str(used(packet, note))?;
-    pad(text, begin, HAPPENED)?;
-    text.push_str(" | ")?;
-    text.push_str(way)?;
-    add_packet(text, packet)
 }
 
 /// What a forwarded packet did to a binding.
@@ -340,33 +405,6 @@ fn add_binding(
         )?;
     }
     text.push('\n')
-}
-
-/// Appends the counts of outcomes, and what to do if more than a fifth of the packets were dropped for one cause.
-pub fn add_counts(text: &mut String, account: &Account) -> Result<(), AllocError> {
-    let outcomes = account.run.outcomes.as_slice();
-    writeln!(text, "packets: {}", outcomes.len())?;
-    writeln!(text, "  {} to the outside", count_to_outside(outcomes))?;
-    writeln!(text, "  {} to the inside", count_to_inside(outcomes))?;
-    for cause in Cause::ALL {
-        add_cause(text, cause, outcomes)?;
-    }
-    Ok(())
-}
-
-fn add_cause(text: &mut String, cause: Cause, outcomes: &[Outcome]) -> Result<(), AllocError> {
-    let many = count_dropped(outcomes, cause);
-    if many == 0 {
-        return Ok(());
-    }
-    let name = cause_name(cause);
-    writeln!(text, "  {many} dropped, {name}: {}", meaning(cause))?;
-    match advice(cause) {
-        Some(advice) if many > outcomes.len() / 5 => {
-            writeln!(text, "    many packets end so: {advice}")
-        }
-        _ => Ok(()),
-    }
 }
 
 /// How many packets left for the outside.

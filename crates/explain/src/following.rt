@@ -1,0 +1,126 @@
+//! Replies, sent to where their inside endpoints are in a run.
+
+use crate::options::Outside;
+use crate::places::{Output, tell_unwritten, unexplained};
+use crate::replies::Replies;
+use crate::stop::Stop;
+use napt_capture::{Sink, Watched, WriteFault, Written};
+use napt_config::Config;
+use napt_sequential::{Input, RunFault, run_following};
+use napt_wire::{Endpoint, Side};
+use std::alloc::{AllocError, Global};
+use std::fs::File;
+use std::io;
+use std::io::{BufWriter, Write};
+use std::rt::Files;
+
+/// How many bytes are collected before they are written.
+const BUFFERED: usize = 65_536;
+
+/// The greatest number of bytes of a record that is written.
+const LARGEST: usize = napt_capture::LARGEST_RECORD as usize;
+
+/// The times that a capture can hold are before this one, in ns.
+const END_OF_TIMES: u64 = 4_294_967_296_000_000_000;
+
+/// The most bytes that are written before a record.
+const MOST_BEFORE: u64 = 4_611_686_018_427_387_904;
+
+impl Outside {
+    /// Whether its packets follow the run.
+    pub fn follows(self) -> bool {
+        self == Outside::Replies
+    }
+
+    /// The inputs as the run under a configuration gets them: replies follow it, and other packets stay as they are.
+    pub fn inputs_under(
+        self,
+        alloc: Global,
+        config: &Config,
+        inputs: Vec<Input>,
+    ) -> Result<Vec<Input>, RunFault> {
+        match self {
+            Outside::Packets => Ok(inputs),
+            Outside::Replies => Ok(run_following(alloc, config, &inputs)?.inputs),
+        }
+    }
+
+    /// The replies of a run under a configuration, with the inside endpoints that they named, if it has some.
+    pub fn replies<'a>(
+        self,
+        config: &'a Config,
+        ends: &'a [Option<Endpoint>],
+    ) -> Option<Replies<'a>> {
+        match self {
+            Outside::Packets => None,
+            Outside::Replies => Some(Replies { config, ends }),
+        }
+    }
+}
+
+/// The same inputs once more.
+pub fn copied(alloc: Global, inputs: &[Input]) -> Result<Vec<Input>, AllocError> {
+    let mut copies = Vec::new(alloc);
+    for input in inputs {
+        copies.push(Input {
+            side: input.side,
+            time: input.time,
+            clock: input.clock,
+            bytes: Vec::from_slice(alloc, &input.bytes)?,
+        })?;
+    }
+    Ok(copies)
+}
+
+/// Writes the capture of the inputs from outside to a file. If that fails, prints the file and the system's reason.
+pub fn write_followed<R: Files + Eprint + AllocGlobal>(
+    rt: &R,
+    path: &str,
+    inputs: &[Input],
+) -> Result<(), Stop> {
+    let made = File::create(rt, path).and_then(|file| BufWriter::with_capacity(
+        rt.alloc(),
+        BUFFERED,
+        file,
+    ));
+    let mut sink = match made {
+        Ok(writer) => Watched::new(writer),
+        Err(error) => return Err(tell_unwritten(rt, Output::Followed, path, &error)),
+    };
+    if put_outside(&mut sink, inputs).is_ok() {
+        return Ok(());
+    }
+    // the device does not keep the system's reason: it is asked again
+    let mut writer = sink.into_inner();
+    match writer.flush() {
+        Err(error) => Err(tell_unwritten(rt, Output::Followed, path, &error)),
+        Ok(()) => Err(unexplained(rt, Output::Followed, path)),
+    }
+}
+
+/// Writes the capture of the inputs from outside, each with its own time, and flushes it.
+fn put_outside<W: Sink>(sink: &mut W, inputs: &[Input]) -> Result<(), WriteFault>
+    requires { W.failed sink.old < 2 ^ 64 - 1 }
+{
+    let mut written = Written::begin(sink)?;
+    for input in inputs {
+        if input.side == Side::Outside {
+            written = put_record(sink, written, input)?;
+        }
+    }
+    written.finish(sink)
+}
+
+/// Appends the record of an input. One that no capture can hold counts as a failed write.
+fn put_record<W: Sink>(sink: &mut W, written: Written, input: &Input) -> Result<Written, WriteFault>
+    requires { W.failed sink.old < 2 ^ 64 - 1 }
+{
+    let is_short = input.bytes.len() <= LARGEST && written.bytes() <= MOST_BEFORE;
+    if is_short && input.time < END_OF_TIMES {
+        written.record(sink, input.time, &input.bytes)
+    } else {
+        Err(WriteFault {
+            written: written.bytes(),
+        })
+    }
+}

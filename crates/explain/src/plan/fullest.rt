@@ -1,0 +1,56 @@
+//! The class of external numbers that was used most.
+
+use crate::sizes::spaces::{Class, Space};
+use napt_wire::Protocol;
+
+/// How much of a class was used at once at an external address.
+#[derive(Clone, Copy)]
+pub struct Fullest {
+    pub address: u32,
+    pub protocol: Protocol,
+    pub class: Class,
+    /// The most bindings in it at once.
+    pub used: u64,
+}
+
+impl Fullest {
+    /// Its share in hundredths of a percent, rounded down.
+    pub fn share(self) -> u64 {
+        self.used.saturating_mul(10_000) / self.class.many.max(1)
+    }
+
+    /// Whether a greater share of it was used than of another.
+    fn is_fuller(self, other: Fullest) -> bool {
+        let (one, rest) = (
+            self.used.saturating_mul(other.class.many),
+            other.used.saturating_mul(self.class.many),
+        );
+        one > rest
+    }
+}
+
+/// The class of which the greatest share was used, the first of several; none if none was used.
+pub fn fullest_of(spaces: &[Space]) -> Option<Fullest> {
+    let mut fullest = None;
+    for space in spaces {
+        fullest = fuller_in(space, fullest);
+    }
+    fullest
+}
+
+/// The fullest class of a space, if it is fuller than the one so far.
+fn fuller_in(space: &Space, so_far: Option<Fullest>) -> Option<Fullest> {
+    let mut fullest = so_far;
+    for (class, level) in space.classes().iter().zip(space.used.iter()) {
+        let next = Fullest {
+            address: space.address,
+            protocol: space.protocol,
+            class: *class,
+            used: level.most,
+        };
+        if next.used > 0 && fullest.is_none_or(|it| next.is_fuller(it)) {
+            fullest = Some(next);
+        }
+    }
+    fullest
+}

@@ -1,0 +1,130 @@
+//! Replies that were dropped, in a user's words.
+
+use crate::losses::{Losses, Origin};
+use crate::shown::arrival;
+use napt_config::{Address, Config};
+use napt_records::EndpointText;
+use napt_sequential::Input;
+use napt_wire::{Cause, Endpoint, Side, Way};
+use std::alloc::{AllocError, Global};
+use std::fmt::Write;
+
+/// What is said of replies from inside addresses.
+const FROM_INSIDE: &str = "the captured gateway itself, or one host to another";
+
+/// What is said of replies from an address of the pool.
+const FROM_POOL: &str =
+    "packets that the captured gateway sent back inside, or a remote; another pool would count them";
+
+/// What to do if many have no binding.
+const UNBOUND: &str =
+    "`quota`, the timers or the pool leave their hosts without a binding, or the inside capture lacks what was sent before";
+
+/// The replies of a run that followed it.
+#[derive(Clone, Copy)]
+pub struct Replies<'a> {
+    pub config: &'a Config,
+    /// Of each input the inside endpoint that it named, if it is a reply that reads.
+    pub ends: &'a [Option<Endpoint>],
+}
+
+/// The inside endpoint that each input names, if it comes from outside and reads.
+pub fn ends_of(alloc: Global, inputs: &[Input]) -> Result<Vec<Option<Endpoint>>, AllocError> {
+    let mut ends = Vec::new(alloc);
+    for input in inputs {
+        ends.push(end_of(alloc, input)?)?;
+    }
+    Ok(ends)
+}
+
+fn end_of(alloc: Global, input: &Input) -> Result<Option<Endpoint>, AllocError> {
+    if input.side == Side::Inside {
+        return Ok(None);
+    }
+    let packet = arrival(alloc, Side::Outside, &input.bytes)?;
+    Ok(packet.map(|packet| packet.local_end(Way::Incoming)))
+}
+
+impl<'a> Replies<'a> {
+    /// The inside endpoint that the input at an index named, if it is a reply that reads.
+    pub fn end_at(self, at: usize) -> Option<Endpoint> {
+        *self.ends.get(at)?
+    }
+
+    /// Appends why the reply with these bytes, which named this inside endpoint, was dropped. Returns whether there are
+    /// words for it.
+    pub fn add_loss(
+        self,
+        text: &mut String,
+        cause: Cause,
+        end: Endpoint,
+        bytes: &[u8],
+    ) -> Result<bool, AllocError> {
+        match cause {
+            Cause::NoBinding => {
+                let end = EndpointText(end);
+                write!(text, "its inside endpoint {end} has no live binding here")?;
+            }
+            Cause::NotOurs => {
+                let address = Address(end.address);
+                write!(text, "it is not to an inside host, but to {address}")?;
+            }
+            Cause::Spoofed => match Origin::of(self.config, bytes) {
+                Origin::Inside => write!(text, "from an inside address: {FROM_INSIDE}")?,
+                Origin::Pool(_) => write!(text, "from an address of the pool: {FROM_POOL}")?,
+                Origin::Remote => return Ok(false),
+            },
+            _ => return Ok(false),
+        }
+        Ok(true)
+    }
+
+    /// Appends how many replies were dropped for a cause, and why.
+    pub fn add_losses(
+        self,
+        text: &mut String,
+        cause: Cause,
+        losses: &Losses,
+    ) -> Result<(), AllocError> {
+        match cause {
+            Cause::NoBinding if losses.no_binding > 0 => writeln!(
+                text,
+                "    {} to inside endpoints that have no live binding here",
+                losses.no_binding
+            ),
+            Cause::NotOurs if losses.not_ours > 0 => writeln!(
+                text,
+                "    {} to no inside host",
+                losses.not_ours
+            ),
+            Cause::Spoofed => self.add_spoofed(text, losses),
+            _ => Ok(()),
+        }
+    }
+
+    fn add_spoofed(self, text: &mut String, losses: &Losses) -> Result<(), AllocError> {
+        let many = losses.from_inside;
+        if many > 0 {
+            writeln!(text, "    {many} from inside addresses: {FROM_INSIDE}")?;
+        }
+        for (address, many) in self.config.pool().iter().zip(&losses.from_pool) {
+            if *many > 0 {
+                let address = Address(*address);
+                writeln!(
+                    text,
+                    "    {many} from {address}, which is in the pool: {FROM_POOL}"
+                )?;
+            }
+        }
+        Ok(())
+    }
+}
+
+/// What to do if many replies are dropped for a cause, where that is not what it is for other packets.
+pub fn advice_of_replies(cause: Cause) -> Option<&'static str> {
+    match cause {
+        Cause::NoBinding => Some(UNBOUND),
+        Cause::NotOurs => Some("is this an outside capture? (`--outside`)"),
+        _ => None,
+    }
+}
