@@ -1,5 +1,7 @@
 //! What becomes of the packets from outside, counted, to see whether the captures and the configuration belong together.
 
+ghost use Rattle.std.specs.Prelude.{◌≡◌, ◌+◌, ◌-◌, ◌/◌, ◌^◌, ◌<◌, ◌↔◌, min, true};
+
 use crate::shown::source_of;
 use napt_config::Config;
 use napt_sequential::{Input, Outcome};
@@ -69,7 +71,9 @@ impl Losses {
     }
 
     /// How many found no binding, or were not for the gateway.
-    pub fn unmet(&self) -> u64 {
+    pub fn unmet(&self) -> u64
+        ensures { result ≡ min (self.now.no_binding + self.now.not_ours) (2 ^ 64 - 1) }
+    {
         self.no_binding.saturating_add(self.not_ours)
     }
 
@@ -79,7 +83,9 @@ impl Losses {
     }
 
     /// Whether more than half were not for the gateway.
-    pub fn is_half_not_ours(&self) -> bool {
+    pub fn is_half_not_ours(&self) -> bool
+        ensures { (result ≡ true) ↔ (self.now.all / 2 < self.now.not_ours) }
+    {
         self.not_ours > self.all / 2
     }
 }

@@ -131,7 +131,8 @@ fn run<R: Files + Print + Eprint + AllocGlobal>(
 ) -> Result<(), Stop> {
     let progress = Progress::of(rt, inputs.len());
     progress.tell_begin(rt);
-    let ends = named_ends(rt.alloc(), options, &inputs)?;
+    let mut inputs = inputs;
+    let ends = named_ends(rt.alloc(), options, &mut inputs)?;
     let inputs = options.outside.inputs_under(rt.alloc(), config, inputs)?;
     let account = account_of(rt.alloc(), config, &inputs)?;
     let losses = Losses::of(rt.alloc(), config, &inputs, &account.run.outcomes)?;
@@ -158,7 +159,7 @@ fn run<R: Files + Print + Eprint + AllocGlobal>(
 fn named_ends(
     alloc: Global,
     options: &Options<'_>,
-    inputs: &[napt_sequential::Input],
+    inputs: &mut [napt_sequential::Input],
 ) -> Result<Vec<Option<Endpoint>>, AllocError> {
     match (options.outside, options.form) {
         (Outside::Replies, Form::Lines | Form::Objects) => ends_of(alloc, inputs),

@@ -1,13 +1,13 @@
 //! Replies that were dropped, in a user's words.
 
 use crate::losses::{Losses, Origin};
-use crate::shown::arrival;
 use napt_config::{Address, Config};
 use napt_records::EndpointText;
 use napt_sequential::Input;
-use napt_wire::{Cause, Endpoint, Side, Way};
+use napt_wire::{Cause, Endpoint, Packet, Side, Way};
 use std::alloc::{AllocError, Global};
 use std::fmt::Write;
+use std::mem;
 
 /// What is said of replies from inside addresses.
 const FROM_INSIDE: &str = "the captured gateway itself, or one host to another";
@@ -28,21 +28,32 @@ pub struct Replies<'a> {
     pub ends: &'a [Option<Endpoint>],
 }
 
-/// The inside endpoint that each input names, if it comes from outside and reads.
-pub fn ends_of(alloc: Global, inputs: &[Input]) -> Result<Vec<Option<Endpoint>>, AllocError> {
+/// The inside endpoint that each input names, if it comes from outside and reads. Bytes behind a packet's end are cut off
+/// there, as when it follows.
+pub fn ends_of(alloc: Global, inputs: &mut [Input]) -> Result<Vec<Option<Endpoint>>, AllocError> {
     let mut ends = Vec::new(alloc);
-    for input in inputs {
-        ends.push(end_of(alloc, input)?)?;
+    for input in inputs.iter_mut() {
+        ends.push(end_of(alloc, input))?;
     }
     Ok(ends)
 }
 
-fn end_of(alloc: Global, input: &Input) -> Result<Option<Endpoint>, AllocError> {
+fn end_of(alloc: Global, input: &mut Input) -> Option<Endpoint> {
     if input.side == Side::Inside {
-        return Ok(None);
+        return None;
     }
-    let packet = arrival(alloc, Side::Outside, &input.bytes)?;
-    Ok(packet.map(|packet| packet.local_end(Way::Incoming)))
+    let bytes = mem::replace(&mut input.bytes, Vec::new(alloc));
+    match Packet::read(Side::Outside, bytes) {
+        Ok(packet) => {
+            let end = packet.local_end(Way::Incoming);
+            input.bytes = packet.into_bytes();
+            Some(end)
+        }
+        Err((_, bytes)) => {
+            input.bytes = bytes;
+            None
+        }
+    }
 }
 
 impl<'a> Replies<'a> {

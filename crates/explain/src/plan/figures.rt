@@ -1,5 +1,7 @@
 //! The figures of a run in a plan.
 
+ghost use Rattle.std.specs.Prelude.{◌≡◌, ◌↔◌, true};
+
 use crate::changes::changes_of;
 use crate::plan::fullest::{Fullest, fullest_of};
 use crate::sizes::hosts::percentile;
@@ -70,7 +72,7 @@ impl Figures {
 
     /// Whether no packet was refused a binding.
     pub fn refuses_nothing(self) -> bool
-        ensures { result ≡ ((self.drops.no_port == 0) && (self.drops.over_quota == 0)) }
+        ensures { (result ≡ true) ↔ ((self.drops.no_port ≡ 0) × (self.drops.over_quota ≡ 0)) }
     {
         self.drops.no_port == 0 && self.drops.over_quota == 0
     }
