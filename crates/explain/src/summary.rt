@@ -63,7 +63,7 @@ impl Widths {
 }
 
 /// How many decimal digits a number has.
-fn digits(number: u64) -> usize {
+pub fn digits(number: u64) -> usize {
     let mut rest = number / 10;
     let mut many = 1usize;
     for _ in 0..20 {

@@ -1,9 +1,10 @@
 //! The table of a plan, for people.
 
-use crate::digits::add_spaces;
+use crate::digits::{add_number_within, add_spaces};
 use crate::plan::figures::Figures;
 use crate::plan::fullest::Fullest;
 use crate::stop::Stop;
+use crate::summary::digits;
 use napt_config::Address;
 use napt_records::protocol_name;
 use std::alloc::{AllocError, Global};
@@ -26,6 +27,12 @@ const NAMES: [&str; 10] = [
     "refused",
 ];
 
+/// The name of the first column.
+const HEAD: &str = "configuration";
+
+/// The name of the last column.
+const FULLEST: &str = "fullest";
+
 /// Prints the table, and which configurations refuse nothing.
 pub fn tell_table<R: Print + AllocGlobal>(
     rt: &R,
@@ -41,57 +48,69 @@ pub fn tell_table<R: Print + AllocGlobal>(
 
 /// The head and the lines, with aligned columns.
 fn table_text(alloc: Global, paths: &[String], lines: &[Figures]) -> Result<String, AllocError> {
-    let wide = paths.iter().map(|path| path.len()).max().unwrap_or(0);
-    let wide = wide.max(HEAD.len());
+    let widths = Widths::of(paths, lines);
     let mut text = String::new(alloc);
-    add_head(&mut text, wide)?;
+    widths.add_head(&mut text)?;
     for (path, figures) in paths.iter().zip(lines) {
-        add_path(&mut text, path, wide)?;
-        add_numbers(alloc, &mut text, *figures)?;
-        add_fullest(&mut text, figures.fullest)?;
+        widths.add_line(&mut text, path, *figures)?;
     }
     Ok(text)
 }
 
-/// The name of the first column.
-const HEAD: &str = "configuration";
-
-/// The name of the last column.
-const FULLEST: &str = "fullest";
-
-fn add_head(text: &mut String, wide: usize) -> Result<(), AllocError> {
-    add_path(text, HEAD, wide)?;
-    for name in NAMES.iter() {
-        add_cell(text, name)?;
-    }
-    writeln!(text, "  {FULLEST}")
+/// How wide the first column is, and each that has numbers.
+#[derive(Clone, Copy)]
+struct Widths {
+    path: usize,
+    numbers: [usize; NUMBERS],
 }
 
-/// Appends the first column, padded to its width.
-fn add_path(text: &mut String, path: &str, wide: usize) -> Result<(), AllocError> {
-    text.push_str(path)?;
-    for _ in path.len()..wide {
-        text.push(' ')?;
+impl Widths {
+    /// Those that the names and all lines need.
+    fn of(paths: &[String], lines: &[Figures]) -> Widths {
+        let longest = paths.iter().map(|path| path.len()).max().unwrap_or(0);
+        let mut widths = Widths {
+            path: longest.max(HEAD.len()),
+            numbers: [0; NUMBERS],
+        };
+        for figures in lines {
+            widths.take(*figures);
+        }
+        widths
     }
-    Ok(())
-}
 
-/// Appends a cell that ends at the right of its column.
-fn add_cell(text: &mut String, cell: &str) -> Result<(), AllocError> {
-    text.push_str("  ")?;
-    add_spaces(text, CELL.saturating_sub(cell.len()))?;
-    text.push_str(cell)
-}
-
-/// How wide a column of numbers is.
-const CELL: usize = 10;
-
-fn add_numbers(alloc: Global, text: &mut String, figures: Figures) -> Result<(), AllocError> {
-    for number in numbers_of(figures) {
-        let cell = format!(in alloc; "{number}")?;
-        add_cell(text, &cell)?;
+    /// Makes each column wide enough for its name, and for its number of a line.
+    fn take(&mut self, figures: Figures) {
+        let cells = NAMES.iter().zip(numbers_of(figures));
+        for (wide, (name, number)) in self.numbers.iter_mut().zip(cells) {
+            *wide = (*wide).max(name.len()).max(digits(number));
+        }
     }
-    Ok(())
+
+    fn add_head(self, text: &mut String) -> Result<(), AllocError> {
+        self.add_path(text, HEAD)?;
+        for (name, wide) in NAMES.iter().zip(self.numbers) {
+            add_spaces(text, wide.saturating_sub(name.len()).saturating_add(2))?;
+            text.push_str(*name)?;
+        }
+        writeln!(text, "  {FULLEST}")
+    }
+
+    fn add_line(self, text: &mut String, path: &str, figures: Figures) -> Result<(), AllocError> {
+        self.add_path(text, path)?;
+        for (number, wide) in numbers_of(figures).iter().zip(self.numbers) {
+            add_number_within(text, *number, wide.saturating_add(2))?;
+        }
+        add_fullest(text, figures.fullest)
+    }
+
+    /// Appends the first column.
+    fn add_path(self, text: &mut String, path: &str) -> Result<(), AllocError> {
+        text.push_str(path)?;
+        for _ in path.len()..self.path {
+            text.push(' ')?;
+        }
+        Ok(())
+    }
 }
 
 /// The numbers of a line, in the order of the columns.
