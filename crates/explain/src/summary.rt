@@ -227,9 +227,11 @@ impl<'a> Told<'a> {
 
     /// Appends what happened to a packet, and the packet as it leaves.
     fn add_rest(self, text: &mut String, line: Line<'_>) -> Result<(), AllocError> {
+        let input = line.input;
+        let side = input.side;
         let (packet, way) = match line.outcome {
             Outcome::Dropped(cause) => return self.add_loss(text, line, *cause),
-            Outcome::ToInside(packet) if line.input.side == Side::Inside => (packet, "hairpin: "),
+            Outcome::ToInside(packet) if side == Side::Inside => (packet, "hairpin: "),
             Outcome::ToInside(packet) | Outcome::ToOutside(packet) => (packet, ""),
         };
         let begin = text.len();
@@ -242,10 +244,10 @@ impl<'a> Told<'a> {
 
     /// Appends why a packet was dropped.
     fn add_loss(self, text: &mut String, line: Line<'_>, cause: Cause) -> Result<(), AllocError> {
-        let name = cause_name(cause);
+        let (name, input) = (cause_name(cause), line.input);
         write!(text, "dropped, {name}: ")?;
         if let (Some(replies), Some(end)) = (self.replies, line.end) {
-            if replies.add_loss(text, cause, end, &line.input.bytes)? {
+            if replies.add_loss(text, cause, end, &input.bytes)? {
                 return Ok(());
             }
         }
@@ -254,7 +256,8 @@ impl<'a> Told<'a> {
 
     /// Appends the counts of outcomes, and what to do if more than a fifth of the packets were dropped for one cause.
     pub fn add_counts(self, alloc: Global, text: &mut String) -> Result<(), AllocError> {
-        let outcomes = self.account.run.outcomes.as_slice();
+        let account = self.account;
+        let outcomes = account.run.outcomes.as_slice();
         writeln!(text, "packets: {}", outcomes.len())?;
         writeln!(text, "  {} to the outside", count_to_outside(outcomes))?;
         writeln!(text, "  {} to the inside", count_to_inside(outcomes))?;
@@ -265,7 +268,8 @@ impl<'a> Told<'a> {
     }
 
     fn add_cause(self, alloc: Global, text: &mut String, cause: Cause) -> Result<(), AllocError> {
-        let outcomes = self.account.run.outcomes.as_slice();
+        let account = self.account;
+        let outcomes = account.run.outcomes.as_slice();
         let many = count_dropped(outcomes, cause);
         if many == 0 {
             return Ok(());
@@ -284,9 +288,10 @@ impl<'a> Told<'a> {
     /// Appends what to do if many packets were dropped for a cause. That other numbers were chosen comes first where
     /// they seem to be answers.
     fn add_advice(self, alloc: Global, text: &mut String, cause: Cause) -> Result<(), AllocError> {
+        let account = self.account;
         let is_answered = self.replies.is_none()
             && matches!(cause, Cause::NoBinding | Cause::NotOurs)
-            && are_answers(alloc, self.inputs, &self.account.run.outcomes)?;
+            && are_answers(alloc, self.inputs, &account.run.outcomes)?;
         if is_answered {
             writeln!(text, "    many packets end so: {OTHER_NUMBERS}")?;
         }
