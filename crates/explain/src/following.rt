@@ -8,7 +8,7 @@ use crate::replies::Replies;
 use crate::stop::Stop;
 use napt_capture::{Sink, Watched, WriteFault, Written};
 use napt_config::Config;
-use napt_sequential::{Input, RunFault, run_following};
+use napt_sequential::{Input, RunFault, followed};
 use napt_wire::{Endpoint, Side};
 use std::alloc::{AllocError, Global};
 use std::fs::File;
@@ -43,7 +43,7 @@ impl Outside {
     ) -> Result<Vec<Input>, RunFault> {
         match self {
             Outside::Packets => Ok(inputs),
-            Outside::Replies => Ok(run_following(alloc, config, &inputs)?.inputs),
+            Outside::Replies => followed(alloc, config, inputs),
         }
     }
 
