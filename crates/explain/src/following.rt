@@ -1,6 +1,6 @@
 //! Replies, sent to where their inside endpoints are in a run.
 
-ghost use Rattle.std.specs.Prelude.{◌-◌, ◌^◌, ◌<◌};
+ghost use Rattle.std.specs.Prelude.{◌≡◌, ◌-◌, ◌^◌, ◌<◌, OnOk};
 
 use crate::options::Outside;
 use crate::places::{Output, tell_unwritten, unexplained};
@@ -116,13 +116,12 @@ fn put_outside<W: Sink>(sink: &mut W, inputs: &[Input]) -> Result<(), WriteFault
 /// Appends the record of an input. One that no capture can hold counts as a failed write.
 fn put_record<W: Sink>(sink: &mut W, written: Written, input: &Input) -> Result<Written, WriteFault>
     requires { W.failed sink.old < 2 ^ 64 - 1 }
+    ensures { OnOk result (W.failed sink.new ≡ W.failed sink.old) }
 {
-    let is_short = input.bytes.len() <= LARGEST && written.bytes() <= MOST_BEFORE;
-    if is_short && input.time < END_OF_TIMES {
+    let before = written.bytes();
+    if input.bytes.len() <= LARGEST && before <= MOST_BEFORE && input.time < END_OF_TIMES {
         written.record(sink, input.time, &input.bytes)
     } else {
-        Err(WriteFault {
-            written: written.bytes(),
-        })
+        Err(WriteFault { written: before })
     }
 }
