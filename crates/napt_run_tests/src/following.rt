@@ -4,7 +4,7 @@ ghost use Rattle.std.specs.Prelude.{◌<◌};
 
 use crate::calls::with_rings;
 use crate::packets::udp;
-use crate::steps::input;
+use crate::sample_inputs::input;
 use napt_run::{Input, Outcome, run_plain};
 use napt_samples::hosts::{CLIENT, RESOLVER, SECOND, external, host};
 use napt_samples::packets::{
