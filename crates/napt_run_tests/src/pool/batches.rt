@@ -56,12 +56,9 @@ fn alone(rt: &impl Abort, pool: &mut CheckedPool<Keeper, OpenGate>) -> u64 {
 #[test]
 fn batches_and_items_are_answered_in_order(rt: HostRuntime) -> Result<(), Fail> {
     let alloc = rt.alloc();
-    let all = [
-        batch(&rt, alloc, &[40, 41, 42, 43])?,
-        batch(&rt, alloc, &[45, 46])?,
-    ];
+    let first = batch(&rt, alloc, &[40, 41, 42, 43])?;
+    let second = batch(&rt, alloc, &[45, 46])?;
     let mut pool = keepers(&rt, 1, 7)?;
-    let [first, second] = all;
     pool.give_all(&rt, 0, first);
     pool.give(&rt, 0, 44);
     pool.give_all(&rt, 0, second);

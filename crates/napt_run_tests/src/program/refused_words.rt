@@ -1,7 +1,7 @@
 //! Command lines that name no run: an option without its value, words that are no option, and one that asks for help.
 
 use crate::program::options::parsed;
-use napt_program::LineFault;
+use napt_program::{LineFault, Options};
 use std::test::Fail;
 
 #[test]
@@ -20,14 +20,19 @@ fn refuses_other_words(rt: HostRuntime) -> Result<(), Fail> {
     Ok(())
 }
 
+/// Whether the words ask for help, and the text tells of an option.
+fn is_help(answer: &Result<Options, LineFault>) -> bool {
+    match answer {
+        Err(LineFault::Help(text)) => text.as_str().contains("--to-outside <FILE>"),
+        _ => false,
+    }
+}
+
 #[test]
 fn tells_help(rt: HostRuntime) -> Result<(), Fail> {
     for word in ["--help", "-h"] {
-        let is_help = match parsed(rt.alloc(), &[word])? {
-            Err(LineFault::Help(text)) => text.as_str().contains("--to-outside <FILE>"),
-            _ => false,
-        };
-        assert!(rt; is_help, "{word}");
+        let answer = parsed(rt.alloc(), &[word])?;
+        assert!(rt; is_help(&answer), "{word}");
     }
     Ok(())
 }
