@@ -6,18 +6,6 @@ import sys
 TOP = os.path.dirname(os.path.dirname(os.path.realpath(__file__)))
 # each has a launcher of its name at the top
 PROGRAMS = ("napt", "stream", "explain")
-IS_CLONE = "git rev-parse --git-dir"
-
-
-def is_left_out():
-    """Whether a test of the commit has to be left out, and says so: where git is missing, or the tree is no clone."""
-    try:
-        refused = subprocess.run(IS_CLONE.split(), cwd=TOP, capture_output=True, check=False).returncode
-    except FileNotFoundError:
-        refused = True
-    if refused:
-        print(f"skipped: all (refused: {IS_CLONE})")
-    return bool(refused)
 
 
 def listed():

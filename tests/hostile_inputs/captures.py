@@ -12,17 +12,24 @@ SPELLINGS = {
     b"\xa1\xb2\x3c\x4d": (">", 1),
 }
 SECOND = 1_000_000_000
+OF_HEADERS = ("no-header", "bad-magic", "bad-version", "bad-link")
+NANOSECONDS, MICROSECONDS = b"\x4d\x3c\xb2\xa1", b"\xd4\xc3\xb2\xa1"
 
 
-def header(magic, link=101, version=(2, 4)):
+def header(magic=NANOSECONDS, link=101, version=(2, 4)):
     order, _ = SPELLINGS.get(magic, ("<", 1))
     return bytearray(magic + struct.pack(order + "HHIIII", *version, 0, 0, MOST_CAPTURED, link))
 
 
-def record(magic, time, packet):
+def record(magic=NANOSECONDS, time=0, packet=b""):
     order, unit = SPELLINGS.get(magic, ("<", 1))
     seconds, fraction = time // SECOND, time % SECOND // unit
     return bytearray(struct.pack(order + "IIII", seconds % 2**32, fraction, len(packet), len(packet)) + bytes(packet))
+
+
+def savefile(pairs, magic=NANOSECONDS, link=101):
+    """A capture of (time, packet) pairs."""
+    return bytes(header(magic, link) + b"".join(record(magic, time, packet) for time, packet in pairs))
 
 
 def changed_record(draw, magic, data):
@@ -80,7 +87,7 @@ def drawn(draw, packets):
 
 
 class Reading:
-    """What a capture holds: its packets with their times in ns and whether it is cut, or the fault that is told of it."""
+    """What a capture holds: its packets with their times in ns, and whether it is cut behind them, or the fault that is told of it."""
 
     def __init__(self, packets=(), is_cut=False, fault=None):
         self.packets = packets
@@ -114,12 +121,37 @@ def read(data):
             return Reading(packets, is_cut=True)
         seconds, fraction, captured, _ = struct.unpack_from(order + "IIII", data, at)
         if fraction * unit >= SECOND:
-            return Reading(fault=f"bad-fraction {len(packets) + 1}")
+            return Reading(packets, fault=f"bad-fraction {len(packets) + 1}")
         if captured > MOST_CAPTURED:
-            return Reading(fault=f"too-long {len(packets) + 1}")
+            return Reading(packets, fault=f"too-long {len(packets) + 1}")
         at += 16
         if len(data) - at < captured:
             return Reading(packets, is_cut=True)
         packets.append((seconds * SECOND + fraction * unit, data[at : at + captured]))
         at += captured
     return Reading(packets)
+
+
+def is_whole(data):
+    """Whether these bytes are nothing, or a capture as it is written, which ends behind a record."""
+    return data == b"" or savefile(read(data).packets) == data
+
+
+def merged_before(inside, outside):
+    """Of two readings, how many packets of each side are merged before one is needed that has a fault, and the side of that, or
+    None."""
+    sides = {"inside": inside, "outside": outside}
+    # both headers are read first
+    for side, it in sides.items():
+        if it.fault in OF_HEADERS:
+            return 0, 0, side
+    taken = dict.fromkeys(sides, 0)
+    while True:
+        left = {side: it for side, it in sides.items() if taken[side] < len(it.packets)}
+        for side, it in sides.items():
+            if side not in left and it.fault:
+                return *taken.values(), side
+        if not left:
+            return *taken.values(), None
+        # at the same time the inside is first
+        taken[min(left, key=lambda side: left[side].packets[taken[side]][0])] += 1

@@ -2,7 +2,7 @@
 
 from dataclasses import dataclass
 
-from . import captures, reading, translating
+from . import reading, translating
 from .reading import word
 from .translating import Datagram, Dropped, Translator
 
@@ -72,9 +72,3 @@ def delivered(found):
     """The replies that a run's packets from outside were to inside hosts. One that got to none is an empty record, which moves the
     clock and does nothing else."""
     return [(it.time, it.left if it.end == "to inside" else b"") for it in found if it.is_outside]
-
-
-def savefile(pairs):
-    """A capture of (time, packet) pairs."""
-    magic = b"\x4d\x3c\xb2\xa1"
-    return bytes(captures.header(magic) + b"".join(bytes(captures.record(magic, time, data)) for time, data in pairs))

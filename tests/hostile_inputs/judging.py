@@ -3,6 +3,8 @@
 import re
 import struct
 
+from shared import Wrong, want
+
 from . import captures, configured, translating
 from .packets import summed
 
@@ -26,15 +28,6 @@ DROPS = translating.CAUSES
 ENDPOINT = r"(?:[0-9]{1,3}\.){3}[0-9]{1,3}:[0-9]{1,5}"
 ROW = re.compile(f"(icmp|tcp|udp) ({ENDPOINT}) ({ENDPOINT})( fixed)?")
 OUTPUT_HEADER = bytes(captures.header(b"\x4d\x3c\xb2\xa1"))
-
-
-class Wrong(Exception):
-    """What a run did that it may not."""
-
-
-def want(holds, complaint):
-    if not holds:
-        raise Wrong(complaint)
 
 
 class Report:
@@ -167,7 +160,7 @@ def judge_words(case, outcome):
         if data or outcome.status == 0:
             judge_written(data)
     standard = outcome.standard
-    if standard and not standard.startswith(b"Network address"):
+    if standard and not standard.startswith((b"Network address", b"napt ")):
         judge_written(standard)
     return {}
 

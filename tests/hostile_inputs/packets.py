@@ -57,9 +57,9 @@ def udp(source, destination, payload=b"", options=b"", with_checksum=True):
     return ipv4(UDP, source[0], destination[0], body, options)
 
 
-def tcp(source, destination, flags, payload=b"", options=b"", tcp_options=b""):
+def tcp(source, destination, flags, payload=b"", options=b"", tcp_options=b"", *, acknowledged=1, window=1024):
     offset = (20 + len(tcp_options)) // 4
-    body = bytearray(struct.pack(">HHIIBBHHH", source[1], destination[1], 1, 1, offset << 4, flags, 1024, 0, 0))
+    body = bytearray(struct.pack(">HHIIBBHHH", source[1], destination[1], 1, acknowledged, offset << 4, flags, window, 0, 0))
     body += tcp_options + payload
     struct.pack_into(">H", body, 16, transport_checksum(TCP, source[0], destination[0], body))
     return ipv4(TCP, source[0], destination[0], body, options)

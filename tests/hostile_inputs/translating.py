@@ -1,5 +1,5 @@
 """What a run leaves, worked out in the plainest way: one list of bindings, one packet after another (RFC 3022, 4787, 5382, 5508, 6888;
-docs/REQUIREMENTS.md and docs/DEFINITIONS.md say what napt chose where they leave a choice)."""
+docs/REQUIREMENTS.md and docs/FORMATS.md say what napt chose where they leave a choice)."""
 
 import struct
 from collections import Counter
@@ -46,9 +46,13 @@ class Flow:
             self.fins.add(way)
         self.is_reset |= bool(flags & RST)
 
-    def is_live(self, now, timers):
+    def timer(self):
+        """The name of its timer (RFC 5382, REQ-5)."""
         is_established = len(self.syns) == 2 and not self.is_closing()
-        return now - self.last < SECOND * timers["tcp-established" if is_established else "tcp-transitory"]
+        return "tcp-established" if is_established else "tcp-transitory"
+
+    def is_live(self, now, timers):
+        return now - self.last < SECOND * timers[self.timer()]
 
 
 class Binding:

@@ -1,83 +1,27 @@
-//! The log of a run as CSV, in the terms of RFC 8158. docs/FORMATS.md describes its fields.
+//! The log of a run as CSV. docs/FORMATS.md describes its fields; `napt_log_text` defines its rows.
 
-use crate::changes::{Change, Event, changes_of};
-use crate::digits::address_text;
-use crate::names::date_of;
+use crate::changes::{Change, Event as Happened, changes_of, ended_by};
 use crate::places::{Output, tell_unwritten};
 use crate::stop::Stop;
-use csv::{ErrorKind, Writer, WriterBuilder};
-use napt_account::{Entry, Log, Shortage};
+use napt_account::Log;
 use napt_config::Config;
-use napt_wire::{Cause, Protocol};
-use serde::Serialize;
+use napt_log_text::{Event, Listed, header};
 use std::alloc::{AllocError, Global};
-use std::io::Write;
+use std::fs::File;
+use std::io::{self, Write};
 use std::rt::Files;
 
-/// The names of the fields: those in mixed case are IPFIX information elements (RFC 8158 and IANA's registry).
-const HEADER: &[&[u8]] = &[
-    b"observationTimeNanoseconds",
-    b"time",
-    b"natEvent",
-    b"protocolIdentifier",
-    b"sourceIPv4Address",
-    b"sourceTransportPort",
-    b"postNATSourceIPv4Address",
-    b"postNAPTSourceTransportPort",
-    b"natQuotaExceededEvent",
-    b"binding",
-    b"redirect",
-    b"packets_out",
-    b"packets_in",
-    b"flowEndNanoseconds",
-    b"last_use",
-];
+/// How many bytes of rows are collected before they are written.
+const BUFFERED: usize = 65_536;
 
-/// The values of natEvent that can occur (RFC 8158).
-const BINDING_MADE: u8 = 8;
-
-const BINDING_ENDED: u8 = 9;
-
-const PORTS_EXHAUSTED: u8 = 12;
-
-const QUOTA_EXCEEDED: u8 = 13;
-
-/// The value of natQuotaExceededEvent: the most entries of one user (RFC 8158).
-const ENTRIES_OF_USER: u8 = 3;
-
-/// An event of the log: its fields, in the order of the header.
-#[derive(Drop, Serialize)]
-struct Record {
-    at: u64,
-    time: Option<String>,
-    event: u8,
-    protocol: u8,
-    host: String,
-    number: Option<u16>,
-    external: String,
-    external_number: Option<u16>,
-    quota: Option<u8>,
-    binding: Option<u64>,
-    redirect: Option<u8>,
-    sent: Option<u64>,
-    received: Option<u64>,
-    last: Option<u64>,
-    last_time: Option<String>,
-}
-
-/// The text fields that every record has.
+/// A log that is being written.
 #[derive(Drop)]
-struct Texts {
-    time: Option<String>,
-    host: String,
-    external: String,
-}
-
-/// What the records of a log are made of.
-#[derive(Clone, Copy)]
-struct Source<'a> {
+struct LogFile<'a, W> {
+    path: &'a str,
     config: &'a Config,
-    log: &'a Log,
+    file: W,
+    /// The rows that are not written yet.
+    text: String,
 }
 
 /// Writes the log of a run to a file; `last` is the time of its last packet. If that fails, prints the file and the
@@ -90,164 +34,93 @@ pub fn write_log<R: Files + Eprint + AllocGlobal>(
     last: u64,
 ) -> Result<(), Stop> {
     let changes = changes_of(rt.alloc(), log, last)?;
-    let source = Source { config, log };
-    let mut setup = WriterBuilder::new();
-    let written = match setup.has_headers(false).from_path(rt, path) {
-        Ok(writer) => source.write(rt.alloc(), writer, &changes),
-        Err(error) => Err(error),
+    let living = living_of(rt.alloc(), log, last)?;
+    let file = match File::create(rt, path) {
+        Ok(file) => file,
+        Err(error) => return Err(tell_unwritten(rt, Output::Log, path, &error)),
     };
-    match written {
-        Ok(()) => Ok(()),
-        Err(error) => Err(failed(rt, path, error)),
-    }
+    let mut written = LogFile {
+        path,
+        config,
+        file,
+        text: String::from_str(rt.alloc(), header())?,
+    };
+    written.put_changes(rt, log, &changes)?;
+    written.put_living(rt, &living)?;
+    written.put(rt)
 }
 
-/// How the program stops if the log cannot be written.
-fn failed<R: Eprint>(rt: &R, path: &str, error: csv::Error) -> Stop {
-    match error.into_kind() {
-        ErrorKind::Io(error) => tell_unwritten(rt, Output::Log, path, &error),
-        _ => Stop::from(AllocError),
-    }
-}
-
-impl<'a> Source<'a> {
-    /// Writes the header and a record for each change.
-    fn write<W: Write + Drop>(
-        self,
-        alloc: Global,
-        writer: Writer<W>,
+impl<'a, W: Write> LogFile<'a, W> {
+    /// Writes the rows of changes of a log.
+    fn put_changes<R: Eprint>(
+        &mut self,
+        rt: &R,
+        log: &Log,
         changes: &[Change],
-    ) -> Result<(), csv::Error> {
-        let mut writer = writer;
-        writer.write_fields(HEADER)?;
+    ) -> Result<(), Stop> {
         for change in changes {
-            if let Some(record) = self.record(alloc, *change)? {
-                writer.serialize(alloc, &record)?;
+            if let Some(event) = event_of(log, *change) {
+                self.add(rt, event)?;
             }
         }
-        writer.flush()
+        Ok(())
     }
 
-    /// The record of a change.
-    fn record(self, alloc: Global, change: Change) -> Result<Option<Record>, csv::Error> {
-        let made = match change.event {
-            Event::Ended(place) => self.binding_record(alloc, change.at, BINDING_ENDED, place),
-            Event::Made(place) => self.binding_record(alloc, change.at, BINDING_MADE, place),
-            Event::Refused(place) => self.shortage_record(alloc, place),
-        };
-        made.map_err(|_| csv::Error::out_of_memory())
+    /// Writes the rows of bindings that live at the end.
+    fn put_living<R: Eprint>(&mut self, rt: &R, living: &[Listed]) -> Result<(), Stop> {
+        for listed in living {
+            self.add(rt, Event::Living(*listed))?;
+        }
+        Ok(())
     }
 
-    /// The record of an event of the binding at a place.
-    fn binding_record(
-        self,
-        alloc: Global,
-        at: u64,
-        event: u8,
-        place: usize,
-    ) -> Result<Option<Record>, AllocError> {
-        let Some(entry) = self.log.entries.get(place) else {
-            return Ok(None);
-        };
-        let binding = entry.binding;
-        let last = last_use(entry);
-        let last_time = last_text(alloc, last)?;
-        let texts = Texts::of(alloc, at, binding.inside.address, binding.external.address)?;
-        Ok(Some(Record {
-            at,
-            time: texts.time,
-            event,
-            protocol: protocol_number(binding.protocol),
-            host: texts.host,
-            number: Some(binding.inside.number),
-            external: texts.external,
-            external_number: Some(binding.external.number),
-            quota: None,
-            binding: Some((place as u64).saturating_add(1)),
-            redirect: Some(u8::from(binding.fixed)),
-            sent: Some(entry.sent),
-            received: Some(entry.received),
-            last,
-            last_time,
-        }))
+    /// Adds a row, and writes the rows if there are enough of them.
+    fn add<R: Eprint>(&mut self, rt: &R, event: Event) -> Result<(), Stop> {
+        event.add_row(self.config, &mut self.text)?;
+        if self.text.len() < BUFFERED {
+            return Ok(());
+        }
+        self.put(rt)
     }
 
-    /// The record of the shortage at a place.
-    fn shortage_record(self, alloc: Global, place: usize) -> Result<Option<Record>, AllocError> {
-        let Some(shortage) = self.log.shortages.get(place) else {
-            return Ok(None);
-        };
-        let (event, quota) = shortage_kind(shortage);
-        let external = self.config.pair(shortage.host);
-        let texts = Texts::of(alloc, shortage.at, shortage.host, external)?;
-        Ok(Some(Record {
-            at: shortage.at,
-            time: texts.time,
-            event,
-            protocol: protocol_number(shortage.protocol),
-            host: texts.host,
-            number: None,
-            external: texts.external,
-            external_number: None,
-            quota,
-            binding: None,
-            redirect: None,
-            sent: None,
-            received: None,
-            last: None,
-            last_time: None,
-        }))
+    /// Writes the rows and forgets them. If that fails, prints the file and the system's reason.
+    fn put<R: Eprint>(&mut self, rt: &R) -> Result<(), Stop> {
+        let written: io::Result<()> = self.file.write_all(self.text.as_bytes());
+        self.text.clear();
+        match written {
+            Ok(()) => Ok(()),
+            Err(error) => Err(tell_unwritten(rt, Output::Log, self.path, &error)),
+        }
     }
 }
 
-impl Texts {
-    /// The texts for a time in ns, a host and its external address.
-    fn of(alloc: Global, at: u64, host: u32, external: u32) -> Result<Texts, AllocError> {
-        let time = date_text(alloc, at)?;
-        let host = address_text(alloc, host)?;
-        let external = address_text(alloc, external)?;
-        Ok(Texts {
-            time,
-            host,
-            external,
-        })
+/// The bindings that live at a time and are no redirects, in the order in which they end if no packet comes.
+fn living_of(alloc: Global, log: &Log, last: u64) -> Result<Vec<Listed>, AllocError> {
+    let mut living = Vec::new(alloc);
+    for (place, entry) in log.entries.iter().enumerate() {
+        if entry.end.is_some() && ended_by(entry.end, last).is_none() {
+            living.push(Listed {
+                number: (place as u64).saturating_add(1),
+                entry: *entry,
+            })?;
+        }
+    }
+    living.sort_by_key(|listed| listed.entry.end)?;
+    Ok(living)
+}
+
+/// The event of a change, with its entry or shortage in the log.
+fn event_of(log: &Log, change: Change) -> Option<Event> {
+    match change.event {
+        Happened::Ended(place) => Some(Event::Ended(listed(log, place)?)),
+        Happened::Made(place) => Some(Event::Made(listed(log, place)?)),
+        Happened::Refused(place) => Some(Event::Refused(*log.shortages.get(place)?)),
     }
 }
 
-/// The natEvent of a shortage, and its natQuotaExceededEvent.
-fn shortage_kind(shortage: &Shortage) -> (u8, Option<u8>) {
-    match shortage.cause {
-        Cause::OverQuota => (QUOTA_EXCEEDED, Some(ENTRIES_OF_USER)),
-        _ => (PORTS_EXHAUSTED, None),
-    }
-}
-
-/// When a packet last used the binding, if one did.
-fn last_use(entry: &Entry) -> Option<u64> {
-    (entry.sent > 0 || entry.received > 0).then_some(entry.last)
-}
-
-/// A protocol's number (IANA).
-fn protocol_number(protocol: Protocol) -> u8 {
-    match protocol {
-        Protocol::Icmp => 1,
-        Protocol::Tcp => 6,
-        Protocol::Udp => 17,
-    }
-}
-
-/// The date of the last use, if there is one.
-fn last_text(alloc: Global, last: Option<u64>) -> Result<Option<String>, AllocError> {
-    match last {
-        Some(last) => date_text(alloc, last),
-        None => Ok(None),
-    }
-}
-
-/// A time in ns as a date in UTC.
-fn date_text(alloc: Global, time: u64) -> Result<Option<String>, AllocError> {
-    match date_of(u128::from(time)) {
-        Some(date) => Ok(Some(format!(in alloc; "{date}")?)),
-        None => Ok(None),
-    }
+/// The entry at a place of the log, with its number.
+fn listed(log: &Log, place: usize) -> Option<Listed> {
+    let entry = *log.entries.get(place)?;
+    let number = (place as u64).saturating_add(1);
+    Some(Listed { number, entry })
 }

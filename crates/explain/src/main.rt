@@ -12,6 +12,7 @@ mod ended;
 mod following;
 mod log_file;
 mod losses;
+mod manual;
 mod measures;
 mod names;
 mod objects;
@@ -24,9 +25,13 @@ mod reading;
 mod refused;
 mod remotes;
 mod replies;
+mod requests;
+mod saved;
 mod scene;
 mod shown;
 mod sizes;
+mod sorted;
+mod spans;
 mod stop;
 mod summary;
 mod warning;
@@ -37,6 +42,7 @@ use crate::ended::Ended;
 use crate::following::write_followed;
 use crate::log_file::write_log;
 use crate::losses::Losses;
+use crate::manual::{INSTALLED, OWN};
 use crate::measures::tell_sizes;
 use crate::objects::Objects;
 use crate::options::{Form, Options, Outside};
@@ -44,16 +50,18 @@ use crate::page::Page;
 use crate::places::{Output, tell_unwritten};
 use crate::plan::tell_plan;
 use crate::progress::Progress;
-use crate::reading::{Given, read_given};
+use crate::reading::{Given, GivenToLog, read_given, read_given_to_log};
 use crate::replies::ends_of;
+use crate::requests::Asked;
+use crate::saved::{Saved, read_saved};
 use crate::scene::{Shown, scene_of};
 use crate::stop::Stop;
 use crate::summary::{Told, Widths};
-use crate::who::tell_holders;
+use crate::who::{Known, tell_answers};
 use napt_account::account_of;
 use napt_config::Config;
 use napt_display::picture::drawing_of;
-use napt_program::Streams;
+use napt_program::{Call, Streams};
 use napt_wire::Endpoint;
 use std::alloc::{AllocError, Global};
 use std::env::Env;
@@ -64,7 +72,7 @@ use std::{env, fs};
 
 fn main(rt: HostRuntime) -> ExitCode {
     let streams = Streams::open_now(&rt);
-    match explained(&rt, streams) {
+    match called(&rt, streams) {
         Ok(()) => ExitCode::SUCCESS,
         Err(stop) => {
             stop.tell(&rt);
@@ -73,14 +81,24 @@ fn main(rt: HostRuntime) -> ExitCode {
     }
 }
 
+/// Does what the command line asks for, under the name that it begins with.
+fn called(rt: &HostRuntime, streams: Streams) -> Result<(), Stop> {
+    let call = Call::of(rt, streams, OWN.name);
+    match call.as_called(rt, INSTALLED.name) {
+        Ok(call) => explained(rt, streams, call),
+        Err(stop) => Err(Stop::As(stop)),
+    }
+}
+
 /// Does what the command line asks for.
 fn explained<R: Env + Files + Input + Print + Eprint + AllocGlobal>(
     rt: &R,
     streams: Streams,
+    call: Call,
 ) -> Result<(), Stop> {
     let words = words(rt)?;
-    match options::read(rt, &words)? {
-        Some(matches) => explained_under(rt, streams, &options::options_of(rt, &matches)?),
+    match options::read(rt, call, &words)? {
+        Some(matches) => explained_under(rt, streams, &options::options_of(rt, call, &matches)?),
         None => Ok(()),
     }
 }
@@ -96,16 +114,20 @@ fn words<R: Env + AllocGlobal>(rt: &R) -> Result<Vec<String>, Stop> {
     }
 }
 
-/// Reads the configuration and the captures, and prints the run.
+/// Reads what is named, and prints the run, or what a saved log answers.
 fn explained_under<R: Files + Input + Print + Eprint + AllocGlobal>(
     rt: &R,
     streams: Streams,
     options: &Options<'_>,
 ) -> Result<(), Stop> {
+    if let Some(path) = options.saved {
+        return answered(rt, streams, options, path);
+    }
     let Given {
         config,
         other,
         plans,
+        asked,
         inputs,
         cuts,
     } = read_given(rt, streams, options)?;
@@ -118,8 +140,28 @@ fn explained_under<R: Files + Input + Print + Eprint + AllocGlobal>(
             tell_against(rt, options, path, &inputs, [&config, other])
         }
         (Form::Plans | Form::PlansInCsv, _) => tell_plan(rt, options, &inputs, &plans),
-        _ => run(rt, options, &config, inputs),
+        _ => run(rt, options, &config, &asked, inputs),
     }
+}
+
+/// Answers requests from a saved log.
+fn answered<R: Files + Input + Print + Eprint + AllocGlobal>(
+    rt: &R,
+    streams: Streams,
+    options: &Options<'_>,
+    path: &str,
+) -> Result<(), Stop> {
+    let GivenToLog { config, asked } = read_given_to_log(rt, options, path)?;
+    let Saved { entries, last } = read_saved(rt, path)?;
+    if !streams.output {
+        return Err(Stop::NoOutput);
+    }
+    let known = Known {
+        entries: &entries,
+        last,
+        config: config.as_ref(),
+    };
+    tell_answers(rt, &asked, known)
 }
 
 /// Makes the run over the inputs, writes the files that are requested, and prints it.
@@ -127,6 +169,7 @@ fn run<R: Files + Print + Eprint + AllocGlobal>(
     rt: &R,
     options: &Options<'_>,
     config: &Config,
+    asked: &[Asked],
     inputs: Vec<napt_sequential::Input>,
 ) -> Result<(), Stop> {
     let progress = Progress::of(rt, inputs.len());
@@ -152,7 +195,8 @@ fn run<R: Files + Print + Eprint + AllocGlobal>(
         losses: &losses,
         replies: options.outside.replies(config, &ends),
     };
-    tell_form(rt, options.form, config, told, progress)
+    told.tell_unmatched(rt, progress)?;
+    tell_form(rt, options.form, config, asked, told, progress)
 }
 
 /// The inside endpoints that the inputs name, if they are replies of which each may have a line; else none.
@@ -172,14 +216,20 @@ fn tell_form<R: Print + Eprint + AllocGlobal>(
     rt: &R,
     form: Form<'_>,
     config: &Config,
+    asked: &[Asked],
     told: Told<'_>,
     progress: Progress,
 ) -> Result<(), Stop> {
     let log = &told.account.log;
     match form {
-        Form::Holders(question) => {
+        Form::Holders(_) | Form::Requests(_) => {
             progress.tell_end(rt);
-            tell_holders(rt, question, config, log, told.last())
+            let known = Known {
+                entries: &log.entries,
+                last: told.last(),
+                config: Some(config),
+            };
+            tell_answers(rt, asked, known)
         }
         Form::Sizes => {
             progress.tell_end(rt);

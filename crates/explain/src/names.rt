@@ -2,7 +2,6 @@
 
 use jiff::Timestamp;
 use napt_wire::Side;
-use std::alloc::{AllocError, Global};
 use std::fmt;
 
 pub fn side_name(side: Side) -> &'static str {
@@ -41,18 +40,6 @@ impl fmt::Display for Moment {
 }
 
 /// The date of a time in nanoseconds since 1970, up to the year 9999.
-pub fn date_of(time: u128) -> Option<Timestamp> {
+fn date_of(time: u128) -> Option<Timestamp> {
     Timestamp::from_nanosecond(i128::try_from(time).ok()?).ok()
-}
-
-/// A name in code, such as `BadAddress`, as users read it: `bad-address`.
-pub fn hyphened(alloc: Global, name: &str) -> Result<String, AllocError> {
-    let mut text = String::new(alloc);
-    for letter in name.chars() {
-        if letter.is_ascii_uppercase() && !text.is_empty() {
-            text.push('-')?;
-        }
-        text.push(letter.to_ascii_lowercase())?;
-    }
-    Ok(text)
 }

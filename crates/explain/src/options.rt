@@ -1,18 +1,16 @@
 //! The command line.
 
+use crate::manual::{INSTALLED, OWN};
 use crate::scene::Part;
+use crate::spans::{nanoseconds_of, span_of};
 use crate::stop::Stop;
 use clap::error::ErrorKind;
 use clap::{Arg, ArgAction, ArgMatches, Command, Error};
-use jiff::Timestamp;
-use napt_account::{Party, Question};
+use napt_account::Party;
 use napt_config::Address;
+use napt_log_text::{Request, Span};
+use napt_program::{Call, Manual, Role, VERSION};
 use std::alloc::{AllocError, Global};
-
-const VERSION: &str = "1.0, its sources proved with Rattle's logic dac8208d650f15bf";
-
-const ABOUT: &str =
-    "Explains what napt does with each packet of its captures, or why it refuses its input.";
 
 const NOT_WRITTEN: &str =
     "Never written: accepted as an option of napt, and refused if napt would refuse it";
@@ -23,8 +21,8 @@ drops over time, or counts of live bindings if more than 30 are shown";
 
 const LOG: &str =
     "Writes the log of the run in CSV into this file, which nothing else may name: each binding when it \
-is made and when it expires, and each packet refused one by the quota or for lack of a free port \
-(docs/FORMATS.md)";
+is made and when it expires, each packet refused one by the quota or for lack of a free port, and then each binding \
+that lives at the end (docs/FORMATS.md)";
 
 const WHO: &str =
     "Prints only which inside endpoints had this external endpoint, or one of this address: a line for \
@@ -32,7 +30,14 @@ each, with its protocol and the times from and until when; the status is 1 if no
 
 const AT: &str =
     "Limits --who to this time: seconds since 1970, as in the lines, or an RFC 3339 date such as \
-2026-11-26T10:02:07Z";
+2026-11-26T10:02:07Z. It stands for its whole last digit: here for that second, with nine decimals for a nanosecond";
+
+const REQUESTS: &str =
+    "Prints only the answers to the requests in this file, one a line: ADDRESS[:PORT] TIME [PROTOCOL], with TIME as for \
+--at. The number of its line stands before each answer; the status is 1 if nobody had one of them";
+
+const SAVED_LOG: &str =
+    "Answers --who or --requests from this file, which --log wrote, in place of captures; --config tells the pool";
 
 const REPLIES: &str =
     "Capture of replies as inside hosts got them, in place of --outside: each follows its inside endpoint to \
@@ -51,19 +56,6 @@ const CSV: &str = "Prints the table of --plan in CSV";
 const SIZES: &str =
     "Prints only how many bindings, ports and hosts there were at once, what quotas would have refused, \
 and how long bindings lived (docs/FORMATS.md)";
-
-const NOTES: &str = "Examples:
-  explain --config napt.toml --inside inside.pcap --outside outside.pcap --dropped
-  explain --config napt.toml --inside inside.pcap --outside outside.pcap --who 203.0.113.1:5000 --at 2.5
-  explain --plan small.toml large.toml --inside inside.pcap --replies replies.pcap
-
-Each line has a packet's number, time in seconds, side, the packet, what happened, and the packet as it leaves:
-  1 1.000000 inside  udp 10.0.0.2:5000 > 198.51.100.7:3000 | made a binding | udp 203.0.113.1:5000 > 198.51.100.7:3000
-For ICMP queries the number of an endpoint is the identifier, also in --host.
-
-The arguments of napt can be given unchanged: no output of napt is written. The statuses are those of napt, and whatever it
-refuses is explained on standard error. With --against the status is 1 if a packet differs, and with --who if nobody had the
-endpoint.";
 
 // The options that take a value: name, kind of value and meaning, in the order of the help text.
 const VALUES: &[(&str, &str, &str)] = &[
@@ -101,6 +93,8 @@ const VALUES: &[(&str, &str, &str)] = &[
     ("log", "FILE", LOG),
     ("who", "ADDRESS[:PORT]", WHO),
     ("at", "TIME", AT),
+    ("requests", "FILE", REQUESTS),
+    ("saved-log", "FILE", SAVED_LOG),
     (
         "only",
         "N",
@@ -139,6 +133,7 @@ const APART: &[(&str, &str)] = &[
     ("plan", "json"),
     ("plan", "sizes"),
     ("plan", "who"),
+    ("plan", "requests"),
     ("plan", "log"),
     ("plan", "svg"),
     ("plan", "only"),
@@ -147,17 +142,34 @@ const APART: &[(&str, &str)] = &[
     ("against", "json"),
     ("against", "sizes"),
     ("against", "who"),
+    ("against", "requests"),
     ("against", "log"),
     ("against", "svg"),
     ("json", "sizes"),
     ("json", "who"),
+    ("json", "requests"),
     ("sizes", "who"),
+    ("sizes", "requests"),
     ("sizes", "only"),
     ("sizes", "host"),
     ("sizes", "dropped"),
     ("who", "only"),
     ("who", "host"),
     ("who", "dropped"),
+    ("who", "requests"),
+    ("requests", "only"),
+    ("requests", "host"),
+    ("requests", "dropped"),
+    ("saved-log", "inside"),
+    ("saved-log", "outside"),
+    ("saved-log", "replies"),
+    ("saved-log", "followed"),
+    ("saved-log", "to-outside"),
+    ("saved-log", "to-inside"),
+    ("saved-log", "report"),
+    ("saved-log", "log"),
+    ("saved-log", "svg"),
+    ("svg", "host"),
 ];
 
 /// What to explain, and which lines to print.
@@ -167,6 +179,8 @@ pub struct Options<'m> {
     pub files: napt_program::Options,
     /// What the outside capture holds.
     pub outside: Outside,
+    /// What split is called.
+    pub split: &'static str,
     /// The file for the outside capture that follows, if one is requested.
     pub followed: Option<&'m str>,
     /// The file for the picture, if one is requested.
@@ -175,11 +189,44 @@ pub struct Options<'m> {
     pub part: Part,
     /// The file for the log, if one is requested.
     pub log: Option<&'m str>,
+    /// The log to answer requests from, if that is not the log of a run.
+    pub saved: Option<&'m str>,
     /// The configurations of a plan; none if no plan is asked for.
     pub plans: Vec<String>,
     /// What is written to standard output.
     pub form: Form<'m>,
     pub choice: Choice,
+}
+
+impl<'m> Options<'m> {
+    /// The name of a role's option, without its dashes.
+    pub fn name_of(&self, role: Role) -> &'static str {
+        match role {
+            Role::Outside => self.outside.name(),
+            _ => role.name(),
+        }
+    }
+
+    /// Whether standard input is the configuration or one of the captures.
+    pub fn takes_input(&self) -> bool {
+        let files = &self.files;
+        files.is_stream(Role::Config)
+            || files.is_standard(Role::Inside)
+            || files.is_stream(Role::Outside)
+    }
+
+    /// How many of the other configurations, or of files of requests, are to come from standard input.
+    pub fn more_from_input(&self) -> usize {
+        let plans = self
+            .plans
+            .iter()
+            .filter(|path| path.as_str() == "-")
+            .count();
+        match self.form {
+            Form::Differences("-") | Form::Requests("-") => plans.saturating_add(1),
+            _ => plans,
+        }
+    }
 }
 
 /// What the outside capture holds.
@@ -209,7 +256,9 @@ pub enum Form<'m> {
     /// A JSON object for each packet.
     Objects,
     /// Who had an external endpoint.
-    Holders(Question),
+    Holders(Request),
+    /// Who had those that the file at this path asks for.
+    Requests(&'m str),
     /// How many bindings, ports and hosts there were at once.
     Sizes,
     /// What ends differently under the configuration at this path.
@@ -221,9 +270,21 @@ pub enum Form<'m> {
 }
 
 impl<'m> Form<'m> {
+    /// The name of the option that names other configurations, or requests, without its dashes.
+    pub fn name_of_configurations(self) -> &'static str {
+        match self {
+            Form::Differences(_) => "against",
+            Form::Requests(_) => "requests",
+            _ => "plan",
+        }
+    }
+
     /// Whether programs read it, so that it may hold nothing else.
     pub fn is_for_programs(self) -> bool {
-        matches!(self, Form::Objects | Form::Holders(_) | Form::PlansInCsv)
+        matches!(
+            self,
+            Form::Objects | Form::Holders(_) | Form::Requests(_) | Form::PlansInCsv
+        )
     }
 }
 
@@ -242,9 +303,10 @@ pub struct Choice {
 /// usage error is printed and returned as an error.
 pub fn read<'w, R: Print + Eprint + AllocGlobal>(
     rt: &R,
+    call: Call,
     words: &'w [String],
 ) -> Result<Option<ArgMatches<'w>>, Stop> {
-    let command = explain_command(rt.alloc())?;
+    let command = explain_command(rt.alloc(), call)?;
     match command.try_get_matches_from(words) {
         Ok(matches) => Ok(Some(matches)),
         Err(error) => {
@@ -270,8 +332,8 @@ fn told<R: Print + Eprint + AllocGlobal>(rt: &R, error: &Error) -> Result<(), St
     }
 }
 
-fn explain_command<'a>(alloc: Global) -> Result<Command<'a>, AllocError> {
-    let mut command = described_command(alloc)?;
+fn explain_command<'a>(alloc: Global, call: Call) -> Result<Command<'a>, AllocError> {
+    let mut command = described_command(alloc, call.manual(OWN, INSTALLED))?;
     for (name, value, meaning) in VALUES.iter() {
         command = command.arg(value_arg(alloc, *name, *value, *meaning))?;
     }
@@ -283,9 +345,16 @@ fn explain_command<'a>(alloc: Global) -> Result<Command<'a>, AllocError> {
 }
 
 /// The command without its options.
-fn described_command<'a>(alloc: Global) -> Result<Command<'a>, AllocError> {
-    let command = Command::new(alloc, "explain").bin_name("explain")?;
-    Ok(command.version(VERSION).about(ABOUT).after_help(NOTES))
+fn described_command<'a>(alloc: Global, manual: Manual) -> Result<Command<'a>, AllocError> {
+    let command = Command::new(alloc, "explain")
+        .bin_name(manual.name)?
+        .display_name(manual.name)?;
+    Ok(
+        command
+            .version(VERSION)
+            .about(manual.about)
+            .after_help(manual.notes),
+    )
 }
 
 // A plain option without a value.
@@ -308,6 +377,7 @@ fn value_arg<'a>(alloc: Global, name: &'a str, value: &'a str, meaning: &'a str)
 /// The options given. An invalid number or address is reported.
 pub fn options_of<'m, R: Eprint + AllocGlobal>(
     rt: &R,
+    call: Call,
     matches: &'m ArgMatches<'_>,
 ) -> Result<Options<'m>, Stop> {
     refuse_mixed(rt, matches)?;
@@ -318,10 +388,12 @@ pub fn options_of<'m, R: Eprint + AllocGlobal>(
     Ok(Options {
         files: files_of(rt.alloc(), matches, outside)?,
         outside,
+        split: split_of(call),
         followed: followed_of(rt, matches, outside)?,
         svg: matches.get_str("svg"),
         part,
         log: matches.get_str("log"),
+        saved: saved_of(rt, matches)?,
         plans: plans_of(rt.alloc(), matches)?,
         form: form_of(rt, matches)?,
         choice: Choice {
@@ -330,6 +402,15 @@ pub fn options_of<'m, R: Eprint + AllocGlobal>(
             dropped: matches.get_flag("dropped"),
         },
     })
+}
+
+/// What split is called, beside a program that was called so.
+fn split_of(call: Call) -> &'static str {
+    if call.name == INSTALLED.name {
+        "napt-split"
+    } else {
+        "./split"
+    }
 }
 
 /// Refuses two options that exclude each other.
@@ -355,8 +436,11 @@ fn is_given(matches: &ArgMatches<'_>, name: &str) -> bool {
 
 /// What to write to standard output.
 fn form_of<'m, R: Eprint>(rt: &R, matches: &'m ArgMatches<'_>) -> Result<Form<'m>, Stop> {
-    if let Some(question) = question_of(rt, matches)? {
-        return Ok(Form::Holders(question));
+    if let Some(request) = request_of(rt, matches)? {
+        return Ok(Form::Holders(request));
+    }
+    if let Some(path) = matches.get_str("requests") {
+        return Ok(Form::Requests(path));
     }
     if let Some(path) = matches.get_str("against") {
         return Ok(Form::Differences(path));
@@ -396,16 +480,30 @@ fn plans_of(alloc: Global, matches: &ArgMatches<'_>) -> Result<Vec<String>, Allo
 }
 
 /// What `--who` asks, if it is given. `--at` without it is reported.
-fn question_of<R: Eprint>(rt: &R, matches: &ArgMatches<'_>) -> Result<Option<Question>, Stop> {
-    let at = moment_of(rt, matches)?;
+fn request_of<R: Eprint>(rt: &R, matches: &ArgMatches<'_>) -> Result<Option<Request>, Stop> {
+    let at = span_at(rt, matches)?;
     match party_at(rt, matches, "who")? {
-        Some(party) => Ok(Some(Question { party, at })),
+        Some(party) => Ok(Some(Request {
+            protocol: None,
+            party,
+            at,
+        })),
         None if at.is_some() => {
             let _ = eprintln!(rt; "explain: --at chooses a time of --who");
             Err(Stop::Told(napt_program::Stop::Usage))
         }
         None => Ok(None),
     }
+}
+
+/// The file of `--saved-log`, if it is given. Without a request it is reported.
+fn saved_of<'m, R: Eprint>(rt: &R, matches: &'m ArgMatches<'_>) -> Result<Option<&'m str>, Stop> {
+    let saved = matches.get_str("saved-log");
+    if saved.is_some() && !is_given(matches, "who") && !is_given(matches, "requests") {
+        let _ = eprintln!(rt; "explain: --saved-log answers --who or --requests");
+        return Err(Stop::Told(napt_program::Stop::Usage));
+    }
+    Ok(saved)
 }
 
 /// What the outside capture holds, by its option.
@@ -491,7 +589,7 @@ fn party_at<R: Eprint>(
 }
 
 /// Parses a host or an endpoint, such as `10.0.0.2` or `203.0.113.1:5000`.
-fn party_of(text: &str) -> Option<Party> {
+pub fn party_of(text: &str) -> Option<Party> {
     let (address, number) = match text.split_once(':') {
         Some((address, number)) => (address, Some(number.parse::<u16>().ok()?)),
         None => (text, None),
@@ -532,13 +630,13 @@ fn time_of<R: Eprint>(rt: &R, matches: &ArgMatches<'_>, option: &str) -> Result<
     }
 }
 
-/// The time of `--at`, in ns since 1970. An invalid one is reported.
-fn moment_of<R: Eprint>(rt: &R, matches: &ArgMatches<'_>) -> Result<Option<u64>, Stop> {
+/// The time of `--at`. An invalid one is reported.
+fn span_at<R: Eprint>(rt: &R, matches: &ArgMatches<'_>) -> Result<Option<Span>, Stop> {
     let Some(text) = matches.get_str("at") else {
         return Ok(None);
     };
-    match nanoseconds_of(text).or_else(|| nanoseconds_of_date(text)) {
-        Some(time) => Ok(Some(time)),
+    match span_of(text) {
+        Some(span) => Ok(Some(span)),
         None => {
             let _ = eprintln!(rt;
                 "explain: --at {text}: expected seconds since 1970, as 90 or 1.5, or a date, as 2026-11-26T10:02:07Z"
@@ -546,30 +644,4 @@ fn moment_of<R: Eprint>(rt: &R, matches: &ArgMatches<'_>) -> Result<Option<u64>,
             Err(Stop::Told(napt_program::Stop::Usage))
         }
     }
-}
-
-/// The nanoseconds since 1970 of a date in RFC 3339.
-fn nanoseconds_of_date(text: &str) -> Option<u64> {
-    let date = text.parse::<Timestamp>().ok()?;
-    u64::try_from(date.as_nanosecond()).ok()
-}
-
-/// Parses seconds with up to nine decimals, as nanoseconds.
-fn nanoseconds_of(text: &str) -> Option<u64> {
-    let (seconds, decimals) = match text.split_once('.') {
-        Some((seconds, decimals)) => (seconds, decimals),
-        None => (text, "0"),
-    };
-    let whole = seconds.parse::<u64>().ok()?.checked_mul(1_000_000_000)?;
-    if decimals.is_empty()
-        || decimals.len() > 9
-        || !decimals.bytes().all(|it| it.is_ascii_digit())
-    {
-        return None;
-    }
-    let mut rest = decimals.parse::<u64>().ok()?;
-    for _ in decimals.len()..9 {
-        rest = rest.checked_mul(10)?;
-    }
-    whole.checked_add(rest)
 }

@@ -9,6 +9,11 @@ use std::io::Read;
 use std::rt::Files;
 use std::{fs, io};
 
+/// The paths of the standard streams.
+const INPUT: &str = "/dev/stdin";
+
+const OUTPUT: &str = "/dev/stdout";
+
 /// A file and what names it: an option, or a standard stream in place of an absent option.
 #[derive(Clone, Copy)]
 struct Named<'a> {
@@ -43,14 +48,26 @@ pub fn tell_file<R: Files + Eprint>(rt: &R, options: &Options<'_>, role: Role) -
 
 /// Prints that the standard stream for a role is closed, and returns how `napt` would stop.
 pub fn tell_closed<R: Eprint>(rt: &R, role: Role) -> Stop {
-    let stream = match role {
-        Role::Inside => "standard input",
-        _ => "standard output",
-    };
+    let stream = stream_of(role);
     let _ = eprintln!(rt;
         "explain: {stream} is closed, and stands for --{}",
         role.name()
     );
+    Stop::Told(napt_program::Stop::File(role))
+}
+
+/// The standard stream that may stand for a role.
+fn stream_of(role: Role) -> &'static str {
+    match role {
+        Role::Config | Role::Inside | Role::Outside => "standard input",
+        Role::ToOutside | Role::ToInside | Role::Report => "standard output",
+    }
+}
+
+/// Prints that an option is `-` and another has the standard stream, and returns how `napt` would stop.
+pub fn tell_shared<R: Eprint>(rt: &R, option: &str, role: Role) -> Stop {
+    let stream = stream_of(role);
+    let _ = eprintln!(rt; "explain: --{option} -: another file is {stream} too");
     Stop::Told(napt_program::Stop::File(role))
 }
 
@@ -67,6 +84,7 @@ pub fn refuse_output<R: Files + Eprint>(
     };
     let option = option_of(output);
     match named_again(rt, options, output, path) {
+        _ if path == "-" => tell_again(rt, option, path, "standard output"),
         Some(name) => tell_again(rt, option, path, name),
         None => match unmade(rt, path) {
             Some(error) => tell_failed(rt, option, path, &error),
@@ -96,11 +114,7 @@ fn unwritten() -> Stop {
 
 /// Prints that a file of an option failed, with the system's reason.
 fn tell_failed<R: Eprint>(rt: &R, option: &str, path: &str, error: &io::Error) {
-    let hint = match path {
-        "-" => "; a standard stream is /dev/stdin or /dev/stdout",
-        _ => "",
-    };
-    let _ = eprintln!(rt; "explain: --{option} {path}: {error}{hint}");
+    let _ = eprintln!(rt; "explain: --{option} {path}: {error}");
 }
 
 /// Prints why a configuration file cannot be used (it is missing, cannot be read, or is too long), and returns how
@@ -189,7 +203,7 @@ fn named_again<R: Files>(
     output: Output,
     path: &str,
 ) -> Option<&'static str> {
-    let place = place_of(rt, path);
+    let place = place_of(rt, standing(path, OUTPUT));
     let all = all_named(options, output);
     let again = all
         .iter()
@@ -219,14 +233,18 @@ fn all_named<'a>(options: &'a Options<'_>, output: Output) -> [Named<'a>; 10] {
     let has_input = files.inside.is_none();
     let has_output = files.to_outside.is_none() || before(output) >= before(Output::Picture);
     [
-        option_file("--config", files.config.as_ref()),
-        option_file("--inside", files.inside.as_ref()),
-        stream_file("standard input", "/dev/stdin", has_input),
-        option_file(outside_option(options.outside), files.outside.as_ref()),
-        stream_file("standard output", "/dev/stdout", has_output),
-        option_file("--to-outside", files.to_outside.as_ref()),
-        option_file("--to-inside", files.to_inside.as_ref()),
-        option_file("--report", files.report.as_ref()),
+        option_file("--config", files.config.as_ref(), INPUT),
+        option_file("--inside", files.inside.as_ref(), INPUT),
+        stream_file("standard input", INPUT, has_input),
+        option_file(
+            outside_option(options.outside),
+            files.outside.as_ref(),
+            INPUT,
+        ),
+        stream_file("standard output", OUTPUT, has_output),
+        option_file("--to-outside", files.to_outside.as_ref(), OUTPUT),
+        option_file("--to-inside", files.to_inside.as_ref(), OUTPUT),
+        option_file("--report", files.report.as_ref(), OUTPUT),
         Named {
             name: "--svg",
             path: options.svg,
@@ -245,10 +263,15 @@ fn outside_option(outside: Outside) -> &'static str {
     }
 }
 
-fn option_file<'a>(name: &'static str, path: Option<&'a String>) -> Named<'a> {
+/// The path of a file, or of the standard stream for `-`.
+fn standing<'a>(path: &'a str, stream: &'a str) -> &'a str {
+    if path == "-" { stream } else { path }
+}
+
+fn option_file<'a>(name: &'static str, path: Option<&'a String>, stream: &'a str) -> Named<'a> {
     Named {
         name,
-        path: path.map(|path| path.as_str()),
+        path: path.map(|path| standing(path, stream)),
     }
 }
 

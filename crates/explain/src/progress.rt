@@ -52,10 +52,17 @@ impl Progress {
         under: Option<&str>,
         losses: &Losses,
     ) {
-        if self.is_told && has_warning(outside, losses) {
-            let _ = eprintln!(rt; "");
+        if has_warning(outside, losses) {
+            self.tell_break(rt);
         }
         tell_warning(rt, outside, under, losses);
+    }
+
+    /// Ends the line, so that others can be written.
+    pub fn tell_break<R: Eprint>(self, rt: &R) {
+        if self.is_told {
+            let _ = eprintln!(rt; "");
+        }
     }
 
     /// Reports progress, in place of the report before.

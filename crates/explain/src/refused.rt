@@ -1,10 +1,10 @@
 //! Prints why napt refuses a configuration or a capture.
 
-use crate::names::hyphened;
 use crate::stop::Stop;
 use napt_capture::CaptureFault;
 use napt_config::ConfigFault;
-use napt_display::reasons::{Reason, capture_reasons, config_reasons};
+use napt_display::reasons::{Reason, Splitting, capture_reasons, config_reasons};
+use napt_program::{CaptureFaultName, name_of_config_fault};
 use std::alloc::AllocError;
 
 /// Prints that the configuration at a path, with this text, is refused for a fault, and why.
@@ -14,8 +14,8 @@ pub fn tell_config<R: Eprint + AllocGlobal>(
     text: &[u8],
     fault: ConfigFault,
 ) -> Result<(), Stop> {
-    let code = format!(in rt.alloc(); "{fault:?}")?;
-    tell_refusal(rt, "configuration", path, &code)?;
+    let name = name_of_config_fault(fault);
+    let _ = eprintln!(rt; "the configuration {path} is refused: {name}");
     tell_reasons(rt, config_reasons(rt.alloc(), text, fault))
 }
 
@@ -25,22 +25,11 @@ pub fn tell_capture<R: Eprint + AllocGlobal>(
     side: &str,
     bytes: &[u8],
     fault: CaptureFault,
+    splitting: Splitting<'_>,
 ) -> Result<(), Stop> {
-    let code = format!(in rt.alloc(); "{fault:?}")?;
-    tell_refusal(rt, "capture", side, &code)?;
-    tell_reasons(rt, capture_reasons(rt.alloc(), bytes, fault))
-}
-
-/// Prints that a file is refused, with the name of the fault.
-fn tell_refusal<R: Eprint + AllocGlobal>(
-    rt: &R,
-    kind: &str,
-    file: &str,
-    code: &str,
-) -> Result<(), Stop> {
-    let name = hyphened(rt.alloc(), code)?;
-    let _ = eprintln!(rt; "the {kind} {file} is refused: {name}");
-    Ok(())
+    let name = CaptureFaultName(fault);
+    let _ = eprintln!(rt; "the capture {side} is refused: {name}");
+    tell_reasons(rt, capture_reasons(rt.alloc(), bytes, fault, splitting))
 }
 
 fn tell_reasons<R: Eprint>(rt: &R, reasons: Result<Vec<Reason>, AllocError>) -> Result<(), Stop> {

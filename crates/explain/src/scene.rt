@@ -10,6 +10,7 @@ use napt_records::{EndpointText, cause_name, protocol_name};
 use napt_sequential::{Input, Outcome};
 use napt_wire::{Cause, Protocol};
 use std::alloc::{AllocError, Global};
+use std::fmt::Write;
 
 /// The run that a picture shows.
 #[derive(Clone, Copy)]
@@ -45,6 +46,22 @@ impl<'a> Shown<'a> {
         since.map(|since| self.zero().saturating_add(since))
     }
 
+    /// How many packets came in the part shown.
+    fn packets(self) -> usize {
+        let from = self.moment(self.part.from).unwrap_or(0);
+        let until = self.moment(self.part.until).unwrap_or(u64::MAX);
+        let inputs = self.inputs.iter();
+        inputs
+            .filter(|input| from <= input.clock && input.clock <= until)
+            .count()
+    }
+
+    /// How many bindings are live in the part shown.
+    fn bindings(self) -> usize {
+        let entries = self.account.log.entries.iter();
+        entries.filter(|entry| self.has(*entry)).count()
+    }
+
     /// Whether a binding is live in the part shown; a redirect always is.
     fn has(self, entry: &Entry) -> bool {
         let begins = self
@@ -58,8 +75,7 @@ impl<'a> Shown<'a> {
 
     /// Whether few enough bindings are shown for each to have a bar.
     fn has_bars(self) -> bool {
-        let entries = self.account.log.entries.iter();
-        entries.filter(|entry| self.has(*entry)).count() <= MOST_BARS
+        self.bindings() <= MOST_BARS
     }
 }
 
@@ -80,18 +96,35 @@ pub fn scene_of(alloc: Global, shown: Shown<'_>) -> Result<Scene, AllocError> {
     Ok(scene)
 }
 
-/// The line above the picture, with the date of the first packet, from which times are counted.
+/// The line above the picture: how many packets and bindings of the run it shows, and the date of the first packet, from
+/// which times are counted.
 fn head_of(alloc: Global, shown: Shown<'_>) -> Result<String, AllocError> {
-    let packets = shown.account.uses.len();
-    let addresses = shown.config.pool().len();
-    let bindings = shown.account.log.entries.len();
-    let head = format!(in alloc;
-        "packets: {packets}, external addresses: {addresses}, bindings: {bindings}"
-    )?;
+    let entries = &shown.account.log.entries;
+    let mut head = String::new(alloc);
+    let packets = shown.inputs.len();
+    add_share(&mut head, shown.packets(), packets, "packet")?;
     match Timestamp::from_nanosecond(shown.zero() as i128) {
-        Ok(date) if packets > 0 => format!(in alloc; "{head}, from {date} on"),
-        _ => Ok(head),
+        Ok(date) if packets > 0 => write!(head, " of a run from {date} on, through ")?,
+        _ => head.push_str(", ")?,
     }
+    add_share(&mut head, shown.bindings(), entries.len(), "binding")?;
+    let addresses = shown.config.pool().len();
+    head.push_str(" at ")?;
+    add_share(&mut head, addresses, addresses, "external address")?;
+    Ok(head)
+}
+
+/// Appends how many things of a kind there are, and of how many if those are more.
+fn add_share(head: &mut String, many: usize, all: usize, kind: &str) -> Result<(), AllocError> {
+    if many < all {
+        write!(head, "{many} of ")?;
+    }
+    let plural = match (all, kind.ends_with('s')) {
+        (1, _) => "",
+        (_, true) => "es",
+        (_, false) => "s",
+    };
+    write!(head, "{all} {kind}{plural}")
 }
 
 /// A lane for each external address.

@@ -5,6 +5,7 @@ use napt_records::Fault;
 use napt_sequential::RunFault;
 use std::alloc::{AllocError, AllocFailed};
 use std::io;
+use std::io::ErrorKind;
 
 /// Why the program stops.
 #[derive(Drop)]
@@ -21,24 +22,29 @@ pub enum Stop {
     Differ,
     /// Nobody had the endpoint asked about.
     Nobody,
+    /// A saved log is refused, for a reason that was already printed.
+    Log,
 }
 
 impl Stop {
-    /// The exit status: that of `napt`; 6 if standard output fails, as for a file; 1 if packets differ, or if nobody
-    /// had the endpoint asked about.
+    /// The exit status: that of `napt`; 6 if standard output fails, as for a file; 4 if a saved log is refused, as for a
+    /// capture; 1 if packets differ, or if nobody had an endpoint asked about.
     pub fn status(&self) -> u8 {
         match self {
             Stop::Told(stop) | Stop::As(stop) => stop_status(stop),
             Stop::NoOutput | Stop::Output(_) => 6,
+            Stop::Log => 4,
             Stop::Differ | Stop::Nobody => 1,
         }
     }
 
-    /// Prints the reason, unless it was already printed.
+    /// Prints the reason, unless it was already printed, or is that nobody reads on.
     pub fn tell<R: Eprint>(&self, rt: &R) {
         let _ = match self {
-            Stop::Told(_) | Stop::Differ | Stop::Nobody => Ok(()),
+            Stop::Told(_) | Stop::Differ | Stop::Nobody | Stop::Log => Ok(()),
             Stop::As(stop) => eprintln!(rt; "explain: {stop}"),
+            // as of a program that the pipe's end stops
+            Stop::Output(error) if error.kind() == ErrorKind::BrokenPipe => Ok(()),
             Stop::NoOutput => eprintln!(rt; "explain: standard output is closed"),
             Stop::Output(error) => eprintln!(rt; "explain: standard output: {error}"),
         };

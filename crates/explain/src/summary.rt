@@ -7,11 +7,13 @@ use crate::names::Seconds;
 use crate::objects::Objects;
 use crate::options::Choice;
 use crate::page::Page;
+use crate::progress::Progress;
 use crate::remotes::are_answers;
 use crate::replies::{Replies, advice_of_replies};
 use crate::shown::{add_arrival, add_packet, is_end_of, is_end_of_arrival};
 use crate::stop::Stop;
 use napt_account::{Account, Entry, Note, Party};
+use napt_config::Address;
 use napt_display::reasons::{advice, meaning};
 use napt_records::{EndpointText, cause_name, protocol_name};
 use napt_sequential::{Input, Outcome};
@@ -90,6 +92,44 @@ impl<'a> Told<'a> {
     /// The time of the last packet, in ns.
     pub fn last(self) -> u64 {
         self.inputs.last().map_or(0, |input| input.clock)
+    }
+
+    /// Prints that the selected host or endpoint has no packet and no binding, if it is so.
+    pub fn tell_unmatched<R: Eprint + AllocGlobal>(
+        self,
+        rt: &R,
+        progress: Progress,
+    ) -> Result<(), AllocError> {
+        let Some(host) = self.choice.host else {
+            return Ok(());
+        };
+        if self.has_binding_of(host) || self.has_packet_of(rt.alloc(), host)? {
+            return Ok(());
+        }
+        progress.tell_break(rt);
+        let address = Address(host.address);
+        let _ = match host.number {
+            Some(number) => eprint!(rt; "explain: --host {address}:{number}: "),
+            None => eprint!(rt; "explain: --host {address}: "),
+        };
+        let _ = eprintln!(rt; "no packet and no binding has it");
+        Ok(())
+    }
+
+    fn has_binding_of(self, host: Party) -> bool {
+        let mut entries = self.account.log.entries.iter();
+        entries.any(|entry| has_party(&entry.binding, Some(host)))
+    }
+
+    fn has_packet_of(self, alloc: Global, host: Party) -> Result<bool, AllocError> {
+        for number in 1..=self.inputs.len() as u64 {
+            if let Some(line) = self.line_at(number)
+                && has_host(alloc, host, line)?
+            {
+                return Ok(true);
+            }
+        }
+        Ok(false)
     }
 
     /// Appends the line of packet `number`, from 1, if it is selected, and before it the lines of the bindings that
@@ -337,15 +377,18 @@ fn is_chosen(alloc: Global, choice: Choice, line: Line<'_>) -> Result<bool, Allo
     }
     match choice.host {
         None => Ok(true),
-        Some(host) => {
-            let input = line.input;
-            Ok(
-                leaves_with(line.outcome, host)
-                    || line.end.is_some_and(|end| host.has(end))
-                    || is_end_of_arrival(host, alloc, input.side, &input.bytes)?,
-            )
-        }
+        Some(host) => has_host(alloc, host, line),
     }
+}
+
+/// Whether a packet arrives or leaves with this host or endpoint, or names it as a reply.
+fn has_host(alloc: Global, host: Party, line: Line<'_>) -> Result<bool, AllocError> {
+    let input = line.input;
+    Ok(
+        leaves_with(line.outcome, host)
+            || line.end.is_some_and(|end| host.has(end))
+            || is_end_of_arrival(host, alloc, input.side, &input.bytes)?,
+    )
 }
 
 /// Whether a packet leaves with this host or endpoint.

@@ -1,64 +1,88 @@
-//! Who had an external endpoint, and when (RFC 6888, section 4; RFC 6269, section 12).
+//! Who had an external endpoint, and when (RFC 6888, section 4; RFC 6269, section 12). `napt_log_text` defines the
+//! holders and the lines.
 
-use crate::changes::ended_by;
-use crate::names::Moment;
+use crate::page::Page;
+use crate::requests::Asked;
+use crate::sorted::Sorted;
 use crate::stop::Stop;
-use napt_account::{Entry, Log, Question};
-use napt_config::{Address, Config};
-use napt_records::{EndpointText, protocol_name};
-use std::alloc::{AllocError, Global};
+use napt_account::Entry;
+use napt_config::Config;
+use napt_log_text::{add_holder, add_mark, add_nobody};
+use std::alloc::AllocError;
 
-/// Prints a line for each binding that had the endpoint, in the order in which they were made; `last` is the time of
-/// the run's last packet. If there is none, prints that nobody had it and fails with `Nobody`.
-pub fn tell_holders<R: Print + AllocGlobal>(
+/// What requests are answered from.
+#[derive(Clone, Copy)]
+pub struct Known<'a> {
+    /// The entries of a log, in the order in which their bindings were made.
+    pub entries: &'a [Entry],
+    /// The time of the last packet.
+    pub last: u64,
+    /// The configuration of the run, if it is known.
+    pub config: Option<&'a Config>,
+}
+
+/// Prints for each request a line for each binding that had the endpoint, in the order in which they were made, or that
+/// nobody had it. Fails with `Nobody` if there is such a request.
+pub fn tell_answers<R: Print + AllocGlobal>(
     rt: &R,
-    question: Question,
-    config: &Config,
-    log: &Log,
-    last: u64,
+    asked: &[Asked],
+    known: Known<'_>,
 ) -> Result<(), Stop> {
-    let holders = question.holders_among(rt.alloc(), &log.entries)?;
+    let sorted = match asked.len() {
+        0 | 1 => None,
+        _ => Some(Sorted::of(rt.alloc(), known.entries)?),
+    };
+    let mut page = Page::new(rt.alloc());
+    let mut is_answered = true;
+    for one in asked {
+        let entries = match (&sorted, one.endpoint()) {
+            (Some(sorted), Some(endpoint)) => sorted.at(endpoint),
+            _ => known.entries,
+        };
+        let known = Known { entries, ..known };
+        is_answered &= tell_answer(rt, one, known, &mut page)?;
+    }
+    page.end(rt)?;
+    if is_answered {
+        Ok(())
+    } else {
+        Err(Stop::Nobody)
+    }
+}
+
+/// Prints the lines of a request, and returns whether somebody had the endpoint.
+fn tell_answer<R: Print + AllocGlobal>(
+    rt: &R,
+    asked: &Asked,
+    known: Known<'_>,
+    page: &mut Page,
+) -> Result<bool, Stop> {
+    let holders = asked.request.holders_among(rt.alloc(), known.entries)?;
     for entry in &holders {
-        let text = holder_text(rt.alloc(), entry, last)?;
-        println!(rt; "{text}")?;
+        mark(asked, &mut page.text)?;
+        add_holder(entry, known.last, &mut page.text)?;
+        page.turn(rt)?;
     }
     if !holders.is_empty() {
-        return Ok(());
+        return Ok(true);
     }
-    let text = nobody_text(rt.alloc(), question, config)?;
-    println!(rt; "{text}")?;
-    Err(Stop::Nobody)
+    let nearest = asked.request.nearest_among(known.entries);
+    mark(asked, &mut page.text)?;
+    add_nobody(
+        &asked.request,
+        &nearest,
+        known.config,
+        known.last,
+        &mut page.text,
+    )?;
+    page.turn(rt)?;
+    Ok(false)
 }
 
-/// The line of a binding that had the endpoint. It may expire after the last packet.
-fn holder_text(alloc: Global, entry: &Entry, last: u64) -> Result<String, AllocError> {
-    let name = protocol_name(entry.binding.protocol);
-    let (inside, external) = (
-        EndpointText(entry.binding.inside),
-        EndpointText(entry.binding.external),
-    );
-    let Some(end) = entry.end else {
-        return format!(in alloc; "{name} {inside} at {external} always, a redirect");
-    };
-    let (made, until) = (Moment(u128::from(entry.made)), Moment(end));
-    let premise = match ended_by(entry.end, last) {
-        Some(_) => "",
-        None => ", if no packet comes",
-    };
-    format!(in alloc; "{name} {inside} at {external} from {made} until {until}{premise}")
-}
-
-fn nobody_text(alloc: Global, question: Question, config: &Config) -> Result<String, AllocError> {
-    let address = Address(question.party.address);
-    let mut text = format!(in alloc; "nobody had {address}")?;
-    if let Some(number) = question.party.number {
-        text = format!(in alloc; "{text}:{number}")?;
-    }
-    if config.pool_index(question.party.address).is_none() {
-        return format!(in alloc; "{text}: it is no address of the pool");
-    }
-    match question.at {
-        Some(at) => format!(in alloc; "{text} at {}", Moment(u128::from(at))),
-        None => Ok(text),
+/// Begins a line of a request that is one of several.
+fn mark(asked: &Asked, text: &mut String) -> Result<(), AllocError> {
+    match asked.line {
+        Some(number) => add_mark(number, text),
+        None => Ok(()),
     }
 }

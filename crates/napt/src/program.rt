@@ -6,52 +6,53 @@ ghost use Rattle.napt_program.specs.Command.{IsLineStop, IsRunStop, IsTaken, IsU
 
 use napt_pool::OpenGate;
 use napt_program::{
-    Devices, LineFault, MEMORY, Opened, Options, Stop, Streams, open, parse_words, words,
+    Call, Devices, LineFault, MEMORY, Opened, Options, Stop, Streams, Tallied, open, parse_words,
+    stop_of_run, words,
 };
 use napt_run::run_captures;
+use std::alloc::Global;
 use std::env::Env;
 use std::rt::Files;
 use std::sync::{Arc, Wait};
 use std::thread::Threads;
 
 /// Does what the words of the command line ask for: runs over the files that they name, with a worker thread for each
-/// external address, or writes help to standard output.
+/// external address, or writes help or the version to standard output. At a terminal it tells which captures are cut.
 ///
 /// Fails, before any capture is opened, where the words are not understood, where memory runs out for them, where a
 /// standard stream that stands for a file is closed, or where the configuration is refused; else where a file cannot
 /// be opened or created, or the run fails. A shut gate is never told.
-pub fn serve<R: Env + Files + Input + Print + AllocGlobal + Threads + Wait + Copy + Send + 'static>(
-    rt: &R,
-    streams: Streams,
-) -> Result<(), Stop>
+pub fn serve<
+    R: Env + Files + Input + Print + Eprint + AllocGlobal + Threads + Wait + Copy + Send + 'static,
+>(rt: &R, streams: Streams, call: Call) -> Result<(), Stop>
     ensures { IfErr result IsUnderOpenGate }
 {
-    serve_words(rt, streams, words(rt)?)
+    serve_words(rt, streams, call, words(rt)?)
 }
 
 /// The same for these words, the program's name first: where it ends well they are understood, and it stops only by
 /// what they name.
-pub fn serve_words<R: Files + Input + Print + AllocGlobal + Threads + Wait + Copy + Send + 'static>(
-    rt: &R,
-    streams: Streams,
-    words: Vec<String>,
-) -> Result<(), Stop>
+pub fn serve_words<
+    R: Files + Input + Print + Eprint + AllocGlobal + Threads + Wait + Copy + Send + 'static,
+>(rt: &R, streams: Streams, call: Call, words: Vec<String>) -> Result<(), Stop>
     ensures taken { OnOk result (IsTaken (line_of_words (map string_bytes words.items))) }
     ensures stop { IfErr result
         (IsLineStop streams (line_of_words (map string_bytes words.items))) }
 {
     match parse_words(rt.alloc(), words) {
-        Ok(options) => run(rt, streams, &options),
+        Ok(options) => run(rt, streams, call, &options),
         Err(LineFault::Help(text)) => rt.print(text).map_err(|_| Stop::Help),
+        Err(LineFault::Version(text)) => rt.print(text).map_err(|_| Stop::Help),
         Err(LineFault::Usage) => Err(Stop::Usage),
         Err(LineFault::Memory) => Err(Stop::LineMemory),
     }
 }
 
 /// Runs over all that the options name.
-fn run<R: Files + Input + Print + AllocGlobal + Threads + Wait + Copy + Send + 'static>(
+fn run<R: Files + Input + Print + Eprint + AllocGlobal + Threads + Wait + Copy + Send + 'static>(
     rt: &R,
     streams: Streams,
+    call: Call,
     options: &Options,
 ) -> Result<(), Stop>
     ensures { IfErr result (IsRunStop streams (files_of options.now)) }
@@ -59,23 +60,36 @@ fn run<R: Files + Input + Print + AllocGlobal + Threads + Wait + Copy + Send + '
     let alloc = rt.alloc();
     let Opened { config, devices } = open(rt, streams, options)?;
     let Devices {
-        mut inside,
-        mut outside,
+        inside,
+        outside,
         mut to_outside,
         mut to_inside,
         mut report,
     } = devices;
-    let gate = Arc::new(alloc, OpenGate).map_err(|_| MEMORY)?;
-    run_captures(
+    let mut inside = Tallied::over(inside, call.at_terminal);
+    let mut outside = Tallied::over(outside, call.at_terminal);
+    let gate = gate(alloc)?;
+    let answer = run_captures(
         rt,
         alloc,
         &config,
         &mut inside,
-        outside.as_mut(),
+        &mut outside,
         &mut to_outside,
-        to_inside.as_mut(),
-        report.as_mut(),
+        &mut to_inside,
+        &mut report,
         gate,
-    )
-    .map_err(Stop::Run)
+    );
+    if let Err(fault) = answer {
+        return Err(stop_of_run(options, fault));
+    }
+    call.tell_cuts(rt, &inside, &outside);
+    Ok(())
+}
+
+/// The gate of a run, which always opens. Fails, as a run does, if memory runs out.
+fn gate(alloc: Global) -> Result<Arc<OpenGate>, Stop>
+    ensures { IfErr result (λ stop. stop ≡ MEMORY) }
+{
+    Arc::new(alloc, OpenGate).map_err(|_| MEMORY)
 }

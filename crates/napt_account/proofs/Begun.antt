@@ -7,10 +7,10 @@ use Rattle.napt_config.specs.declared.settings.Redirect.{Redirect}
 use Rattle.napt_config.specs.declared.settings.Timers.{Timers}
 use Rattle.napt_rules.specs.Prelude.{Binding, Each, redirected, opening, row, AreRowsApart, Apart}
 use Rattle.napt_rules.specs.declared.Row.{Row}
-use Rattle.napt_account.specs.Log.{begun}
-use Rattle.napt_account.specs.Book.{shares, is_of}
+use Rattle.napt_account.specs.Log.{begun, shares, is_of}
 use Rattle.napt_account.proofs.Lists.{map_joined}
-use Rattle.napt_account.proofs.Retold.{none_shares}
+use Rattle.napt_account.proofs.Entries.{differ_back}
+use Rattle.napt_account.proofs.Moves.{Differ}
 
 take_mapped : {X Y : Type 0} (f : X → Y) (n : ℕ) (xs : List X) → take n (map f xs) ≡ map f (take n xs)
 take_mapped f zero xs = refl
@@ -36,6 +36,17 @@ apart_take : (n : ℕ) (xs : List Row) → Apart xs → Apart (take n xs)
 apart_take zero xs h = tt
 apart_take (suc n) [] h = tt
 apart_take (suc n) (x ∷ xs) h = (each_take (AreRowsApart x) n xs h.0, apart_take n xs h.1)
+
+last_of : {X : Type 0} (P : X → Type 0) (xs : List X) (x : X) → Each P (xs ++ x ∷ []) → P x
+last_of P [] x h = h.0
+last_of P (y ∷ xs) x h = last_of P xs x h.1
+
+none_shares : (xs : List Row) (w : Row) → Apart (xs ++ w ∷ []) → list_any (shares w) xs ≡ false
+none_shares [] w apart = refl
+none_shares (x ∷ xs) w apart =
+    let differ : Differ x w = λ p. (last_of (AreRowsApart x) xs w apart.0 p).0 in
+    ap (λ v. v || list_any (shares w) xs) (differ_back x w differ)
+    ∙ none_shares xs w apart.1
 
 open_redirects : (timers : Timers) (pair : ℕ → ℕ) (w : Row) (rs : List Redirect) →
     list_any (is_of 0 w) (map (begun timers 0) (map (redirected pair) rs))

@@ -1,11 +1,14 @@
 -- What the log keeps: an open entry is the latest of its external endpoint, and so the only open one.
 use Rattle.std.proofs.Common.{◌≡◌, ℕ, zero, suc, ◌+◌, ◌<◌, ◌≤◌, inl, inr, Bool, true, false, ◌&&◌, ◌||◌, cond, List, [], ◌∷◌, ◌++◌, length, map, set, drop, get_or, Option, Some, None, refl, sym, ◌∙◌, ap, subst, arith, eqb, length-append}
 use Rattle.std.specs.Prelude.{IfNone}
+use Rattle.std.specs.Option.{option_map}
 use Rattle.std.specs.List.{list_any, fold, slice_get}
 use Rattle.std.proofs.lemmas.Bool.{and_parts, cases_lt, eqb-true, eqb-false}
 use Rattle.std.proofs.lemmas.Option.{same_Some, slice_get_within}
 use Rattle.napt_wire.specs.declared.Protocol.{Protocol}
 use Rattle.napt_wire.specs.declared.Endpoint.{Endpoint}
+use Rattle.napt_wire.specs.declared.Way.{Way}
+use Rattle.napt_sequential.specs.declared.passage.Trace.{Trace}
 use Rattle.napt_rules.specs.Prelude.{same_protocol, same_endpoint}
 use Rattle.napt_binding.specs.Ends.{is_before}
 use Rattle.napt_binding.proofs.FirstEnds.{before_sooner}
@@ -13,13 +16,17 @@ use Rattle.napt_rules.specs.declared.Row.{Row}
 use Rattle.napt_laws.proofs.Endpoints.{protocol_is, end_is}
 use Rattle.napt_account.specs.declared.log.Entry.{Entry}
 use Rattle.napt_account.specs.declared.places.Places.{Places}
-use Rattle.napt_account.specs.Book.{shares, is_of, through}
+use Rattle.napt_account.specs.Log.{shares, is_of, place_of, through}
+use Rattle.napt_account.specs.declared.account.Note.{Note}
+use Rattle.napt_account.specs.declared.account.Use.{Use}
+use Rattle.napt_account.specs.Book.{after_trace, noted, use_by_trace, uses_told}
+use Rattle.napt_account.specs.Uses.{used}
 use Rattle.napt_account.specs.Kept.{AreKept}
 use Rattle.napt_account.specs.Latest.{is_at}
 use Rattle.napt_account.specs.Places.{place_at}
 use Rattle.napt_sequential.proofs.Lists.{get_before, get_last, get_set, get_set_other}
 use Rattle.napt_account.proofs.Latest.{last_joined, last_set}
-use Rattle.napt_account.proofs.Telling.{shares_itself}
+use Rattle.napt_account.proofs.Entries.{shares_itself}
 
 -- LISTS
 
@@ -102,6 +109,34 @@ any_at p [] i x at is = cc
 any_at p (y ∷ xs) zero x at is = ap (λ v. v || list_any p xs) (ap p (same_Some y x at) ∙ is)
 any_at p (y ∷ xs) (suc i) x at is = let rest : list_any p xs ≡ true = any_at p xs i x at is in grind (arith, rest)
 
+-- THE PLACE OF AN OPEN ENTRY
+
+pub no_place : (now : ℕ) (w : Row) (es : List Entry) → list_any (is_of now w) es ≡ false → place_of now w es ≡ None
+no_place now w [] none = refl
+no_place now w (e ∷ es) none = elim (is_of now w e) as (λ v. (v || list_any (is_of now w) es) ≡ false →
+    cond v (Some 0) (option_map suc (place_of now w es)) ≡ None) [
+      | true ↦ λ h. cc
+      | false ↦ λ h. ap (option_map suc) (no_place now w es h)
+    ] none
+
+first_place : (now : ℕ) (w : Row) (es : List Entry) (i : ℕ) (e : Entry) → slice_get es i ≡ Some e →
+    is_of now w e ≡ true → ((j : ℕ) (f : Entry) → slice_get es j ≡ Some f → is_of now w f ≡ true → j ≡ i) →
+    place_of now w es ≡ Some i
+first_place now w [] i e at passed only = cc
+first_place now w (x ∷ es) zero e at passed only =
+    ap (λ v. cond v (Some 0) (option_map suc (place_of now w es))) (ap (is_of now w) (same_Some x e at) ∙ passed)
+first_place now w (x ∷ es) (suc i) e at passed only = elim (is_of now w x) as (λ v. is_of now w x ≡ v →
+    cond v (Some 0) (option_map suc (place_of now w es)) ≡ Some (suc i)) [
+      | true ↦ λ h. let never : zero ≡ suc i = only zero x refl h in absurd (omega (arith, never))
+      | false ↦ λ h. ap (option_map suc) (first_place now w es i e at passed (λ j f there also.
+          let next : suc j ≡ suc i = only (suc j) f there also in omega (arith, next)))
+    ] refl
+
+pub map_unmoved : (now : ℕ) (w : Row) (change : Entry → Entry) (es : List Entry) → list_any (is_of now w) es ≡ false →
+    map (through now w change) es ≡ es
+map_unmoved now w change es none = change_none (is_of now w) change es (λ j e at passed.
+    let never : true ≡ false = sym passed ∙ not_at (is_of now w) es none j e at in cc)
+
 -- THE OPEN ENTRY OF AN EXTERNAL ENDPOINT
 
 module _ (now most : ℕ) (es : List Entry) (places : Places) (kept : AreKept now most es places) (w : Row) where
@@ -136,10 +171,25 @@ module _ (now most : ℕ) (es : List Entry) (places : Places) (kept : AreKept no
       let entry : e ≡ f = same_Some e f (sym at ∙ (ap (slice_get es) same ∙ there)) in
       let z : false ≡ true = sym missed ∙ (ap (is_of now w) entry ∙ also) in cc)
 
+  pub its_place : (i : ℕ) (e : Entry) → slice_get es i ≡ Some e → is_of now w e ≡ true → place_of now w es ≡ Some i
+  its_place i e at passed = first_place now w es i e at passed (one_open i e at passed)
+
   -- a change of it
   pub changed : (f : Entry → Entry) (i : ℕ) (e : Entry) → slice_get es i ≡ Some e → is_of now w e ≡ true →
       set es i (f e) ≡ map (through now w f) es
   changed f i e at passed = change_one (is_of now w) f es i e at passed (one_open i e at passed)
+
+-- USES
+
+pub used_there : (way : Way) (es : List Entry) (i : ℕ) (e : Entry) → slice_get es i ≡ Some e → (note : Note) →
+    note ≡ noted (Some e) → used way note (Some i) ≡ used way (noted (slice_get es i)) (Some i)
+used_there way es i e at note is = ap (λ (n : Note). used way n (Some i)) (is ∙ ap noted (sym at))
+
+pub uses_more : (es : List Entry) (traces : List Trace) (t : Trace) → uses_told es (traces ++ t ∷ [])
+    ≡ uses_told es traces ++ use_by_trace (fold after_trace es traces) t ∷ []
+uses_more es [] t = refl
+uses_more es (first ∷ traces) t =
+    ap (λ (us : List Use). use_by_trace es first ∷ us) (uses_more (after_trace es first) traces t)
 
 -- CHANGES
 

@@ -1,25 +1,32 @@
--- The open entries are the live bindings, each with its end; a step keeps it so, and does not change the past.
-use Rattle.std.proofs.Common.{◌≡◌, ℕ, ◌<◌, ◌≤◌, Bool, true, false, not, ◌&&◌, ◌||◌, cond, List, [], ◌∷◌, ◌++◌, map, Option, Some, None, refl, sym, ◌∙◌, ap, subst, arith, append-nil}
+-- The open entries are the live bindings, each with its end; an act keeps it so, and does not change the past.
+use Rattle.std.proofs.Common.{◌≡◌, ℕ, ◌<◌, ◌≤◌, Bool, true, false, ◌&&◌, cond, List, [], ◌∷◌, ◌++◌, map, Option, Some, refl, sym, ◌∙◌, ap, subst, arith, append-nil}
 use Rattle.std.specs.Prelude.{filter, find, nat_le}
-use Rattle.std.specs.List.{list_any}
-use Rattle.std.proofs.lemmas.Bool.{and_from, and_parts}
+use Rattle.std.specs.List.{fold}
+use Rattle.std.proofs.lemmas.Bool.{and_parts, and_from}
 use Rattle.std.proofs.lemmas.Bool.Decides.{nat_tests}
-use Rattle.napt_config.specs.Rules.{AreTimers}
+use Rattle.std.proofs.lemmas.Option.{same_Some}
+use Rattle.napt_wire.specs.declared.Way.{Way}
+use Rattle.napt_wire.specs.declared.Way.TheVariants.{Outgoing, Incoming}
+use Rattle.napt_config.specs.Rules.{Rules, AreTimers}
 use Rattle.napt_config.specs.declared.settings.Timers.{Timers}
-use Rattle.napt_rules.specs.Prelude.{Binding, Each, same_protocol, same_endpoint, is_live, row, Course, AreRowsApart, Apart}
+use Rattle.napt_rules.specs.Prelude.{Through, Binding, Each, change_first, same_protocol, same_endpoint, is_live, with_live_flows, purge, row, act, Act, AreRowsApart, Apart}
 use Rattle.napt_rules.specs.declared.Row.{Row}
-use Rattle.napt_laws.proofs.Lists.{filter_narrow, find_passes, each_weaker}
+use Rattle.napt_rules.specs.declared.Leg.{Leg}
+use Rattle.napt_laws.proofs.Lists.{filter_narrow, find_passes, each_weaker, each_changed, each_pushed, each_kept}
 use Rattle.napt_rules.proofs.Lists.{each_filter, filter_all}
 use Rattle.napt_rules.proofs.Life.{lived}
-use Rattle.napt_laws.proofs.Endpoints.{protocol_is, same_itself, end_itself, end_is}
-use Rattle.napt_laws.proofs.StepsSound.{apart_kept}
-use Rattle.napt_account.specs.declared.log.Entry.{Entry}
+use Rattle.napt_laws.proofs.Endpoints.{protocol_is, end_is, same_itself, end_itself}
+use Rattle.napt_laws.proofs.Fresh.{IsFresh, fresh_purged}
+use Rattle.napt_laws.proofs.Turns.{InTurn}
 use Rattle.napt_binding.specs.Ends.{end_of, is_before, EndsAreFirst}
-use Rattle.napt_account.specs.Passages.{has_ends}
-use Rattle.napt_account.specs.Log.{living, has_row, begun, made_between, end_by_found, end_told, with_counts, told, logged, stands_at}
-use Rattle.napt_binding.proofs.FirstEnds.{before_sooner}
-use Rattle.napt_account.proofs.Lists.{filter_seen, filter_agrees, filter_agrees_each, filter_none, filter_joined, map_joined, map_twice, map_agrees, any_seen_of, each_joined, each_mapped, each_every, each_among, each_both, each_shown, each_behind}
-use Rattle.napt_account.proofs.Steps.{Grows}
+use Rattle.napt_binding.proofs.FirstEnds.{before_sooner, end_without_dead}
+use Rattle.napt_account.specs.declared.log.Entry.{Entry}
+use Rattle.napt_account.specs.Log.{begun, shares, is_of, counted, through, logged_by, logged, stands_at}
+use Rattle.napt_account.proofs.Lists.{filter_seen, filter_agrees, filter_agrees_each, filter_joined, map_joined, map_twice, map_agrees, each_mapped, each_shown}
+use Rattle.napt_account.proofs.Moves.{Differ, of_moves}
+
+abbrev pub living : Timers → ℕ → List Binding → List Binding
+living timers now list = filter (is_live timers now) list
 
 -- a binding's row and its end, and those that an entry tells
 abbrev pub hold_of : Timers → Binding → Row × Option ℕ
@@ -38,91 +45,193 @@ is_open now entry = is_before now entry.end
 abbrev pub named : ℕ → List Entry → List Row
 named now entries = map binding_of (filter (stands_at now) entries)
 
--- what entries are after the steps up to a time, that left the list
+abbrev Holds : Timers → ℕ → List Binding → List Entry → Type 0
+Holds timers now live entries = map hold (filter (is_open now) entries) ≡ map (hold_of timers) live
+
+-- no two rows of one protocol share the external endpoint
+abbrev pub AllDiffer : List Row → Type 0
+AllDiffer [] = Unit {0}
+AllDiffer (r ∷ rs) = Each (Differ r) rs × AllDiffer rs
+
+-- what entries are after the legs up to a time, that left the list
 pub record Tells (timers : Timers) (now : ℕ) (list : List Binding) (entries : List Entry) : Type 0 where
   pub made : Each (λ e. e.made ≤ now) entries
-  pub holds : map hold (filter (is_open now) entries) ≡ map (hold_of timers) (living timers now list)
+  pub holds : Holds timers now (living timers now list) entries
+  pub differ : AllDiffer (map row list)
 
 -- ROWS
 
-abbrev pub is_row : Row → Row → Bool
-is_row wanted other = has_ends wanted.protocol wanted.inside wanted.external other
+pub apart_differ : (rs : List Row) → Apart rs → AllDiffer rs
+apart_differ [] h = tt
+apart_differ (r ∷ rs) h = (
+  each_weaker (AreRowsApart r) (Differ r) (λ x apart. λ p. (apart p).0) rs h.0,
+  apart_differ rs h.1,
+)
 
-pub row_itself : (r : Row) → is_row r r ≡ true
-row_itself r = and_from (same_protocol r.protocol r.protocol)
-    (same_endpoint r.inside r.inside && same_endpoint r.external r.external) (same_itself r.protocol)
-    (and_from (same_endpoint r.inside r.inside) (same_endpoint r.external r.external) (end_itself r.inside)
-    (end_itself r.external))
+pub differ_kept : (p : Binding → Bool) (xs : List Binding) → AllDiffer (map row xs) → AllDiffer (map row (filter p xs))
+differ_kept p [] h = h
+differ_kept p (x ∷ xs) h = elim (p x) as (λ v. AllDiffer (map row (cond v (x ∷ filter p xs) (filter p xs))))
+    [ true ↦ (each_kept (Differ (row x)) row p xs h.0, differ_kept p xs h.1) | false ↦ differ_kept p xs h.1 ]
+
+differ_push : (rs : List Row) (r : Row) → AllDiffer rs → Each (λ x. Differ x r) rs → AllDiffer (rs ++ r ∷ [])
+differ_push [] r h g = (tt, tt)
+differ_push (x ∷ rs) r h g = (each_pushed (Differ x) rs r h.0 g.0, differ_push rs r h.1 g.1)
 
 is_false : (v : Bool) → (v ≡ true → ⊥) → v ≡ false
 is_false true h = absurd (h refl)
 is_false false h = refl
 
-apart_no_row : (x r : Row) → AreRowsApart x r → is_row r x ≡ false
-apart_no_row x r apart = is_false (is_row r x) (λ h.
-    let p : (same_protocol r.protocol x.protocol ≡ true)
-    × ((same_endpoint r.inside x.inside && same_endpoint r.external x.external) ≡ true) = and_parts _ _ h in
-    let q : (same_endpoint r.inside x.inside ≡ true) × (same_endpoint r.external x.external ≡ true) =
-    and_parts _ _ p.1 in
-    (apart (sym (protocol_is r.protocol x.protocol p.0))).1 (sym (end_is r.inside x.inside q.0)))
+pub differ_shares : (a b : Row) → Differ a b → shares a b ≡ false
+differ_shares a b differ = is_false (shares a b) (λ h.
+    let p : (same_protocol a.protocol b.protocol ≡ true) × (same_endpoint a.external b.external ≡ true) =
+    and_parts _ _ h in
+    differ (protocol_is a.protocol b.protocol p.0) (end_is a.external b.external p.1))
 
--- each of the first is among the second
-each_in : (rs all : List Row) → ((r : Row) → list_any (is_row r) rs ≡ true → list_any (is_row r) all ≡ true) →
-    Each (λ r. list_any (is_row r) all ≡ true) rs
-each_in [] all among = tt
-each_in (x ∷ rs) all among = (
-  among x (ap (λ v. v || list_any (is_row x) rs) (row_itself x)),
-  each_in rs all (λ r h. among r (grind (arith, h))),
-)
+pub differ_back : (a b : Row) → Differ a b → shares b a ≡ false
+differ_back a b differ = differ_shares b a (λ p e. differ (sym p) (sym e))
 
-none_behind : (rs added : List Row) → Apart (rs ++ added) → Each (λ r. list_any (is_row r) rs ≡ false) added
-none_behind [] added h = each_every (λ r. list_any (is_row r) [] ≡ false) added (λ r. refl)
-none_behind (x ∷ rs) added h =
-    each_weaker (λ r. (is_row r x ≡ false) × (list_any (is_row r) rs ≡ false))
-    (λ r. (is_row r x || list_any (is_row r) rs) ≡ false)
-    (λ r p. ap (λ v. v || list_any (is_row r) rs) p.0 ∙ p.1) added
-    (each_both (λ r. is_row r x ≡ false) (λ r. list_any (is_row r) rs ≡ false) added
-    (each_weaker (AreRowsApart x) (λ r. is_row r x ≡ false) (apart_no_row x) added
-    (each_behind (AreRowsApart x) rs added h.0)) (none_behind rs added h.1))
+rows_change : (p : Binding → Bool) (f : Binding → Binding) → ((b : Binding) → row (f b) ≡ row b) →
+    (xs : List Binding) → map row (change_first p f xs) ≡ map row xs
+rows_change p f same [] = refl
+rows_change p f same (x ∷ xs) = elim (p x) as (λ v. map row (cond v (f x ∷ xs) (x ∷ change_first p f xs)) ≡ row x
+    ∷ map row xs) [
+      | true ↦ ap (λ (r : Row). r ∷ map row xs) (same x)
+      | false ↦ ap (λ (rs : List Row). row x ∷ rs) (rows_change p f same xs)
+    ]
 
--- each binding of a list is found by its row
-pub each_found : (xs : List Binding) → Apart (map row xs) → Each (λ b. find (has_row (row b)) xs ≡ Some b) xs
-each_found [] h = tt
-each_found (x ∷ xs) h = (
-  ap (λ v. cond v (Some x) (find (has_row (row x)) xs)) (row_itself (row x)),
-  each_weaker (λ b. (has_row (row b) x ≡ false) × (find (has_row (row b)) xs ≡ Some b))
-      (λ b. find (has_row (row b)) (x ∷ xs) ≡ Some b)
-      (λ b p. ap (λ v. cond v (Some x) (find (has_row (row b)) xs)) p.0 ∙ p.1) xs
-      (each_both (λ b. has_row (row b) x ≡ false) (λ b. find (has_row (row b)) xs ≡ Some b) xs
-      (each_shown (λ r. is_row r (row x) ≡ false) row xs (each_weaker (AreRowsApart (row x))
-      (λ r. is_row r (row x) ≡ false) (apart_no_row (row x)) (map row xs) h.0)) (each_found xs h.1)),
-)
+pub rows_purge : (timers : Timers) (now : ℕ) (list : List Binding) → map row (purge timers now list)
+    ≡ map row (living timers now list)
+rows_purge timers now list = map_twice row (with_live_flows timers now) (living timers now list)
 
--- what was made is what was added
-pub made_added : (timers : Timers) (now : ℕ) (before after : List Binding) (added : List Row) →
-    map row (living timers now after) ≡ map row (living timers now before) ++ added →
-    Apart (map row (living timers now after)) → map row (made_between timers now before after) ≡ added
-made_added timers now before after added rows apart =
-    let old : List Row = map row (living timers now before) in
-    let is_new : Row → Bool = λ r. not (list_any (is_row r) old) in
-    let split : Apart (old ++ added) = subst Apart rows apart in
-    let none_old : filter is_new old ≡ [] = filter_none is_new old
-    (each_weaker (λ r. list_any (is_row r) old ≡ true) (λ r. is_new r ≡ false) (λ r h. ap not h) old
-    (each_in old old (λ r h. h))) in
-    let all_added : filter is_new added ≡ added = filter_all is_new added
-    (each_weaker (λ r. list_any (is_row r) old ≡ false) (λ r. is_new r ≡ true) (λ r h. ap not h) added
-    (none_behind old added split)) in
-    ap (map row) (filter_agrees (λ b. not (list_any (has_row (row b)) (living timers now before)))
-    (λ b. is_new (row b)) (living timers now after)
-    (λ b. ap not (sym (any_seen_of (is_row (row b)) row (living timers now before)))))
-    ∙ (sym (filter_seen is_new row (living timers now after))
-    ∙ (ap (filter is_new) rows
-    ∙ (filter_joined is_new old added
-    ∙ (ap (λ (rs : List Row). rs ++ filter is_new added) none_old ∙ all_added))))
+pub shares_itself : (r : Row) → shares r r ≡ true
+shares_itself r = and_from (same_protocol r.protocol r.protocol) (same_endpoint r.external r.external)
+    (same_itself r.protocol) (end_itself r.external)
+
+each_rows : (P : Row → Type 0) (xs : List Binding) → Each P (map row xs) → Each (λ x. P (row x)) xs
+each_rows P xs h = each_shown P row xs h
+
+each_shown_rows : (b x : Binding) → x ≡ b → (xs : List Binding) → Each (Differ (row x)) (map row xs) →
+    Each (λ y. shares (row b) (row y) ≡ false) xs
+each_shown_rows b x here xs h = each_weaker (λ y. Differ (row x) (row y)) (λ y. shares (row b) (row y) ≡ false)
+    (λ y d. ap (λ (z : Binding). shares (row z) (row y)) (sym here) ∙ differ_shares (row x) (row y) d) xs
+    (each_rows (Differ (row x)) xs h)
+
+-- AN ENTRY AFTER A LEG
+
+counted_end : (way : Way) (now : ℕ) (end : Option ℕ) (e : Entry) → (counted way now end e).end ≡ end
+counted_end Outgoing now end e = refl
+counted_end Incoming now end e = refl
+
+counted_binding : (way : Way) (now : ℕ) (end : Option ℕ) (e : Entry) → (counted way now end e).binding ≡ e.binding
+counted_binding Outgoing now end e = refl
+counted_binding Incoming now end e = refl
+
+counted_made : (way : Way) (now : ℕ) (end : Option ℕ) (e : Entry) → (counted way now end e).made ≡ e.made
+counted_made Outgoing now end e = refl
+counted_made Incoming now end e = refl
+
+module _ (way : Way) (now : ℕ) (r : Row) (end : Option ℕ) (opened : is_before now end ≡ true) where
+  abbrev changed : Entry → Entry
+  changed = through now r (counted way now end)
+
+  abbrev hold_changed : Row × Option ℕ → Row × Option ℕ
+  hold_changed h = cond (shares r h.0) (h.0, end) h
+
+  pub changed_binding : (e : Entry) → (changed e).binding ≡ e.binding
+  changed_binding e = elim (is_of now r e) as (λ v. (cond v (counted way now end e) e).binding ≡ e.binding)
+      [ true ↦ counted_binding way now end e | false ↦ refl ]
+
+  pub changed_made : (e : Entry) → (changed e).made ≡ e.made
+  changed_made e = elim (is_of now r e) as (λ v. (cond v (counted way now end e) e).made ≡ e.made)
+      [ true ↦ counted_made way now end e | false ↦ refl ]
+
+  -- it has ended by an earlier time as before
+  pub changed_before : (past : ℕ) → past ≤ now → (e : Entry) → is_before past (changed e).end ≡ is_before past e.end
+  changed_before past le e = elim (is_of now r e) as (λ v. is_of now r e ≡ v →
+      is_before past (cond v (counted way now end e) e).end ≡ is_before past e.end) [
+        | true ↦ λ h. ap (is_before past) (counted_end way now end e)
+            ∙ (before_sooner past now le end opened
+            ∙ sym (before_sooner past now le e.end (and_parts (is_before now e.end) (shares r e.binding) h).0))
+        | false ↦ λ h. refl
+      ] refl
+
+  hold_here : (e : Entry) → is_open now e ≡ true → hold (changed e) ≡ hold_changed (hold e)
+  hold_here e h = ap (λ v. hold (cond (v && shares r e.binding) (counted way now end e) e)) h
+      ∙ elim (shares r e.binding) as (λ v. hold (cond v (counted way now end e) e) ≡ cond v (e.binding, end) (hold e)) [
+        | true ↦ ap (λ (b : Row). (b, (counted way now end e).end)) (counted_binding way now end e)
+            ∙ ap (λ (o : Option ℕ). (e.binding, o)) (counted_end way now end e)
+        | false ↦ refl
+      ]
+
+  holds_here : (es : List Entry) → Each (λ e. is_open now e ≡ true) es → map hold (map changed es)
+      ≡ map hold_changed (map hold es)
+  holds_here [] h = refl
+  holds_here (e ∷ es) h = ap (λ (x : Row × Option ℕ). x ∷ map hold (map changed es)) (hold_here e h.0)
+      ∙ ap (λ (xs : List (Row × Option ℕ)). hold_changed (hold e) ∷ xs) (holds_here es h.1)
+
+  pub holds_changed : (es : List Entry) → map hold (filter (is_open now) (map changed es))
+      ≡ map hold_changed (map hold (filter (is_open now) es))
+  holds_changed es = ap (map hold) (filter_seen (is_open now) changed es
+      ∙ ap (map changed) (filter_agrees (λ e. is_open now (changed e)) (is_open now) es
+      (changed_before now (omega arith))))
+      ∙ holds_here (filter (is_open now) es) (each_filter (is_open now) es)
+
+module _ (timers : Timers) (p : Binding → Bool) (f : Binding → Binding) (b : Binding)
+    (same : (x : Binding) → row (f x) ≡ row x) where
+  abbrev at_b : Row × Option ℕ → Row × Option ℕ
+  at_b h = cond (shares (row (f b)) h.0) (h.0, end_of timers (f b)) h
+
+  at_others : (xs : List Binding) → Each (λ x. shares (row b) (row x) ≡ false) xs →
+      map at_b (map (hold_of timers) xs) ≡ map (hold_of timers) xs
+  at_others [] h = refl
+  at_others (x ∷ xs) h =
+      ap (λ v. cond v (row x, end_of timers (f b)) (hold_of timers x) ∷ map at_b (map (hold_of timers) xs))
+      (ap (λ (r : Row). shares r (row x)) (same b) ∙ h.0)
+      ∙ ap (λ (xs : List (Row × Option ℕ)). hold_of timers x ∷ xs) (at_others xs h.1)
+
+  -- where the rows differ, a change of the end there is the change of the first that passes
+  pub change_holds : (xs : List Binding) → AllDiffer (map row xs) → find p xs ≡ Some b →
+      map at_b (map (hold_of timers) xs) ≡ map (hold_of timers) (change_first p f xs)
+  change_holds [] h e = cc
+  change_holds (x ∷ xs) h e = elim (p x) as (λ v. cond v (Some x) (find p xs) ≡ Some b →
+      map at_b (map (hold_of timers) (x ∷ xs)) ≡ map (hold_of timers) (cond v (f x ∷ xs) (x ∷ change_first p f xs))) [
+        | true ↦ λ is.
+            let here : x ≡ b = same_Some x b is in
+            let others : Each (λ y. shares (row b) (row y) ≡ false) xs =
+            each_shown_rows b x here xs h.0 in
+            ap (λ v. cond v (row x, end_of timers (f b)) (hold_of timers x) ∷ map at_b (map (hold_of timers) xs))
+            (ap (λ (r : Row). shares r (row x)) (same b) ∙ (ap (λ (y : Binding). shares (row b) (row y)) here
+            ∙ shares_itself (row b)))
+            ∙ (ap (λ (xs : List (Row × Option ℕ)). (row x, end_of timers (f b)) ∷ xs) (at_others xs others)
+            ∙ (ap (λ (y : Binding). (row x, end_of timers (f y)) ∷ map (hold_of timers) xs) (sym here)
+            ∙ ap (λ (r : Row). (r, end_of timers (f x)) ∷ map (hold_of timers) xs) (sym (same x))))
+        | false ↦ λ is.
+            ap (λ v. cond v (row x, end_of timers (f b)) (hold_of timers x) ∷ map at_b (map (hold_of timers) xs))
+            (ap (λ (r : Row). shares r (row x)) (same b) ∙ differ_back (row x) (row b)
+            (find_passes p (λ y. Differ (row x) (row y)) xs b (each_rows (Differ (row x)) xs h.0) is).1)
+            ∙ ap (λ (xs : List (Row × Option ℕ)). hold_of timers x ∷ xs) (change_holds xs h.1 is)
+      ] e
+
+-- A LEG
+
+module _ (timers : Timers) (t : AreTimers timers) (now : ℕ) where
+  alive_holds : (xs : List Binding) → Each (λ b. is_live timers now b ≡ true) xs →
+      map (hold_of timers) (map (with_live_flows timers now) xs) ≡ map (hold_of timers) xs
+  alive_holds [] h = refl
+  alive_holds (x ∷ xs) h =
+      ap (λ (o : Option ℕ). (row x, o) ∷ map (hold_of timers) (map (with_live_flows timers now) xs))
+      (end_without_dead timers t now x h.0)
+      ∙ ap (λ (hs : List (Row × Option ℕ)). hold_of timers x ∷ hs) (alive_holds xs h.1)
+
+  pub purge_holds : (list : List Binding) → map (hold_of timers) (purge timers now list)
+      ≡ map (hold_of timers) (living timers now list)
+  purge_holds list = alive_holds (living timers now list) (each_filter (is_live timers now) list)
+
+  pub all_live : (list : List Binding) → Each (IsFresh timers now) list → living timers now list ≡ list
+  all_live list h = filter_all (is_live timers now) list
+      (each_weaker (IsFresh timers now) (λ b. is_live timers now b ≡ true) (λ b f. f.live) list h)
 
 module _ (ends : EndsAreFirst) (timers : Timers) (t : AreTimers timers) where
-  -- LATER
-
   pub tells_later : (n m : ℕ) → n ≤ m → (list : List Binding) (entries : List Entry) → Tells timers n list entries →
       Tells timers m list entries
   tells_later n m le list entries tells = record {
@@ -135,155 +244,149 @@ module _ (ends : EndsAreFirst) (timers : Timers) (t : AreTimers timers) where
         (living timers n list) (λ b. sym (ends timers t m b)))
         ∙ ap (map (hold_of timers)) (filter_narrow (is_live timers n) (is_live timers m) list
         (lived timers n m le))))));
+    differ = tells.differ;
   }
 
-  -- the rows of the entries that are open are those of the bindings that live
-  pub open_rows : (now : ℕ) (list : List Binding) (entries : List Entry) → Tells timers now list entries →
-      map binding_of (filter (is_open now) entries) ≡ map row (living timers now list)
-  open_rows now list entries tells =
-      sym (map_twice (λ (h : Row × Option ℕ). h.0) hold (filter (is_open now) entries))
-      ∙ (ap (map (λ (h : Row × Option ℕ). h.0)) tells.holds
-      ∙ map_twice (λ (h : Row × Option ℕ). h.0) (hold_of timers) (living timers now list))
-
+  -- the rows of the entries that stand are those of the bindings that live
   pub named_now : (now : ℕ) (list : List Binding) (entries : List Entry) → Tells timers now list entries →
       named now entries ≡ map row (living timers now list)
   named_now now list entries tells = ap (map binding_of)
       (filter_agrees_each (stands_at now) (is_open now) entries
       (each_weaker (λ e. e.made ≤ now) (λ e. stands_at now e ≡ is_open now e)
       (λ e le. let made : nat_le e.made now ≡ true = grind (arith, nat_tests) in ap (λ v. v && is_open now e) made)
-      entries tells.made)) ∙ open_rows now list entries tells
+      entries tells.made))
+      ∙ (sym (map_twice (λ (h : Row × Option ℕ). h.0) hold (filter (is_open now) entries))
+      ∙ (ap (map (λ (h : Row × Option ℕ). h.0)) tells.holds
+      ∙ map_twice (λ (h : Row × Option ℕ). h.0) (hold_of timers) (living timers now list)))
 
-  -- A STEP
+module _ (ends : EndsAreFirst) (rules : Rules) (t : AreTimers rules.timers) (address : ℕ) (leg : Leg)
+    (list : List Binding) where
+  abbrev own : List Binding
+  own = purge rules.timers leg.now list
 
-  module _ (now : ℕ) (before : List Binding) (course : Course) where
-    abbrev left : List Binding
-    left = living timers now course.list
+  -- with the entries before it
+  abbrev NowTells : List Entry → Option Through → List Binding → Type 0
+  NowTells entries went left = Tells rules.timers leg.now left (logged_by rules.timers leg went entries)
 
-    abbrev made : List Binding
-    made = made_between timers now before course.list
+  new_open : (b : Binding) → IsFresh rules.timers leg.now b → is_before leg.now (end_of rules.timers b) ≡ true
+  new_open b fresh = sym (ends rules.timers t leg.now b) ∙ fresh.live
 
-    abbrev retold : Entry → Entry
-    retold entry = record (with_counts now course.acts entry) { end = end_told timers now course.list entry }
+  pub own_differ : AllDiffer (map row list) → AllDiffer (map row own)
+  own_differ h = subst AllDiffer (sym (rows_purge rules.timers leg.now list))
+      (differ_kept (is_live rules.timers leg.now) list h)
 
-    found_open : (entry : Entry) → is_open now entry ≡ true → (found : Option Binding) →
-        find (has_row entry.binding) left ≡ found → is_before now (end_by_found timers entry.end found) ≡ true
-    found_open entry opened None e = opened
-    found_open entry opened (Some b) e = sym (ends timers t now b) ∙ (find_passes (has_row entry.binding)
-        (λ c. is_live timers now c ≡ true) left b (each_filter (is_live timers now) course.list) e).1
+  -- from the live to the whole
+  tells_fresh : (left : List Binding) (entries : List Entry) → Each (λ e. e.made ≤ leg.now) entries →
+      Each (IsFresh rules.timers leg.now) left → Holds rules.timers leg.now left entries → AllDiffer (map row left) →
+      Tells rules.timers leg.now left entries
+  tells_fresh left entries made fresh holds differ = record {
+    made = made;
+    holds = holds ∙ sym (ap (map (hold_of rules.timers)) (all_live rules.timers t leg.now left fresh));
+    differ = differ;
+  }
 
-    told_open : (entry : Entry) → is_open now (told timers now course entry) ≡ is_open now entry
-    told_open entry = elim (is_before now entry.end) as (λ v. is_before now entry.end ≡ v →
-        is_open now (cond v (retold entry) entry) ≡ v) [
-          | true ↦ λ e. found_open entry e (find (has_row entry.binding) left) refl
-          | false ↦ λ e. e
-        ] refl
+  pub tells_act : (entries : List Entry) → Tells rules.timers leg.now list entries →
+      NowTells entries (act rules address leg list).through (act rules address leg list).list
+  tells_act entries tells =
+      let holds : Holds rules.timers leg.now own entries =
+      tells.holds ∙ sym (purge_holds rules.timers t leg.now list) in
+      let fresh : Each (IsFresh rules.timers leg.now) own = fresh_purged rules.timers leg.now list in
+      let differ : AllDiffer (map row own) = own_differ tells.differ in
+      of_moves rules t address leg list (NowTells entries) tells
+      (tells_fresh own entries tells.made fresh holds differ)
+      (λ p f b found same keeps.
+      let new : IsFresh rules.timers leg.now (f b) = keeps b (find_passes p (IsFresh rules.timers leg.now) own b fresh
+      found).1 in
+      let end : Option ℕ = end_of rules.timers (f b) in
+      let opened : is_before leg.now end ≡ true = new_open (f b) new in
+      let change : Entry → Entry = through leg.now (row (f b)) (counted leg.way leg.now end) in
+      tells_fresh (change_first p f own) (map change entries)
+      (each_mapped (λ e. e.made ≤ leg.now) change entries
+      (each_weaker (λ e. e.made ≤ leg.now) (λ e. (change e).made ≤ leg.now)
+      (λ e le. subst (λ (m : ℕ). m ≤ leg.now) (sym (changed_made leg.way leg.now (row (f b)) end opened e)) le) entries
+      tells.made))
+      (each_changed (IsFresh rules.timers leg.now) p f keeps own fresh)
+      (holds_changed leg.way leg.now (row (f b)) end opened entries
+      ∙ (ap (map (hold_changed leg.way leg.now (row (f b)) end opened)) holds
+      ∙ change_holds rules.timers p f b same own differ found))
+      (subst AllDiffer (sym (rows_change p f same own)) differ))
+      (λ new out is others.
+      let change : Entry → Entry = counted leg.way leg.now (end_of rules.timers new) in
+      let entry : Entry = change (begun rules.timers leg.now new) in
+      let end : entry.end ≡ end_of rules.timers new =
+      counted_end leg.way leg.now (end_of rules.timers new) (begun rules.timers leg.now new) in
+      let opened : is_open leg.now entry ≡ true = ap (is_before leg.now) end ∙ new_open new is in
+      let made : entry.made ≡ leg.now =
+      counted_made leg.way leg.now (end_of rules.timers new) (begun rules.timers leg.now new) in
+      let bound : entry.binding ≡ row new =
+      counted_binding leg.way leg.now (end_of rules.timers new) (begun rules.timers leg.now new) in
+      tells_fresh (own ++ new ∷ []) (entries ++ entry ∷ [])
+      (each_pushed (λ e. e.made ≤ leg.now) entries entry tells.made (omega (arith, made)))
+      (each_pushed (IsFresh rules.timers leg.now) own new fresh is)
+      (ap (map hold) (filter_joined (is_open leg.now) entries (entry ∷ [])
+      ∙ ap (λ v. filter (is_open leg.now) entries ++ cond v (entry ∷ []) []) opened)
+      ∙ (map_joined hold (filter (is_open leg.now) entries) (entry ∷ [])
+      ∙ (ap (λ (hs : List (Row × Option ℕ)). hs ++ hold entry ∷ []) holds
+      ∙ (ap (λ (r : Row). map (hold_of rules.timers) own ++ (r, entry.end) ∷ []) bound
+      ∙ (ap (λ (o : Option ℕ). map (hold_of rules.timers) own ++ (row new, o) ∷ []) end
+      ∙ sym (map_joined (hold_of rules.timers) own (new ∷ [])))))))
+      (subst AllDiffer (sym (map_joined row own (new ∷ []))) (differ_push (map row own) (row new) differ others)))
 
-    told_binding : (entry : Entry) → (told timers now course entry).binding ≡ entry.binding
-    told_binding entry = elim (is_before now entry.end) as (λ v. (cond v (retold entry) entry).binding
-        ≡ entry.binding) [ true ↦ refl | false ↦ refl ]
+  -- what was named before the leg's time
+  pub past_act : (past : ℕ) → past < leg.now → (entries : List Entry) →
+      named past (logged_by rules.timers leg (act rules address leg list).through entries) ≡ named past entries
+  past_act past lt entries =
+      let fresh : Each (IsFresh rules.timers leg.now) own = fresh_purged rules.timers leg.now list in
+      of_moves rules t address leg list
+      (λ went left. named past (logged_by rules.timers leg went entries) ≡ named past entries) refl refl
+      (λ p f b found same keeps.
+      let new : IsFresh rules.timers leg.now (f b) = keeps b (find_passes p (IsFresh rules.timers leg.now) own b fresh
+      found).1 in
+      let end : Option ℕ = end_of rules.timers (f b) in
+      let opened : is_before leg.now end ≡ true = new_open (f b) new in
+      let change : Entry → Entry = through leg.now (row (f b)) (counted leg.way leg.now end) in
+      ap (map binding_of) (filter_seen (stands_at past) change entries)
+      ∙ (map_twice binding_of change (filter (λ e. stands_at past (change e)) entries)
+      ∙ (map_agrees (λ e. (change e).binding) binding_of (filter (λ e. stands_at past (change e)) entries)
+      (changed_binding leg.way leg.now (row (f b)) end opened)
+      ∙ ap (map binding_of) (filter_agrees (λ e. stands_at past (change e)) (stands_at past) entries
+      (λ e. ap (λ (m : ℕ). nat_le m past && is_before past (change e).end)
+      (changed_made leg.way leg.now (row (f b)) end opened e)
+      ∙ ap (λ v. nat_le e.made past && v)
+      (changed_before leg.way leg.now (row (f b)) end opened past (omega arith) e))))))
+      (λ new out is others.
+      let entry : Entry = counted leg.way leg.now (end_of rules.timers new) (begun rules.timers leg.now new) in
+      let made : entry.made ≡ leg.now =
+      counted_made leg.way leg.now (end_of rules.timers new) (begun rules.timers leg.now new) in
+      let later : nat_le leg.now past ≡ false = grind (arith, nat_tests) in
+      ap (map binding_of) (filter_joined (stands_at past) entries (entry ∷ [])
+      ∙ (ap (λ v. filter (stands_at past) entries ++ cond (v && is_before past entry.end) (entry ∷ []) [])
+      (ap (λ (m : ℕ). nat_le m past) made ∙ later)
+      ∙ append-nil (filter (stands_at past) entries))))
 
-    told_made : (entry : Entry) → (told timers now course entry).made ≡ entry.made
-    told_made entry = elim (is_before now entry.end) as (λ v. (cond v (retold entry) entry).made
-        ≡ entry.made) [ true ↦ refl | false ↦ refl ]
+-- ACTS IN TURN
 
-    hold_told : (entry : Entry) (b : Binding) → is_open now entry ≡ true → entry.binding ≡ row b →
-        find (has_row (row b)) left ≡ Some b → hold (told timers now course entry) ≡ hold_of timers b
-    hold_told entry b opened same found = ap (λ v. hold (cond v (retold entry) entry)) opened
-        ∙ (ap (λ (r : Row). (r, end_by_found timers entry.end (find (has_row r) left))) same
-        ∙ ap (λ (o : Option Binding). (row b, end_by_found timers entry.end o)) found)
+module _ (ends : EndsAreFirst) (rules : Rules) (t : AreTimers rules.timers) where
+  pub told_turn : (clock : ℕ) (list : List Binding) (acts : List Act) (last : ℕ) (new : List Binding)
+      (entries : List Entry) → InTurn rules clock list acts last new → Tells rules.timers clock list entries →
+      Tells rules.timers last new (fold (logged rules.timers) entries acts)
+  told_turn clock list [] last new entries p tells =
+      subst (λ (l : List Binding). Tells rules.timers last l entries) (sym p.1)
+      (tells_later ends rules.timers t clock last p.0 list entries tells)
+  told_turn clock list (a ∷ acts) last new entries p tells =
+      told_turn a.leg.now (act rules a.address a.leg list).list acts last new (logged rules.timers entries a) p.1
+      (subst (λ (went : Option Through). Tells rules.timers a.leg.now (act rules a.address a.leg list).list
+      (logged_by rules.timers a.leg went entries)) (sym p.0.through)
+      (tells_act ends rules t a.address a.leg list entries
+      (tells_later ends rules.timers t clock a.leg.now p.0.later list entries tells)))
 
-    holds_told : (entries : List Entry) (list : List Binding) → Each (λ e. is_open now e ≡ true) entries →
-        map binding_of entries ≡ map row list → Each (λ b. find (has_row (row b)) left ≡ Some b) list →
-        map hold (map (told timers now course) entries) ≡ map (hold_of timers) list
-    holds_told [] [] opened same found = refl
-    holds_told [] (b ∷ list) opened same found = cc
-    holds_told (entry ∷ entries) [] opened same found = cc
-    holds_told (entry ∷ entries) (b ∷ list) opened same found =
-        let here : entry.binding ≡ row b = cc in
-        let rest : map binding_of entries ≡ map row list = cc in
-        ap (λ (h : Row × Option ℕ). h ∷ map hold (map (told timers now course) entries))
-        (hold_told entry b opened.0 here found.0)
-        ∙ ap (λ (hs : List (Row × Option ℕ)). hold_of timers b ∷ hs) (holds_told entries list opened.1 rest found.1)
-
-    made_live : Each (λ b. is_live timers now b ≡ true) made
-    made_live = each_among (λ b. is_live timers now b ≡ true)
-        (λ b. not (list_any (has_row (row b)) (living timers now before))) left
-        (each_filter (is_live timers now) course.list)
-
-    begun_open : filter (is_open now) (map (begun timers now) made) ≡ map (begun timers now) made
-    begun_open = filter_all (is_open now) (map (begun timers now) made)
-        (each_mapped (λ e. is_open now e ≡ true) (begun timers now) made
-        (each_weaker (λ b. is_live timers now b ≡ true) (λ b. is_before now (end_of timers b) ≡ true)
-        (λ b h. sym (ends timers t now b) ∙ h) made made_live))
-
-    module _ (entries : List Entry) where
-      abbrev all : List Entry
-      all = entries ++ map (begun timers now) made
-
-      all_rows : Tells timers now before entries → Grows timers now before course.list → Apart (map row left) →
-          map binding_of (filter (is_open now) all) ≡ map row left
-      all_rows tells grows apart =
-          ap (map binding_of) (filter_joined (is_open now) entries (map (begun timers now) made)
-          ∙ ap (λ (es : List Entry). filter (is_open now) entries ++ es) begun_open)
-          ∙ (map_joined binding_of (filter (is_open now) entries) (map (begun timers now) made)
-          ∙ (ap (λ (rs : List Row). rs ++ map binding_of (map (begun timers now) made))
-          (open_rows now before entries tells)
-          ∙ (ap (λ (rs : List Row). map row (living timers now before) ++ rs)
-          (map_twice binding_of (begun timers now) made
-          ∙ made_added timers now before course.list grows.added grows.rows apart)
-          ∙ sym grows.rows)))
-
-      pub tells_step : Tells timers now before entries → Grows timers now before course.list →
-          Apart (map row course.list) → Tells timers now course.list (logged timers now before course entries)
-      tells_step tells grows apart =
-          let apart_left : Apart (map row left) = apart_kept (is_live timers now) course.list apart in
-          record {
-            made = each_mapped (λ e. e.made ≤ now) (told timers now course) all
-                (each_weaker (λ e. e.made ≤ now) (λ e. (told timers now course e).made ≤ now)
-                (λ e le. let same : (told timers now course e).made ≡ e.made = told_made e in omega (arith, same))
-                all
-                (each_joined (λ e. e.made ≤ now) entries (map (begun timers now) made) tells.made
-                (each_mapped (λ e. e.made ≤ now) (begun timers now) made
-                (each_every (λ b. now ≤ now) made (λ b. omega arith)))));
-            holds = ap (map hold) (filter_seen (is_open now) (told timers now course) all
-                ∙ ap (map (told timers now course))
-                (filter_agrees (λ e. is_open now (told timers now course e)) (is_open now) all told_open))
-                ∙ holds_told (filter (is_open now) all) left (each_filter (is_open now) all)
-                (all_rows tells grows apart_left) (each_found left apart_left);
-          }
-
-      -- THE PAST
-
-      told_stands : (past : ℕ) → past < now → (entry : Entry) → stands_at past (told timers now course entry)
-          ≡ stands_at past entry
-      told_stands past lt entry = elim (is_before now entry.end) as (λ v. is_before now entry.end ≡ v →
-          stands_at past (cond v (retold entry) entry) ≡ stands_at past entry) [
-            | true ↦ λ e. let le : past ≤ now = omega arith in
-                let new : is_before past (end_told timers now course.list entry) ≡ true =
-                before_sooner past now le (end_told timers now course.list entry)
-                (found_open entry e (find (has_row entry.binding) left) refl) in
-                let old : is_before past entry.end ≡ true = before_sooner past now le entry.end e in
-                ap (λ v. nat_le entry.made past && v) (new ∙ sym old)
-            | false ↦ λ e. refl
-          ] refl
-
-      begun_later : (past : ℕ) → past < now → filter (stands_at past) (map (begun timers now) made) ≡ []
-      begun_later past lt = filter_none (stands_at past) (map (begun timers now) made)
-          (each_mapped (λ e. stands_at past e ≡ false) (begun timers now) made
-          (each_every (λ b. stands_at past (begun timers now b) ≡ false) made
-          (λ b. let later : nat_le now past ≡ false = grind (arith, nat_tests) in
-          ap (λ v. v && is_before past (end_of timers b)) later)))
-
-      pub named_before : (past : ℕ) → past < now → named past (logged timers now before course entries)
-          ≡ named past entries
-      named_before past lt =
-          ap (map binding_of) (filter_seen (stands_at past) (told timers now course) all)
-          ∙ (map_twice binding_of (told timers now course)
-          (filter (λ e. stands_at past (told timers now course e)) all)
-          ∙ (map_agrees (λ e. (told timers now course e).binding) binding_of
-          (filter (λ e. stands_at past (told timers now course e)) all) told_binding
-          ∙ ap (map binding_of)
-          (filter_agrees (λ e. stands_at past (told timers now course e)) (stands_at past) all (told_stands past lt)
-          ∙ (filter_joined (stands_at past) entries (map (begun timers now) made)
-          ∙ (ap (λ (es : List Entry). filter (stands_at past) entries ++ es) (begun_later past lt)
-          ∙ append-nil (filter (stands_at past) entries))))))
+  pub past_turn : (past clock : ℕ) → past < clock → (list : List Binding) (acts : List Act) (last : ℕ)
+      (new : List Binding) (entries : List Entry) → InTurn rules clock list acts last new →
+      named past (fold (logged rules.timers) entries acts) ≡ named past entries
+  past_turn past clock lt list [] last new entries p = refl
+  past_turn past clock lt list (a ∷ acts) last new entries p =
+      let le : clock ≤ a.leg.now = p.0.later in
+      past_turn past a.leg.now (omega arith) (act rules a.address a.leg list).list acts last new
+      (logged rules.timers entries a) p.1
+      ∙ (ap (λ (went : Option Through). named past (logged_by rules.timers a.leg went entries)) p.0.through
+      ∙ past_act ends rules t a.address a.leg list past (omega arith) entries)

@@ -1,14 +1,10 @@
 pub mod Attribution
 pub mod Entries
-pub mod Legs
-pub mod Telling
+pub mod Moves
 pub mod Retold
-pub mod Shortages
 pub mod Books
 pub mod Placed
 pub mod Begun
 pub mod Latest
-pub mod Uses
 pub mod Told
 pub mod Lists
-pub mod Steps

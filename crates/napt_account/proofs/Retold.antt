@@ -1,452 +1,428 @@
--- The entries of a run are those that its traces make, leg by leg.
-use Rattle.std.proofs.Common.{◌≡◌, ℕ, ◌+◌, ◌≤◌, max, Bool, true, false, not, ◌&&◌, ◌||◌, cond, List, [], ◌∷◌, ◌++◌, length, map, Option, Some, None, Result, Ok, Err, refl, sym, ◌∙◌, ap, subst, arith, append-nil}
-use Rattle.std.specs.Prelude.{find, filter, IfSome}
-use Rattle.std.specs.Option.{option_map}
-use Rattle.std.specs.List.{list_any, fold}
-use Rattle.std.proofs.lemmas.Bool.{and_from, and_parts}
+-- The traces of a run tell what its acts did: the same entries, uses and shortages.
+use Rattle.std.proofs.Common.{◌≡◌, ℕ, zero, suc, ◌+◌, ◌≤◌, max, Bool, true, false, ◌&&◌, ◌||◌, cond, List, [], ◌∷◌, ◌++◌, length, map, Option, Some, None, refl, sym, ◌∙◌, ap, subst, arith, append-nil, append_assoc}
+use Rattle.std.specs.Prelude.{filter, find, flat_map}
+use Rattle.std.specs.Option.{option_map, option_or}
+use Rattle.std.specs.List.{list_any, fold, slice_get}
+use Rattle.std.proofs.lemmas.Bool.{and_from}
 use Rattle.std.proofs.lemmas.Option.{same_Some}
 use Rattle.napt_wire.specs.declared.Protocol.{Protocol}
+use Rattle.napt_wire.specs.declared.Way.{Way}
+use Rattle.napt_wire.specs.declared.Way.TheVariants.{Outgoing, Incoming}
 use Rattle.napt_wire.specs.declared.Cause.{Cause}
-use Rattle.napt_wire.specs.declared.Endpoint.{Endpoint}
-use Rattle.napt_wire.specs.declared.Kind.{Kind}
-use Rattle.napt_wire.specs.declared.Kind.TheVariants.{Udp, Tcp, Echo, ErrorOf}
-use Rattle.napt_wire.specs.declared.Way.TheVariants.{Incoming}
-use Rattle.napt_wire.specs.Fields.{source, destination, kind}
-use Rattle.napt_wire.specs.Laws.{PacketsCarryNumbers}
-use Rattle.napt_config.specs.Rules.{Rules, KeepsRules, AreTimers, pair_of}
+use Rattle.napt_wire.specs.Fields.{source, kind}
+use Rattle.napt_config.specs.Rules.{Rules, AreTimers}
 use Rattle.napt_config.specs.declared.settings.Timers.{Timers}
-use Rattle.napt_rules.specs.Prelude.{Binding, Each, same_protocol, same_endpoint, is_of_inside, has_number, is_live, with_live_flows, purge, opening, end_in, act, Arrival, row, Act, Course, follow_by, first_leg, step, AreRowsApart, Apart, IsSound, OpeningIsSound, OutStaysSound, InStaysSound, OutLeavesLive, InLeavesLive}
-use Rattle.napt_binding.specs.Ends.{end_of, is_before}
-use Rattle.napt_binding.proofs.FirstEnds.{ends_are_first}
-use Rattle.napt_laws.proofs.Finds.{any_found}
-use Rattle.napt_laws.proofs.Lists.{each_weaker}
+use Rattle.napt_rules.specs.Prelude.{Through, Binding, Each, purge, opening, row, act, Arrival, Act, Course, step, run_from}
 use Rattle.napt_rules.specs.declared.Row.{Row}
-use Rattle.napt_table.specs.declared.TimedRow.{TimedRow}
-use Rattle.napt_table.specs.TimedRows.{timed}
-use Rattle.napt_laws.proofs.Endpoints.{protocol_is, end_is}
-use Rattle.napt_laws.proofs.StepsSound.{apart_kept}
-use Rattle.napt_rules.proofs.Lists.{any_weaker}
-use Rattle.napt_translate.specs.Carried.{carried_by}
 use Rattle.napt_rules.specs.declared.Leg.{Leg}
 use Rattle.napt_rules.specs.declared.End.{End}
-use Rattle.napt_rules.specs.declared.End.TheVariants as ends
-use Rattle.napt_sequential.specs.declared.passage.Passage.{Passage}
-use Rattle.napt_sequential.specs.declared.passage.Passage.TheVariants.{Nothing, Out, In, Dropped}
-use Rattle.napt_sequential.specs.Traces.{seen_of, out_through, in_through, went_by, passage_by, first_of, second_of, trace_of, traces_from, traces}
-use Rattle.napt_laws.proofs.AnyStep.{of_step}
+use Rattle.napt_rules.specs.declared.End.TheVariants.{ToOutside, ToInside, Onward, Dropped}
+use Rattle.napt_table.specs.TimedRows.{timed}
+use Rattle.napt_translate.specs.Carried.{carried_by}
 use Rattle.napt_laws.proofs.Grown.{step_one}
-use Rattle.napt_laws.proofs.RunsSound.{run_sound}
+use Rattle.napt_laws.proofs.Through.{dropped_go_through_none}
+use Rattle.napt_laws.proofs.Turns.{IsTurn, InTurn, run_turn}
+use Rattle.napt_binding.specs.Ends.{end_of, EndsAreFirst}
+use Rattle.napt_sequential.specs.declared.passage.Passage.{Passage}
+use Rattle.napt_sequential.specs.declared.passage.Trace.{Trace}
+use Rattle.napt_sequential.specs.Traces.{gone_through, lost_by, passage_by, passage_of, first_of, second_of, trace_of, traces_from}
+use Rattle.napt_account.specs.declared.account.Note.{Note}
+use Rattle.napt_account.specs.declared.account.Note.TheVariants as notes
+use Rattle.napt_account.specs.declared.account.Use.{Use}
 use Rattle.napt_account.specs.declared.log.Entry.{Entry}
-use Rattle.napt_account.specs.Kept.{IsNotOut}
-use Rattle.napt_account.specs.Log.{living, has_row, end_told, with_counts, begun, made_between, told, logged, entries_from, entries_of}
-use Rattle.napt_account.specs.Book.{shares, is_of, through, sent_through, received_through, made_by, after, after_trace, told_by}
-use Rattle.napt_account.proofs.Entries.{Tells, hold, hold_of, row_itself, is_row, binding_of, is_open, open_rows, made_added, each_found, tells_later, tells_step}
-use Rattle.napt_account.proofs.Attribution.{begins}
-use Rattle.napt_account.proofs.Legs.{end_at, find_mapped, IsNotThrough, end_stays, row_list, MakesLive, first_out, makes_step}
-use Rattle.napt_account.proofs.Lists.{map_joined, map_twice, any_seen_of, any_joined, each_joined, each_mapped, each_among}
-use Rattle.napt_account.proofs.Steps.{grows_step}
-use Rattle.napt_account.proofs.Telling.{over, shares_itself, told_over, out_is, lives}
+use Rattle.napt_account.specs.declared.log.Shortage.{Shortage}
+use Rattle.napt_account.specs.Book as books
+use Rattle.napt_account.specs.Kept.{AreInTime}
+use Rattle.napt_account.specs.Log.{begun, shares, is_of, counted, place_of, through, logged_by, logged, shortage_by, shortage_at, shortages, entries_of, log_of}
+use Rattle.napt_account.specs.Uses.{no_use, used, first_note, use_by, both_uses, use_of, uses_from}
+use Rattle.napt_account.proofs.Books.{fold_joined, no_place, any_at}
+use Rattle.napt_account.proofs.Entries.{hold, hold_of, binding_of, is_open, AllDiffer, Tells, own_differ, differ_back, shares_itself, purge_holds, tells_later, told_turn}
+use Rattle.napt_account.proofs.Lists.{map_twice}
+use Rattle.napt_account.proofs.Moves.{Differ, of_moves}
 
--- LISTS
+-- THE OPEN ENTRY OF A BINDING
 
-map_each : {X Y : Type 0} (f g : X → Y) (xs : List X) → Each (λ x. f x ≡ g x) xs → map f xs ≡ map g xs
-map_each f g [] h = refl
-map_each f g (x ∷ xs) h = ap (λ y. y ∷ map f xs) h.0 ∙ ap (λ (l : List _). g x ∷ l) (map_each f g xs h.1)
+abbrev open_rows : ℕ → List Entry → List Row
+open_rows now entries = map binding_of (filter (is_open now) entries)
 
-map_itself : {X : Type 0} (xs : List X) → map (λ x. x) xs ≡ xs
-map_itself [] = refl
-map_itself (x ∷ xs) = ap (λ (l : List _). x ∷ l) (map_itself xs)
+pub record Stands (now : ℕ) (r : Row) (entries : List Entry) : Type 0 where
+  pub place : ℕ
+  pub entry : Entry
+  pub is : place_of now r entries ≡ Some place
+  pub there : slice_get entries place ≡ Some entry
+  pub same : entry.binding ≡ r
+  pub opened : is_of now r entry ≡ true
 
-find_any : {X : Type 0} (p : X → Bool) (xs : List X) → list_any p xs ≡ true → (b : X) × (find p xs ≡ Some b)
-find_any p [] h = cc
-find_any p (x ∷ xs) h = elim (p x) as (λ v. (v || list_any p xs) ≡ true → (b : _) × (cond v (Some x) (find p xs)
-    ≡ Some b)) [ true ↦ λ g. (x, refl) | false ↦ λ g. find_any p xs g ] h
+stands_next : (now : ℕ) (r : Row) (e : Entry) (es : List Entry) → is_of now r e ≡ false → Stands now r es →
+    Stands now r (e ∷ es)
+stands_next now r e es other s = record {
+  place = suc s.place;
+  entry = s.entry;
+  is = ap (λ v. cond v (Some 0) (option_map suc (place_of now r es))) other ∙ ap (option_map suc) s.is;
+  there = s.there;
+  same = s.same;
+  opened = s.opened;
+}
 
-any_of_found : {X : Type 0} (p : X → Bool) (xs : List X) (b : X) → find p xs ≡ Some b → list_any p xs ≡ true
-any_of_found p [] b h = cc
-any_of_found p (x ∷ xs) b h = elim (p x) as (λ v. cond v (Some x) (find p xs) ≡ Some b → (v || list_any p xs)
-    ≡ true) [ true ↦ λ g. refl | false ↦ λ g. any_of_found p xs b g ] h
+and_false : (v w : Bool) → w ≡ false → (v && w) ≡ false
+and_false true w h = h
+and_false false w h = refl
 
-each_cases : {X : Type 0} (p : X → Bool) (Q R : X → Type 0) (xs : List X) → Each Q (filter p xs) →
-    ((x : X) → p x ≡ true → Q x → R x) → ((x : X) → p x ≡ false → R x) → Each R xs
-each_cases p Q R [] h passed missed = tt
-each_cases p Q R (x ∷ xs) h passed missed = elim (p x) as (λ v. p x ≡ v
-    → Each Q (cond v (x ∷ filter p xs) (filter p xs)) →
-    R x × Each R xs) [
-      | true ↦ λ e g. (passed x e g.0, each_cases p Q R xs g.1 passed missed)
-      | false ↦ λ e g. (missed x e, each_cases p Q R xs g passed missed)
-    ] refl h
+each_at : {X : Type 0} (P : X → Type 0) (xs : List X) (i : ℕ) (x : X) → Each P xs → slice_get xs i ≡ Some x → P x
+each_at P [] i x h at = cc
+each_at P (y ∷ xs) zero x h at = subst P (same_Some y x at) h.0
+each_at P (y ∷ xs) (suc i) x h at = each_at P xs i x h.1 at
 
-one_mapped : {X Y : Type 0} (f : X → Y) (xs : List X) (y : Y) → map f xs ≡ y ∷ [] → (x : X) × (xs ≡ x ∷ [])
-    × (f x ≡ y)
-one_mapped f [] y h = cc
-one_mapped f (x ∷ []) y h = let same : f x ≡ y = cc in (x, refl, same)
-one_mapped f (x ∷ z ∷ xs) y h = cc
+stands_at_one : (now : ℕ) (r : Row) (e : Entry) (es : List Entry) → is_open now e ≡ true →
+    Each (Differ e.binding) (open_rows now es) →
+    ((i : ℕ) → slice_get (open_rows now es) i ≡ Some r → Stands now r es) → (i : ℕ) →
+    slice_get (e.binding ∷ open_rows now es) i ≡ Some r → Stands now r (e ∷ es)
+stands_at_one now r e es opened differ rest zero at =
+    let same : e.binding ≡ r = same_Some e.binding r at in
+    let passes : is_of now r e ≡ true =
+    and_from (is_open now e) (shares r e.binding) opened (ap (shares r) same ∙ shares_itself r) in
+    record {
+      place = zero;
+      entry = e;
+      is = ap (λ v. cond v (Some 0) (option_map suc (place_of now r es))) passes;
+      there = refl;
+      same = same;
+      opened = passes;
+    }
+stands_at_one now r e es opened differ rest (suc i) at =
+    let others : shares r e.binding ≡ false = differ_back e.binding r
+    (each_at (Differ e.binding) (open_rows now es) i r differ at) in
+    stands_next now r e es (and_false (is_open now e) (shares r e.binding) others) (rest i at)
 
-none_mapped : {X Y : Type 0} (f : X → Y) (xs : List X) → map f xs ≡ [] → xs ≡ []
-none_mapped f [] h = refl
-none_mapped f (x ∷ xs) h = cc
+stands : (now : ℕ) (r : Row) (es : List Entry) → AllDiffer (open_rows now es) → (i : ℕ) →
+    slice_get (open_rows now es) i ≡ Some r → Stands now r es
+stands now r [] differ i at = cc
+stands now r (e ∷ es) differ i at = elim (is_open now e) as (λ v. is_open now e ≡ v →
+    AllDiffer (map binding_of (cond v (e ∷ filter (is_open now) es) (filter (is_open now) es))) →
+    slice_get (map binding_of (cond v (e ∷ filter (is_open now) es) (filter (is_open now) es))) i ≡ Some r →
+    Stands now r (e ∷ es)) [
+      | true ↦ λ opened d a. stands_at_one now r e es opened d.0 (stands now r es d.1) i a
+      | false ↦ λ closed d a. stands_next now r e es (ap (λ v. v && shares r e.binding) closed) (stands now r es d i a)
+    ] refl differ at
 
-any_open : (now : ℕ) (wanted : Row) (entries : List Entry) → list_any (is_of now wanted) entries
-    ≡ list_any (shares wanted) (map binding_of (filter (is_open now) entries))
-any_open now wanted [] = refl
-any_open now wanted (e ∷ entries) = elim (is_before now e.end) as (λ v.
-    ((v && shares wanted e.binding) || list_any (is_of now wanted) entries)
-    ≡ list_any (shares wanted) (map binding_of (cond v (e ∷ filter (is_open now) entries)
-    (filter (is_open now) entries)))) [
-      | true ↦ ap (λ v. shares wanted e.binding || v) (any_open now wanted entries)
-      | false ↦ any_open now wanted entries
-    ]
+found_at : (p : Binding → Bool) (xs : List Binding) (b : Binding) → find p xs ≡ Some b →
+    (i : ℕ) × (slice_get (map row xs) i ≡ Some (row b))
+found_at p [] b e = cc
+found_at p (x ∷ xs) b e = elim (p x) as (λ v. cond v (Some x) (find p xs) ≡ Some b →
+    (i : ℕ) × (slice_get (row x ∷ map row xs) i ≡ Some (row b))) [
+      | true ↦ λ is. (zero, ap (λ (y : Binding). Some (row y)) (same_Some x b is))
+      | false ↦ λ is. let rest = found_at p xs b is in (suc rest.0, rest.1)
+    ] e
 
-pub map_unmoved : (now : ℕ) (wanted : Row) (change : Entry → Entry) (entries : List Entry) →
-    list_any (is_of now wanted) entries ≡ false → map (through now wanted change) entries ≡ entries
-map_unmoved now wanted change [] h = refl
-map_unmoved now wanted change (e ∷ entries) h = elim (is_of now wanted e) as (λ v.
-    (v || list_any (is_of now wanted) entries) ≡ false → cond v (change e) e ∷ map (through now wanted change) entries
-    ≡ e ∷ entries) [
-      | true ↦ λ g. cc
-      | false ↦ λ g. ap (λ (l : List _). e ∷ l) (map_unmoved now wanted change entries g)
+none_open : (now : ℕ) (r : Row) (es : List Entry) → Each (λ x. Differ x r) (open_rows now es) →
+    list_any (is_of now r) es ≡ false
+none_open now r [] h = refl
+none_open now r (e ∷ es) h = elim (is_open now e) as (λ v.
+    Each (λ x. Differ x r) (map binding_of (cond v (e ∷ filter (is_open now) es) (filter (is_open now) es))) →
+    ((v && shares r e.binding) || list_any (is_of now r) es) ≡ false) [
+      | true ↦ λ g. ap (λ v. v || list_any (is_of now r) es) (differ_back e.binding r g.0) ∙ none_open now r es g.1
+      | false ↦ λ g. none_open now r es g
     ] h
 
-over_closed : (now : ℕ) (p : Passage) (e : Entry) → is_before now e.end ≡ false → over now p e ≡ e
-over_closed now Nothing e h = refl
-over_closed now (Dropped loss) e h = refl
-over_closed now (Out timed) e h = ap (λ v. cond (v && shares timed.row e.binding) (sent_through now timed.end e) e) h
-over_closed now (In timed) e h = ap (λ v. cond (v && shares timed.row e.binding) (received_through now timed.end e) e) h
+-- ONE ACT
 
-last_of : {X : Type 0} (P : X → Type 0) (xs : List X) (x : X) → Each P (xs ++ x ∷ []) → P x
-last_of P [] x h = h.0
-last_of P (y ∷ xs) x h = last_of P xs x h.1
+-- through no binding
+idle : (now : ℕ) (entries : List Entry) (carried : Option Protocol) (host : ℕ) (end : End) →
+    (books.after now (lost_by carried host end) entries ≡ entries)
+    × (books.use_told now (lost_by carried host end) entries ≡ no_use)
+idle now entries None host end = (refl, refl)
+idle now entries (Some p) host (Dropped cause) = (refl, refl)
+idle now entries (Some p) host (ToOutside packet) = (refl, refl)
+idle now entries (Some p) host (ToInside packet) = (refl, refl)
+idle now entries (Some p) host (Onward place packet) = (refl, refl)
 
-row_shares : (w x : Row) → is_row w x ≡ true → shares w x ≡ true
-row_shares w x h =
-    let p : (same_protocol w.protocol x.protocol ≡ true)
-    × ((same_endpoint w.inside x.inside && same_endpoint w.external x.external) ≡ true) = and_parts _ _ h in
-    let q : (same_endpoint w.inside x.inside ≡ true) × (same_endpoint w.external x.external ≡ true) =
-    and_parts _ _ p.1 in
-    and_from (same_protocol w.protocol x.protocol) (same_endpoint w.external x.external) p.0 q.1
+module _ (timers : Timers) (now : ℕ) (b : Binding) (entries : List Entry) where
+  -- a passage through it says these entries, and this use
+  abbrev Says : Way → List Entry → Note → Option ℕ → Type 0
+  Says way after note place = (books.after now (gone_through way (timed timers b)) entries ≡ after)
+      × (books.use_told now (gone_through way (timed timers b)) entries ≡ used way note place)
 
-apart_shares : (x w : Row) → AreRowsApart x w → shares w x ≡ false
-apart_shares x w apart = elim (shares w x) as (λ v. shares w x ≡ v → v ≡ false) [
-  | true ↦ λ h.
-      let p : (same_protocol w.protocol x.protocol ≡ true) × (same_endpoint w.external x.external ≡ true) =
-      and_parts _ _ h in
-      absurd ((apart (sym (protocol_is w.protocol x.protocol p.0))).0 (sym (end_is w.external x.external p.1)))
-  | false ↦ λ h. refl
-] refl
+  says_found : (s : Stands now (row b) entries) (way : Way) →
+      Says way (map (through now (row b) (counted way now (end_of timers b))) entries)
+      (cond b.row.fixed notes.Redirect notes.Found) (place_of now (row b) entries)
+  says_found s way =
+      let noted : books.noted (slice_get entries s.place) ≡ cond b.row.fixed notes.Redirect notes.Found =
+      ap books.noted s.there ∙ ap (λ (r : Row). cond r.fixed notes.Redirect notes.Found) s.same in
+      let here : (w : Way) → used w (books.noted (slice_get entries s.place)) (Some s.place)
+      ≡ used w (cond b.row.fixed notes.Redirect notes.Found) (place_of now (row b) entries) =
+      λ w. ap (λ (n : Note). used w n (Some s.place)) noted
+      ∙ ap (used w (cond b.row.fixed notes.Redirect notes.Found)) (sym s.is) in
+      elim way as (λ w. Says w (map (through now (row b) (counted w now (end_of timers b))) entries)
+      (cond b.row.fixed notes.Redirect notes.Found) (place_of now (row b) entries)) [
+        | Outgoing ↦ (
+          ap (λ v. cond v (map (through now (row b) (counted Outgoing now (end_of timers b))) entries)
+              (entries ++ books.made_by now (timed timers b) ∷ []))
+              (any_at (is_of now (row b)) entries s.place s.entry s.there s.opened),
+          ap (books.out_at entries) s.is ∙ here Outgoing,
+        )
+        | Incoming ↦ (refl, ap (books.in_at entries) s.is ∙ here Incoming)
+      ]
 
-pub none_shares : (xs : List Row) (w : Row) → Apart (xs ++ w ∷ []) → list_any (shares w) xs ≡ false
-none_shares [] w apart = refl
-none_shares (x ∷ xs) w apart =
-    ap (λ v. v || list_any (shares w) xs) (apart_shares x w (last_of (AreRowsApart x) xs w apart.0))
-    ∙ none_shares xs w apart.1
+  says_made : list_any (is_of now (row b)) entries ≡ false →
+      Says Outgoing (entries ++ counted Outgoing now (end_of timers b) (begun timers now b) ∷ []) notes.Made
+      (Some (length entries))
+  says_made none = (
+    ap (λ v. cond v (map (through now (row b) (counted Outgoing now (end_of timers b))) entries)
+        (entries ++ books.made_by now (timed timers b) ∷ [])) none,
+    ap (books.out_at entries) (no_place now (row b) entries none),
+  )
 
--- THE BINDING OF A FIRST LEG IS LIVE, AND A SECOND LEG GOES OUT THROUGH NONE
+module _ (ends : EndsAreFirst) (rules : Rules) (t : AreTimers rules.timers) (address : ℕ) (leg : Leg)
+    (list : List Binding) (entries : List Entry) (tells : Tells rules.timers leg.now list entries)
+    (carried : Option Protocol) (host : ℕ) (end : End) where
+  abbrev own : List Binding
+  own = purge rules.timers leg.now list
 
-in_not_out : (o : Option TimedRow) → IsNotOut (in_through o)
-in_not_out None = tt
-in_not_out (Some timed) = tt
+  abbrev Retells : Option Through → List Binding → Type 0
+  Retells went left =
+      let passage : Passage = passage_by rules.timers leg.way carried host end went in
+      (books.after leg.now passage entries ≡ logged_by rules.timers leg went entries)
+      × (books.use_told leg.now passage entries ≡ use_by entries leg went)
 
-module _ (timers : Timers) (now : ℕ) (list : List Binding) where
-  ended_in : (address : ℕ) (packet : List ℕ) (carried : Option Protocol) (left : Result Endpoint Cause) →
-      IsNotOut (passage_by timers now list address (seen_of packet) carried (went_by (end_in packet left)))
-  ended_in address packet None left = tt
-  ended_in address packet (Some p) (Err cause) = tt
-  ended_in address packet (Some p) (Ok inside) = in_not_out (option_map (timed timers)
-      (find (λ b. has_number address p (destination packet).number b.row) (purge timers now list)))
+  rows_are : open_rows leg.now entries ≡ map row own
+  rows_are = sym (map_twice (λ (h : Row × Option ℕ). h.0) hold (filter (is_open leg.now) entries))
+      ∙ (ap (map (λ (h : Row × Option ℕ). h.0)) (tells.holds ∙ sym (purge_holds rules.timers t leg.now list))
+      ∙ map_twice (λ (h : Row × Option ℕ). h.0) (hold_of rules.timers) own)
 
-  error_ended : (address : ℕ) (packet : List ℕ) (e : End) →
-      IsNotOut (passage_by timers now list address (seen_of packet) None (went_by e))
-  error_ended address packet e = tt
+  found_stands : (p : Binding → Bool) (b : Binding) → find p own ≡ Some b → Stands leg.now (row b) entries
+  found_stands p b is =
+      let at = found_at p own b is in
+      stands leg.now (row b) entries
+      (subst AllDiffer (sym rows_are) (own_differ ends rules t address leg list tells.differ)) at.0
+      (ap (λ (rs : List Row). slice_get rs at.0) rows_are ∙ at.1)
 
-  -- the binding of a packet that went out is in the list
-  seen_there : (p : Binding → Bool) (o : Option Binding) → find p (living timers now list) ≡ o → (c : Binding) →
-      option_map (with_live_flows timers now) o ≡ Some c →
-      list_any (is_row (row c)) (map row (living timers now list)) ≡ true
-  seen_there p None e c h = cc
-  seen_there p (Some b) e c h =
-      let is : with_live_flows timers now b ≡ c = same_Some (with_live_flows timers now b) c h in
-      any_seen_of (is_row (row c)) row (living timers now list)
-      ∙ any_found p (λ d. is_row (row c) (row d)) (living timers now list) b e
-      (ap (λ (d : Binding). is_row (row c) (row d)) is ∙ row_itself (row c))
+  retold_act : Retells (act rules address leg list).through (act rules address leg list).list
+  retold_act = of_moves rules t address leg list Retells (idle leg.now entries carried host end)
+      (idle leg.now entries carried host end)
+      (λ p f b is same keeps. says_found rules.timers leg.now (f b) entries
+      (subst (λ (r : Row). Stands leg.now r entries) (sym (same b)) (found_stands p b is)) leg.way)
+      (λ new out is others. subst (λ (way : Way). Says rules.timers leg.now new entries way
+      (entries ++ counted way leg.now (end_of rules.timers new) (begun rules.timers leg.now new) ∷ []) notes.Made
+      (Some (length entries))) (sym out)
+      (says_made rules.timers leg.now new entries
+      (none_open leg.now (row new) entries (subst (Each (λ r. Differ r (row new))) (sym rows_are) others))))
 
-  seen_left : (p : Binding → Bool) → ((b : Binding) → p (with_live_flows timers now b) ≡ p b) →
-      (o : Option Binding) → find p (purge timers now list) ≡ o → (told : TimedRow) →
-      out_through (option_map (timed timers) o) ≡ Out told →
-      list_any (is_row told.row) (map row (living timers now list)) ≡ true
-  seen_left p same None e told h = cc
-  seen_left p same (Some c) e told h =
-      let is : timed timers c ≡ told = cc in
-      ap (λ (r : Row). list_any (is_row r) (map row (living timers now list))) (ap (λ (x : TimedRow). x.row) (sym is))
-      ∙ seen_there p (find p (living timers now list)) refl c
-      (sym (find_mapped p (with_live_flows timers now) same (living timers now list)) ∙ e)
+-- SHORTAGES
 
-  never_out : (o : Option TimedRow) (told : TimedRow) → in_through o ≡ Out told → ⊥
-  never_out None told h = cc
-  never_out (Some x) told h = cc
+module _ (timers : Timers) (now host : ℕ) where
+  not_lost : (way : Way) (carried : Option Protocol) (end : End) →
+      ((c : Option Protocol) → books.lost now (lost_by c host end) ≡ []) → (went : Option Through) →
+      books.lost now (passage_by timers way carried host end went) ≡ []
+  not_lost Outgoing carried end none (Some went) = refl
+  not_lost Incoming carried end none (Some went) = refl
+  not_lost way carried end none None = none carried
 
-  passage_seen : (address : ℕ) (packet : List ℕ) (carried : Option Protocol) (e : End) (told : TimedRow) →
-      passage_by timers now list address (seen_of packet) carried (went_by e) ≡ Out told →
-      list_any (is_row told.row) (map row (living timers now list)) ≡ true
-  passage_seen address packet None e told h = cc
-  passage_seen address packet (Some p) (ends.Dropped cause) told h = cc
-  passage_seen address packet (Some p) (ends.ToInside left) told h = absurd (never_out (option_map (timed timers)
-      (find (λ b. has_number address p (destination packet).number b.row) (purge timers now list))) told h)
-  passage_seen address packet (Some p) (ends.ToOutside left) told h =
-      seen_left (λ b. is_of_inside address p (source packet) b.row) (λ b. refl)
-      (find (λ b. is_of_inside address p (source packet) b.row) (purge timers now list)) refl told h
-  passage_seen address packet (Some p) (ends.Onward place left) told h =
-      seen_left (λ b. is_of_inside address p (source packet) b.row) (λ b. refl)
-      (find (λ b. is_of_inside address p (source packet) b.row) (purge timers now list)) refl told h
+  sent_out : (packet : List ℕ) (c : Option Protocol) → books.lost now (lost_by c host (ToOutside packet)) ≡ []
+  sent_out packet None = refl
+  sent_out packet (Some p) = refl
 
-  pub first_seen : (acts : List Act) (told : TimedRow) → first_of timers now list acts ≡ Out told →
-      list_any (is_row told.row) (map row (living timers now list)) ≡ true
-  first_seen [] told h = cc
-  first_seen (a ∷ acts) told h = passage_seen a.address a.leg.packet (carried_by (kind a.leg.packet)) a.end told h
+  sent_in : (packet : List ℕ) (c : Option Protocol) → books.lost now (lost_by c host (ToInside packet)) ≡ []
+  sent_in packet None = refl
+  sent_in packet (Some p) = refl
 
-module _ (rules : Rules) (now : ℕ) (final : List Binding) where
-  second_in : (address : ℕ) (leg : Leg) (list : List Binding) (k : Kind) → kind leg.packet ≡ k →
-      IsNotOut (passage_by rules.timers now final address (seen_of leg.packet) (carried_by k)
-      (went_by (Rattle.napt_rules.specs.Legs.act_by rules address leg list Incoming k).end))
-  second_in address leg list Udp is = ended_in rules.timers now final address leg.packet (carried_by Udp) _
-  second_in address leg list (Tcp flags) is = ended_in rules.timers now final address leg.packet
-      (carried_by (Tcp flags)) _
-  second_in address leg list Echo is = ended_in rules.timers now final address leg.packet (carried_by Echo) _
-  second_in address leg list (ErrorOf inner) is = tt
+  sent_on : (place : ℕ) (packet : List ℕ) (c : Option Protocol) →
+      books.lost now (lost_by c host (Onward place packet)) ≡ []
+  sent_on place packet None = refl
+  sent_on place packet (Some p) = refl
 
-  pub second_follow : (address : ℕ) (leg : Leg) (list : List Binding) (e : End) →
-      IsNotOut (second_of rules.timers now final (follow_by rules address leg (act rules address leg list) e).acts)
-  second_follow address leg list (ends.ToOutside packet) = tt
-  second_follow address leg list (ends.ToInside packet) = tt
-  second_follow address leg list (ends.Dropped cause) = tt
-  second_follow address leg list (ends.Onward place packet) =
-      let next : Leg = record leg { way = Incoming; packet = packet } in
-      second_in (destination packet).address next (act rules address leg list).list (kind packet) refl
+lost_as : (leg : Leg) (carried : Option Protocol) (cause : Cause) →
+    books.lost leg.now (lost_by carried (source leg.packet).address (Dropped cause)) ≡ shortage_by leg carried cause
+lost_as leg None cause = refl
+lost_as leg (Some p) cause = refl
 
-  pub second_not_out : (number : ℕ) (list : List Binding) (input : Arrival) →
-      IsNotOut (second_of rules.timers now final (step rules number now input list).acts)
-  second_not_out number list input = of_step rules number now list
-      (λ (s : Course). IsNotOut (second_of rules.timers now final s.acts)) (λ cause. tt)
-      (λ address side packet. let leg : Leg = first_leg number now side packet in
-      second_follow address leg list (act rules address leg list).end) input
+lost_act : (timers : Timers) (leg : Leg) (went : Option Through) (end : End) →
+    ((cause : Cause) → end ≡ Dropped cause → went ≡ None) →
+    books.lost leg.now (passage_by timers leg.way (carried_by (kind leg.packet)) (source leg.packet).address end went)
+    ≡ shortage_at leg end
+lost_act timers leg went (Dropped cause) dropped =
+    let carried : Option Protocol = carried_by (kind leg.packet) in
+    ap (λ (o : Option Through). books.lost leg.now (passage_by timers leg.way carried (source leg.packet).address
+    (Dropped cause) o)) (dropped cause refl) ∙ lost_as leg carried cause
+lost_act timers leg went (ToOutside packet) dropped = let host : ℕ = (source leg.packet).address in
+    not_lost timers leg.now host leg.way _ _ (sent_out timers leg.now host packet) went
+lost_act timers leg went (ToInside packet) dropped = let host : ℕ = (source leg.packet).address in
+    not_lost timers leg.now host leg.way _ _ (sent_in timers leg.now host packet) went
+lost_act timers leg went (Onward place packet) dropped = let host : ℕ = (source leg.packet).address in
+    not_lost timers leg.now host leg.way _ _ (sent_on timers leg.now host place packet) went
 
--- A STEP
+pub flat_joined : {X Y : Type 0} (f : X → List Y) (xs ys : List X)
+    → flat_map f (xs ++ ys) ≡ flat_map f xs ++ flat_map f ys
+flat_joined f [] ys = refl
+flat_joined f (x ∷ xs) ys = ap (λ (l : List _). f x ++ l) (flat_joined f xs ys)
+    ∙ sym (append_assoc (f x) (flat_map f xs) (flat_map f ys))
 
-after_over : (now : ℕ) (p : Passage) (entries : List Entry) → ((told : TimedRow) → p ≡ Out told →
-    list_any (is_of now told.row) entries ≡ true) → after now p entries ≡ map (over now p) entries
-after_over now Nothing entries any = sym (map_itself entries)
-after_over now (Dropped loss) entries any = sym (map_itself entries)
-after_over now (In told) entries any = refl
-after_over now (Out told) entries any = ap (λ v. cond v
-    (map (through now told.row (sent_through now told.end)) entries) (entries ++ made_by now told ∷ []))
-    (any told refl)
+-- THE LEGS OF AN INPUT
 
-not_out_any : (p : Passage) → IsNotOut p → (told : TimedRow) → p ≡ Out told → {X : Type 0} → X
-not_out_any Nothing missed told h = cc
-not_out_any (In timed) missed told h = cc
-not_out_any (Dropped loss) missed told h = cc
-not_out_any (Out timed) missed told h = absurd missed
+note_first : (n : Note) → first_note n notes.Nothing ≡ n
+note_first notes.Nothing = refl
+note_first notes.Made = refl
+note_first notes.Found = refl
+note_first notes.Redirect = refl
 
-module _ (timers : Timers) (t : AreTimers timers) (now : ℕ) (before : List Binding) (course : Course)
-    (entries : List Entry) (tells : Tells timers now before entries) (apart : Apart (map row before))
-    (apart_left : Apart (map row (living timers now course.list)))
-    (makes : MakesLive (first_out course.acts) timers now before course.list) (few : length course.acts ≤ 2)
-    (stays : (r : Row) → Each (IsNotThrough r) course.acts → end_at timers r (living timers now course.list)
-    ≡ end_at timers r (living timers now before))
-    (missed : IsNotOut (second_of timers now course.list course.acts)) where
-  abbrev old : List Binding
-  old = living timers now before
+or_none : (o : Option ℕ) → option_or o None ≡ o
+or_none None = refl
+or_none (Some n) = refl
 
-  abbrev left : List Binding
-  left = living timers now course.list
+use_alone : (u : Use) → both_uses u no_use ≡ u
+use_alone u = rw (note_first u.note, or_none u.out, or_none u.into) refl
 
-  abbrev made : List Binding
-  made = made_between timers now before course.list
+-- what a trace tells of the entries before it is what the acts do
+pub record IsRetold (rules : Rules) (entries : List Entry) (acts : List Act) (trace : Trace) : Type 0 where
+  pub entries_are : books.after_trace entries trace ≡ fold (logged rules.timers) entries acts
+  pub use_is : books.use_by_trace entries trace ≡ use_of rules entries acts
+  pub shortages_are : books.lost_by trace ≡ shortages acts
 
-  abbrev first : Passage
-  first = first_of timers now course.list course.acts
+module _ (ends : EndsAreFirst) (rules : Rules) (t : AreTimers rules.timers) where
+  abbrev ToldAt : ℕ → List Entry → Act → Type 0
+  ToldAt now entries a = (books.after now (passage_of rules.timers a) entries ≡ logged rules.timers entries a)
+      × (books.use_told now (passage_of rules.timers a) entries ≡ use_by entries a.leg a.through)
+      × (books.lost now (passage_of rules.timers a) ≡ shortage_at a.leg a.end)
 
-  abbrev second : Passage
-  second = second_of timers now course.list course.acts
-
-  abbrev both : Entry → Entry
-  both e = over now second (over now first e)
-
-  abbrev Begins : Entry → Type 0
-  Begins e = (b : Binding) × (find (has_row e.binding) old ≡ Some b) × (e.end ≡ end_of timers b)
-
-  paired : (es : List Entry) (bs : List Binding) → map hold es ≡ map (hold_of timers) bs →
-      Each (λ b. find (has_row (row b)) old ≡ Some b) bs → Each Begins es
-  paired [] [] h f = tt
-  paired [] (b ∷ bs) h f = cc
-  paired (e ∷ es) [] h f = cc
-  paired (e ∷ es) (b ∷ bs) h f =
-      let here : hold e ≡ hold_of timers b = cc in
-      let rest : map hold es ≡ map (hold_of timers) bs = cc in
-      let same : e.binding ≡ row b = ap (λ (p : Row × Option ℕ). p.0) here in (
-        (b, ap (λ (r : Row). find (has_row r) old) same ∙ f.0, ap (λ (p : Row × Option ℕ). p.1) here),
-        paired es bs rest f.1,
+  told_at : (clock : ℕ) (list : List Binding) (a : Act) → IsTurn rules clock list a → (entries : List Entry) →
+      Tells rules.timers clock list entries → ToldAt a.leg.now entries a
+  told_at clock list a turn entries tells =
+      let carried : Option Protocol = carried_by (kind a.leg.packet) in
+      let host : ℕ = (source a.leg.packet).address in
+      let told = retold_act ends rules t a.address a.leg list entries
+      (tells_later ends rules.timers t clock a.leg.now turn.later list entries tells) carried host a.end in
+      let same : (act rules a.address a.leg list).through ≡ a.through = sym turn.through in (
+        subst (λ (went : Option Through). books.after a.leg.now
+            (passage_by rules.timers a.leg.way carried host a.end went) entries
+            ≡ logged_by rules.timers a.leg went entries) same told.0,
+        subst (λ (went : Option Through). books.use_told a.leg.now
+            (passage_by rules.timers a.leg.way carried host a.end went) entries ≡ use_by entries a.leg went) same
+            told.1,
+        lost_act rules.timers a.leg a.through a.end (λ cause is. turn.through
+            ∙ dropped_go_through_none rules a.address a.leg list cause (sym turn.end ∙ is)),
       )
 
-  begins_open : Each Begins (filter (is_open now) entries)
-  begins_open = paired (filter (is_open now) entries) old tells.holds (each_found old
-      (apart_kept (is_live timers now) before apart))
+  abbrev trace_by : ℕ → List Act → Trace
+  trace_by now acts = record { now = now; first = first_of rules.timers acts; second = second_of rules.timers acts }
 
-  -- what lived before lives
-  in_left : (r : Row) (b : Binding) → find (has_row r) old ≡ Some b → (c : Binding) × (find (has_row r) left ≡ Some c)
-  in_left r b e =
-      let was : list_any (is_row r) (map row old) ≡ true = any_seen_of (is_row r) row old
-      ∙ any_of_found (has_row r) old b e in
-      let is : list_any (has_row r) left ≡ true =
-      sym (any_seen_of (is_row r) row left)
-      ∙ (ap (list_any (is_row r)) makes.rows
-      ∙ (any_joined (is_row r) (map row old) (row_list makes.added)
-      ∙ ap (λ v. v || list_any (is_row r) (row_list makes.added)) was)) in
-      find_any (has_row r) left is
+  one_retold : (now : ℕ) (entries : List Entry) (a : Act) → ToldAt now entries a →
+      IsRetold rules entries (a ∷ []) (trace_by now (a ∷ []))
+  one_retold now entries a told = record {
+    entries_are = told.0;
+    use_is = ap (λ (u : Use). both_uses u no_use) told.1;
+    shortages_are = ap (λ (xs : List Shortage). xs ++ []) told.2;
+  }
 
-  told_open : (e : Entry) → is_before now e.end ≡ true → Begins e → told timers now course e ≡ both e
-  told_open e opened begins =
-      let c = in_left e.binding begins.0 begins.1 in
-      told_over timers t now course.list apart_left e opened c.0 c.1 course refl few
-      (λ nowhere. begins.2 ∙ same_Some (end_of timers begins.0) (end_of timers c.0)
-      (sym (ap (option_map (end_of timers)) begins.1) ∙ (sym (stays e.binding nowhere)
-      ∙ ap (option_map (end_of timers)) c.1)))
+  two_retold : (now : ℕ) (entries : List Entry) (a b : Act) → ToldAt now entries a →
+      ToldAt now (logged rules.timers entries a) b → IsRetold rules entries (a ∷ b ∷ []) (trace_by now (a ∷ b ∷ []))
+  two_retold now entries a b told next = record {
+    entries_are = ap (books.after now (passage_of rules.timers b)) told.0 ∙ next.0;
+    use_is =
+        let u : Use = use_by entries a.leg a.through in
+        let second : Use = use_by (logged rules.timers entries a) b.leg b.through in
+        ap (λ (x : Use). both_uses x (books.use_told now (passage_of rules.timers b)
+        (books.after now (passage_of rules.timers a) entries))) told.1
+        ∙ (ap (λ (es : List Entry). both_uses u (books.use_told now (passage_of rules.timers b) es)) told.0
+        ∙ (ap (both_uses u) next.1 ∙ ap (both_uses u) (sym (use_alone second))));
+    shortages_are = ap (λ (xs : List Shortage). xs ++ books.lost now (passage_of rules.timers b)) told.2
+        ∙ ap (λ (xs : List Shortage). shortage_at a.leg a.end ++ xs)
+        (next.2 ∙ sym (append-nil (shortage_at b.leg b.end)));
+  }
 
-  told_closed : (e : Entry) → is_before now e.end ≡ false → told timers now course e ≡ both e
-  told_closed e closed =
-      ap (λ (v : Bool). cond v (record
-      (with_counts now course.acts e) { end = end_told timers now course.list e }) e) closed
-      ∙ sym (ap (over now second) (over_closed now first e closed) ∙ over_closed now second e closed)
+  acts_retold : (now : ℕ) (list : List Binding) (acts : List Act) (new : List Binding) → length acts ≤ 2 →
+      InTurn rules now list acts now new → (entries : List Entry) → Tells rules.timers now list entries →
+      IsRetold rules entries acts (trace_by now acts)
+  acts_retold now list [] new few turn entries tells =
+      record { entries_are = refl; use_is = refl; shortages_are = refl }
+  acts_retold now list (a ∷ []) new few turn entries tells =
+      let at : a.leg.now ≡ now = omega (arith, turn.0.later, turn.1.0) in
+      one_retold now entries a (subst (λ (n : ℕ). ToldAt n entries a) at (told_at now list a turn.0 entries tells))
+  acts_retold now list (a ∷ b ∷ []) new few turn entries tells =
+      let first : a.leg.now ≡ now = omega (arith, turn.0.later, turn.1.0.later, turn.1.1.0) in
+      let second : b.leg.now ≡ now = omega (arith, turn.0.later, turn.1.0.later, turn.1.1.0) in
+      let left : List Binding = (act rules a.address a.leg list).list in
+      two_retold now entries a b
+      (subst (λ (n : ℕ). ToldAt n entries a) first (told_at now list a turn.0 entries tells))
+      (subst (λ (n : ℕ). ToldAt n (logged rules.timers entries a) b) second
+      (told_at a.leg.now left b turn.1.0 (logged rules.timers entries a)
+      (told_turn ends rules t now list (a ∷ []) a.leg.now left entries (turn.0, (omega arith, refl)) tells)))
+  acts_retold now list (a ∷ b ∷ c ∷ acts) new few turn entries tells = absurd (omega (arith, few))
 
-  told_entries : Each (λ e. told timers now course e ≡ both e) entries
-  told_entries = each_cases (is_open now) Begins (λ e. told timers now course e ≡ both e) entries begins_open told_open
-      told_closed
+  step_turn : (number now : ℕ) (input : Arrival) → input.clock ≤ now → (list : List Binding) →
+      (let course : Course = step rules number now input list in
+      InTurn rules now list course.acts now course.list)
+  step_turn number now input le list =
+      let course : Course = step rules number now input list in
+      let latest : max now input.clock ≡ now = omega arith in
+      subst (λ (acts : List Act). InTurn rules now list acts now course.list) (append-nil course.acts)
+      (subst (λ (last : ℕ). InTurn rules now list ((step rules number last input list).acts ++ []) last
+      (step rules number last input list).list) latest (run_turn rules number now (input ∷ []) list))
 
-  made_found : Each (λ b. find (has_row (row b)) left ≡ Some b) made
-  made_found = each_among (λ b. find (has_row (row b)) left ≡ Some b)
-      (λ b. not (list_any (has_row (row b)) old)) left (each_found left apart_left)
+  -- ALL INPUTS
 
-  made_open : (b : Binding) → find (has_row (row b)) left ≡ Some b → is_before now (end_of timers b) ≡ true
-  made_open b e = sym (ends_are_first timers t now b) ∙ lives timers t now course.list apart_left (row b) b e
+  pub record RunRetold (number clock : ℕ) (inputs : List Arrival) (list : List Binding)
+      (entries : List Entry) : Type 0 where
+    pub entries_are : fold books.after_trace entries (traces_from rules number clock inputs list)
+        ≡ fold (logged rules.timers) entries (run_from rules number clock inputs list).acts
+    pub uses_are : books.uses_told entries (traces_from rules number clock inputs list)
+        ≡ uses_from rules number clock inputs list entries
+    pub shortages_are : flat_map books.lost_by (traces_from rules number clock inputs list)
+        ≡ shortages (run_from rules number clock inputs list).acts
 
-  told_made : Each (λ b. told timers now course (begun timers now b) ≡ both (begun timers now b)) made
-  told_made = each_weaker (λ b. find (has_row (row b)) left ≡ Some b)
-      (λ b. told timers now course (begun timers now b) ≡ both (begun timers now b))
-      (λ b e. told_over timers t now course.list apart_left (begun timers now b) (made_open b e) b e course refl few
-      (λ nowhere. refl)) made made_found
-
-  abbrev all : List Entry
-  all = entries ++ map (begun timers now) made
-
-  told_all : map (told timers now course) all ≡ map both all
-  told_all = map_each (told timers now course) both all
-      (each_joined (λ e. told timers now course e ≡ both e) entries (map (begun timers now) made) told_entries
-      (each_mapped (λ e. told timers now course e ≡ both e) (begun timers now) made told_made))
-
-  -- the first leg
-
-  opened_rows : (w : Row) → list_any (is_of now w) entries ≡ list_any (shares w) (map row old)
-  opened_rows w = any_open now w entries ∙ ap (list_any (shares w)) (open_rows ends_are_first timers t now before
-      entries tells)
-
-  rows_made : (added : Option Row) → makes.added ≡ added → map row made ≡ row_list added
-  rows_made added is = made_added timers now before course.list (row_list makes.added) makes.rows apart_left
-      ∙ ap row_list is
-
-  first_none : makes.added ≡ None → after now first entries ≡ map (over now first) all
-  first_none is =
-      let none : made ≡ [] = none_mapped row made (rows_made None is) in
-      after_over now first entries (λ told h. opened_rows told.row
-      ∙ any_weaker (shares told.row) (is_row told.row) (map row old) (row_shares told.row)
-      (sym (ap (list_any (is_row told.row)) (makes.rows ∙ (ap (λ (o : Option Row). map row old ++ row_list o) is
-      ∙ append-nil (map row old)))) ∙ first_seen timers now course.list course.acts told h))
-      ∙ ap (map (over now first)) (sym (append-nil entries) ∙ ap (λ (bs : List Binding). entries
-      ++ map (begun timers now) bs) (sym none))
-
-  first_out_is : (acts : List Act) (b : Binding) → find (has_row (row b)) left ≡ Some b →
-      first_out acts (row b) ≡ true →
-      first_of timers now course.list acts ≡ Out (timed timers (with_live_flows timers now b))
-  first_out_is [] b e passed = cc
-  first_out_is (a ∷ acts) b e passed = out_is timers t now course.list apart_left (row b) b e a.address a.leg.packet
-      (carried_by (kind a.leg.packet)) a.end passed
-
-  begun_over : (b : Binding) → find (has_row (row b)) left ≡ Some b →
-      (let told : TimedRow = timed timers (with_live_flows timers now b) in
-      through now told.row (sent_through now told.end) (begun timers now b) ≡ made_by now told)
-  begun_over b e =
-      let told : TimedRow = timed timers (with_live_flows timers now b) in
-      ap (λ v. cond (v && shares (row b) (row b)) (sent_through now told.end (begun timers now b))
-      (begun timers now b)) (made_open b e)
-      ∙ ap (λ v. cond v (sent_through now told.end (begun timers now b)) (begun timers now b)) (shares_itself (row b))
-
-  first_some : (r : Row) → makes.added ≡ Some r → after now first entries ≡ map (over now first) all
-  first_some r is =
-      let one = one_mapped row made r (rows_made (Some r) is) in
-      let b : Binding = one.0 in
-      let told : TimedRow = timed timers (with_live_flows timers now b) in
-      let found : find (has_row (row b)) left ≡ Some b =
-      (subst (λ (bs : List Binding). Each (λ c. find (has_row (row c)) left ≡ Some c) bs) one.1 made_found).0 in
-      let hit : (first_out course.acts r ≡ true) × (r.fixed ≡ false) =
-      subst (λ (o : Option Row). IfSome o (λ q. (first_out course.acts q ≡ true) × (q.fixed ≡ false))) is makes.hit in
-      let first_is : first ≡ Out told = first_out_is course.acts b found
-      (ap (first_out course.acts) one.2 ∙ hit.0) in
-      let rows : map row left ≡ map row old ++ r ∷ [] = makes.rows ∙ ap (λ (o : Option Row). map row old
-      ++ row_list o) is in
-      let absent : list_any (is_of now told.row) entries ≡ false = opened_rows (row b)
-      ∙ (ap (λ (w : Row). list_any (shares w) (map row old)) one.2 ∙ none_shares (map row old) r
-      (subst Apart rows apart_left)) in
-      ap (λ (p : Passage). after now p entries) first_is
-      ∙ (ap (λ v. cond v (map (through now told.row (sent_through now told.end)) entries)
-      (entries ++ made_by now told ∷ [])) absent
-      ∙ (ap (λ (es : List Entry). es ++ made_by now told ∷ [])
-      (sym (map_unmoved now told.row (sent_through now told.end) entries absent))
-      ∙ (ap (λ (x : Entry). map (over now (Out told)) entries ++ x ∷ []) (sym (begun_over b found))
-      ∙ (sym (map_joined (over now (Out told)) entries (begun timers now b ∷ []))
-      ∙ (ap (λ (bs : List Binding). map (over now (Out told)) (entries ++ map (begun timers now) bs)) (sym one.1)
-      ∙ ap (λ (p : Passage). map (over now p) all) (sym first_is))))))
-
-  first_step : after now first entries ≡ map (over now first) all
-  first_step = elim makes.added as (λ o. makes.added ≡ o → after now first entries ≡ map (over now first) all) [
-    | None ↦ first_none
-    | Some r ↦ first_some r
-  ] refl
-
-  pub retold_step : logged timers now before course entries ≡ after_trace entries (trace_of timers now course)
-  retold_step =
-      told_all
-      ∙ (sym (map_twice (over now second) (over now first) all)
-      ∙ (ap (map (over now second)) (sym first_step)
-      ∙ sym (after_over now second (after now first entries) (λ told h. not_out_any second missed told h))))
-
--- ALL INPUTS
-
-module _ (carry : PacketsCarryNumbers) (out_sound : OutStaysSound) (in_sound : InStaysSound)
-    (out_live : OutLeavesLive) (in_live : InLeavesLive) (rules : Rules) (keeps : KeepsRules rules) where
-  retold_from : (number clock : ℕ) (inputs : List Arrival) (list : List Binding) (entries : List Entry) →
-      IsSound (pair_of rules) list → Tells rules.timers clock list entries →
-      entries_from rules number clock inputs list entries
-      ≡ fold after_trace entries (traces_from rules number clock inputs list)
-  retold_from number clock [] list entries sound tells = refl
-  retold_from number clock (input ∷ inputs) list entries sound tells =
+  pub run_retold : (number clock : ℕ) (inputs : List Arrival) (list : List Binding) (entries : List Entry) →
+      Tells rules.timers clock list entries → RunRetold number clock inputs list entries
+  run_retold number clock [] list entries tells =
+      record { entries_are = refl; uses_are = refl; shortages_are = refl }
+  run_retold number clock (input ∷ inputs) list entries tells =
       let now : ℕ = max clock input.clock in
       let course : Course = step rules number now input list in
-      let later : clock ≤ now = omega arith in
-      let left : IsSound (pair_of rules) course.list =
-      run_sound carry out_sound in_sound rules number clock (input ∷ []) list sound in
-      let tells_now : Tells rules.timers now list entries =
-      tells_later ends_are_first rules.timers keeps.timers clock now later list entries tells in
-      let tells_next : Tells rules.timers now course.list (logged rules.timers now list course entries) =
-      tells_step ends_are_first rules.timers keeps.timers now list course entries tells_now
-      (grows_step out_live in_live rules keeps.timers number now list input) left.apart in
-      retold_from (number + 1) now inputs course.list (logged rules.timers now list course entries) left tells_next
-      ∙ ap (λ (es : List Entry). fold after_trace es (traces_from rules (number + 1) now inputs course.list))
-      (retold_step rules.timers keeps.timers now list course entries tells_now sound.apart
-      (apart_kept (is_live rules.timers now) course.list left.apart)
-      (makes_step out_live in_live rules keeps.timers number now list input) (step_one rules number now input list).1
-      (λ r nowhere. end_stays r out_live in_live rules keeps.timers number now list input nowhere)
-      (second_not_out rules now course.list number list input))
+      let trace : Trace = trace_of rules.timers now course in
+      let turn : InTurn rules now list course.acts now course.list = step_turn number now input (omega arith) list in
+      let here : Tells rules.timers now list entries =
+      tells_later ends rules.timers t clock now (omega arith) list entries tells in
+      let told : IsRetold rules entries course.acts trace =
+      acts_retold now list course.acts course.list (step_one rules number now input list).1 turn entries here in
+      let after : List Entry = fold (logged rules.timers) entries course.acts in
+      let traces : List Trace = traces_from rules (number + 1) now inputs course.list in
+      let acts : List Act = (run_from rules (number + 1) now inputs course.list).acts in
+      let rest : RunRetold (number + 1) now inputs course.list after =
+      run_retold (number + 1) now inputs course.list after
+      (told_turn ends rules t now list course.acts now course.list entries turn here) in
+      record {
+        entries_are = ap (λ (es : List Entry). fold books.after_trace es traces) told.entries_are
+            ∙ (rest.entries_are ∙ sym (fold_joined (logged rules.timers) course.acts acts entries));
+        uses_are = ap (λ (u : Use). u ∷ books.uses_told (books.after_trace entries trace) traces) told.use_is
+            ∙ ap (λ (us : List Use). use_of rules entries course.acts ∷ us)
+            (ap (λ (es : List Entry). books.uses_told es traces) told.entries_are ∙ rest.uses_are);
+        shortages_are = ap (λ (xs : List Shortage). xs
+            ++ flat_map books.lost_by traces) told.shortages_are
+            ∙ (ap (λ (xs : List Shortage). shortages course.acts ++ xs) rest.shortages_are
+            ∙ sym (flat_joined (λ (a : Act). shortage_at a.leg a.end) course.acts acts));
+      }
 
-  pub entries_told : OpeningIsSound → (inputs : List Arrival) → entries_of rules inputs
-      ≡ told_by rules (traces rules inputs)
-  entries_told opens inputs = retold_from 0 0 inputs (opening rules) (map (begun rules.timers 0) (opening rules))
-      (opens rules keeps) (begins carry out_sound in_sound out_live in_live rules keeps (opening rules))
+-- TRACES
+
+pub in_time : (rules : Rules) (number clock : ℕ) (inputs : List Arrival) (list : List Binding) →
+    AreInTime clock (traces_from rules number clock inputs list)
+in_time rules number clock [] list = tt
+in_time rules number clock (input ∷ inputs) list =
+    let now : ℕ = max clock input.clock in
+    let course : Course = step rules number now input list in
+    (omega arith, in_time rules (number + 1) now inputs course.list)
+
+pub traces_long : (rules : Rules) (number clock : ℕ) (inputs : List Arrival) (list : List Binding) →
+    length (traces_from rules number clock inputs list) ≡ length inputs
+traces_long rules number clock [] list = refl
+traces_long rules number clock (input ∷ inputs) list =
+    let now : ℕ = max clock input.clock in
+    let course : Course = step rules number now input list in
+    let rest = traces_long rules (number + 1) now inputs course.list in
+    omega (arith, rest)
+
+-- THE LOG
+
+pub log_is : (rules : Rules) (inputs : List Arrival) → (let acts : List Act =
+    (run_from rules 0 0 inputs (opening rules)).acts in
+    ((log_of rules inputs).entries ≡ entries_of rules acts)
+    × ((log_of rules inputs).shortages ≡ shortages acts))
+unfolding log_of
+log_is rules inputs = (refl, refl)

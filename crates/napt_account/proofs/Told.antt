@@ -14,10 +14,10 @@ use Rattle.napt_rules.specs.Prelude.{Binding, Each, is_at, of, is_live, purge, o
 use Rattle.napt_laws.proofs.Lists.{each_weaker}
 use Rattle.napt_rules.specs.declared.Row.{Row}
 use Rattle.napt_account.specs.Fronts.{nothing_at, came_by, IsFrontAt}
-use Rattle.napt_account.specs.Log.{living, log_of}
+use Rattle.napt_account.specs.Log.{log_of}
 use Rattle.napt_account.specs.Attribution.{standing_rows, LogListsTheLiving}
 use Rattle.napt_account.proofs.Lists.{any_joined, any_seen_of, any_among, each_shown}
-use Rattle.napt_account.proofs.Steps.{rows_purge}
+use Rattle.napt_account.proofs.Entries.{living, rows_purge}
 
 -- SEARCHES
 

@@ -5,16 +5,20 @@ use Rattle.napt_wire.specs.declared.Protocol.{Protocol}
 use Rattle.napt_wire.specs.declared.Endpoint.{Endpoint}
 use Rattle.napt_config.specs.Rules.{Rules, KeepsRules}
 use Rattle.napt_config.specs.declared.settings.Timers.{Timers}
-use Rattle.napt_rules.specs.Prelude.{Binding, is_live, opening, Arrival, row, run, last_clock}
+use Rattle.napt_rules.specs.Prelude.{Binding, same_protocol, same_endpoint, is_live, opening, Arrival, row, run, last_clock}
 use Rattle.napt_rules.specs.declared.Row.{Row}
 use Rattle.napt_account.specs.declared.log.Entry.{Entry}
-use Rattle.napt_account.specs.Passages.{has_ends}
 use Rattle.napt_account.specs.Log.{log_of, stands_at}
 
 -- a time before the next input, where there is one
 abbrev pub IsBeforeNext : ℕ → List Arrival → Type 0
 IsBeforeNext now [] = Unit {0}
 IsBeforeNext now (input ∷ inputs) = now < input.clock
+
+-- the row of a binding of these
+abbrev pub has_ends : Protocol → Endpoint → Endpoint → Row → Bool
+has_ends protocol inside external row = same_protocol protocol row.protocol
+    && (same_endpoint inside row.inside && same_endpoint external row.external)
 
 -- whether a binding of the protocol and these endpoints lives in the list at a time
 abbrev pub is_held : Timers → ℕ → Protocol → Endpoint → Endpoint → List Binding → Bool

@@ -1,11 +1,8 @@
--- How entries change leg by leg: a packet changes the open entry of its binding, or begins one if there is none.
-use Rattle.std.specs.Prelude.{ℕ, ◌+◌, Bool, ◌&&◌, cond, List, [], ◌∷◌, ◌++◌, map, Option}
-use Rattle.std.specs.List.{list_any, fold}
-use Rattle.std.specs.Option.{option_or}
-use Rattle.napt_config.specs.Rules.{Rules}
-use Rattle.napt_rules.specs.Prelude.{same_protocol, same_endpoint, opening}
-use Rattle.napt_binding.specs.Ends.{is_before}
-use Rattle.napt_rules.specs.declared.Row.{Row}
+-- How entries change passage by passage, and what each packet did: it changes the open entry of its binding, or begins
+-- one if there is none.
+use Rattle.std.specs.Prelude.{ℕ, cond, length, List, [], ◌∷◌, ◌++◌, map, Option, Some, None}
+use Rattle.std.specs.List.{list_any, slice_get}
+use Rattle.napt_wire.specs.declared.Way.TheVariants.{Outgoing, Incoming}
 use Rattle.napt_table.specs.declared.TimedRow.{TimedRow}
 use Rattle.napt_sequential.specs.declared.passage.Passage.{Passage}
 use Rattle.napt_sequential.specs.declared.passage.Passage.TheVariants.{Nothing, Out, In, Dropped}
@@ -15,26 +12,10 @@ use Rattle.napt_account.specs.declared.log.Shortage.{Shortage}
 use Rattle.napt_account.specs.declared.account.Note.{Note}
 use Rattle.napt_account.specs.declared.account.Note.TheVariants as notes
 use Rattle.napt_account.specs.declared.account.Use.{Use}
-use Rattle.napt_account.specs.Log.{begun, is_shortage}
-use Rattle.napt_account.specs.Uses.{use_between}
+use Rattle.napt_account.specs.Log.{is_shortage, is_of, counted, place_of, through}
+use Rattle.napt_account.specs.Uses.{no_use, used, both_uses}
 
--- whether a row has the protocol and the external endpoint of another
-abbrev pub shares : Row → Row → Bool
-shares wanted other = same_protocol wanted.protocol other.protocol && same_endpoint wanted.external other.external
-
--- whether an entry has not ended by a time and has the external endpoint of a row
-abbrev pub is_of : ℕ → Row → Entry → Bool
-is_of now wanted entry = is_before now entry.end && shares wanted entry.binding
-
-abbrev pub through : ℕ → Row → (Entry → Entry) → Entry → Entry
-through now wanted change entry = cond (is_of now wanted entry) (change entry) entry
-
--- an entry after a packet went out through its binding, which has this end then, and after one came in
-abbrev pub sent_through : ℕ → Option ℕ → Entry → Entry
-sent_through now end entry = record entry { end = end; sent = entry.sent + 1; last = now; last_sent = now }
-
-abbrev pub received_through : ℕ → Option ℕ → Entry → Entry
-received_through now end entry = record entry { end = end; received = entry.received + 1; last = now }
+-- ENTRIES
 
 -- the entry that a packet begins
 abbrev pub made_by : ℕ → TimedRow → Entry
@@ -50,10 +31,10 @@ made_by now timed = record {
 
 abbrev pub after_out : ℕ → TimedRow → List Entry → List Entry
 after_out now timed entries = cond (list_any (is_of now timed.row) entries)
-    (map (through now timed.row (sent_through now timed.end)) entries) (entries ++ made_by now timed ∷ [])
+    (map (through now timed.row (counted Outgoing now timed.end)) entries) (entries ++ made_by now timed ∷ [])
 
 abbrev pub after_in : ℕ → TimedRow → List Entry → List Entry
-after_in now timed entries = map (through now timed.row (received_through now timed.end)) entries
+after_in now timed entries = map (through now timed.row (counted Incoming now timed.end)) entries
 
 abbrev pub after : ℕ → Passage → List Entry → List Entry
 after now Nothing entries = entries
@@ -64,10 +45,8 @@ after now (Dropped loss) entries = entries
 abbrev pub after_trace : List Entry → Trace → List Entry
 after_trace entries trace = after trace.now trace.second (after trace.now trace.first entries)
 
-abbrev pub told_by : Rules → List Trace → List Entry
-told_by rules traces = fold after_trace (map (begun rules.timers 0) (opening rules)) traces
+-- SHORTAGES
 
--- shortages
 abbrev pub lost : ℕ → Passage → List Shortage
 lost now Nothing = []
 lost now (Out timed) = []
@@ -78,22 +57,31 @@ lost now (Dropped loss) = cond (is_shortage loss.cause)
 abbrev pub lost_by : Trace → List Shortage
 lost_by trace = lost trace.now trace.first ++ lost trace.now trace.second
 
--- uses
-abbrev pub first_note : Note → Note → Note
-first_note notes.Nothing second = second
-first_note notes.Made second = notes.Made
-first_note notes.Found second = notes.Found
-first_note notes.Redirect second = notes.Redirect
+-- USES, by the entries before a passage
 
--- what both legs did
-abbrev pub both_uses : Use → Use → Use
-both_uses first second = record {
-  note = first_note first.note second.note;
-  out = option_or first.out second.out;
-  into = option_or first.into second.into;
-}
+abbrev pub noted : Option Entry → Note
+noted None = notes.Nothing
+noted (Some entry) = cond entry.binding.fixed notes.Redirect notes.Found
+
+abbrev pub out_at : List Entry → Option ℕ → Use
+out_at entries None = used Outgoing notes.Made (Some (length entries))
+out_at entries (Some place) = used Outgoing (noted (slice_get entries place)) (Some place)
+
+abbrev pub in_at : List Entry → Option ℕ → Use
+in_at entries None = no_use
+in_at entries (Some place) = used Incoming (noted (slice_get entries place)) (Some place)
+
+abbrev pub use_told : ℕ → Passage → List Entry → Use
+use_told now Nothing entries = no_use
+use_told now (Out timed) entries = out_at entries (place_of now timed.row entries)
+use_told now (In timed) entries = in_at entries (place_of now timed.row entries)
+use_told now (Dropped loss) entries = no_use
+
+abbrev pub use_by_trace : List Entry → Trace → Use
+use_by_trace entries trace = both_uses (use_told trace.now trace.first entries)
+    (use_told trace.now trace.second (after trace.now trace.first entries))
 
 abbrev pub uses_told : List Entry → List Trace → List Use
 uses_told entries [] = []
 uses_told entries (trace ∷ traces) =
-    use_between entries (after_trace entries trace) ∷ uses_told (after_trace entries trace) traces
+    use_by_trace entries trace ∷ uses_told (after_trace entries trace) traces

@@ -2,17 +2,14 @@
 use Rattle.std.specs.Prelude.{◌≡◌, ℕ, ◌≤◌, true, List, [], ◌∷◌, Some}
 use Rattle.std.specs.List.{slice_get}
 use Rattle.napt_binding.specs.Ends.{is_before}
-use Rattle.napt_rules.specs.Prelude.{Each}
 use Rattle.napt_wire.specs.declared.Protocol.{Protocol}
 use Rattle.napt_wire.specs.declared.Endpoint.{Endpoint}
-use Rattle.napt_sequential.specs.declared.passage.Passage.{Passage}
-use Rattle.napt_sequential.specs.declared.passage.Passage.TheVariants.{Nothing, Out, In, Dropped}
 use Rattle.napt_sequential.specs.declared.passage.Trace.{Trace}
 use Rattle.napt_account.specs.declared.log.Entry.{Entry}
 use Rattle.napt_account.specs.declared.book.Book.{Book}
 use Rattle.napt_account.specs.declared.places.Places.{Places}
 use Rattle.napt_rules.specs.declared.Row.{Row}
-use Rattle.napt_account.specs.Book.{is_of}
+use Rattle.napt_account.specs.Log.{is_of}
 use Rattle.napt_account.specs.Latest.{is_at, last_place}
 use Rattle.napt_account.specs.Places.{place_at}
 
@@ -40,27 +37,3 @@ StandsAt now wanted place entry entries = (slice_get entries place ≡ Some entr
 abbrev pub AreInTime : ℕ → List Trace → Type 0
 AreInTime clock [] = Unit {0}
 AreInTime clock (trace ∷ traces) = (clock ≤ trace.now) × AreInTime trace.now traces
-
--- it did not go out through a binding
-abbrev pub IsNotOut : Passage → Type 0
-IsNotOut Nothing = Unit {0}
-IsNotOut (Out timed) = ⊥
-IsNotOut (In timed) = Unit {0}
-IsNotOut (Dropped loss) = Unit {0}
-
--- it went through no binding
-abbrev pub IsIdle : Passage → Type 0
-IsIdle Nothing = Unit {0}
-IsIdle (Out timed) = ⊥
-IsIdle (In timed) = ⊥
-IsIdle (Dropped loss) = Unit {0}
-
--- the legs of a packet: after one that went out another may come in, and nothing follows one that came in
-abbrev pub AreLegs : Passage → Passage → Type 0
-AreLegs Nothing second = Unit {0}
-AreLegs (Out timed) second = IsNotOut second
-AreLegs (In timed) second = IsIdle second
-AreLegs (Dropped loss) second = Unit {0}
-
-abbrev pub HaveLegs : List Trace → Type 0
-HaveLegs traces = Each (λ t. AreLegs t.first t.second) traces

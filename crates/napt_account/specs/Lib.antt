@@ -5,7 +5,6 @@ pub mod Latest
 pub mod Places
 pub mod Fronts
 pub mod Log
-pub mod Passages
 pub mod Questions
 pub mod Uses
 pub use Rattle.napt_rules.specs.Prelude

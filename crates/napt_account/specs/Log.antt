@@ -3,15 +3,18 @@
 --
 -- RFC 6888, section 4: it can be found out afterwards who had which external endpoint at a time. RFC 8158: that a host
 -- has its quota, and that a pool has no port left, are events of their own.
-use Rattle.std.specs.Prelude.{ℕ, ◌+◌, nat_lt, nat_le, max, Bool, true, false, not, ◌&&◌, cond, List, [], ◌∷◌, ◌++◌, map, filter, find, flat_map, Option, Some, None}
-use Rattle.std.specs.List.{list_any}
+use Rattle.std.specs.Prelude.{ℕ, suc, ◌+◌, nat_le, Bool, true, false, ◌&&◌, cond, List, [], ◌∷◌, ◌++◌, map, flat_map, Option, Some, None}
+use Rattle.std.specs.List.{fold}
+use Rattle.std.specs.Option.{option_map}
 use Rattle.napt_wire.specs.declared.Protocol.{Protocol}
+use Rattle.napt_wire.specs.declared.Way.{Way}
+use Rattle.napt_wire.specs.declared.Way.TheVariants.{Outgoing, Incoming}
 use Rattle.napt_wire.specs.declared.Cause.{Cause}
 use Rattle.napt_wire.specs.declared.Cause.TheVariants.{OverQuota, NoPort}
 use Rattle.napt_wire.specs.Fields.{source, kind}
 use Rattle.napt_config.specs.Rules.{Rules}
 use Rattle.napt_config.specs.declared.settings.Timers.{Timers}
-use Rattle.napt_rules.specs.Prelude.{Binding, is_live, opening, Arrival, row, Act, Course, step, run}
+use Rattle.napt_rules.specs.Prelude.{Through, Binding, same_protocol, same_endpoint, opening, Arrival, row, Act, run}
 use Rattle.napt_rules.specs.declared.Row.{Row}
 use Rattle.napt_translate.specs.Carried.{carried_by}
 use Rattle.napt_rules.specs.declared.Leg.{Leg}
@@ -20,17 +23,8 @@ use Rattle.napt_rules.specs.declared.End.TheVariants.{ToOutside, ToInside, Onwar
 use Rattle.napt_account.specs.declared.log.Entry.{Entry}
 use Rattle.napt_account.specs.declared.log.Shortage.{Shortage}
 use Rattle.napt_binding.specs.Ends.{end_of, is_before}
-use Rattle.napt_account.specs.Passages.{has_ends, count_out, count_in}
 
 -- ENTRIES
-
--- the bindings of a list that live at a time
-abbrev pub living : Timers → ℕ → List Binding → List Binding
-living timers now list = filter (is_live timers now) list
-
--- whether a binding has the protocol and both endpoints of a row
-abbrev pub has_row : Row → Binding → Bool
-has_row wanted binding = has_ends wanted.protocol wanted.inside wanted.external (row binding)
 
 -- the entry of a binding that is made at a time, before a packet went through it
 abbrev pub begun : Timers → ℕ → Binding → Entry
@@ -44,54 +38,43 @@ begun timers made binding = record {
   last_sent = made;
 }
 
--- the bindings that live after a step at a time and did not before it
-abbrev pub made_between : Timers → ℕ → List Binding → List Binding → List Binding
-made_between timers now before after =
-    filter (λ b. not (list_any (has_row (row b)) (living timers now before))) (living timers now after)
+-- whether a row has the protocol and the external endpoint of another
+abbrev pub shares : Row → Row → Bool
+shares wanted other = same_protocol wanted.protocol other.protocol && same_endpoint wanted.external other.external
 
--- the end of an entry, updated from its binding after a step at a time
-abbrev pub end_by_found : Timers → Option ℕ → Option Binding → Option ℕ
-end_by_found timers end None = end
-end_by_found timers end (Some binding) = end_of timers binding
+-- whether an entry has not ended by a time and has the external endpoint of a row
+abbrev pub is_of : ℕ → Row → Entry → Bool
+is_of now wanted entry = is_before now entry.end && shares wanted entry.binding
 
-abbrev pub end_told : Timers → ℕ → List Binding → Entry → Option ℕ
-end_told timers now after entry = end_by_found timers entry.end (find (has_row entry.binding) (living timers now after))
+-- an entry after a packet went through its binding at a time, which has this end then: out, and in
+abbrev pub counted : Way → ℕ → Option ℕ → Entry → Entry
+counted Outgoing now end entry = record entry { end = end; sent = entry.sent + 1; last = now; last_sent = now }
+counted Incoming now end entry = record entry { end = end; received = entry.received + 1; last = now }
 
--- an entry with the packets of a step's legs counted
-abbrev pub with_counts : ℕ → List Act → Entry → Entry
-with_counts now acts entry =
-    let out : ℕ = count_out entry.binding acts in
-    let came : ℕ = count_in entry.binding acts in
-    record entry {
-      sent = entry.sent + out;
-      received = entry.received + came;
-      last = cond (nat_lt 0 (out + came)) now entry.last;
-      last_sent = cond (nat_lt 0 out) now entry.last_sent;
-    }
+-- the place, from 0, of the open entry of a row
+abbrev pub place_of : ℕ → Row → List Entry → Option ℕ
+place_of now wanted [] = None
+place_of now wanted (entry ∷ entries) =
+    cond (is_of now wanted entry) (Some 0) (option_map suc (place_of now wanted entries))
 
--- an entry after a step at a time: one that has ended stays as it is
-abbrev pub told : Timers → ℕ → Course → Entry → Entry
-told timers now course entry = cond (is_before now entry.end)
-    (record (with_counts now course.acts entry) { end = end_told timers now course.list entry }) entry
+-- the open entry of a binding changes
+abbrev pub through : ℕ → Row → (Entry → Entry) → Entry → Entry
+through now wanted change entry = cond (is_of now wanted entry) (change entry) entry
 
--- the entries after a step from a list at a time
-abbrev pub logged : Timers → ℕ → List Binding → Course → List Entry → List Entry
-logged timers now before course entries =
-    map (told timers now course) (entries ++ map (begun timers now) (made_between timers now before course.list))
+-- the entries after a leg: the binding that it made gets one, and that of the binding that it found changes
+abbrev pub logged_by : Timers → Leg → Option Through → List Entry → List Entry
+logged_by timers leg None entries = entries
+logged_by timers leg (Some went) entries =
+    let change : Entry → Entry = counted leg.way leg.now (end_of timers went.binding) in
+    cond went.made (entries ++ change (begun timers leg.now went.binding) ∷ [])
+    (map (through leg.now (row went.binding) change) entries)
 
--- and after all inputs from a number, a clock and a list on
-abbrev pub entries_from : Rules → ℕ → ℕ → List Arrival → List Binding → List Entry → List Entry
-entries_from rules number clock [] list entries = entries
-entries_from rules number clock (input ∷ inputs) list entries =
-    let now : ℕ = max clock input.clock in
-    let course : Course = step rules number now input list in
-    entries_from rules (number + 1) now inputs course.list (logged rules.timers now list course entries)
+abbrev pub logged : Timers → List Entry → Act → List Entry
+logged timers entries a = logged_by timers a.leg a.through entries
 
--- the redirects are there before the first input
-abbrev pub entries_of : Rules → List Arrival → List Entry
-entries_of rules inputs =
-    let redirects : List Binding = opening rules in
-    entries_from rules 0 0 inputs redirects (map (begun rules.timers 0) redirects)
+-- the redirects are there before the first act
+abbrev pub entries_of : Rules → List Act → List Entry
+entries_of rules acts = fold (logged rules.timers) (map (begun rules.timers 0) (opening rules)) acts
 
 -- SHORTAGES
 
@@ -123,10 +106,9 @@ pub record Logged : Type 0 where
   pub shortages : List Shortage
 
 unfoldable pub log_of : Rules → List Arrival → Logged
-log_of rules inputs = record {
-  entries = entries_of rules inputs;
-  shortages = shortages (run rules inputs (opening rules)).acts;
-}
+log_of rules inputs =
+    let acts : List Act = (run rules inputs (opening rules)).acts in
+    record { entries = entries_of rules acts; shortages = shortages acts }
 
 -- whether the binding of an entry was made by a time and has not ended by then
 abbrev pub stands_at : ℕ → Entry → Bool

@@ -1,53 +1,61 @@
--- What each packet of a run did to the bindings, by the logs before and after it.
---
--- It went out through the entry whose count of sent packets grew, and came in through the one whose count of received
--- packets grew. It made the binding if the entry is new, and found it if not.
-use Rattle.std.specs.Prelude.{ℕ, suc, nat_lt, cond, List, [], ◌∷◌, ◌++◌, map, Option, Some, None}
-use Rattle.std.specs.Option.{option_map, option_or}
-use Rattle.std.specs.List.{slice_get}
+-- What each input of a run did to the bindings, act by act, and which entries of the log are theirs.
+use Rattle.std.specs.Prelude.{ℕ, ◌+◌, max, cond, length, List, [], ◌∷◌, map, Option, Some, None}
+use Rattle.std.specs.Option.{option_or}
+use Rattle.std.specs.List.{fold}
+use Rattle.napt_wire.specs.declared.Way.{Way}
+use Rattle.napt_wire.specs.declared.Way.TheVariants.{Outgoing, Incoming}
 use Rattle.napt_config.specs.Rules.{Rules}
-use Rattle.napt_rules.specs.Prelude.{Arrival}
+use Rattle.napt_rules.specs.Prelude.{Through, Binding, opening, Arrival, row, Act, Course, step}
+use Rattle.napt_rules.specs.declared.Leg.{Leg}
 use Rattle.napt_account.specs.declared.log.Entry.{Entry}
 use Rattle.napt_account.specs.declared.account.Note.{Note}
-use Rattle.napt_account.specs.declared.account.Note.TheVariants.{Nothing, Made, Found, Redirect}
+use Rattle.napt_account.specs.declared.account.Note.TheVariants as notes
 use Rattle.napt_account.specs.declared.account.Use.{Use}
-use Rattle.napt_account.specs.Log.{log_of}
+use Rattle.napt_account.specs.Log.{begun, logged, place_of}
 
--- the place, from 0, of the first count that is greater than it was; one that is new was 0
-abbrev pub grown : List ℕ → List ℕ → Option ℕ
-grown before [] = None
-grown [] (count ∷ after) = cond (nat_lt 0 count) (Some 0) (option_map suc (grown [] after))
-grown (was ∷ before) (count ∷ after) = cond (nat_lt was count) (Some 0) (option_map suc (grown before after))
+-- none was used
+abbrev pub no_use : Use
+no_use = record { note = notes.Nothing; out = None; into = None }
 
--- the entry that a packet went out through by the entries before it and after it, and the one that it came in through
-abbrev pub out_between : List Entry → List Entry → Option ℕ
-out_between before after = grown (map (λ e. e.sent) before) (map (λ e. e.sent) after)
+abbrev pub note_of : Through → Note
+note_of went = cond went.made notes.Made (cond went.binding.row.fixed notes.Redirect notes.Found)
 
-abbrev pub in_between : List Entry → List Entry → Option ℕ
-in_between before after = grown (map (λ e. e.received) before) (map (λ e. e.received) after)
+abbrev pub used : Way → Note → Option ℕ → Use
+used Outgoing note place = record { note = note; out = place; into = None }
+used Incoming note place = record { note = note; out = None; into = place }
 
--- what a packet did to a binding, by the binding's entry before it
-abbrev pub noted_by : Option Entry → Note
-noted_by None = Made
-noted_by (Some entry) = cond entry.binding.fixed Redirect Found
+-- a leg, by the entries before it: the binding that it made has the next place
+abbrev pub use_by : List Entry → Leg → Option Through → Use
+use_by entries leg None = no_use
+use_by entries leg (Some went) = used leg.way (note_of went)
+    (cond went.made (Some (length entries)) (place_of leg.now (row went.binding) entries))
 
-abbrev pub noted : List Entry → Option ℕ → Note
-noted before None = Nothing
-noted before (Some place) = noted_by (slice_get before place)
+-- both legs of an input
+abbrev pub first_note : Note → Note → Note
+first_note notes.Nothing second = second
+first_note notes.Made second = notes.Made
+first_note notes.Found second = notes.Found
+first_note notes.Redirect second = notes.Redirect
 
--- a packet that went out and came in went out first
-abbrev pub use_by : List Entry → Option ℕ → Option ℕ → Use
-use_by before out into = record { note = noted before (option_or out into); out = out; into = into }
+abbrev pub both_uses : Use → Use → Use
+both_uses first second = record {
+  note = first_note first.note second.note;
+  out = option_or first.out second.out;
+  into = option_or first.into second.into;
+}
 
-abbrev pub use_between : List Entry → List Entry → Use
-use_between before after = use_by before (out_between before after) (in_between before after)
+abbrev pub use_of : Rules → List Entry → List Act → Use
+use_of rules entries [] = no_use
+use_of rules entries (a ∷ acts) =
+    both_uses (use_by entries a.leg a.through) (use_of rules (logged rules.timers entries a) acts)
 
--- by the logs of the inputs before a packet, and of those with it
-abbrev pub uses_after : Rules → List Arrival → List Arrival → List Use
-uses_after rules front [] = []
-uses_after rules front (input ∷ inputs) =
-    let through : List Arrival = front ++ input ∷ [] in
-    use_between (log_of rules front).entries (log_of rules through).entries ∷ uses_after rules through inputs
+abbrev pub uses_from : Rules → ℕ → ℕ → List Arrival → List Binding → List Entry → List Use
+uses_from rules number clock [] list entries = []
+uses_from rules number clock (input ∷ inputs) list entries =
+    let now : ℕ = max clock input.clock in
+    let course : Course = step rules number now input list in
+    use_of rules entries course.acts
+    ∷ uses_from rules (number + 1) now inputs course.list (fold (logged rules.timers) entries course.acts)
 
 abbrev pub uses_of : Rules → List Arrival → List Use
-uses_of rules inputs = uses_after rules [] inputs
+uses_of rules inputs = uses_from rules 0 0 inputs (opening rules) (map (begun rules.timers 0) (opening rules))

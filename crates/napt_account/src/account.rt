@@ -13,8 +13,8 @@ use crate::log::{Entry, Log};
 use crate::places::Places;
 use napt_config::Config;
 use napt_sequential::{Input, Outcome, Run, RunFault, run_traced};
-use napt_table::{opening_is_sound, steps_leave_live, steps_stay_sound};
-use napt_wire::{Endpoint, Protocol, packets_carry_numbers};
+use napt_table::opening_is_sound;
+use napt_wire::{Endpoint, Protocol};
 use std::alloc::Global;
 
 /// What a packet did to the binding that it used first.
@@ -72,9 +72,6 @@ pub fn account_of(alloc: Global, config: &Config, inputs: &[Input]) -> Result<Ac
     ensures too_many { (result ≡ Err RunFault.TooMany) ↔ (2 ^ 32 ≤ length inputs.now) }
     ensures never_pool { IfErr result IsOneThreadFault }
 {
-    packets_carry_numbers();
-    steps_stay_sound();
-    steps_leave_live();
     opening_is_sound();
     let told = run_traced(alloc, config, inputs)?;
     let mut book = Book::begin(alloc, config)?;

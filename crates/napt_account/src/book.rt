@@ -5,11 +5,10 @@ ghost use Rattle.std.specs.List.{list_any, fold};
 ghost use Rattle.napt_config.specs.Rules.{pair_of};
 ghost use Rattle.napt_rules.specs.Prelude.{same_protocol, same_endpoint, redirected, opening, row};
 ghost use Rattle.napt_binding.specs.Ends.{is_before};
-ghost use Rattle.napt_account.specs.Log.{begun, is_shortage};
+ghost use Rattle.napt_account.specs.Log.{begun, is_of, is_shortage};
 ghost use Rattle.napt_account.specs.Book as books;
 ghost use Rattle.napt_account.specs.Uses as uses;
-ghost use Rattle.napt_account.specs.Uses.{use_between};
-ghost use Rattle.napt_account.specs.Kept.{AreLegs, HaveLegs, IsIndex, AreInTime};
+ghost use Rattle.napt_account.specs.Kept.{IsIndex, AreInTime};
 
 use crate::account::{Note, Use};
 use crate::log::{Entry, Log, Shortage};
@@ -79,7 +78,7 @@ fn is_before(now: u64, end: Option<u128>) -> bool
 
 /// Whether an entry has not ended by a time, in ns, and has the external endpoint of a row.
 fn is_of(now: u64, row: Row, entry: Entry) -> bool
-    ensures { result ≡ books.is_of now row entry }
+    ensures { result ≡ is_of now row entry }
 {
     is_before(now, entry.end)
         && same_protocol(row.protocol, entry.binding.protocol)
@@ -95,7 +94,7 @@ fn is_shortage(cause: Cause) -> bool
 
 /// What a packet did to a binding that was there before it.
 fn found(entry: Entry) -> Note
-    ensures { result ≡ uses.noted_by (Some entry) }
+    ensures { result ≡ books.noted (Some entry) }
 {
     if entry.binding.fixed {
         Note::Redirect
@@ -113,7 +112,7 @@ const NO_USE: Use = Use {
 
 /// What both legs of a packet did.
 fn both_uses(first: Use, second: Use) -> Use
-    ensures { result ≡ books.both_uses first second }
+    ensures { result ≡ uses.both_uses first second }
 {
     Use {
         note: match first.note {
@@ -164,7 +163,7 @@ impl Book {
             ≡ self.old.log.entries.items ++ entry ∷ []) }
         ensures shortages { self.new.log.shortages.items ≡ self.old.log.shortages.items }
         ensures kept { (now most : ℕ) → IsBook now most self.old →
-            list_any (books.is_of now entry.binding) self.old.log.entries.items ≡ false →
+            list_any (is_of now entry.binding) self.old.log.entries.items ≡ false →
             entry.sent ≤ most → entry.received ≤ most → OnOk result (IsBook now most self.new) }
     {
         let place = self.log.entries.len();
@@ -181,7 +180,7 @@ impl Book {
             StandsAt now row found.0 found.1 self.now.log.entries.items) }
         ensures within { IfSome result (λ found. found.0 < length self.now.log.entries.items) }
         ensures none { IfNone result
-            (list_any (books.is_of now row) self.now.log.entries.items ≡ false) }
+            (list_any (is_of now row) self.now.log.entries.items ≡ false) }
     {
         let place = self.latest.get(row.protocol, row.external)?;
         let entry = self.log.entries.get(place)?;
@@ -200,8 +199,8 @@ impl Book {
         ensures shortages { self.new.log.shortages.items ≡ self.old.log.shortages.items }
         ensures kept { (most : ℕ) → IsBook now most self.old →
             OnOk result (IsBook now (most + 1) self.new) }
-        ensures uses { IfOk result (λ used. used ≡ use_between
-            self.old.log.entries.items self.new.log.entries.items) }
+        ensures uses { IfOk result (λ used.
+            used ≡ books.use_told now (Passage.Out timed) self.old.log.entries.items) }
     {
         let Some((place, entry)) = self.open_entry(now, timed.row) else {
             let made = self.put(Entry::by_packet(now, timed))?;
@@ -232,8 +231,8 @@ impl Book {
             ≡ books.after_in now timed self.old.log.entries.items }
         ensures shortages { self.new.log.shortages.items ≡ self.old.log.shortages.items }
         ensures kept { (most : ℕ) → IsBook now most self.old → IsBook now (most + 1) self.new }
-        ensures uses { result ≡ use_between
-            self.old.log.entries.items self.new.log.entries.items }
+        ensures uses { result
+            ≡ books.use_told now (Passage.In timed) self.old.log.entries.items }
     {
         let Some((place, entry)) = self.open_entry(now, timed.row) else {
             return NO_USE;
@@ -278,8 +277,8 @@ impl Book {
             ≡ self.old.log.shortages.items ++ books.lost now passage) }
         ensures kept { (most : ℕ) → IsBook now most self.old →
             OnOk result (IsBook now (most + 1) self.new) }
-        ensures uses { IfOk result (λ used. used ≡ use_between
-            self.old.log.entries.items self.new.log.entries.items) }
+        ensures uses { IfOk result (λ used.
+            used ≡ books.use_told now passage self.old.log.entries.items) }
     {
         match passage {
             Passage::Nothing => Ok(NO_USE),
@@ -294,16 +293,15 @@ impl Book {
 
     /// Enters the legs of an input; returns what they did to the bindings.
     fn tell(&mut self, trace: Trace) -> Result<Use, AllocError>
-        requires kept { (most : ℕ) × IsBook trace.now most self.old × (most + 2 < 2 ^ 64) }
-        requires legs { AreLegs trace.first trace.second }
+        requires { (most : ℕ) × IsBook trace.now most self.old × (most + 2 < 2 ^ 64) }
         ensures entries { OnOk result (self.new.log.entries.items
             ≡ books.after_trace self.old.log.entries.items trace) }
         ensures shortages { OnOk result (self.new.log.shortages.items
             ≡ self.old.log.shortages.items ++ books.lost_by trace) }
         ensures kept { (most : ℕ) → IsBook trace.now most self.old →
             OnOk result (IsBook trace.now (most + 2) self.new) }
-        ensures uses { IfOk result (λ used. used ≡ use_between
-            self.old.log.entries.items self.new.log.entries.items) }
+        ensures uses { IfOk result (λ used.
+            used ≡ books.use_by_trace self.old.log.entries.items trace) }
     {
         let first = self.pass(trace.now, trace.first)?;
         let second = self.pass(trace.now, trace.second)?;
@@ -318,7 +316,6 @@ impl Book {
     ) -> Result<Vec<Use>, AllocError>
         requires kept { IsBook 0 0 self.old }
         requires in_time { AreInTime 0 traces.now }
-        requires legs { HaveLegs traces.now }
         requires few { length traces.now < 2 ^ 32 }
         ensures entries { OnOk result (self.new.log.entries.items
             ≡ fold books.after_trace self.old.log.entries.items traces.now) }

@@ -9,8 +9,8 @@ ghost use Rattle.napt_binding.specs.Ends.{EndsAreFirst};
 use crate::account::account_of;
 use napt_config::Config;
 use napt_sequential::{Input, RunFault};
-use napt_table::{Row, TimedRow, opening_is_sound, steps_leave_live, steps_stay_sound};
-use napt_wire::{Cause, Protocol, packets_carry_numbers};
+use napt_table::{Row, TimedRow, opening_is_sound};
+use napt_wire::{Cause, Protocol};
 use std::alloc::Global;
 
 /// A binding of a run, from when it was made until it ended, with times in ns.
@@ -96,8 +96,5 @@ pub fn log_attributes()
     ensures names { LogNamesTheHolders }
     ensures lists { LogListsTheLiving }
 {
-    packets_carry_numbers();
-    steps_stay_sound();
-    steps_leave_live();
     opening_is_sound();
 }

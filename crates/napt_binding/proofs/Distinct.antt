@@ -12,7 +12,8 @@ use Rattle.napt_rules.specs.declared.Flow.{Flow}
 use Rattle.napt_binding.specs.declared.flows.many.Many.{Many}
 use Rattle.napt_binding.specs.Many.{place_at, IsMany}
 use Rattle.napt_binding.specs.Slots.{somes, Stands, AreDistinct}
-use Rattle.napt_binding.proofs.Lists.{any_index, any_last}
+use Rattle.std.proofs.lemmas.List.Folds.{list_any_at}
+use Rattle.napt_binding.proofs.Lists.{any_last}
 use Rattle.napt_binding.proofs.Manys.{endpoint_is, endpoint_same, no_place}
 use Rattle.napt_binding.proofs.Slots.{any_none, somes_pushed}
 
@@ -71,7 +72,7 @@ not_before (f ∷ flows) (suc i) d lt h =
     let within : i < length flows = omega (arith, lt) in
     let first : is_flow_of f.remote g ≡ false = elim (is_flow_of f.remote g) as (λ v. is_flow_of f.remote g ≡ v →
     v ≡ false) [
-      | true ↦ λ e. absurd (true≢false (sym (any_index (is_flow_of f.remote) flows i d within e) ∙ h.0))
+      | true ↦ λ e. absurd (true≢false (sym (list_any_at (is_flow_of f.remote) flows i d within e) ∙ h.0))
       | false ↦ λ e. refl
     ] refl in
     ap (λ v. v || list_any (is_flow_of g.remote) (take i flows)) (other_way f g first) ∙ not_before flows i d within h.1

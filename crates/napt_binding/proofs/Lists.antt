@@ -111,9 +111,3 @@ any_last t [] y none h = ap (λ v. v || false) h
 any_last t (x ∷ xs) y none h =
     let p : (t x ≡ false) × (list_any t xs ≡ false) = or_parts (t x) (list_any t xs) none in
     ap (λ v. v || list_any t (xs ++ y ∷ [])) p.0 ∙ any_last t xs y p.1 h
-
-pub any_index : {X : Type 0} (t : X → Bool) (xs : List X) (i : ℕ) (d : X) → i < length xs → t (get_or xs i d) ≡ true →
-    list_any t xs ≡ true
-any_index t [] i d lt h = absurd (omega arith)
-any_index t (x ∷ xs) zero d lt h = ap (λ v. v || list_any t xs) h
-any_index t (x ∷ xs) (suc i) d lt h = grind (arith, any_index t xs i d (omega arith) h)

@@ -2,7 +2,7 @@
 //!
 //! No call looks at more than a few of them, except to drop dead ones and to give up their slots.
 
-ghost use Rattle.std.specs.Prelude.{◌≡◌, ◌==◌, ◌≤◌, ◌||◌, ℕ, Bool, true, false, filter, OnOk, OnErr, IfOk, [], ◌∷◌};
+ghost use Rattle.std.specs.Prelude.{◌≡◌, ◌==◌, ◌≤◌, ◌<◌, ◌^◌, ◌||◌, ℕ, Bool, true, false, filter, OnOk, OnErr, IfOk, [], ◌∷◌};
 ghost use Rattle.std.specs.List.{list_any};
 ghost use Rattle.napt_binding.specs.Ends.{last_end};
 ghost use Rattle.napt_rules.specs.Life as life;
@@ -152,12 +152,14 @@ impl Flows {
         })
     }
 
-    /// The last moment at which one of these TCP flows is live; one is live now.
+    /// The last moment at which one of these TCP flows is live, or the greatest time if that is earlier; one is live now.
     pub(crate) fn last_moment(&self, timers: IdleTimers, now: u64) -> u64
         requires live { list_any (life.is_live_flow timers now) self.now ≡ true }
         ensures later { now ≤ result }
         ensures lives { (t : ℕ) → t ≤ result → list_any (life.is_live_flow timers t) self.now
             ≡ true }
+        ensures far { (t : ℕ) → t < 2 ^ 64 → list_any (life.is_live_flow timers t) self.now
+            ≡ true → t ≤ result }
     {
         match &self.kept {
             Kept::Empty => now,

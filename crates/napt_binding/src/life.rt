@@ -1,6 +1,6 @@
 //! How long bindings and flows live (RFC 4787, REQ-5; RFC 5382, REQ-5).
 
-ghost use Rattle.std.specs.Prelude.{◌≡◌, ◌≤◌, ◌<◌, ◌+◌, ◌*◌, ℕ, true, filter};
+ghost use Rattle.std.specs.Prelude.{◌≡◌, ◌≤◌, ◌<◌, ◌+◌, ◌*◌, ◌^◌, ℕ, true, false, filter};
 ghost use Rattle.std.specs.List.{list_any};
 ghost use Rattle.napt_rules.specs.Life as life;
 ghost use Rattle.napt_binding.specs.Standing.{is_standing};
@@ -31,6 +31,7 @@ pub(crate) fn last_moment(last: u64, seconds: u64) -> u64
     ensures from { last ≤ result }
     ensures near { result < last + seconds * life.second }
     ensures lives { (t : ℕ) → t ≤ result → life.is_recent t last seconds ≡ true }
+    ensures far { (t : ℕ) → t < 2 ^ 64 → life.is_recent t last seconds ≡ true → t ≤ result }
 {
     last.saturating_add(seconds * SECOND - 1)
 }
@@ -50,9 +51,11 @@ pub(crate) fn flow_end(flow: &Flow, timers: IdleTimers) -> u128
     end_after(flow.last, idle(flow.marks, timers))
 }
 
-/// The last moment at which a TCP flow is live.
+/// The last moment at which a TCP flow is live, or the greatest time if that is earlier.
 pub(crate) fn flow_moment(flow: &Flow, timers: IdleTimers) -> u64
-    ensures { (t : ℕ) → t ≤ result → life.is_live_flow timers t flow.now ≡ true }
+    ensures lives { (t : ℕ) → t ≤ result → life.is_live_flow timers t flow.now ≡ true }
+    ensures far { (t : ℕ) → t < 2 ^ 64 → life.is_live_flow timers t flow.now ≡ true →
+        t ≤ result }
 {
     last_moment(flow.last, idle(flow.marks, timers))
 }
@@ -106,12 +109,15 @@ pub fn end_of(binding: &Binding, timers: IdleTimers) -> Option<u128>
 }
 
 /// Until when (ns) a binding that is live now is sure to live, whatever packets come: at least now, and no longer than
-/// a packet now would keep it.
+/// a packet now would keep it. Of one that is no redirect it is the last such time.
 pub fn until(binding: &Binding, timers: IdleTimers, now: u64) -> u64
     requires live { life.is_live timers now binding.now ≡ true }
     ensures later { now ≤ result }
     ensures near { result < now + least_timer binding.now.row.protocol timers * life.second }
     ensures lives { (t : ℕ) → t ≤ result → life.is_live timers t binding.now ≡ true }
+    ensures far { binding.now.row.fixed ≡ false → (t : ℕ) → t < 2 ^ 64 →
+        t < now + least_timer binding.now.row.protocol timers * life.second →
+        life.is_live timers t binding.now ≡ true → t ≤ result }
 {
     if binding.row.is_fixed() {
         return now;

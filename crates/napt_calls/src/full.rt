@@ -2,7 +2,8 @@
 //! 3.1), with a host of its own for each binding, all at 0 s, and then one host more. At last an echo identifier is asked for just
 //! before the bindings of echoes end, and when they do.
 //!
-//! With one of the words `udp`, `tcp` and `echo` it fills the classes of these names alone, and ends.
+//! With one of the words `udp`, `tcp` and `echo` it fills the classes of these names alone, and ends. With the word `apart` it makes
+//! 16,000 bindings in an empty table instead, one a millisecond, and tells how many there are.
 //!
 //! A line on standard output tells of each class how many of its hosts got the number in their turn, and what one more got, and one
 //! how many bindings there are.
@@ -157,8 +158,24 @@ fn empty(alloc: Global) -> Result<Box<Table>, Stop> {
     Box::new(alloc, table).map_err(|_| Stop::Call)
 }
 
+/// Makes 16,000 bindings in an empty table, one a millisecond, and tells how many there are at the last.
+fn tell_apart<R: Print + AllocGlobal>(rt: &R) -> Result<(), Stop> {
+    let alloc = rt.alloc();
+    let mut table = empty(alloc)?;
+    let class = ports("udp", Protocol::Udp, 1024, 32_256);
+    let mut now = 0;
+    for host in 0..16_000 {
+        now = u64::from(host).saturating_mul(1_000_000);
+        let _number = send(alloc, &mut table, now, class, host)?;
+    }
+    tell_bindings(rt, alloc, &table, now)
+}
+
 /// Fills the classes that the words name, or all.
 pub(crate) fn filled<R: Print + AllocGlobal>(rt: &R, words: &[String]) -> Result<(), Stop> {
+    if words.get(2).is_some_and(|word| word.as_str() == "apart") {
+        return tell_apart(rt);
+    }
     let alloc = rt.alloc();
     let is_all = words.len() < 3;
     let mut table = empty(alloc)?;

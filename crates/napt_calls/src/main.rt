@@ -1,7 +1,7 @@
 //! Calls of the libraries, for the bench and for tests from outside.
 //!
-//! `napt_calls HOW [CONFIG]`: `copy`, `merged`, `plain` and `workers` do a part of a run over the capture that standard input
-//! holds ([`runs`]). `napt_calls full [udp] [tcp] [echo]` fills the classes of external numbers of a table ([`full`]).
+//! `napt_calls HOW [CONFIG]`: `copy`, `merged`, `plain`, `workers` and `slow` do a part of a run over the capture that standard input
+//! holds ([`runs`]). `napt_calls full [udp] [tcp] [echo] [apart]` fills the classes of external numbers of a table ([`full`]).
 //! `napt_calls refused CALL` makes a call that may be refused memory or a thread ([`refused`]). `napt_calls play` makes the calls
 //! that the lines of standard input say ([`play`]).
 //!

@@ -2,20 +2,22 @@
 //!
 //! `copy` reads the capture and writes its records to standard output, with times in nanoseconds in little-endian order. The
 //! others take it as what inside hosts send, without outside packets and without writing captures: `merged` reads and merges and
-//! runs nothing, `plain` runs on one thread, and `workers` with a worker on a thread of its own for each external address. Without
+//! runs nothing, `plain` runs on one thread, and `workers` with a worker on a thread of its own for each external address; `slow`
+//! does so too, with the first worker held for two seconds at its first leg. Without
 //! a file the configuration is the built-in one. One line on standard output counts the packets, what became of them, and the
 //! legs of each address.
 
 use crate::Stop;
 use napt_capture::{Watched, read_capture, write_capture};
 use napt_config::Config;
-use napt_pool::OpenGate;
+use napt_pool::{Gate, OpenGate};
 use napt_run::{Outcome, Run, merge, run_plain, run_workers};
 use std::io::{BufReader, BufWriter};
 use std::rt::Files;
 use std::sync::{Arc, Wait};
 use std::thread::Threads;
-use std::{fs, io};
+use std::time::{Clock, Duration};
+use std::{fs, io, thread};
 
 /// How many bytes are read or written at once.
 const BUFFERED: usize = 65_536;
@@ -26,12 +28,32 @@ enum How {
     Copy,
     Plain,
     Workers,
+    Slow,
     Merged,
+}
+
+/// Holds worker 0 for two seconds at its first leg.
+#[derive(Drop)]
+struct SlowStart<R> {
+    rt: R,
+}
+
+impl<R: Clock> Gate for SlowStart<R> {
+    ghost use Rattle.std.specs.Prelude.{true};
+
+    ghost is_open = { true };
+
+    fn enter(&self, worker: u32, turn: u64) -> bool {
+        if worker == 0 && turn == 0 {
+            thread::sleep(&self.rt, Duration::from_secs(2));
+        }
+        true
+    }
 }
 
 /// Does what the words say.
 pub(crate) fn measured<
-    R: Files + Input + Print + AllocGlobal + Threads + Wait + Copy + Send + 'static,
+    R: Files + Input + Print + AllocGlobal + Clock + Threads + Wait + Copy + Send + Sync + 'static,
 >(rt: &R, words: &[String]) -> Result<(), Stop> {
     let how = how_of(words.get(1))?;
     if let How::Copy = how {
@@ -41,7 +63,11 @@ pub(crate) fn measured<
     let inputs = merged(rt)?;
     let told = match how {
         How::Plain => tell(rt, &plain(rt, &config, &inputs)?),
-        How::Workers => tell(rt, &over_workers(rt, &config, &inputs)?),
+        How::Workers => tell(rt, &over_workers(rt, &config, &inputs, OpenGate)?),
+        How::Slow => tell(
+            rt,
+            &over_workers(rt, &config, &inputs, SlowStart { rt: *rt })?,
+        ),
         How::Copy | How::Merged => println!(rt; "packets {}", inputs.len()),
     };
     told.map_err(|_| Stop::File)
@@ -53,6 +79,7 @@ fn how_of(word: Option<&String>) -> Result<How, Stop> {
         "copy" => Ok(How::Copy),
         "plain" => Ok(How::Plain),
         "workers" => Ok(How::Workers),
+        "slow" => Ok(How::Slow),
         "merged" => Ok(How::Merged),
         _ => Err(Stop::Usage),
     }
@@ -89,13 +116,12 @@ fn plain<R: AllocGlobal>(rt: &R, config: &Config, inputs: &[napt_run::Input]) ->
     run_plain(rt.alloc(), config, inputs).map_err(|_| Stop::Call)
 }
 
-/// The run over workers, through an open gate.
-fn over_workers<R: AllocGlobal + Threads + Wait + Copy + Send + 'static>(
-    rt: &R,
-    config: &Config,
-    inputs: &[napt_run::Input],
-) -> Result<Run, Stop> {
-    let gate = Arc::new(rt.alloc(), OpenGate).map_err(|_| Stop::Call)?;
+/// The run over workers, through a gate.
+fn over_workers<
+    R: AllocGlobal + Threads + Wait + Copy + Send + 'static,
+    G: Gate + Send + Sync + Drop + 'static,
+>(rt: &R, config: &Config, inputs: &[napt_run::Input], gate: G) -> Result<Run, Stop> {
+    let gate = Arc::new(rt.alloc(), gate).map_err(|_| Stop::Call)?;
     run_workers(rt, rt.alloc(), config, inputs, gate).map_err(|_| Stop::Call)
 }
 

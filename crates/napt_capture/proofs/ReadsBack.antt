@@ -1,34 +1,36 @@
--- What is written is a front of a file whose records are those that were written.
-use Rattle.std.proofs.Common.{◌≡◌, ◌/◌, ◌%◌, ◌^◌, ◌<◌, ◌≤◌, List, [], ◌∷◌, ◌++◌, length, map, All, Ok, false, ap, sym, arith, refl, inl, append-nil}
+-- What is written holds the records that were written.
+use Rattle.std.proofs.Common.{◌≡◌, ℕ, ◌+◌, ◌/◌, ◌%◌, List, [], ◌∷◌, ◌++◌, length, take, drop, map, All, Ok, false, ap, ◌∙◌, arith, refl, append_assoc, length-append, take_at, drop_at, drop_of_length-le, sym, ◌≤◌}
 use Rattle.std.specs.List.{flat_map}
-use Rattle.std.proofs.lemmas.List.Elements.{All-nil, All-cons, All-head, All-tail}
+use Rattle.std.proofs.lemmas.List.Elements.{All-head, All-tail}
 use Rattle.byteorder.specs.Numbers.{little_number-reads_back}
 use Rattle.napt_capture.specs.declared.spelling.Order.TheVariants.{Little}
 use Rattle.napt_capture.specs.declared.spelling.Unit.TheVariants.{Nanosecond}
 use Rattle.napt_capture.specs.declared.spelling.Spelling.{Spelling}
+use Rattle.napt_capture.specs.declared.reading.Next.TheVariants.{Whole}
 use Rattle.napt_capture.specs.Contents.{Entry}
-use Rattle.napt_capture.specs.Capture.{Holds, IsCapture, IsFileHeader, IsFront, IsStored, Stored, captured_of, entry_of, fraction_of, original_of, stored_text, time_of}
+use Rattle.napt_capture.specs.Capture.{Held, asked_first, asked_of, asked_records, captured, captured_by, captured_of, contents_by, entry_in, fraction_of, held, next_in, number_behind, original_of, read_whole, size_in, spelling_in, time_of}
 use Rattle.napt_capture.specs.Spelling.{long_number}
 use Rattle.napt_capture.specs.Text.{IsWritable, as_written, file_header, record_header, record_text, text}
+use Rattle.std.proofs.lemmas.Bool.{le-ltb}
+use Rattle.napt_capture.specs.declared.TheConstants.{MOST_ASKED}
+use Rattle.napt_capture.proofs.Whole.{asked_all, asked_is}
+use Rattle.napt_capture.proofs.Captured.{held_record, next_whole, size_good, with_first}
 
 -- nanoseconds in little-endian order
 abbrev pub written_spelling : Spelling
 written_spelling = record { order = Little; unit = Nanosecond }
 
--- a record as it is written
-abbrev pub stored_of : Entry → Stored
-stored_of r = record { header = record_header r; bytes = r.bytes }
-
-IsFileHeader-written : IsFileHeader written_spelling file_header
+spelling_in-written : spelling_in file_header ≡ Ok written_spelling
 unfolding file_header
-IsFileHeader-written = record { whole = refl; magic = refl; version = (refl, refl); link = inl refl }
+spelling_in-written = refl
 
-seconds-fit : (r : Entry) → IsWritable r → r.time / 1000000000 < 256 ^ 4
-seconds-fit r h = omega (arith, h.time)
+pub length-file_header : length file_header ≡ 24
+unfolding file_header
+length-file_header = refl
 
 seconds_of-written : (r : Entry) → IsWritable r → long_number written_spelling (record_header r) ≡ r.time / 1000000000
 unfolding record_header
-seconds_of-written r h = little_number-reads_back 4 (r.time / 1000000000) [] (seconds-fit r h)
+seconds_of-written r h = little_number-reads_back 4 (r.time / 1000000000) [] (omega (arith, h.time))
 
 fraction_of-written : (r : Entry) → fraction_of written_spelling (record_header r) ≡ r.time % 1000000000
 unfolding record_header
@@ -46,66 +48,100 @@ length-record_header : (r : Entry) → length (record_header r) ≡ 16
 unfolding record_header
 length-record_header r = refl
 
-IsStored-written : (r : Entry) → IsWritable r → IsStored written_spelling (stored_of r)
-IsStored-written r h =
-    let fraction = fraction_of-written r in
-    let captured = captured_of-written r h in
-    record {
-      header = record {
-        whole = length-record_header r;
-        fraction = omega (arith, fraction);
-        captured =
-            omega (arith, captured, h.bytes);
-      };
-      bytes = sym captured;
-    }
-
 time_of-written : (r : Entry) → IsWritable r → time_of written_spelling (record_header r) ≡ r.time
 time_of-written r h = omega (arith, seconds_of-written r h, fraction_of-written r)
 
-entry_of-written : (r : Entry) → IsWritable r → entry_of written_spelling (stored_of r) ≡ as_written r
-entry_of-written r h = rw (time_of-written r h, original_of-written r h) refl
+size_in-written : (n : ℕ) (r : Entry) → IsWritable r → size_in written_spelling n (record_header r)
+    ≡ Ok (length r.bytes)
+size_in-written n r h =
+    size_good written_spelling n (record_header r) (omega (arith, fraction_of-written r))
+    (omega (arith, captured_of-written r h, h.bytes))
+    ∙ ap (λ k. Ok k) (captured_of-written r h)
 
-All-written : (rs : List Entry) → All IsWritable rs → All (IsStored written_spelling) (map stored_of rs)
-All-written [] h = All-nil (IsStored written_spelling)
-All-written (r ∷ rs) h =
-    All-cons (IsStored written_spelling) (stored_of r) (map stored_of rs)
-    (IsStored-written r (All-head IsWritable r rs h)) (All-written rs (All-tail IsWritable r rs h))
+-- the text of a record begins with it
+next_in-written : (n : ℕ) (r : Entry) (more : List ℕ) → IsWritable r →
+    next_in written_spelling n (record_header r ++ (r.bytes ++ more)) ≡ Ok (Whole (as_written r))
+next_in-written n r more h =
+    let all = record_header r ++ (r.bytes ++ more) in
+    let header : take 16 all ≡ record_header r = take_at (record_header r) (r.bytes ++ more) 16
+    (length-record_header r) in
+    let behind : drop 16 all ≡ r.bytes ++ more = drop_at (record_header r) (r.bytes ++ more) 16
+    (length-record_header r) in
+    let bytes : take (length r.bytes) (drop 16 all) ≡ r.bytes = ap (take (length r.bytes)) behind
+    ∙ take_at r.bytes more (length r.bytes) refl in
+    let same : entry_in written_spelling (length r.bytes) all ≡ as_written r =
+    rw (header, bytes, time_of-written r h, original_of-written r h) refl in
+    next_whole written_spelling n all (length r.bytes)
+    (ap (size_in written_spelling n) header ∙ size_in-written n r h)
+    (omega (
+      arith,
+      length-append (record_header r) (r.bytes ++ more),
+      length-append r.bytes more,
+      length-record_header r,
+    ))
+    ∙ ap (λ e. Ok (Whole e)) same
 
-entries-written : (rs : List Entry) → All IsWritable rs → map as_written rs ≡ map (entry_of written_spelling)
-    (map stored_of rs)
-entries-written [] h = refl
-entries-written (r ∷ rs) h =
-    rw (entry_of-written r (All-head IsWritable r rs h), entries-written rs (All-tail IsWritable r rs h)) refl
+held-written : (n : ℕ) (rs : List Entry) → All IsWritable rs → held written_spelling n 0 (flat_map record_text rs)
+    ≡ record { records = map as_written rs; end = Ok false }
+unfolding held record_text
+held-written n [] h = refl
+held-written n (r ∷ rs) h =
+    let more = flat_map record_text rs in
+    let split : flat_map record_text (r ∷ rs) ≡ record_header r ++ (r.bytes ++ more) =
+    append_assoc (record_header r) r.bytes more in
+    let first = All-head IsWritable r rs h in
+    let rest : drop (16 + length r.bytes) (flat_map record_text (r ∷ rs)) ≡ more =
+    drop_at (record_header r ++ r.bytes) more (16 + length r.bytes)
+    (length-append (record_header r) r.bytes ∙ ap (λ k. k + length r.bytes) (length-record_header r)) in
+    held_record written_spelling n (flat_map record_text (r ∷ rs)) (as_written r)
+    (ap (next_in written_spelling n) split ∙ next_in-written n r more first)
+    ∙ ap (λ l. with_first (as_written r) (held written_spelling (number_behind n) 0 l)) rest
+    ∙ ap (with_first (as_written r)) (held-written (number_behind n) rs (All-tail IsWritable r rs h))
 
-texts-written : (rs : List Entry) → flat_map record_text rs ≡ flat_map stored_text (map stored_of rs)
-unfolding record_text
-texts-written [] = refl
-texts-written (r ∷ rs) = ap (λ l. (record_header r ++ r.bytes) ++ l) (texts-written rs)
-
-IsFront-written : (rs : List Entry) → All IsWritable rs → IsFront written_spelling (map stored_of rs) (text rs)
+pub captured_text : (rs : List Entry) → All IsWritable rs → captured (text rs)
+    ≡ record { records = map as_written rs; end = Ok false }
 unfolding text
-IsFront-written rs h = record {
-  header = file_header;
-  file_header = IsFileHeader-written;
-  records = All-written rs h;
-  text = ap (λ l. file_header ++ l) (texts-written rs);
-}
+captured_text rs h =
+    let more = flat_map record_text rs in
+    let header : take 24 (text rs) ≡ file_header = take_at file_header more 24 length-file_header in
+    let behind : drop 24 (text rs) ≡ more = drop_at file_header more 24 length-file_header in
+    ap (λ l. captured_by (spelling_in l) (drop 24 (text rs))) header
+    ∙ ap (λ s. captured_by s (drop 24 (text rs))) spelling_in-written
+    ∙ ap (held written_spelling 1 0) behind
+    ∙ held-written 1 rs h
 
-pub IsCapture-text : (rs : List Entry) → All IsWritable rs → length (text rs) ≤ 68719476720
-    → IsCapture (text rs) (Ok (record { records = map as_written rs; cut = false }))
-unfolding IsCapture
-IsCapture-text rs h most =
-    let holds : Holds (text rs) (record { records = map as_written rs; cut = false }) = record {
-      spelling = written_spelling;
-      stored = map stored_of rs;
-      front = text rs;
-      rest = [];
-      whole = sym (append-nil (text rs));
-      is_front = IsFront-written rs h;
-      asked = omega (arith, most);
-      partial = inl (omega arith);
-      records = entries-written rs h;
-      cut = refl;
-    } in
-    (text rs, [], sym (append-nil (text rs)), (holds, refl))
+-- READ WHOLE
+
+asked-written : (rs : List Entry) → asked_records (map as_written rs) ≡ length (flat_map record_text rs)
+unfolding record_text
+asked-written [] = refl
+asked-written (r ∷ rs) =
+    omega (
+      arith,
+      asked-written rs,
+      length-append (record_header r ++ r.bytes) (flat_map record_text rs),
+      length-append (record_header r) r.bytes,
+      length-record_header r,
+    )
+
+pub read_text : (rs : List Entry) → All IsWritable rs → length (text rs) ≤ 68719476720 → read_whole (text rs)
+    ≡ Ok (record { records = map as_written rs; cut = false })
+unfolding text
+read_text rs h short =
+    let more = flat_map record_text rs in
+    let spelled : spelling_in (take 24 (text rs)) ≡ Ok written_spelling =
+    ap spelling_in (take_at file_header more 24 length-file_header) ∙ spelling_in-written in
+    let holds = captured_text rs h in
+    let records : (held written_spelling 1 0 (drop 24 (text rs))).records ≡ map as_written rs =
+    ap (λ (a : Held). a.records) (sym (ap (λ r. captured_by r (drop 24 (text rs))) spelled) ∙ holds) in
+    let long : length (text rs) ≡ 24 + length more =
+    length-append file_header more ∙ ap (λ k. k + length more) length-file_header in
+    let none : drop (24 + asked_records (map as_written rs)) (text rs) ≡ [] =
+    drop_of_length-le (text rs) (let few : length (text rs) ≤ 24 + asked_records (map as_written rs) =
+    omega (arith, long, asked-written rs) in few) in
+    let asks : asked_of (text rs) ≡ (24 + asked_records (map as_written rs)) + 16 =
+    asked_is written_spelling (text rs) spelled
+    ∙ ap (asked_all written_spelling (text rs)) records
+    ∙ ap (λ l. (24 + asked_records (map as_written rs)) + asked_first written_spelling l) none in
+    rw (le-ltb MOST_ASKED (asked_of (text rs)) (omega (arith, asks, short, long, asked-written rs)))
+    (ap (λ (a : Held). contents_by a.records a.end) holds)

@@ -1,56 +1,105 @@
 -- What the steps of reading a capture do, over the bytes left in the source before and after.
-use Rattle.std.specs.Prelude.{ℕ, ◌≡◌, ⊤, nat_lt, List, length, Option}
-use Rattle.std.specs.Io.KnownBytes.{Consumes, IsAtEnd}
+use Rattle.std.specs.Prelude.{ℕ, ◌+◌, ◌<◌, ◌≤◌, ◌≡◌, ◌⊎◌, ⊤, nat_lt, if◌then◌else◌, min, List, [], ◌++◌, length, take, drop, Option, Some, None, IfSome, Result, Ok, Err}
+use Rattle.napt_capture.specs.declared.TheConstants.{MOST_ASKED}
 use Rattle.napt_capture.specs.declared.fault.CaptureFault.{CaptureFault}
-use Rattle.napt_capture.specs.declared.fault.CaptureFault.TheVariants.{NoHeader, Read, Memory}
+use Rattle.napt_capture.specs.declared.fault.CaptureFault.TheVariants.{TooLarge, Read, Memory}
 use Rattle.napt_capture.specs.declared.reading.Next.{Next}
 use Rattle.napt_capture.specs.declared.reading.Next.TheVariants.{Whole, End}
 use Rattle.napt_capture.specs.declared.reading.Fields.{Fields}
 use Rattle.napt_capture.specs.declared.spelling.Spelling.{Spelling}
+use Rattle.napt_capture.specs.Contents.{Contents, Entry}
 use Rattle.napt_capture.specs.Text.{IsWritable}
-use Rattle.napt_capture.specs.Capture.{IsFileHeader, IsRecordHeader, IsRefusedFile, IsRefusedRecord, IsPartial, IsStored, MayAsk, Stored, captured_of, entry_of, original_of, stored_text, time_of}
+use Rattle.napt_capture.specs.Capture.{asked_first, asked_of, asked_records, captured, next_in, original_of, read_whole, size_in, spelling_in, time_of}
 
--- a reader whose bytes were old, and are new, gave the header of a file
-pub record ReadsFileHeader (s : Spelling) (old new : Option (List ℕ)) : Type 0 where
-  pub header : List ℕ
-  pub consumed : Consumes old new header
-  pub good : IsFileHeader s header
+-- unless the device or memory failed
+abbrev pub Says : {T : Type 0} → Result T CaptureFault → Type 0 → Type 0
+Says (Err Read) fact = ⊤
+Says (Err Memory) fact = ⊤
+Says _ fact = fact
 
--- it gave a header that is refused
-pub record RefusesFile (fault : CaptureFault) (old new : Option (List ℕ)) : Type 0 where
-  pub header : List ℕ
-  pub consumed : Consumes old new header
-  pub refused : IsRefusedFile header fault
-  pub end : fault ≡ NoHeader → IsAtEnd new
+-- the same of a fault
+abbrev pub StopsBy : CaptureFault → Type 0 → Type 0
+StopsBy Read fact = ⊤
+StopsBy Memory fact = ⊤
+StopsBy _ fact = fact
+
+-- of known bytes these are left
+abbrev pub Gives : Option (List ℕ) → Option (List ℕ) → (List ℕ → List ℕ → Type 0) → Type 0
+Gives None new fact = ⊤
+Gives (Some bytes) None fact = ⊥
+Gives (Some bytes) (Some left) fact = fact bytes left
 
 -- the fields are those of the header
-pub record HasFields (s : Spelling) (header : List ℕ) (f : Fields) : Type 0 where
-  pub good : IsRecordHeader s header
+pub record HasFields (s : Spelling) (number : ℕ) (header : List ℕ) (f : Fields) : Type 0 where
+  pub size : size_in s number header ≡ Ok f.captured
   pub time : f.time ≡ time_of s header
-  pub captured : f.captured ≡ captured_of s header
   pub original : f.original ≡ original_of s header
 
--- behind so many bytes a reader gave the next record, or its end
-abbrev pub ReadsNext : Spelling → ℕ → Option (List ℕ) → Option (List ℕ) → Next → Type 0
-ReadsNext s asked old new (Whole entry) =
-    (r : Stored) × IsStored s r × (entry ≡ entry_of s r) × MayAsk asked (length (stored_text r))
-    × Consumes old new (stored_text r)
-ReadsNext s asked old new (End cut) =
-    (rest : List ℕ) × Consumes old new rest × IsAtEnd new × MayAsk asked 16 × IsPartial s asked rest
-    × (cut ≡ nat_lt 0 (length rest))
+-- what is next, to a reader that has asked for so many bytes
+abbrev pub next_within : Spelling → ℕ → ℕ → List ℕ → Result Next CaptureFault
+next_within s asked number text =
+    if nat_lt MOST_ASKED (asked + asked_first s text) then Err TooLarge else next_in s number text
 
--- it gave a record's header that is refused
-pub record RefusesRecord (s : Spelling) (asked number : ℕ) (fault : CaptureFault) (old new : Option (List ℕ)) : Type
+-- what is read of a header behind so many bytes: all of it, if it may be asked for
+abbrev pub header_within : ℕ → ℕ
+header_within asked = if nat_lt MOST_ASKED (asked + 16) then 0 else 16
+
+-- so many bytes were taken: a whole record, or all that there are, or the header with the fault
+abbrev pub Takes : ℕ → Result Next CaptureFault → List ℕ → ℕ → Type 0
+Takes asked (Ok (Whole entry)) text taken = taken ≡ 16 + length entry.bytes
+Takes asked (Ok (End cut)) text taken = drop taken text ≡ []
+Takes asked (Err fault) text taken = taken ≡ header_within asked
+
+-- it was read, and no more bytes than those that it asks for
+pub record ReadsNext (s : Spelling) (asked number : ℕ) (result : Result Next CaptureFault) (text left : List ℕ) : Type
     0 where
-  pub header : List ℕ
-  pub consumed : Consumes old new header
-  pub refused : IsRefusedRecord s asked number header fault
+  pub is : next_within s asked number text ≡ result
+  pub taken : ℕ
+  pub left_is : left ≡ drop taken text
+  pub within : taken ≤ asked_first s text
+  pub room : asked + taken ≤ MOST_ASKED
+  pub takes : Takes asked result text taken
 
--- a step failed by the device or by memory, or was refused
-abbrev pub StopsBy : CaptureFault → Type 0 → Type 0
-StopsBy Read refused = ⊤
-StopsBy Memory refused = ⊤
-StopsBy _ refused = refused
+-- a whole record was within the limit
+abbrev pub IsWithin : ℕ → Next → Type 0
+IsWithin asked (Whole entry) = asked + (16 + length entry.bytes) ≤ MOST_ASKED
+IsWithin asked (End cut) = ⊤
+
+-- so many bytes at most were read
+abbrev pub TakesAtMost : ℕ → List ℕ → List ℕ → Type 0
+TakesAtMost most bytes left = (taken : ℕ) × (taken ≤ most) × (left ≡ drop taken bytes)
+
+-- with a fault behind these records: all, or so many that what is next may not be asked for; the next header was read,
+-- if that may be
+pub record StopsBehind (s : Spelling) (records more : List Entry) (asked : ℕ) (bytes left : List ℕ) : Type 0 where
+  pub all : (captured bytes).records ≡ records ++ more
+  pub asked_is : asked ≡ 24 + asked_records records
+  pub last : (more ≡ []) ⊎ (MOST_ASKED < asked + asked_first s (drop asked bytes))
+  pub left_is : left ≡ drop (asked + header_within asked) bytes
+
+-- what is left of a file: nothing, or what follows the header with the fault
+abbrev pub Leaves : Result Contents CaptureFault → Result Spelling CaptureFault → List ℕ → List ℕ → Type 0
+Leaves (Ok contents) header bytes left = left ≡ []
+Leaves (Err fault) (Err refused) bytes left = left ≡ drop 24 bytes
+Leaves (Err fault) (Ok s) bytes left =
+    (records : List Entry) × (more : List Entry) × (asked : ℕ) × StopsBehind s records more asked bytes left
+
+-- the file was read whole, and no more of it than that takes
+pub record ReadsWhole (result : Result Contents CaptureFault) (bytes left : List ℕ) : Type 0 where
+  pub is : read_whole bytes ≡ result
+  pub takes : TakesAtMost (min MOST_ASKED (asked_of bytes)) bytes left
+  pub leaves : Leaves result (spelling_in (take 24 bytes)) bytes left
+
+-- memory was taken for a record, or refused
+abbrev pub TakesMemory : Result Next CaptureFault → Type 0
+TakesMemory (Ok (Whole entry)) = ⊤
+TakesMemory (Err Memory) = ⊤
+TakesMemory other = ⊥
+
+-- it is refused only where the file has a record's header behind its own
+abbrev pub IsForRecords : Option (List ℕ) → CaptureFault → Type 0
+IsForRecords known Memory = IfSome known (λ bytes. 40 ≤ length bytes)
+IsForRecords known other = ⊤
 
 -- a record that a writer would take
 abbrev pub IsWritableNext : Next → Type 0

@@ -6,6 +6,7 @@ ghost use Rattle.napt_capture.specs.declared.fault.CaptureFault.TheVariants.{Rea
 use crate::device::DeviceFault;
 use crate::{LARGEST_RECORD, MOST_ASKED};
 use std::alloc::{AllocError, AllocFailed};
+use std::{error, fmt};
 use thiserror::Error;
 
 /// Why a capture could not be read: the first fault in the file. Records are numbered from 1. A
@@ -66,9 +67,22 @@ impl<T: Drop> From<AllocFailed<T>> for CaptureFault {
 }
 
 /// A write failed or returned 0, or the flush failed.
-#[derive(Clone, Copy, Debug, PartialEq, Eq, Error)]
-#[error("writing failed after {written} bytes")]
+#[derive(Clone, Copy, Debug, PartialEq, Eq)]
 pub struct WriteFault {
     /// How many bytes of the text were written, from its front.
     pub written: u64,
 }
+
+impl fmt::Display for WriteFault {
+    ghost use Rattle.std.specs.Prelude.{Some, ◌++◌, codes, decimal};
+
+    ghost output = { λ fault. Some (codes "writing failed after " ++ decimal fault.written
+        ++ codes " bytes") };
+
+    fn fmt<W: fmt::Write>(&self, f: &mut fmt::Formatter<W>) -> fmt::Result {
+        let written = self.written;
+        write!(f, "writing failed after {written} bytes")
+    }
+}
+
+impl error::Error for WriteFault {}

@@ -7,9 +7,11 @@
 //! ```
 #![tactic(auto)]
 
+mod absent;
 mod ahead;
 mod contents;
 mod device;
+mod either_device;
 mod fault;
 mod faulty;
 mod laws;
@@ -20,11 +22,12 @@ mod watched;
 mod writing;
 mod written;
 
+pub use absent::{NoPackets, Nowhere};
 pub use contents::{Capture, Record};
 pub use device::{DeviceFault, Sink, Source};
 pub use fault::{CaptureFault, WriteFault};
 pub use faulty::{Faulty, Plan, Trouble};
-pub use laws::{one_answer, one_stream, reads_back, stream_is_capture};
+pub use laws::{none_too_large, reads_back, records_follow};
 pub use reading::{Next, read_capture};
 pub use records::Records;
 pub use watched::Watched;

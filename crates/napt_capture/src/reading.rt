@@ -1,10 +1,10 @@
 //! Reading a capture.
-ghost use Rattle.std.specs.Prelude.{◌≡◌, ◌+◌, ◌-◌, ◌*◌, ◌^◌, ◌<◌, ◌≤◌, ℕ, All, length, take, Err, IfSome, IfOk, IfErr};
+ghost use Rattle.std.specs.Prelude.{◌≡◌, ◌≢◌, ◌+◌, ◌-◌, ◌*◌, ◌^◌, ◌<◌, ◌≤◌, ℕ, All, length, take, drop, IfOk, IfErr, IfSome, Err};
 ghost use Rattle.std.specs.Io.KnownBytes.{Consumes, IsAtEnd};
 ghost use Rattle.napt_capture.specs.Device.{failed_calls};
-ghost use Rattle.napt_capture.specs.Capture.{Answers, ReadsNoFurther, IsFileHeader, IsRefusedFile, IsRefusedRecord, MayAsk, failed_reads};
+ghost use Rattle.napt_capture.specs.Capture.{failed_reads, size_in, spelling_in};
 ghost use Rattle.napt_capture.specs.Text.{IsWritable};
-ghost use Rattle.napt_capture.specs.Reading.{HasFields, IsWritableNext, ReadsFileHeader, ReadsNext, RefusesFile, RefusesRecord, StopsBy};
+ghost use Rattle.napt_capture.specs.Reading.{Gives, HasFields, IsForRecords, IsWithin, IsWritableNext, ReadsNext, ReadsWhole, Says, TakesMemory};
 
 use crate::contents::{Capture, Record};
 use crate::device::{DeviceFault, Source};
@@ -46,16 +46,17 @@ pub(crate) struct Fields {
 /// Reads a capture file: all records before its end, or its first fault. It asks for 24 bytes, then for 16 and
 /// the captured bytes of each record, and for nothing past a header with a fault.
 ///
-/// Returns `Read` if and only if a read failed, which was then the last one; `Memory` if memory ran out.
+/// Returns `Read` if and only if a read failed, which was then the last one; `Memory` if memory ran out, which is taken for
+/// records alone.
 pub fn read_capture<R: Source>(alloc: Global, reader: &mut R) -> Result<Capture, CaptureFault>
     requires { R.failed reader.old < 2 ^ 64 - 1 }
     // If the reader's bytes are known, they are read as what they are.
-    ensures answer { IfSome (R.remaining reader.old) (λ bytes. Answers bytes result) }
-    ensures asked { IfSome (R.remaining reader.old) (λ bytes.
-        IfSome (R.remaining reader.new) (λ left. ReadsNoFurther bytes left result)) }
+    ensures answer { Says result
+        (Gives (R.remaining reader.old) (R.remaining reader.new) (ReadsWhole result)) }
     // What was read can be written.
     ensures writable { IfOk result (λ capture. All IsWritable capture.records) }
     ensures few { IfOk result (λ capture. length capture.records < 2 ^ 32) }
+    ensures memory { IfErr result (IsForRecords (R.remaining reader.old)) }
     ensures count { R.failed reader.new ≡ R.failed reader.old + failed_reads result }
 {
     let spelling = read_file_header(reader)?;
@@ -96,10 +97,9 @@ fn fill<R: Source>(reader: &mut R, buffer: &mut [u8]) -> Result<usize, DeviceFau
 /// Reads the header of a file.
 pub(crate) fn read_file_header<R: Source>(reader: &mut R) -> Result<Spelling, CaptureFault>
     requires { R.failed reader.old < 2 ^ 64 - 1 }
-    ensures ok { IfOk result (λ s. ReadsFileHeader s (R.remaining reader.old)
-        (R.remaining reader.new)) }
-    ensures err { IfErr result (λ fault.
-        StopsBy fault (RefusesFile fault (R.remaining reader.old) (R.remaining reader.new))) }
+    ensures header { Says result (Gives (R.remaining reader.old) (R.remaining reader.new)
+        (λ bytes left. (spelling_in (take 24 bytes) ≡ result) × (left ≡ drop 24 bytes))) }
+    ensures memory { result ≢ Err CaptureFault.Memory }
     ensures count { R.failed reader.new ≡ R.failed reader.old + failed_reads result }
 {
     let mut header = [0; FILE_HEADER];
@@ -113,8 +113,8 @@ pub(crate) fn read_file_header<R: Source>(reader: &mut R) -> Result<Spelling, Ca
 /// The spelling that a file's header shows.
 fn spelling_of_file(header: &[u8]) -> Result<Spelling, CaptureFault>
     requires { length header.now ≡ 24 }
-    ensures ok { IfOk result (λ s. IsFileHeader s header.now) }
-    ensures err { IfErr result (λ fault. IsRefusedFile header.now fault) }
+    ensures is { spelling_in header.now ≡ result }
+    ensures memory { result ≢ Err CaptureFault.Memory }
 {
     let Some(spelling) = Spelling::of_magic(BigEndian::read_u32(header)) else {
         return Err(CaptureFault::BadMagic);
@@ -138,12 +138,13 @@ fn read_record<R: Source>(
     number: u64,
 ) -> Result<Next, CaptureFault>
     requires can_fail { R.failed reader.old < 2 ^ 64 - 1 }
-    requires within { MayAsk asked 0 }
-    ensures ok { IfOk result (λ next. ReadsNext spelling asked (R.remaining reader.old)
-        (R.remaining reader.new) next) }
-    ensures err { IfErr result (λ fault. StopsBy fault
-        (RefusesRecord spelling asked number fault (R.remaining reader.old) (R.remaining reader.new))) }
-    ensures large { (¬ MayAsk asked 16) → result ≡ Err CaptureFault.TooLarge }
+    requires within { asked ≤ MOST_ASKED }
+    ensures next { Says result (Gives (R.remaining reader.old) (R.remaining reader.new)
+        (ReadsNext spelling asked number result)) }
+    ensures room { IfOk result (IsWithin asked) }
+    ensures memory { TakesMemory result →
+        IfSome (R.remaining reader.old) (λ bytes. 16 ≤ length bytes) }
+    ensures large { MOST_ASKED < asked + 16 → result ≡ Err CaptureFault.TooLarge }
     ensures writable { IfOk result IsWritableNext }
     ensures count { R.failed reader.new ≡ R.failed reader.old + failed_reads result }
 {
@@ -178,11 +179,10 @@ pub(crate) fn fields_of(
     number: u64,
 ) -> Result<Fields, CaptureFault>
     requires { length header.now ≡ 16 }
-    ensures ok { IfOk result (λ fields. HasFields spelling header.now fields) }
+    ensures ok { IfOk result (λ fields. HasFields spelling number header.now fields) }
     ensures time { IfOk result (λ fields. fields.time < 2 ^ 32 * 1000000000) }
     ensures captured { IfOk result (λ fields. fields.captured ≤ LARGEST_RECORD) }
-    ensures err { (asked : ℕ) → MayAsk asked 16 →
-        IfErr result (λ fault. IsRefusedRecord spelling asked number header.now fault) }
+    ensures err { IfErr result (λ fault. size_in spelling number header.now ≡ Err fault) }
 {
     let seconds = spelling.long(header);
     let fraction = spelling.long(&header[4..]);

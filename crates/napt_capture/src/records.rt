@@ -1,12 +1,12 @@
 //! Reading a capture record after record, as it comes.
-ghost use Rattle.std.specs.Prelude.{◌≡◌, ◌≢◌, ◌+◌, ◌-◌, ◌^◌, ◌<◌, [], take, Bool, true, false, Some, IfOk, IfErr, IfSome, IfNone, OnOk, OnErr, Err};
+ghost use Rattle.std.specs.Prelude.{◌≡◌, ◌≢◌, ◌+◌, ◌-◌, ◌^◌, ◌<◌, [], length, nat_lt, take, drop, Bool, true, false, Some, IfOk, IfErr, IfSome, IfNone, OnOk, OnErr, Ok, Err};
 ghost use Rattle.std.specs.Io.KnownBytes.{IsAtEnd};
-ghost use Rattle.napt_capture.specs.Capture.{IsPartial, IsRefusedRecord, failed_reads};
+ghost use Rattle.napt_capture.specs.Capture.{failed_reads, spelling_in};
 ghost use Rattle.napt_capture.specs.Device.{failed_calls};
 ghost use Rattle.napt_capture.specs.declared.fault.CaptureFault.TheVariants.{Read};
-ghost use Rattle.napt_capture.specs.Reading.{HasFields, IsWritableNext, ReadsFileHeader, ReadsNext, RefusesFile, StopsBy};
-ghost use Rattle.napt_capture.specs.Stream.{EndsAs};
-ghost use Rattle.napt_capture.specs.Records.{Asks, KeepsLeft, StandsWhole, Tells, TellsEnd, next_number, left_of};
+ghost use Rattle.napt_capture.specs.declared.reading.Next.TheVariants.{End};
+ghost use Rattle.napt_capture.specs.Reading.{Gives, IsWritableNext, Says};
+ghost use Rattle.napt_capture.specs.Records.{Asks, KeepsLeft, StandsWhole, Tells, next_number, next_of, left_of, spelling_of_reader};
 
 use crate::ahead::Ahead;
 use crate::contents::Record;
@@ -31,12 +31,11 @@ impl Records {
     /// that header, `Read` if and only if a read failed, and `Memory`, before any read, if the buffer is refused.
     pub fn open<R: Source>(alloc: Global, source: &mut R) -> Result<Records, CaptureFault>
         requires { R.failed source.old < 2 ^ 64 - 1 }
-        ensures header { IfOk result (λ records. ReadsFileHeader records.spelling
-            (R.remaining source.old) (R.remaining source.new)) }
+        ensures header { Says result
+            (Gives (R.remaining source.old) (R.remaining source.new) (λ bytes left.
+            (spelling_in (take 24 bytes) ≡ spelling_of_reader result) × (left ≡ drop 24 bytes))) }
         ensures empty { IfOk result (λ records. records.ahead ≡ []) }
         ensures first { IfOk result (λ records. records.number ≡ 1) }
-        ensures fault { IfErr result (λ fault.
-            StopsBy fault (RefusesFile fault (R.remaining source.old) (R.remaining source.new))) }
         ensures count { R.failed source.new ≡ R.failed source.old + failed_reads result }
     {
         let ahead = Ahead::new(alloc)?;
@@ -65,11 +64,9 @@ impl Records {
     /// or the header's fault, again.
     pub fn next<R: Source>(&mut self, source: &mut R, vector: Vec<u8>) -> Result<Next, CaptureFault>
         requires can_fail { R.failed source.old < 2 ^ 64 - 1 }
-        ensures next { IfOk result (Tells self.old
-            (left_of self.old (R.remaining source.old)) (left_of self.new (R.remaining source.new))) }
+        ensures next { Says result (Gives (left_of self.old (R.remaining source.old))
+            (left_of self.new (R.remaining source.new)) (Tells self.old result)) }
         ensures number { IfOk result (λ next. self.new.number ≡ next_number next self.old.number) }
-        ensures fault { IfErr result (λ fault. StopsBy fault
-            (TellsEnd self.old (Err fault) (left_of self.old (R.remaining source.old)))) }
         ensures kept { OnErr result (KeepsLeft self.old (R.remaining source.old)
             self.new (R.remaining source.new)) }
         ensures spelling { self.new.spelling ≡ self.old.spelling }
@@ -87,9 +84,8 @@ impl Records {
     fn front(&self) -> Result<Option<Fields>, CaptureFault>
         ensures whole { IfOk result (λ front. IfSome front (StandsWhole self.now)) }
         ensures part { IfOk result (λ front. IfNone front
-            (IsPartial self.now.spelling 0 self.now.ahead)) }
-        ensures fault { IfErr result (λ fault. EndsAs self.now.spelling self.now.number
-            self.now.ahead (Err fault)) }
+            (next_of self.now self.now.ahead ≡ Ok (End (nat_lt 0 (length self.now.ahead))))) }
+        ensures fault { IfErr result (λ fault. next_of self.now self.now.ahead ≡ Err fault) }
     {
         let ahead = self.ahead.as_slice();
         if ahead.len() < RECORD_HEADER {
@@ -121,10 +117,8 @@ impl Records {
 
     /// Takes what is next from the bytes read ahead.
     fn take(&mut self, vector: Vec<u8>) -> Result<Next, CaptureFault>
-        ensures next { IfOk result (Tells self.old (Some self.old.ahead) (Some self.new.ahead)) }
+        ensures next { Says result (Tells self.old result self.old.ahead self.new.ahead) }
         ensures number { IfOk result (λ next. self.new.number ≡ next_number next self.old.number) }
-        ensures fault { IfErr result (λ fault. StopsBy fault
-            (TellsEnd self.old (Err fault) (Some self.old.ahead))) }
         ensures read { result ≢ Err Read }
         ensures kept { OnErr result (self.new ≡ self.old) }
         ensures spelling { self.new.spelling ≡ self.old.spelling }

@@ -12,7 +12,7 @@ use std::marker::Model;
 
 /// The header of every file written: nanoseconds, version 2.4, zone 0, significant figures 0, snapshot length 262,144,
 /// link type 101 (raw IP), in little-endian order.
-const FILE_HEADER: [u8; 24] = [
+pub(crate) const FILE_HEADER: [u8; 24] = [
     0x4d, 0x3c, 0xb2, 0xa1, 2, 0, 4, 0, 0, 0, 0, 0, 0, 0, 0, 0, 0, 0, 4, 0, 101, 0, 0, 0,
 ];
 

@@ -1,11 +1,12 @@
 -- What a reading that ends well went through.
-use Rattle.std.proofs.Common.{◌≡◌, ℕ, ◌+◌, Bool, true, false, List, Option, Some, None, Result, Ok, Err, refl, subst, arith}
-use Rattle.std.specs.Prelude.{ok_or}
+use Rattle.std.proofs.Common.{◌≡◌, ℕ, ◌+◌, ◌≤◌, Bool, true, false, List, Option, Some, None, Result, Ok, Err, refl, subst, arith, leb-true}
+use Rattle.std.specs.Prelude.{nat_le, ok_or}
 use Rattle.std.specs.Option.{option_map_or}
 use Rattle.toml.specs.Data.{Data, Items, no_items, item, Members, get_member}
 use Rattle.napt_config.specs.declared.fault.ConfigFault.{ConfigFault}
+use Rattle.napt_config.specs.declared.fault.ConfigFault.TheVariants.{TooMany}
 use Rattle.napt_config.specs.Fault.{◌>>=◌, ◌>>◌, must}
-use Rattle.napt_config.specs.Configured.{each_in_order, item_count, optional}
+use Rattle.napt_config.specs.Configured.{each_in_order, item_count, list_in, list_up_to, optional}
 
 pub reads : {A B P : Type 0} (r : Result A ConfigFault) (f : A → Result B ConfigFault) (y : B) → r >>= f ≡ Ok y →
     ((x : A) → r ≡ Ok x → f x ≡ Ok y → P) → P
@@ -33,6 +34,16 @@ pub optional_reads : {A : Type 0} (P : A → Type 0) (key : List ℕ) (default :
     → P default → ((d : Data) (y : A) → reading d ≡ Ok y → P y) → P x
 optional_reads P key default reading table x e at_default at_value =
     option_reads P (get_member key table) default reading x e at_default at_value
+
+-- a list of at most so many entries has no more
+pub list_up_to-counts : (most : ℕ) (value : Data) (entries : Items) → list_up_to most value ≡ Ok entries →
+    item_count entries ≤ most
+unfolding list_up_to
+list_up_to-counts most value entries is =
+    reads (list_in value) _ entries is λ found _ ruled.
+    holds (nat_le (item_count found) most) TooMany _ entries ruled λ few last.
+    let same : found ≡ entries = cc in
+    rw (← same) (leb-true (item_count found) most few)
 
 module _ {A : Type 0} (step : A → Data → Result A ConfigFault) where
   -- what each step keeps is kept

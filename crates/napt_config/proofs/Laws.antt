@@ -11,14 +11,14 @@ use Rattle.std.proofs.lemmas.List.Folds.{list_any_at}
 use Rattle.std.proofs.lemmas.Map.Views.{All-keys-insert_entry, All-values-insert_entry}
 use Rattle.std.proofs.lemmas.Option.{cond_some, option_and_then_some}
 use Rattle.toml.specs.Data.{Data, Items, Members}
-use Rattle.napt_config.specs.declared.fault.ConfigFault.TheVariants.{BadAddress, BadPrefix, BadNumber, DoubleAddress, Missing, TooMany, PoolInside, NotInside, NotInPool, DoublePair, TimerTooShort, UnknownKey}
+use Rattle.napt_config.specs.declared.fault.ConfigFault.TheVariants.{BadAddress, BadPrefix, BadNumber, DoubleAddress, Missing, PoolInside, NotInside, NotInPool, DoublePair, TimerTooShort, UnknownKey}
 use Rattle.napt_config.specs.declared.settings.Timers.{Timers}
 use Rattle.napt_config.specs.Network.{Network, IsNetwork, have_address}
 use Rattle.napt_config.specs.Text.{address_of, network_of, network_at, number_of, is_slash}
 use Rattle.napt_config.specs.Rules.{Rules, has, paired_with, paired, IsTimer, AreTimers, IsInside, IsQuota, ArePairs, KeepsRules}
-use Rattle.napt_config.specs.Configured.{item_count, short_list, text_in, number_in, table_in, list_in, between, with_address, pool_in, with_prefix, prefixes_in, inside_in, filter_in, refresh_in, timer_at, timers_at, timers_in, default_timers, ring_at, ring_in, quota_at, quota_in, address_in, with_pair, pairs_at, pairs_in, redirects_in, required, optional, configured, knows_all_keys}
+use Rattle.napt_config.specs.Configured.{item_count, short_list, text_in, number_in, table_in, list_up_to, between, with_address, pool_in, with_prefix, prefixes_in, inside_in, filter_in, refresh_in, timer_at, timers_at, timers_in, default_timers, ring_at, ring_in, quota_at, quota_in, address_in, with_pair, pairs_at, pairs_in, redirects_in, required, optional, configured, knows_all_keys}
 use Rattle.napt_config.proofs.Addresses.{address_of-bound}
-use Rattle.napt_config.proofs.Chains.{reads, holds, ok_or_ok, optional_reads, each_keeps, each_adds}
+use Rattle.napt_config.proofs.Chains.{list_up_to-counts, reads, holds, ok_or_ok, optional_reads, each_keeps, each_adds}
 use Rattle.napt_config.proofs.Numbers.{number_of-range, between-range}
 use Rattle.napt_config.proofs.PairEntries.{Pairs, sorted_inserted, one_more}
 use Rattle.napt_config.proofs.Pools.{AreDistinct, AreDistinct-push}
@@ -47,11 +47,10 @@ short_list-counts : (key : List ℕ) (table : Members) (entries : Items) → sho
 unfolding short_list
 short_list-counts key table entries is =
     reads (required key table) _ entries is λ value _ listed.
-    reads (list_in value) _ entries listed λ found _ ruled.
-    holds (nat_lt 0 (item_count found)) Missing _ entries ruled λ some more.
-    holds (nat_le (item_count found) 16) TooMany _ entries more λ few last.
+    reads (list_up_to 16 value) _ entries listed λ found counted ruled.
+    holds (nat_lt 0 (item_count found)) Missing _ entries ruled λ some last.
     let same : found ≡ entries = cc in
-    rw (← same) (ltb-true 0 (item_count found) some, leb-true (item_count found) 16 few)
+    rw (← same) (ltb-true 0 (item_count found) some, list_up_to-counts 16 value found counted)
 
 -- ---- pool
 
@@ -306,9 +305,8 @@ pairs_at-keeps : (pool : List ℕ) (inside : List Network) (value : Data) (pairs
     ≡ Ok pairs → ArePairs pool inside pairs
 unfolding pairs_at
 pairs_at-keeps pool inside value pairs is =
-    reads (list_in value) _ pairs is λ entries _ ruled.
-    holds (nat_le (item_count entries) 256) TooMany _ pairs ruled λ few more.
-    let most = leb-true (item_count entries) 256 few in
+    reads (list_up_to 256 value) _ pairs is λ entries counted more.
+    let most = list_up_to-counts 256 value entries counted in
     let long = each_adds (with_pair pool inside) length (pairs_add pool inside) [] pairs entries more in
     let kept = each_keeps (with_pair pool inside) (PairsSoFar pool inside) (pairs_keep pool inside) [] pairs entries
     (no_pairs pool inside) more in

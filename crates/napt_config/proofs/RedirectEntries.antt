@@ -1,5 +1,5 @@
 -- Redirects that are read keep their rules.
-use Rattle.std.proofs.Common.{◌≡◌, ℕ, ◌+◌, ◌<◌, ◌≤◌, false, not, List, [], ◌∷◌, ◌++◌, length, Some, Ok, nat_le, refl, sym, ap, subst, ◌∙◌, leb-true, length-append, arith}
+use Rattle.std.proofs.Common.{◌≡◌, ℕ, ◌+◌, ◌<◌, ◌≤◌, false, not, List, [], ◌∷◌, ◌++◌, length, Some, Ok, refl, sym, ap, subst, ◌∙◌, length-append, arith}
 use Rattle.std.specs.Prelude.{All, codes}
 use Rattle.std.specs.List.{before_first, after_first}
 use Rattle.std.proofs.lemmas.Bool.{not-true, or_parts, or_from}
@@ -7,13 +7,13 @@ use Rattle.std.proofs.lemmas.List.Elements.{All-push, All-nil}
 use Rattle.std.proofs.lemmas.List.Folds.{list_any-append}
 use Rattle.std.proofs.lemmas.Option.{option_and_then_some}
 use Rattle.toml.specs.Data.{Data, Members}
-use Rattle.napt_config.specs.declared.fault.ConfigFault.TheVariants.{NotInside, TooMany, DoubleRedirect}
+use Rattle.napt_config.specs.declared.fault.ConfigFault.TheVariants.{NotInside, DoubleRedirect}
 use Rattle.napt_config.specs.declared.settings.Redirect.{Redirect}
 use Rattle.napt_config.specs.Network.{Network, Socket, have_address}
 use Rattle.napt_config.specs.Text.{address_of, number_of, socket_of, socket_at, is_colon}
 use Rattle.napt_config.specs.Rules.{IsRedirect, is_double, AreSingle}
-use Rattle.napt_config.specs.Configured.{item_count, text_in, number_in, table_in, list_in, required, is_tcp_in, transport_address_in, port_in, redirect_in, have_double, with_redirect, redirects_at, redirects_in}
-use Rattle.napt_config.proofs.Chains.{reads, holds, ok_or_ok, optional_reads, each_keeps, each_adds}
+use Rattle.napt_config.specs.Configured.{text_in, number_in, table_in, list_up_to, required, is_tcp_in, transport_address_in, port_in, redirect_in, have_double, with_redirect, redirects_at, redirects_in}
+use Rattle.napt_config.proofs.Chains.{list_up_to-counts, reads, holds, ok_or_ok, optional_reads, each_keeps, each_adds}
 use Rattle.napt_config.proofs.Numbers.{number_of-range, between-range}
 
 -- ---- one entry
@@ -117,9 +117,8 @@ module _ (inside : List Network) (pair : ℕ → ℕ) where
       RedirectRules redirects
   unfolding redirects_at
   redirects_at-keeps value redirects is =
-      reads (list_in value) _ redirects is λ entries _ ruled.
-      holds (nat_le (item_count entries) 256) TooMany _ redirects ruled λ few more.
-      let most = leb-true (item_count entries) 256 few in
+      reads (list_up_to 256 value) _ redirects is λ entries counted more.
+      let most = list_up_to-counts 256 value entries counted in
       let long = each_adds (with_redirect inside pair) length redirects_add [] redirects entries more in
       record {
         few = omega (arith, most, long);

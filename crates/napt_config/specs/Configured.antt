@@ -105,13 +105,24 @@ abbrev pub each_in_order : {A : Type 0} → (A → Data → Result A ConfigFault
 each_in_order with_entry so_far no_items = Ok so_far
 each_in_order with_entry so_far (item entry rest) = with_entry so_far entry >>= λ now. each_in_order with_entry now rest
 
+-- the same of the first entry alone, if there is one: no memory is asked for before it is read
+abbrev pub first_in_order : {A : Type 0} → (A → Data → Result A ConfigFault) → A → Items → Result A ConfigFault
+first_in_order with_entry so_far no_items = Ok so_far
+first_in_order with_entry so_far (item entry rest) = with_entry so_far entry
+
+-- the list in a value, of at most so many entries
+unfoldable pub list_up_to : ℕ → Data → Result Items ConfigFault
+list_up_to most value = do
+  entries ← list_in value
+  must (nat_le (item_count entries) most) TooMany
+  Ok entries
+
 -- the list at a required key, of 1 to 16 entries
 unfoldable pub short_list : List ℕ → Members → Result Items ConfigFault
 short_list key table = do
   value ← required key table
-  entries ← list_in value
+  entries ← list_up_to 16 value
   must (nat_lt 0 (item_count entries)) Missing
-  must (nat_le (item_count entries) 16) TooMany
   Ok entries
 
 -- ---- pool
@@ -128,6 +139,12 @@ pool_in table = do
   entries ← short_list (codes "pool") table
   each_in_order with_address [] entries
 
+-- what is read of the pool before memory is asked for
+unfoldable pub pool_first : Members → Result (List ℕ) ConfigFault
+pool_first table = do
+  entries ← short_list (codes "pool") table
+  first_in_order with_address [] entries
+
 -- ---- inside
 
 unfoldable pub with_prefix : List Network → Data → Result (List Network) ConfigFault
@@ -140,6 +157,11 @@ unfoldable pub prefixes_in : Members → Result (List Network) ConfigFault
 prefixes_in table = do
   entries ← short_list (codes "inside") table
   each_in_order with_prefix [] entries
+
+unfoldable pub prefixes_first : Members → Result (List Network) ConfigFault
+prefixes_first table = do
+  entries ← short_list (codes "inside") table
+  first_in_order with_prefix [] entries
 
 unfoldable pub inside_in : List ℕ → Members → Result (List Network) ConfigFault
 inside_in pool table = do
@@ -245,9 +267,13 @@ with_pair pool inside pairs entry = do
 
 unfoldable pub pairs_at : List ℕ → List Network → Data → Result (List (ℕ × ℕ)) ConfigFault
 pairs_at pool inside value = do
-  entries ← list_in value
-  must (nat_le (item_count entries) 256) TooMany
+  entries ← list_up_to 256 value
   each_in_order (with_pair pool inside) [] entries
+
+unfoldable pub pairs_first : List ℕ → List Network → Data → Result (List (ℕ × ℕ)) ConfigFault
+pairs_first pool inside value = do
+  entries ← list_up_to 256 value
+  first_in_order (with_pair pool inside) [] entries
 
 unfoldable pub pairs_in : List ℕ → List Network → Members → Result (List (ℕ × ℕ)) ConfigFault
 pairs_in pool inside table = optional (codes "pair") [] (pairs_at pool inside) table
@@ -301,9 +327,13 @@ with_redirect inside pair redirects entry = do
 
 unfoldable pub redirects_at : List Network → (ℕ → ℕ) → Data → Result (List Redirect) ConfigFault
 redirects_at inside pair value = do
-  entries ← list_in value
-  must (nat_le (item_count entries) 256) TooMany
+  entries ← list_up_to 256 value
   each_in_order (with_redirect inside pair) [] entries
+
+unfoldable pub redirects_first : List Network → (ℕ → ℕ) → Data → Result (List Redirect) ConfigFault
+redirects_first inside pair value = do
+  entries ← list_up_to 256 value
+  first_in_order (with_redirect inside pair) [] entries
 
 -- the redirects, where hosts have the external addresses of `pair`
 unfoldable pub redirects_in : List Network → (ℕ → ℕ) → Members → Result (List Redirect) ConfigFault
@@ -336,6 +366,12 @@ configured table = do
     pairs = pairs;
     redirects = redirects;
   })
+
+-- what is read of a table before memory is asked for
+unfoldable pub read_first : Members → Result (List ℕ) ConfigFault
+read_first table = do
+  must (knows_all_keys table) UnknownKey
+  pool_first table
 
 -- the table that a text reads as: it is UTF-8, and TOML
 unfoldable pub document_of : List ℕ → Option Members

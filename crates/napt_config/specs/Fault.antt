@@ -18,7 +18,17 @@ abbrev pub ◌>>◌ : {A B : Type 0} → Result A ConfigFault → Result B Confi
 abbrev pub must : Bool → ConfigFault → Result (Unit {0}) ConfigFault
 must rule fault = if rule then Ok tt else Err fault
 
+-- What a function that is handed no memory returned, seen by `view`, is what reading gives.
+abbrev pub Reads : {X Y : Type 0} → (X → Y) → Result X ConfigFault → Result Y ConfigFault → Type 0
+Reads view (Ok x) reading = reading ≡ Ok (view x)
+Reads view (Err fault) reading = reading ≡ Err fault
+
 -- What a function returned, seen by `view`, is what reading gives, unless memory ran out.
 abbrev pub Gives : {X Y : Type 0} → (X → Y) → Result X ConfigFault → Result Y ConfigFault → Type 0
 Gives view (Ok x) reading = reading ≡ Ok (view x)
 Gives view (Err fault) reading = fault ≢ Memory → reading ≡ Err fault
+
+-- What is read before memory is asked for comes first: where that is a fault, it is what a function returned.
+abbrev pub TellsFirst : {X Y : Type 0} → Result Y ConfigFault → Result X ConfigFault → Type 0
+TellsFirst (Ok y) result = Unit {0}
+TellsFirst (Err fault) result = result ≡ Err fault

@@ -1,9 +1,10 @@
 //! The configuration.
-ghost use Rattle.std.specs.Prelude.{◌≡◌, ◌==◌, IfOk, IsSome, ok_or, position};
+ghost use Rattle.std.specs.Prelude.{◌≡◌, ◌==◌, false, Err, IfOk, IsSome, ok_or, position};
+ghost use Rattle.std.specs.Str.{is_utf8};
 ghost use Rattle.toml.specs.Parse.{parse_document};
 ghost use Rattle.toml.specs.View.{table_view};
-ghost use Rattle.napt_config.specs.Fault.{Gives};
-ghost use Rattle.napt_config.specs.Configured.{document_of};
+ghost use Rattle.napt_config.specs.Fault.{Gives, TellsFirst};
+ghost use Rattle.napt_config.specs.Configured.{document_of, read_first};
 ghost use Rattle.napt_config.specs.declared.fault.ConfigFault.TheVariants.{NotToml};
 
 use crate::{
@@ -55,10 +56,12 @@ impl Config {
     ghost use Rattle.napt_config.specs.Configured.{configured, configuration_of, built_in};
 
     /// Reads a configuration's text. Returns the configuration, or the fault of the first rule that the text breaks, or
-    /// `ConfigFault::Memory` if memory ran out before that.
+    /// `ConfigFault::Memory` if memory ran out before that. A text that is not UTF-8 is refused before memory is asked
+    /// for.
     #[tactic(auto, unfolding(crate::specs::Configured::configuration_of))]
     pub fn read(alloc: Global, text: &[u8]) -> Result<Config, ConfigFault>
         ensures exact { Gives (λ config. config) result (configuration_of text.now) }
+        ensures encoded { is_utf8 text.now ≡ false → result ≡ Err NotToml }
         ensures kept { IfOk result KeepsRules }
     {
         let table = document(alloc, text)?;
@@ -66,9 +69,10 @@ impl Config {
     }
 
     /// The configuration of a table.
-    #[tactic(auto, unfolding(crate::specs::Configured::configured))]
+    #[tactic(auto, unfolding(crate::specs::Configured::configured, crate::specs::Configured::read_first))]
     fn of_table(alloc: Global, table: &Table) -> Result<Config, ConfigFault>
         ensures exact { Gives (λ config. config) result (configured (table_view table.now)) }
+        ensures first { TellsFirst (read_first (table_view table.now)) result }
         ensures kept { IfOk result KeepsRules }
     {
         if !keys::knows_all_keys(table) {
@@ -239,7 +243,8 @@ fn table_of(alloc: Global, text: &str) -> Result<Table, ConfigFault>
 /// The table of a text, which must be TOML in UTF-8.
 #[tactic(auto, unfolding(crate::specs::Configured::document_of))]
 fn document(alloc: Global, text: &[u8]) -> Result<Table, ConfigFault>
-    ensures { Gives table_view result (ok_or (document_of text.now) NotToml) }
+    ensures exact { Gives table_view result (ok_or (document_of text.now) NotToml) }
+    ensures encoded { is_utf8 text.now ≡ false → result ≡ Err NotToml }
 {
     match str::from_utf8(text) {
         Ok(text) => table_of(alloc, text),

@@ -1,10 +1,10 @@
 //! Reading the keys of a configuration's table, each by its own rules.
-ghost use Rattle.std.specs.Prelude.{◌≡◌, []};
+ghost use Rattle.std.specs.Prelude.{◌≡◌, [], codes};
 ghost use Rattle.std.specs.List.{list_any};
 ghost use Rattle.toml.specs.View.{view, table_view, items_view};
-ghost use Rattle.napt_config.specs.Fault.{Gives};
+ghost use Rattle.napt_config.specs.Fault.{Reads, Gives, TellsFirst};
 ghost use Rattle.napt_config.specs.Network.{have_address};
-ghost use Rattle.napt_config.specs.Configured.{each_in_order, between, short_list, with_address, pool_in, with_prefix, prefixes_in, inside_in, filter_at, filter_in, refresh_at, refresh_in, timer_at, timers_at, timers_in, ring_at, ring_in, quota_at, quota_in, address_in, with_pair, pairs_at, pairs_in, optional};
+ghost use Rattle.napt_config.specs.Configured.{each_in_order, first_in_order, between, list_up_to, short_list, with_address, pool_in, pool_first, with_prefix, prefixes_in, prefixes_first, inside_in, filter_at, filter_in, refresh_at, refresh_in, timer_at, timers_at, timers_in, ring_at, ring_in, quota_at, quota_in, address_in, with_pair, pairs_at, pairs_first, pairs_in, optional};
 
 use crate::values::{list_in, number_in, required, table_in, text_in, value_at};
 use crate::{ConfigFault, Filter, Prefix, Refresh, Timers, text};
@@ -30,18 +30,27 @@ const MOST_BINDINGS: u64 = 65535;
 /// How many slots a ring has by default.
 pub(crate) const DEFAULT_SLOTS: usize = 64;
 
+/// The list in a value, of at most so many entries.
+#[tactic(auto, unfolding(crate::specs::Configured::list_up_to), using(crate::proofs::Entries::items_are_counted))]
+pub(crate) fn list_up_to(most: usize, value: &Value) -> Result<&[Value], ConfigFault>
+    ensures { Reads (λ entries. items_view entries.now) result (list_up_to most (view value.now)) }
+{
+    let entries = list_in(value)?;
+    if entries.len() > most {
+        return Err(ConfigFault::TooMany);
+    }
+    Ok(entries)
+}
+
 /// The list at a required key, of 1 to 16 entries.
 #[tactic(auto, unfolding(crate::specs::Configured::short_list), using(crate::proofs::Entries::items_are_counted))]
 fn short_list<'a>(table: &'a Table, key: &str) -> Result<&'a [Value], ConfigFault>
-    ensures { Gives (λ entries. items_view entries.now) result
+    ensures { Reads (λ entries. items_view entries.now) result
         (short_list key.now (table_view table.now)) }
 {
-    let entries = list_in(required(table, key)?)?;
+    let entries = list_up_to(MOST_ENTRIES, required(table, key)?)?;
     if entries.is_empty() {
         return Err(ConfigFault::Missing);
-    }
-    if entries.len() > MOST_ENTRIES {
-        return Err(ConfigFault::TooMany);
     }
     Ok(entries)
 }
@@ -60,7 +69,9 @@ pub(crate) fn between(least: u64, most: u64, number: i64) -> Option<u64>
 
 #[tactic(auto, unfolding(crate::specs::Configured::with_address))]
 fn add_address(pool: &mut Vec<u32>, entry: &Value) -> Result<(), ConfigFault>
-    ensures { Gives (λ _. pool.new.items) result (with_address pool.old.items (view entry.now)) }
+    ensures exact { Gives (λ _. pool.new.items) result
+        (with_address pool.old.items (view entry.now)) }
+    ensures first { TellsFirst (with_address pool.old.items (view entry.now)) result }
 {
     let address = text::address(text_in(entry)?).ok_or(ConfigFault::BadAddress)?;
     if pool.contains(&address) {
@@ -72,8 +83,9 @@ fn add_address(pool: &mut Vec<u32>, entry: &Value) -> Result<(), ConfigFault>
 
 /// The addresses of some entries.
 fn pool_of(alloc: Global, entries: &[Value]) -> Result<Vec<u32>, ConfigFault>
-    ensures { Gives (λ pool. pool.items) result (each_in_order with_address []
+    ensures exact { Gives (λ pool. pool.items) result (each_in_order with_address []
         (items_view entries.now)) }
+    ensures first { TellsFirst (first_in_order with_address [] (items_view entries.now)) result }
 {
     let mut pool = Vec::new(alloc);
     for entry in entries {
@@ -83,9 +95,10 @@ fn pool_of(alloc: Global, entries: &[Value]) -> Result<Vec<u32>, ConfigFault>
 }
 
 /// The pool of the table: 1 to 16 addresses, none twice.
-#[tactic(auto, unfolding(crate::specs::Configured::pool_in))]
+#[tactic(auto, unfolding(crate::specs::Configured::pool_in, crate::specs::Configured::pool_first))]
 pub(crate) fn pool(alloc: Global, table: &Table) -> Result<Vec<u32>, ConfigFault>
-    ensures { Gives (λ pool. pool.items) result (pool_in (table_view table.now)) }
+    ensures exact { Gives (λ pool. pool.items) result (pool_in (table_view table.now)) }
+    ensures first { TellsFirst (pool_first (table_view table.now)) result }
 {
     pool_of(alloc, short_list(table, "pool")?)
 }
@@ -94,7 +107,9 @@ pub(crate) fn pool(alloc: Global, table: &Table) -> Result<Vec<u32>, ConfigFault
 
 #[tactic(auto, unfolding(crate::specs::Configured::with_prefix))]
 fn add_prefix(inside: &mut Vec<Prefix>, entry: &Value) -> Result<(), ConfigFault>
-    ensures { Gives (λ _. inside.new.items) result (with_prefix inside.old.items (view entry.now)) }
+    ensures exact { Gives (λ _. inside.new.items) result
+        (with_prefix inside.old.items (view entry.now)) }
+    ensures first { TellsFirst (with_prefix inside.old.items (view entry.now)) result }
 {
     let prefix = Prefix::read(text_in(entry)?).ok_or(ConfigFault::BadPrefix)?;
     inside.push(prefix)?;
@@ -103,8 +118,9 @@ fn add_prefix(inside: &mut Vec<Prefix>, entry: &Value) -> Result<(), ConfigFault
 
 /// The prefixes of some entries.
 fn prefixes_of(alloc: Global, entries: &[Value]) -> Result<Vec<Prefix>, ConfigFault>
-    ensures { Gives (λ inside. inside.items) result (each_in_order with_prefix []
+    ensures exact { Gives (λ inside. inside.items) result (each_in_order with_prefix []
         (items_view entries.now)) }
+    ensures first { TellsFirst (first_in_order with_prefix [] (items_view entries.now)) result }
 {
     let mut inside = Vec::new(alloc);
     for entry in entries {
@@ -114,9 +130,10 @@ fn prefixes_of(alloc: Global, entries: &[Value]) -> Result<Vec<Prefix>, ConfigFa
 }
 
 /// The prefixes at a key.
-#[tactic(auto, unfolding(crate::specs::Configured::prefixes_in))]
+#[tactic(auto, unfolding(crate::specs::Configured::prefixes_in, crate::specs::Configured::prefixes_first))]
 fn prefixes(alloc: Global, table: &Table) -> Result<Vec<Prefix>, ConfigFault>
-    ensures { Gives (λ inside. inside.items) result (prefixes_in (table_view table.now)) }
+    ensures exact { Gives (λ inside. inside.items) result (prefixes_in (table_view table.now)) }
+    ensures first { TellsFirst (prefixes_first (table_view table.now)) result }
 {
     prefixes_of(alloc, short_list(table, "inside")?)
 }
@@ -140,7 +157,9 @@ fn have_any(prefixes: &[Prefix], addresses: &[u32]) -> bool
 /// The inside prefixes of the table: 1 to 16, none with a pool address.
 #[tactic(auto, unfolding(crate::specs::Configured::inside_in))]
 pub(crate) fn inside(alloc: Global, table: &Table, pool: &[u32]) -> Result<Vec<Prefix>, ConfigFault>
-    ensures { Gives (λ inside. inside.items) result (inside_in pool.now (table_view table.now)) }
+    ensures exact { Gives (λ inside. inside.items) result
+        (inside_in pool.now (table_view table.now)) }
+    ensures first { TellsFirst (prefixes_first (table_view table.now)) result }
 {
     let inside = prefixes(alloc, table)?;
     if have_any(&inside, pool) {
@@ -153,7 +172,7 @@ pub(crate) fn inside(alloc: Global, table: &Table, pool: &[u32]) -> Result<Vec<P
 
 #[tactic(auto, unfolding(crate::specs::Configured::filter_at))]
 fn filter_at(value: &Value) -> Result<Filter, ConfigFault>
-    ensures { Gives (λ filter. filter) result (filter_at (view value.now)) }
+    ensures { Reads (λ filter. filter) result (filter_at (view value.now)) }
 {
     match text_in(value)? {
         "independent" => Ok(Filter::Independent),
@@ -166,7 +185,7 @@ fn filter_at(value: &Value) -> Result<Filter, ConfigFault>
 /// The filter of the table.
 #[tactic(auto, unfolding(crate::specs::Configured::filter_in))]
 pub(crate) fn filter(table: &Table) -> Result<Filter, ConfigFault>
-    ensures { Gives (λ filter. filter) result (filter_in (table_view table.now)) }
+    ensures { Reads (λ filter. filter) result (filter_in (table_view table.now)) }
 {
     match value_at(table, "filter") {
         Some(value) => filter_at(value),
@@ -178,7 +197,7 @@ pub(crate) fn filter(table: &Table) -> Result<Filter, ConfigFault>
 
 #[tactic(auto, unfolding(crate::specs::Configured::refresh_at))]
 fn refresh_at(value: &Value) -> Result<Refresh, ConfigFault>
-    ensures { Gives (λ refresh. refresh) result (refresh_at (view value.now)) }
+    ensures { Reads (λ refresh. refresh) result (refresh_at (view value.now)) }
 {
     match text_in(value)? {
         "outbound" => Ok(Refresh::Outbound),
@@ -190,7 +209,7 @@ fn refresh_at(value: &Value) -> Result<Refresh, ConfigFault>
 /// Which UDP packets keep a binding alive.
 #[tactic(auto, unfolding(crate::specs::Configured::refresh_in))]
 pub(crate) fn refresh(table: &Table) -> Result<Refresh, ConfigFault>
-    ensures { Gives (λ refresh. refresh) result (refresh_in (table_view table.now)) }
+    ensures { Reads (λ refresh. refresh) result (refresh_in (table_view table.now)) }
 {
     match value_at(table, "refresh") {
         Some(value) => refresh_at(value),
@@ -202,7 +221,7 @@ pub(crate) fn refresh(table: &Table) -> Result<Refresh, ConfigFault>
 
 #[tactic(auto, unfolding(crate::specs::Configured::timer_at))]
 fn timer_at(value: &Value, least: u64) -> Result<u64, ConfigFault>
-    ensures { Gives (λ seconds. seconds) result (timer_at least (view value.now)) }
+    ensures { Reads (λ seconds. seconds) result (timer_at least (view value.now)) }
 {
     let seconds = between(0, MOST_SECONDS, number_in(value)?).ok_or(ConfigFault::BadNumber)?;
     if seconds < least {
@@ -213,7 +232,7 @@ fn timer_at(value: &Value, least: u64) -> Result<u64, ConfigFault>
 
 /// The seconds at a key, or the default if it is absent.
 fn timer(table: &Table, key: &str, least: u64, default: u64) -> Result<u64, ConfigFault>
-    ensures { Gives (λ seconds. seconds) result (optional key.now default (timer_at least)
+    ensures { Reads (λ seconds. seconds) result (optional key.now default (timer_at least)
         (table_view table.now)) }
 {
     match value_at(table, key) {
@@ -224,7 +243,7 @@ fn timer(table: &Table, key: &str, least: u64, default: u64) -> Result<u64, Conf
 
 #[tactic(auto, unfolding(crate::specs::Configured::timers_at))]
 fn timers_at(value: &Value) -> Result<Timers, ConfigFault>
-    ensures { Gives (λ timers. timers) result (timers_at (view value.now)) }
+    ensures { Reads (λ timers. timers) result (timers_at (view value.now)) }
 {
     let table = table_in(value)?;
     let udp = timer(table, "udp", 120, 300)?;
@@ -242,7 +261,7 @@ fn timers_at(value: &Value) -> Result<Timers, ConfigFault>
 /// The timers of the table.
 #[tactic(auto, unfolding(crate::specs::Configured::timers_in))]
 pub(crate) fn timers(table: &Table) -> Result<Timers, ConfigFault>
-    ensures { Gives (λ timers. timers) result (timers_in (table_view table.now)) }
+    ensures { Reads (λ timers. timers) result (timers_in (table_view table.now)) }
 {
     match value_at(table, "timers") {
         Some(value) => timers_at(value),
@@ -254,7 +273,7 @@ pub(crate) fn timers(table: &Table) -> Result<Timers, ConfigFault>
 
 #[tactic(auto, unfolding(crate::specs::Configured::ring_at))]
 fn ring_at(value: &Value) -> Result<usize, ConfigFault>
-    ensures { Gives (λ slots. slots) result (ring_at (view value.now)) }
+    ensures { Reads (λ slots. slots) result (ring_at (view value.now)) }
 {
     let slots = between(1, MOST_SLOTS, number_in(value)?).ok_or(ConfigFault::BadNumber)?;
     Ok(slots as usize)
@@ -263,7 +282,7 @@ fn ring_at(value: &Value) -> Result<usize, ConfigFault>
 /// The number of slots of each ring.
 #[tactic(auto, unfolding(crate::specs::Configured::ring_in))]
 pub(crate) fn ring(table: &Table) -> Result<usize, ConfigFault>
-    ensures { Gives (λ slots. slots) result (ring_in (table_view table.now)) }
+    ensures { Reads (λ slots. slots) result (ring_in (table_view table.now)) }
 {
     match value_at(table, "ring") {
         Some(value) => ring_at(value),
@@ -275,7 +294,7 @@ pub(crate) fn ring(table: &Table) -> Result<usize, ConfigFault>
 
 #[tactic(auto, unfolding(crate::specs::Configured::quota_at))]
 fn quota_at(value: &Value) -> Result<Option<u16>, ConfigFault>
-    ensures { Gives (λ quota. quota) result (quota_at (view value.now)) }
+    ensures { Reads (λ quota. quota) result (quota_at (view value.now)) }
 {
     let bindings = between(1, MOST_BINDINGS, number_in(value)?).ok_or(ConfigFault::BadNumber)?;
     Ok(Some(bindings as u16))
@@ -284,7 +303,7 @@ fn quota_at(value: &Value) -> Result<Option<u16>, ConfigFault>
 /// How many bindings a host may have.
 #[tactic(auto, unfolding(crate::specs::Configured::quota_in))]
 pub(crate) fn quota(table: &Table) -> Result<Option<u16>, ConfigFault>
-    ensures { Gives (λ quota. quota) result (quota_in (table_view table.now)) }
+    ensures { Reads (λ quota. quota) result (quota_in (table_view table.now)) }
 {
     match value_at(table, "quota") {
         Some(value) => quota_at(value),
@@ -297,7 +316,7 @@ pub(crate) fn quota(table: &Table) -> Result<Option<u16>, ConfigFault>
 /// The address at a required key.
 #[tactic(auto, unfolding(crate::specs::Configured::address_in))]
 fn address_in(table: &Table, key: &str) -> Result<u32, ConfigFault>
-    ensures { Gives (λ address. address) result (address_in key.now (table_view table.now)) }
+    ensures { Reads (λ address. address) result (address_in key.now (table_view table.now)) }
 {
     let text = text_in(required(table, key)?)?;
     text::address(text).ok_or(ConfigFault::BadAddress)
@@ -310,8 +329,10 @@ fn add_pair(
     pool: &[u32],
     inside: &[Prefix],
 ) -> Result<(), ConfigFault>
-    ensures { Gives (λ _. pairs.new.entries) result (with_pair pool.now inside.now pairs.old.entries
-        (view entry.now)) }
+    ensures exact { Gives (λ _. pairs.new.entries) result
+        (with_pair pool.now inside.now pairs.old.entries (view entry.now)) }
+    ensures first { TellsFirst (with_pair pool.now inside.now pairs.old.entries (view entry.now))
+        result }
 {
     let table = table_in(entry)?;
     let host = address_in(table, "host")?;
@@ -336,8 +357,10 @@ fn pairs_of(
     pool: &[u32],
     inside: &[Prefix],
 ) -> Result<BTreeMap<u32, u32>, ConfigFault>
-    ensures { Gives (λ pairs. pairs.entries) result (each_in_order (with_pair pool.now inside.now)
-        [] (items_view entries.now)) }
+    ensures exact { Gives (λ pairs. pairs.entries) result
+        (each_in_order (with_pair pool.now inside.now) [] (items_view entries.now)) }
+    ensures first { TellsFirst
+        (first_in_order (with_pair pool.now inside.now) [] (items_view entries.now)) result }
 {
     let mut pairs = BTreeMap::new(alloc);
     for entry in entries {
@@ -346,20 +369,18 @@ fn pairs_of(
     Ok(pairs)
 }
 
-#[tactic(auto, unfolding(crate::specs::Configured::pairs_at), using(crate::proofs::Entries::items_are_counted))]
+#[tactic(auto, unfolding(crate::specs::Configured::pairs_at, crate::specs::Configured::pairs_first))]
 fn pairs_at(
     alloc: Global,
     value: &Value,
     pool: &[u32],
     inside: &[Prefix],
 ) -> Result<BTreeMap<u32, u32>, ConfigFault>
-    ensures { Gives (λ pairs. pairs.entries) result (pairs_at pool.now inside.now
-        (view value.now)) }
+    ensures exact { Gives (λ pairs. pairs.entries) result
+        (pairs_at pool.now inside.now (view value.now)) }
+    ensures first { TellsFirst (pairs_first pool.now inside.now (view value.now)) result }
 {
-    let entries = list_in(value)?;
-    if entries.len() > MOST_PAIRS {
-        return Err(ConfigFault::TooMany);
-    }
+    let entries = list_up_to(MOST_PAIRS, value)?;
     pairs_of(alloc, entries, pool, inside)
 }
 
@@ -371,8 +392,10 @@ pub(crate) fn pairs(
     pool: &[u32],
     inside: &[Prefix],
 ) -> Result<BTreeMap<u32, u32>, ConfigFault>
-    ensures { Gives (λ pairs. pairs.entries) result (pairs_in pool.now inside.now
-        (table_view table.now)) }
+    ensures exact { Gives (λ pairs. pairs.entries) result
+        (pairs_in pool.now inside.now (table_view table.now)) }
+    ensures first { TellsFirst
+        (optional (codes "pair") [] (pairs_first pool.now inside.now) (table_view table.now)) result }
 {
     match value_at(table, "pair") {
         Some(value) => pairs_at(alloc, value, pool, inside),

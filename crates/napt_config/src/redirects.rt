@@ -1,12 +1,12 @@
 //! Reading the redirects of a configuration's table.
-ghost use Rattle.std.specs.Prelude.{◌≡◌, ◌≤◌, [], length};
+ghost use Rattle.std.specs.Prelude.{◌≡◌, ◌≤◌, [], length, codes};
 ghost use Rattle.toml.specs.View.{view, table_view, items_view};
-ghost use Rattle.napt_config.specs.Fault.{Gives};
+ghost use Rattle.napt_config.specs.Fault.{Reads, Gives, TellsFirst};
 ghost use Rattle.napt_config.specs.Rules.{paired, share_inside, share_external, is_double};
-ghost use Rattle.napt_config.specs.Configured.{each_in_order, is_tcp_in, transport_address_in, port_in, redirect_in, have_double, with_redirect, redirects_at, redirects_in};
+ghost use Rattle.napt_config.specs.Configured.{each_in_order, first_in_order, list_up_to, optional, is_tcp_in, transport_address_in, port_in, redirect_in, have_double, with_redirect, redirects_at, redirects_first, redirects_in};
 
-use crate::reading::{between, have_address};
-use crate::values::{list_in, number_in, required, table_in, text_in, value_at};
+use crate::reading::{between, have_address, list_up_to};
+use crate::values::{number_in, required, table_in, text_in, value_at};
 use crate::{ConfigFault, Prefix, Redirect, TransportAddress, pairing};
 use std::alloc::Global;
 use std::collections::BTreeMap;
@@ -18,7 +18,7 @@ const MOST_REDIRECTS: usize = 256;
 /// Whether the protocol of an entry is TCP; else it is UDP.
 #[tactic(auto, unfolding(crate::specs::Configured::is_tcp_in))]
 fn is_tcp_in(keys: &Table) -> Result<bool, ConfigFault>
-    ensures { Gives (λ tcp. tcp) result (is_tcp_in (table_view keys.now)) }
+    ensures { Reads (λ tcp. tcp) result (is_tcp_in (table_view keys.now)) }
 {
     match text_in(required(keys, "protocol")?)? {
         "tcp" => Ok(true),
@@ -30,7 +30,7 @@ fn is_tcp_in(keys: &Table) -> Result<bool, ConfigFault>
 /// The transport address at a required key.
 #[tactic(auto, unfolding(crate::specs::Configured::transport_address_in))]
 fn transport_address_in(keys: &Table, key: &str) -> Result<TransportAddress, ConfigFault>
-    ensures { Gives (λ socket. socket) result (transport_address_in key.now (table_view keys.now)) }
+    ensures { Reads (λ socket. socket) result (transport_address_in key.now (table_view keys.now)) }
 {
     let text = text_in(required(keys, key)?)?;
     TransportAddress::read(text).ok_or(ConfigFault::BadAddress)
@@ -39,7 +39,7 @@ fn transport_address_in(keys: &Table, key: &str) -> Result<TransportAddress, Con
 /// The port at a required key.
 #[tactic(auto, unfolding(crate::specs::Configured::port_in))]
 fn port_in(keys: &Table, key: &str) -> Result<u16, ConfigFault>
-    ensures { Gives (λ port. port) result (port_in key.now (table_view keys.now)) }
+    ensures { Reads (λ port. port) result (port_in key.now (table_view keys.now)) }
 {
     let number = number_in(required(keys, key)?)?;
     let port = between(1, 65535, number).ok_or(ConfigFault::BadNumber)?;
@@ -49,7 +49,7 @@ fn port_in(keys: &Table, key: &str) -> Result<u16, ConfigFault>
 /// The redirect of an inside host in an entry.
 #[tactic(auto, unfolding(crate::specs::Configured::redirect_in))]
 fn redirect_in(entry: &Value, inside: &[Prefix]) -> Result<Redirect, ConfigFault>
-    ensures { Gives (λ redirect. redirect) result (redirect_in inside.now (view entry.now)) }
+    ensures { Reads (λ redirect. redirect) result (redirect_in inside.now (view entry.now)) }
 {
     let keys = table_in(entry)?;
     let tcp = is_tcp_in(keys)?;
@@ -119,9 +119,12 @@ fn add_redirect(
     pairs: &BTreeMap<u32, u32>,
 ) -> Result<(), ConfigFault>
     requires some { 1 ≤ length pool.now }
-    ensures { Gives (λ _. redirects.new.items) result
+    ensures exact { Gives (λ _. redirects.new.items) result
         (with_redirect inside.now (paired pool.now pairs.now.entries) redirects.old.items
         (view entry.now)) }
+    ensures first { TellsFirst
+        (with_redirect inside.now (paired pool.now pairs.now.entries) redirects.old.items
+        (view entry.now)) result }
 {
     let redirect = redirect_in(entry, inside)?;
     if have_double(redirects, &redirect, pool, pairs) {
@@ -140,9 +143,12 @@ fn redirects_of(
     pairs: &BTreeMap<u32, u32>,
 ) -> Result<Vec<Redirect>, ConfigFault>
     requires some { 1 ≤ length pool.now }
-    ensures { Gives (λ redirects. redirects.items) result
+    ensures exact { Gives (λ redirects. redirects.items) result
         (each_in_order (with_redirect inside.now (paired pool.now pairs.now.entries)) []
         (items_view entries.now)) }
+    ensures first { TellsFirst
+        (first_in_order (with_redirect inside.now (paired pool.now pairs.now.entries)) []
+        (items_view entries.now)) result }
 {
     let mut redirects = Vec::new(alloc);
     for entry in entries {
@@ -151,7 +157,7 @@ fn redirects_of(
     Ok(redirects)
 }
 
-#[tactic(auto, unfolding(crate::specs::Configured::redirects_at), using(crate::proofs::Entries::items_are_counted))]
+#[tactic(auto, unfolding(crate::specs::Configured::redirects_at, crate::specs::Configured::redirects_first))]
 fn redirects_at(
     alloc: Global,
     value: &Value,
@@ -160,13 +166,12 @@ fn redirects_at(
     pairs: &BTreeMap<u32, u32>,
 ) -> Result<Vec<Redirect>, ConfigFault>
     requires some { 1 ≤ length pool.now }
-    ensures { Gives (λ redirects. redirects.items) result
+    ensures exact { Gives (λ redirects. redirects.items) result
         (redirects_at inside.now (paired pool.now pairs.now.entries) (view value.now)) }
+    ensures first { TellsFirst
+        (redirects_first inside.now (paired pool.now pairs.now.entries) (view value.now)) result }
 {
-    let entries = list_in(value)?;
-    if entries.len() > MOST_REDIRECTS {
-        return Err(ConfigFault::TooMany);
-    }
+    let entries = list_up_to(MOST_REDIRECTS, value)?;
     redirects_of(alloc, entries, inside, pool, pairs)
 }
 
@@ -181,8 +186,11 @@ pub(crate) fn redirects(
     pairs: &BTreeMap<u32, u32>,
 ) -> Result<Vec<Redirect>, ConfigFault>
     requires some { 1 ≤ length pool.now }
-    ensures { Gives (λ redirects. redirects.items) result
+    ensures exact { Gives (λ redirects. redirects.items) result
         (redirects_in inside.now (paired pool.now pairs.now.entries) (table_view table.now)) }
+    ensures first { TellsFirst
+        (optional (codes "redirect") [] (redirects_first inside.now
+        (paired pool.now pairs.now.entries)) (table_view table.now)) result }
 {
     match value_at(table, "redirect") {
         Some(value) => redirects_at(alloc, value, inside, pool, pairs),

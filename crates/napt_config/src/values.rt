@@ -2,7 +2,7 @@
 ghost use Rattle.std.specs.Prelude.{◌≡◌, option_map};
 ghost use Rattle.toml.specs.Data.{get_member};
 ghost use Rattle.toml.specs.View.{view, table_view, items_view};
-ghost use Rattle.napt_config.specs.Fault.{Gives};
+ghost use Rattle.napt_config.specs.Fault.{Reads};
 ghost use Rattle.napt_config.specs.Configured.{required, text_in, number_in, list_in, table_in};
 
 use crate::ConfigFault;
@@ -18,7 +18,7 @@ pub(crate) fn value_at<'a>(table: &'a Table, key: &str) -> Option<&'a Value>
 
 /// The value at a required key.
 pub(crate) fn required<'a>(table: &'a Table, key: &str) -> Result<&'a Value, ConfigFault>
-    ensures { Gives (λ value. view value.now) result (required key.now (table_view table.now)) }
+    ensures { Reads (λ value. view value.now) result (required key.now (table_view table.now)) }
 {
     match value_at(table, key) {
         Some(value) => Ok(value),
@@ -28,7 +28,7 @@ pub(crate) fn required<'a>(table: &'a Table, key: &str) -> Result<&'a Value, Con
 
 /// The text in a value.
 pub(crate) fn text_in(value: &Value) -> Result<&str, ConfigFault>
-    ensures { Gives (λ text. text.now) result (text_in (view value.now)) }
+    ensures { Reads (λ text. text.now) result (text_in (view value.now)) }
 {
     match value.as_str() {
         Some(text) => Ok(text),
@@ -38,7 +38,7 @@ pub(crate) fn text_in(value: &Value) -> Result<&str, ConfigFault>
 
 /// The whole number in a value.
 pub(crate) fn number_in(value: &Value) -> Result<i64, ConfigFault>
-    ensures { Gives (λ number. number) result (number_in (view value.now)) }
+    ensures { Reads (λ number. number) result (number_in (view value.now)) }
 {
     match value.as_integer() {
         Some(number) => Ok(number),
@@ -48,7 +48,7 @@ pub(crate) fn number_in(value: &Value) -> Result<i64, ConfigFault>
 
 /// The list in a value.
 pub(crate) fn list_in(value: &Value) -> Result<&[Value], ConfigFault>
-    ensures { Gives (λ entries. items_view entries.now) result (list_in (view value.now)) }
+    ensures { Reads (λ entries. items_view entries.now) result (list_in (view value.now)) }
 {
     match value.as_array() {
         Some(entries) => Ok(entries.as_slice()),
@@ -58,7 +58,7 @@ pub(crate) fn list_in(value: &Value) -> Result<&[Value], ConfigFault>
 
 /// The table in a value.
 pub(crate) fn table_in(value: &Value) -> Result<&Table, ConfigFault>
-    ensures { Gives (λ keys. table_view keys.now) result (table_in (view value.now)) }
+    ensures { Reads (λ keys. table_view keys.now) result (table_in (view value.now)) }
 {
     match value.as_table() {
         Some(keys) => Ok(keys),

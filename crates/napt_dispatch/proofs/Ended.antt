@@ -23,13 +23,13 @@ zip_index f (x ∷ xs) [] w d e lt lu = absurd (omega arith)
 zip_index f (x ∷ xs) (y ∷ ys) zero d e lt lu = refl
 zip_index f (x ∷ xs) (y ∷ ys) (suc w) d e lt lu = zip_index f xs ys w d e (omega arith) (omega arith)
 
-pub map_at : {X : Type 0} (f : ℕ → List X) (lists : List (List X)) (pool : List ℕ) → length lists ≡ length pool →
-    ((w : ℕ) → w < length pool → of_worker lists w ≡ f (slice_index pool w)) → lists ≡ map f pool
-map_at f [] [] e h = refl
-map_at f [] (a ∷ pool) e h = absurd (omega arith)
-map_at f (l ∷ lists) [] e h = absurd (omega arith)
-map_at f (l ∷ lists) (a ∷ pool) e h =
-    rw (h zero (omega arith), map_at f lists pool (omega arith) (λ w lt. h (suc w) (omega arith))) refl
+pub map_at : {X : Type 0} (f : ℕ → X) (xs : List X) (d : X) (pool : List ℕ) → length xs ≡ length pool →
+    ((w : ℕ) → w < length pool → slice_index_or xs w d ≡ f (slice_index pool w)) → xs ≡ map f pool
+map_at f [] d [] e h = refl
+map_at f [] d (a ∷ pool) e h = absurd (omega arith)
+map_at f (x ∷ xs) d [] e h = absurd (omega arith)
+map_at f (x ∷ xs) d (a ∷ pool) e h =
+    rw (h zero (omega arith), map_at f xs d pool (omega arith) (λ w lt. h (suc w) (omega arith))) refl
 
 pub same_lengths : {X Y : Type 0} (xs : List (List X)) (ys : List (List Y)) → length xs ≡ length ys →
     ((v : ℕ) → v < length ys → length (of_worker xs v) ≡ length (of_worker ys v)) → map length xs ≡ map length ys

@@ -1,23 +1,24 @@
 -- What a run from arrivals to departures comes to.
 use Rattle.std.proofs.Common.{◌≡◌, ℕ, List, [], ◌++◌, length, map, replicate, Option, Some, None, MatchOption, refl, sym, ◌∙◌, ap, subst, arith, append-nil}
+use Rattle.std.proofs.lemmas.List.{length-map}
 use Rattle.napt_config.specs.Rules.{Rules}
-use Rattle.napt_rules.specs.Prelude.{opening, Arrival, run}
+use Rattle.napt_rules.specs.Prelude.{Arrival}
 use Rattle.napt_rules.specs.declared.Leg.{Leg}
 use Rattle.napt_rules.specs.declared.Answer.{Answer}
 use Rattle.napt_pool.specs.declared.pool.Pool.{Pool}
 use Rattle.napt_pool.specs.Pools.{accepts, takes as taken}
 use Rattle.napt_rules.specs.declared.Outcome.{Outcome}
-use Rattle.napt_laws.specs.Dispatching.{IsFront}
 use Rattle.napt_dispatch.specs.declared.dispatcher.Dispatcher.{Dispatcher}
 use Rattle.napt_dispatch.specs.declared.dispatcher.Dispatched.{Dispatched}
 use Rattle.napt_dispatch.specs.declared.dispatcher.Ending.{Ending}
 use Rattle.napt_dispatch.specs.declared.dispatcher.Ending.TheVariants as endings
 use Rattle.napt_dispatch.specs.declared.dispatcher.reading.EndOfInputs.{EndOfInputs}
-use Rattle.napt_dispatch.specs.Collecting.{outcome_of}
-use Rattle.napt_dispatch.specs.Dispatch.{IsDispatched}
+use Rattle.napt_pool.specs.Workers.{machine_of, accepted_of, taken_of}
+use Rattle.napt_dispatch.specs.Dispatch.{of_worker}
 use Rattle.napt_dispatch.specs.QueueStates.{unused, counts_in}
-use Rattle.napt_dispatch.specs.Standing.{DispatchState, parts_of, state_of, Stands}
-use Rattle.napt_dispatch.specs.Passing.{timed, Reads, ReadsAll, ReadsSome, EndsWith, EndsEarly, EndsBy}
+use Rattle.napt_dispatch.specs.Windows.{progress_in}
+use Rattle.napt_dispatch.specs.Standing.{IsSizedFor, state_of, Stands}
+use Rattle.napt_dispatch.specs.Passing.{Reads, ReadsAll, ReadsSome, EndsWith, EndsEarly, EndsBy}
 use Rattle.napt_dispatch.proofs.Ended.{same_lengths}
 use Rattle.napt_dispatch.proofs.Passing.{many_read}
 use Rattle.napt_dispatch.proofs.Windows.{length_all}
@@ -30,8 +31,7 @@ pub begun : {M G : Type 0} (rules : Rules) (pool : Pool M G Leg Answer) (d : Dis
     accepts pool ≡ replicate (length rules.pool) [] → taken pool ≡ replicate (length rules.pool) [] →
     (inputs : List Arrival) → Stands rules [] inputs (state_of pool d)
 begun rules pool d workers many queues left none unoffered untaken inputs =
-    begin_stands rules inputs (state_of pool d) d.queues d.progress refl (rw many at queues) unoffered untaken
-    (rw (left, none) refl)
+    begin_stands rules inputs (accepts pool) (taken pool) d (rw many at queues) unoffered untaken (rw (left, none) refl)
 
 module _ {A F S B M G : Type 0} (rules : Rules) (hands : A → List Arrival → A → Type 0)
     (ends : A → Option F → A → Type 0) (takes : S → List (ℕ × Outcome) → S → Type 0)
@@ -43,56 +43,64 @@ module _ {A F S B M G : Type 0} (rules : Rules) (hands : A → List Arrival → 
   stand_now inputs went r = subst (λ all. Stands rules inputs all (state_of later_pool later)) (append-nil inputs)
       (r.served [] (begun (inputs ++ [])))
 
+  -- as many workers as addresses
+  module _ (inputs : List Arrival) (went : List (ℕ × Outcome)) (r : Reads rules pool d inputs went later_pool later)
+    where
+      abbrev stands : Stands rules inputs inputs (state_of later_pool later)
+      stands = stand_now inputs went r
+
+      many_offered : length (accepts later_pool) ≡ length rules.pool
+      many_offered = length-map _ accepted_of ∙ (sym (length-map _ machine_of) ∙ (sym r.sized ∙ stands.many))
+
+      many_taken : length (taken later_pool) ≡ length rules.pool
+      many_taken = length-map _ taken_of ∙ (sym (length-map _ machine_of) ∙ (sym r.sized ∙ stands.many))
+
   pub ends_with : (end : EndOfInputs F) (done : Dispatched F B) →
       ReadsAll rules hands ends takes fails is_settled pool d from before later_pool later left after end →
       done.legs.items ≡ counts_in later.queues → done.clock ≡ end.clock →
       EndsWith rules hands ends takes fails is_settled from before later_pool left after end.fault done
   ends_with end done r legs clock =
       let inputs : List Arrival = r.to_end.inputs in
-      let reads : Reads rules pool d inputs r.to_end.went later_pool later = r.to_end.reads in
-      let now : DispatchState = state_of later_pool later in
-      let stands : Stands rules inputs inputs now = stand_now inputs r.to_end.went reads in
+      let went : List (ℕ × Outcome) = r.to_end.went in
+      let reads : Reads rules pool d inputs went later_pool later = r.to_end.reads in
+      let s : Stands rules inputs inputs (state_of later_pool later) = stand_now inputs went reads in
+      let many : length (accepts later_pool) ≡ length rules.pool = many_offered inputs went reads in
       record {
         inputs = inputs;
-        went = r.to_end.went;
+        went = went;
         came = r.to_end.came;
         clock = clock ∙ r.to_end.clock;
         took = r.to_end.took;
         settled = r.settled;
         few =
-            let one : length inputs ≡ length (parts_of later).progress = many_read later inputs reads.times_are in
+            let one : length inputs ≡ length (progress_in later.progress) = many_read later inputs reads.times_are in
             let two = length_all later.progress in
             let none : length later.progress.under_way ≡ 0 = ap length r.none_under_way in
             omega (arith, one, two, none, r.few);
-        offered_many = stands.offered_many;
-        answered = same_lengths _ _ (stands.taken_many ∙ sym stands.offered_many)
-            (λ v lt. all_taken rules inputs inputs now stands r.done v (rw stands.offered_many at lt));
+        offered_many = many;
+        answered = same_lengths _ _ (many_taken inputs went reads ∙ sym many)
+            (λ v lt. all_taken ((state_of later_pool later).lane v) (s.lanes v (rw many at lt)) (r.done.owed v));
         right = λ right.
-            let both = dispatched rules inputs now later.progress stands r.done refl reads.times_are
-            r.none_under_way right in (
+            let both = dispatched rules inputs (accepts later_pool) (of_worker (taken later_pool)) later s
+            reads.times_are right many r.done r.none_under_way in (
               sym reads.left_is ∙ both.0,
-              subst (λ legs. IsDispatched rules inputs (accepts later_pool) (map outcome_of r.to_end.went) legs)
-                  (sym legs)
-                  (subst (λ (l : List (ℕ × Outcome)). IsDispatched rules inputs (accepts later_pool) (map outcome_of l)
-                  (counts_in later.queues)) reads.left_is both.1),
+              rw (legs, ← reads.left_is) both.1,
             );
       }
 
   pub ends_early : (fault : B) →
       ReadsSome rules hands ends takes fails is_settled pool d from before later_pool later left after fault →
       EndsEarly rules hands ends takes fails is_settled from before later_pool left after fault
-  ends_early fault r =
-      let stands : Stands rules r.inputs r.inputs (state_of later_pool later) = stand_now r.inputs r.went r.reads in
-      record {
-        inputs = r.inputs;
-        went = r.went;
-        come = r.come;
-        failed = r.failed;
-        offered_many = stands.offered_many;
-        right = λ right. subst (λ (l : List (ℕ × Outcome)). IsFront l (timed r.inputs (run rules r.inputs
-            (opening rules)).outcomes)) r.reads.left_is
-            (left_right rules r.inputs (state_of later_pool later) later.progress stands refl r.reads.times_are right);
-      }
+  ends_early fault r = record {
+    inputs = r.inputs;
+    went = r.went;
+    come = r.come;
+    failed = r.failed;
+    offered_many = many_offered r.inputs r.went r.reads;
+    right = λ right. rw (← r.reads.left_is)
+        (left_right rules r.inputs (accepts later_pool) (of_worker (taken later_pool)) later
+        (stand_now r.inputs r.went r.reads) r.reads.times_are right);
+  }
 
 pub ends_by : {A F S B M G : Type 0} (rules : Rules) (hands : A → List Arrival → A → Type 0)
     (ends : A → Option F → A → Type 0) (takes : S → List (ℕ × Outcome) → S → Type 0)

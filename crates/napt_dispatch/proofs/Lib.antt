@@ -1,13 +1,10 @@
 pub mod Closed
 pub mod Ended
 pub mod Ending
-pub mod Hairpin
-pub mod Lists
+pub mod Lanes
 pub mod Offering
-pub mod Offers
 pub mod Passing
 pub mod QueueStates
-pub mod Queues
 pub mod RunsThrough
 pub mod Standing
 pub mod Windows

@@ -1,34 +1,40 @@
 -- What is true of a worker after legs were offered and answers taken.
-use Rattle.std.proofs.Common.{◌≡◌, ◌≢◌, ◌||◌, ℕ, zero, suc, ◌+◌, ◌<◌, Bool, true, false, List, [], ◌∷◌, length, refl, sym, ◌∙◌, ap, subst, arith, inl, inr}
-use Rattle.std.specs.Prelude.{nat_le, slice_get, slice_set, MatchBool}
-use Rattle.std.proofs.lemmas.List.{set-set, set-get_or}
+use Rattle.std.proofs.Common.{◌≡◌, ◌≢◌, ◌⊎◌, ◌||◌, ℕ, zero, suc, ◌+◌, ◌<◌, Bool, true, false, List, [], ◌∷◌, ◌++◌, length, refl, sym, ◌∙◌, ap, subst, arith, inl, inr}
+use Rattle.std.specs.Prelude.{slice_get, slice_set}
+use Rattle.std.proofs.lemmas.List.{length-append, length-map, set-get_or}
 use Rattle.napt_rules.specs.declared.Leg.{Leg}
 use Rattle.napt_rules.specs.declared.Answer.{Answer}
+use Rattle.napt_rules.specs.declared.Outcome.{Outcome}
 use Rattle.napt_pool.specs.declared.pool.Pool.{Pool}
-use Rattle.napt_pool.specs.Pools.{accepts, takes, capacity_of}
+use Rattle.napt_pool.specs.Pools.{starts, accepts, takes, capacity_of}
 use Rattle.napt_dispatch.specs.declared.dispatcher.Dispatcher.{Dispatcher}
-use Rattle.napt_dispatch.specs.declared.dispatcher.held.Held.{Held}
-use Rattle.napt_dispatch.specs.declared.dispatcher.held.Held.TheVariants.{Ready, Place}
-use Rattle.napt_dispatch.specs.declared.dispatcher.held.Owed.{Owed}
+use Rattle.napt_dispatch.specs.declared.dispatcher.holding.Held.{Held}
+use Rattle.napt_dispatch.specs.declared.dispatcher.holding.Held.TheVariants.{Ready, Place}
+use Rattle.napt_dispatch.specs.declared.dispatcher.holding.Owed.{Owed}
 use Rattle.napt_dispatch.specs.declared.dispatcher.progress.Progress.{Progress}
-use Rattle.napt_dispatch.specs.declared.dispatcher.progress.Progress.TheVariants.{Awaited}
+use Rattle.napt_dispatch.specs.declared.dispatcher.progress.Progress.TheVariants.{Awaited, EndedOut}
 use Rattle.napt_dispatch.specs.declared.dispatcher.progress.Second.TheVariants as seconds
 use Rattle.napt_dispatch.specs.Dispatch.{of_worker}
-use Rattle.napt_dispatch.specs.Queues.{put_first, Popped, many_in}
-use Rattle.napt_dispatch.specs.Windows.{Window, progress_in, is_unknown}
-use Rattle.napt_dispatch.specs.Standing.{Parts, parts_of, state_of, Keeps, with_held, IsSecond, Forgets, TakesFirst, first_waits, Offers, PutsBack, waits, HasTaken, IsRingFull, HasOffered, OffersOnlyTo}
-use Rattle.napt_dispatch.proofs.Lists.{push_other}
-use Rattle.napt_dispatch.proofs.Queues.{nothing, many_popped}
-use Rattle.napt_dispatch.proofs.Standing.{set_own}
+use Rattle.napt_dispatch.specs.QueueStates.{QueueState, unused, queue_of, many_owed, with_first, with_offer, with_oldest, with_queue}
+use Rattle.napt_dispatch.specs.Windows.{Window, progress_in, is_unknown, IsWritten, IsMarked}
+use Rattle.napt_dispatch.specs.Standing.{Journal, journal_of, state_with, state_of, added, owed_of, Keeps, KeepsAt, Noted, NotesAll, IsSecond, Forgets, IsSame, TakesFirst, first_waits, waits_at, Readies, HasTaken, HasOffered, OffersOnlyTo}
+use Rattle.napt_dispatch.proofs.Lanes.{added_own, added_other, added_none, added_more, set_added}
+use Rattle.napt_dispatch.proofs.QueueStates.{queue_own, queue_other, length_with, sum_with}
+use Rattle.napt_dispatch.proofs.Standing.{queues_keep, offer_keeps, gone_keeps, next_keeps, answer_keeps}
 
 -- WHAT STANDS FIRST
 
--- what was taken out and put back
-pub put_back_same : {X : Type 0} (lists later : List (List X)) (w : ℕ) (x : X) → w < length lists →
-    Popped w x lists later → put_first w x later ≡ lists
-put_back_same lists later w x lt p =
-    rw (p.later_is, set_own lists w p.rest lt, set-set lists w p.rest (x ∷ p.rest), ← p.first)
-    (set-get_or lists w [])
+journal_as : {times times' : List ℕ} {left left' : List (ℕ × Outcome)} → times ≡ times' → left ≡ left' →
+    (let j : Journal = record { times = times; left = left } in j) ≡ record { times = times'; left = left' }
+journal_as a b = λ i. record { times = a i; left = b i }
+
+pub written_same : (number : ℕ) (p : Progress) (window later : Window) → IsWritten number p window later →
+    journal_of later ≡ journal_of window
+written_same number p window later is = journal_as is.times_stay is.left_stays
+
+pub marked_same : (number : ℕ) (mark : Bool) (window later : Window) → IsMarked number mark window later →
+    journal_of later ≡ journal_of window
+marked_same number mark window later m = journal_as m.times_stay m.left_stays
 
 set_forgets : (progress : List Progress) (number : ℕ) → Forgets progress (slice_set progress number Awaited)
 set_forgets [] number i h = h
@@ -37,35 +43,68 @@ set_forgets (p ∷ ps) zero (suc i) h = h
 set_forgets (p ∷ ps) (suc number) zero h = h
 set_forgets (p ∷ ps) (suc number) (suc i) h = set_forgets ps number i h
 
--- nothing was held
-pub waits_at_none : (progress : List Progress) (held : List Held) → held ≡ [] → first_waits progress held ≡ true
-waits_at_none progress held e = rw e refl
+module _ (w : ℕ) (d later : Dispatcher) (within : w < length d.queues) where
+  -- a leg was held first
+  pub takes_ready : (leg : Leg) → later.progress ≡ d.progress →
+      d.queues ≡ with_queue w (with_first (Ready leg)) later.queues →
+      TakesFirst w d later (with_queue w (with_first (Ready leg)) later.queues)
+  takes_ready leg same out = record {
+    first = Ready leg;
+    out = out;
+    journal_stays = ap journal_of same;
+    forgets = λ number h. rw same h;
+    keeps = λ offered taken rules done all s. rw (← out, same) s;
+  }
 
--- a place whose leg is not known was put back
-pub waits_at_place : (progress : List Progress) (held rest : List Held) (number : ℕ) → held ≡ Place number ∷ rest →
-    is_unknown (slice_get progress number) ≡ true → first_waits progress held ≡ true
-waits_at_place progress held rest number e h = rw e h
+  module _ (number : ℕ) (out : d.queues ≡ with_queue w (with_first (Place number)) later.queues) where
+    inside : w < length later.queues
+    inside = rw (ap length out ∙ length_with later.queues w (with_first (Place number))) at within
 
--- one less is held
-pub taken_less : (w : ℕ) (parts later : Parts) → w < length parts.held → TakesFirst w parts later →
-    length (of_worker later.held w) + 1 ≡ length (of_worker parts.held w)
-taken_less w parts later within t =
-    let left : of_worker later.held w ≡ t.popped.rest =
-    ap (λ lists. of_worker lists w) t.popped.later_is ∙ set_own parts.held w t.popped.rest within in
-    let was : length (of_worker parts.held w) ≡ suc (length t.popped.rest) = ap length t.popped.first in
-    let now : length (of_worker later.held w) ≡ length t.popped.rest = ap length left in
-    omega arith
+    -- a placeholder without a leg
+    pub takes_gone : IsSecond number d.progress later.progress seconds.Never → TakesFirst w d later later.queues
+    takes_gone is = record {
+      first = Place number;
+      out = out;
+      journal_stays = marked_same number false d.progress later.progress is.0;
+      forgets = λ n h. rw is.0.progress_stays h;
+      keeps = λ offered taken. queues_keep w d later later.queues (with_first (Place number)) (λ q. q) offered offered
+          taken taken inside out (sym (set-get_or later.queues w unused)) (λ v n. (refl, refl))
+          (λ rules all. rw is.0.progress_stays (gone_keeps rules all w number (offered w) (taken w)
+          (queue_of later.queues w) (progress_in d.progress) is.1 is.2));
+    }
 
--- of no input more was known, whether its leg was taken out or not
-pub second_forgets : (number : ℕ) (window later : Window) (leg : Leg) →
-    IsSecond number window later (seconds.Known leg) → Forgets (progress_in window) (progress_in later)
-second_forgets number window later leg is = rw is.0.progress_is (set_forgets (progress_in window) number)
+    -- one with its leg
+    pub takes_next : (leg : Leg) → IsSecond number d.progress later.progress (seconds.Known leg) →
+        TakesFirst w d later (with_queue w (with_first (Ready leg)) later.queues)
+    takes_next leg is = record {
+      first = Place number;
+      out = out;
+      journal_stays = written_same number Awaited d.progress later.progress is.0;
+      forgets = rw is.0.progress_is (set_forgets (progress_in d.progress) number);
+      keeps = λ offered taken. queues_keep w d
+          (record later { queues = with_queue w (with_first (Ready leg)) later.queues }) later.queues
+          (with_first (Place number)) (with_first (Ready leg)) offered offered taken taken inside out refl
+          (λ v n. (refl, refl))
+          (λ rules all. rw is.0.progress_is (next_keeps rules all w number (offered w) (taken w)
+          (queue_of later.queues w) (progress_in d.progress) leg is.1 is.2));
+    }
+
+    -- a placeholder that waits
+    pub waits_first : is_unknown (slice_get (progress_in d.progress) number) ≡ true → waits_at d w ≡ true
+    waits_first is = rw (out, queue_own later.queues w (with_first (Place number)) inside) is
+
+  -- one less is held
+  pub taken_less : (queues : List QueueState) → TakesFirst w d later queues →
+      length (queue_of later.queues w).held + 1 ≡ length (queue_of d.queues w).held
+  taken_less queues t =
+      let lt : w < length later.queues =
+      rw (ap length t.out ∙ length_with later.queues w (with_first t.first)) at within in
+      let was : length (queue_of d.queues w).held ≡ length (t.first ∷ (queue_of later.queues w).held) =
+      ap (λ qs. length (queue_of qs w).held) t.out
+      ∙ ap (λ q. length q.held) (queue_own later.queues w (with_first t.first) lt) in
+      omega (arith, was)
 
 -- OFFERS
-
-or_right : (a b : Bool) → b ≡ true → (a || b) ≡ true
-or_right true b h = refl
-or_right false b h = h
 
 -- a place that waits goes on waiting
 first_waits_on : (progress later : List Progress) (held : List Held) → Forgets progress later →
@@ -74,181 +113,193 @@ first_waits_on progress later [] forgets h = refl
 first_waits_on progress later (Ready leg ∷ rest) forgets h = h
 first_waits_on progress later (Place number ∷ rest) forgets h = forgets number h
 
-waits_on : (b : Bool) (progress later : List Progress) (held : List Held) → Forgets progress later →
-    (b || first_waits progress held) ≡ true → (b || first_waits later held) ≡ true
-waits_on true progress later held forgets h = refl
-waits_on false progress later held forgets h = first_waits_on progress later held forgets h
+others_out : (w : ℕ) (d later : Dispatcher) (queues : List QueueState) → TakesFirst w d later queues → (v : ℕ) →
+    v ≢ w → queue_of later.queues v ≡ queue_of d.queues v
+others_out w d later queues t v n =
+    sym (ap (λ qs. queue_of qs v) t.out ∙ queue_other later.queues w (with_first t.first) v n)
+
+-- nothing was taken out, or a placeholder without a leg
+pub readies_same : (w : ℕ) (legs : List Leg) (d later : Dispatcher) → IsSame d later → Readies w legs d legs later
+readies_same w legs d later same = record {
+  journal_stays = ap journal_of same.1;
+  keeps = λ offered taken rules done all s. rw (same.0, same.1) s;
+  others = λ v n. ap (λ qs. queue_of qs v) same.0;
+  forgets = λ number h. rw same.1 h;
+}
+
+pub readies_gone : (w : ℕ) (legs : List Leg) (d later : Dispatcher) → TakesFirst w d later later.queues →
+    Readies w legs d legs later
+readies_gone w legs d later t = record {
+  journal_stays = t.journal_stays;
+  keeps = λ offered taken. t.keeps (added w legs offered) taken;
+  others = others_out w d later later.queues t;
+  forgets = t.forgets;
+}
+
+-- a leg was taken out, and counted as offered
+pub readies_next : (w : ℕ) (legs more : List Leg) (leg : Leg) (d mid later : Dispatcher) → w < length mid.queues →
+    more ≡ legs ++ leg ∷ [] → TakesFirst w d mid (with_queue w (with_first (Ready leg)) mid.queues) →
+    later.queues ≡ with_queue w (with_offer (owed_of leg)) mid.queues → later.progress ≡ mid.progress →
+    Readies w legs d more later
+readies_next w legs more leg d mid later within more_is t offers same = record {
+  journal_stays = ap journal_of same ∙ t.journal_stays;
+  keeps = λ offered taken.
+      let legs_now : added w more offered ≡ added w (leg ∷ []) (added w legs offered) =
+      ap (λ ls. added w ls offered) more_is ∙ added_more w legs offered (leg ∷ []) in
+      subst (λ (f : ℕ → List Leg). Keeps (state_with (added w legs offered) taken d) (state_with f taken later))
+      (sym legs_now) (λ rules done all s.
+      queues_keep w (record mid { queues = with_queue w (with_first (Ready leg)) mid.queues }) later mid.queues
+      (with_first (Ready leg)) (with_offer (owed_of leg)) (added w legs offered)
+      (added w (leg ∷ []) (added w legs offered)) taken taken within refl offers
+      (λ v n. (added_other w (leg ∷ []) (added w legs offered) v n, refl))
+      (λ rules all. rw (added_own w (leg ∷ []) (added w legs offered), same)
+      (offer_keeps rules all w leg (added w legs offered w) (taken w) (queue_of mid.queues w)
+      (progress_in mid.progress)))
+      rules done all (t.keeps (added w legs offered) taken rules done all s));
+  others = λ v n. ap (λ qs. queue_of qs v) offers
+      ∙ (queue_other mid.queues w (with_offer (owed_of leg)) v n
+      ∙ others_out w d mid (with_queue w (with_first (Ready leg)) mid.queues) t v n);
+  forgets = λ number h. rw same (t.forgets number h);
+}
+
+pub readies_both : {w : ℕ} {legs more last : List Leg} {d mid later : Dispatcher} → Readies w legs d more mid →
+    Readies w more mid last later → Readies w legs d last later
+readies_both a b = record {
+  journal_stays = b.journal_stays ∙ a.journal_stays;
+  keeps = λ offered taken rules done all s.
+      b.keeps offered taken rules done all (a.keeps offered taken rules done all s);
+  others = λ v n. b.others v n ∙ a.others v n;
+  forgets = λ number h. b.forgets number (a.forgets number h);
+}
 
 module _ {M G : Type 0} where
-  pub only_none : (w : ℕ) (pool : Pool M G Leg Answer) (d : Dispatcher) → OffersOnlyTo w pool d pool d
-  only_none w pool d = record {
-    takes_stay = refl;
-    capacity_stays = refl;
-    ring_stays = refl;
-    accepts_else = λ v n. refl;
-    owed_else = λ v n. refl;
-    held_else = λ v n. refl;
-    forgets = λ number h. h;
-  }
+  pub over_pool : {pool later_pool : Pool M G Leg Answer} {d later : Dispatcher} →
+      Keeps (state_of pool d) (state_of later_pool later) → KeepsAt pool d later_pool later
+  over_pool keeps = λ rules done all s. record { stands = keeps rules done all s.stands }
 
-  pub only_both : (w : ℕ) (pool : Pool M G Leg Answer) (d : Dispatcher) (mid_pool : Pool M G Leg Answer)
-      (mid : Dispatcher) (later_pool : Pool M G Leg Answer) (later : Dispatcher) → OffersOnlyTo w pool d mid_pool mid →
-      OffersOnlyTo w mid_pool mid later_pool later → OffersOnlyTo w pool d later_pool later
-  only_both w pool d mid_pool mid later_pool later a b = record {
-    takes_stay = b.takes_stay ∙ a.takes_stay;
-    capacity_stays = b.capacity_stays ∙ a.capacity_stays;
-    ring_stays = b.ring_stays ∙ a.ring_stays;
-    accepts_else = λ v n. b.accepts_else v n ∙ a.accepts_else v n;
-    owed_else = λ v n. b.owed_else v n ∙ a.owed_else v n;
-    held_else = λ v n. b.held_else v n ∙ a.held_else v n;
-    forgets = λ number h. b.forgets number (a.forgets number h);
-  }
+  module _ (w : ℕ) (legs : List Leg) (pool : Pool M G Leg Answer) (d : Dispatcher) (later_pool : Pool M G Leg Answer)
+      (later : Dispatcher) (within : w < length (starts pool)) (r : Readies w [] d legs later)
+      (accepted : accepts later_pool ≡ slice_set (accepts pool) w (of_worker (accepts pool) w ++ legs))
+      (took : takes later_pool ≡ takes pool) where
+    offered_now : of_worker (accepts later_pool) ≡ added w legs (of_worker (accepts pool))
+    offered_now = ap of_worker accepted
+        ∙ set_added (accepts pool) w legs (rw length-map (rw length-map at within))
 
-  -- the first of what is held was taken out
-  pub only_taken : (w : ℕ) (pool : Pool M G Leg Answer) (d later : Dispatcher) → later.ring ≡ d.ring →
-      TakesFirst w (parts_of d) (parts_of later) → OffersOnlyTo w pool d pool later
-  only_taken w pool d later ring t = record {
-    takes_stay = refl;
-    capacity_stays = refl;
-    ring_stays = ring;
-    accepts_else = λ v n. refl;
-    owed_else = λ v n. ap (λ lists. of_worker lists v) t.owed_stays;
-    held_else = λ v n. ap (λ lists. of_worker lists v) t.popped.later_is
-        ∙ push_other (parts_of d).held w t.popped.rest v n;
-    forgets = t.forgets;
-  }
+    -- the legs that were taken out went in one message
+    pub only_sent : capacity_of later_pool ≡ capacity_of pool → OffersOnlyTo w pool d later_pool later
+    only_sent capacity = record {
+      capacity_stays = capacity;
+      others = λ v n i. record {
+        offered = (ap (λ f. f v) offered_now ∙ added_other w legs (of_worker (accepts pool)) v n) i;
+        taken = ap (λ lists. of_worker lists v) took i;
+        queue = r.others v n i;
+      };
+      forgets = r.forgets;
+    }
 
-  pub only_offered : (w : ℕ) (leg : Leg) (pool : Pool M G Leg Answer) (d : Dispatcher)
-      (later_pool : Pool M G Leg Answer) (later : Dispatcher) → Offers w leg pool d later_pool later →
-      OffersOnlyTo w pool d later_pool later
-  only_offered w leg pool d later_pool later o = record {
-    takes_stay = o.takes_stay;
-    capacity_stays = o.capacity_stays;
-    ring_stays = o.ring_stays;
-    accepts_else = λ v n. ap (λ lists. of_worker lists v) o.accepted ∙ push_other (accepts pool) w _ v n;
-    owed_else = λ v n. ap (λ (p : Parts). of_worker p.owed v) o.parts_are ∙ push_other (parts_of d).owed w _ v n;
-    held_else = λ v n. ap (λ (p : Parts). of_worker p.held v) o.parts_are;
-    forgets = λ number h. rw (ap (λ (p : Parts). p.progress) o.parts_are) h;
-  }
+    pub sent_keeps : Keeps (state_of pool d) (state_of later_pool later)
+    sent_keeps =
+        let legs_were : ℕ → List Leg = of_worker (accepts pool) in
+        let taken : ℕ → List Answer = of_worker (takes pool) in
+        subst (λ (f : ℕ → List Leg). Keeps (state_with f taken d) (state_of later_pool later))
+        (added_none w legs_were)
+        (subst (λ (f : ℕ → List Leg). Keeps (state_with (added w [] legs_were) taken d)
+        (state_with f (of_worker (takes later_pool)) later)) (sym offered_now)
+        (subst (λ (lists : List (List Answer)). Keeps (state_with (added w [] legs_were) taken d)
+        (state_with (added w legs legs_were) (of_worker lists) later)) (sym took) (r.keeps legs_were taken)))
 
-  pub only_put_back : (w : ℕ) (leg : Leg) (pool : Pool M G Leg Answer) (d : Dispatcher)
-      (later_pool : Pool M G Leg Answer) (later : Dispatcher) → PutsBack w leg pool d later_pool later →
-      OffersOnlyTo w pool d later_pool later
-  only_put_back w leg pool d later_pool later o = record {
-    takes_stay = o.takes_stay;
-    capacity_stays = o.capacity_stays;
-    ring_stays = o.ring_stays;
-    accepts_else = λ v n. ap (λ lists. of_worker lists v) o.accepts_stay;
-    owed_else = λ v n. ap (λ (p : Parts). of_worker p.owed v) o.parts_are;
-    held_else = λ v n. ap (λ (p : Parts). of_worker p.held v) o.parts_are
-        ∙ push_other (parts_of d).held w _ v n;
-    forgets = λ number h. rw (ap (λ (p : Parts). p.progress) o.parts_are) h;
-  }
-
-  -- nothing was done
-  pub only_same : (w : ℕ) (pool : Pool M G Leg Answer) (d later : Dispatcher) → later.ring ≡ d.ring →
-      parts_of later ≡ parts_of d → OffersOnlyTo w pool d pool later
-  only_same w pool d later ring same = record {
-    takes_stay = refl;
-    capacity_stays = refl;
-    ring_stays = ring;
-    accepts_else = λ v n. refl;
-    owed_else = λ v n. ap (λ (p : Parts). of_worker p.owed v) same;
-    held_else = λ v n. ap (λ (p : Parts). of_worker p.held v) same;
-    forgets = λ number h. rw (ap (λ (p : Parts). p.progress) same) h;
-  }
-
-  pub keeps_same : (pool : Pool M G Leg Answer) (d later : Dispatcher) → parts_of later ≡ parts_of d →
-      Keeps (state_of pool d) (state_of pool later)
-  keeps_same pool d later same = λ rules done all s. rw same s
-
-  -- what stands first waits
-  pub offered_as_first_waits : (w : ℕ) (pool : Pool M G Leg Answer) (d later : Dispatcher) →
-      parts_of later ≡ parts_of d →
-      first_waits (parts_of d).progress (of_worker (parts_of d).held w) ≡ true → HasOffered pool later w
-  offered_as_first_waits w pool d later same h =
-      inl (subst (λ (p : Parts). waits later.ring p w ≡ true) (sym same)
-      (or_right (nat_le later.ring (length (of_worker (parts_of d).owed w)))
-      (first_waits (parts_of d).progress (of_worker (parts_of d).held w)) h))
-
-  -- nothing is held
-  pub offered_as_none : (w : ℕ) (pool : Pool M G Leg Answer) (d : Dispatcher) →
-      length (of_worker (parts_of d).held w) ≡ 0 → HasOffered pool d w
-  offered_as_none w pool d none =
-      inl (or_right (nat_le d.ring (length (of_worker (parts_of d).owed w)))
-      (first_waits (parts_of d).progress (of_worker (parts_of d).held w))
-      (waits_at_none (parts_of d).progress (of_worker (parts_of d).held w)
-      (nothing (of_worker (parts_of d).held w) none)))
-
-  -- what the pool gave back stands first again
-  pub puts_back : (w : ℕ) (leg back : Leg) (pool : Pool M G Leg Answer) (d : Dispatcher)
-      (later_pool : Pool M G Leg Answer) (later : Dispatcher) → IsRingFull pool w → accepts later_pool ≡ accepts pool →
-      takes later_pool ≡ takes pool → capacity_of later_pool ≡ capacity_of pool → later.ring ≡ d.ring → back ≡ leg →
-      parts_of later ≡ with_held (put_first w (Ready back) (parts_of d).held) (parts_of d) →
-      PutsBack w leg pool d later_pool later
-  puts_back w leg back pool d later_pool later full a t c r same parts = record {
-    full = full;
-    accepts_stay = a;
-    takes_stay = t;
-    capacity_stays = c;
-    ring_stays = r;
-    parts_are = rw (← same) parts;
-  }
-
-  -- the ring was full, and still is
-  pub full_after : (w : ℕ) (leg : Leg) (pool : Pool M G Leg Answer) (d : Dispatcher)
-      (later_pool : Pool M G Leg Answer) (later : Dispatcher) → PutsBack w leg pool d later_pool later →
-      HasOffered later_pool later w
-  full_after w leg pool d later_pool later o = inr (rw (o.accepts_stay, o.takes_stay, o.capacity_stays) o.full)
+    -- and no more fit, or none is left that could go
+    pub sent_all : (many most : ℕ) → many ≡ length legs → capacity_of later_pool ≡ capacity_of pool →
+        length (of_worker (accepts pool) w) + most ≡ length (of_worker (takes pool) w) + capacity_of pool →
+        (waits_at later w ≡ true) ⊎ (many ≡ most) → HasOffered later_pool later w
+    sent_all many most counted capacity room (inl waits) = inl waits
+    sent_all many most counted capacity room (inr full) =
+        let own : of_worker (accepts later_pool) w ≡ of_worker (accepts pool) w ++ legs =
+        ap (λ f. f w) offered_now ∙ added_own w legs (of_worker (accepts pool)) in
+        let long : length (of_worker (accepts later_pool) w) ≡ length (of_worker (accepts pool) w) + length legs =
+        ap length own ∙ length-append (of_worker (accepts pool) w) legs in
+        let same : length (of_worker (takes later_pool) w) ≡ length (of_worker (takes pool) w) =
+        ap (λ lists. length (of_worker lists w)) took in
+        inr (omega (arith, long, same, counted, capacity, room, full))
 
   -- what was offered all that it can be still is after offers to another worker
   pub offered_still : (w : ℕ) (pool : Pool M G Leg Answer) (d : Dispatcher) (later_pool : Pool M G Leg Answer)
       (later : Dispatcher) → OffersOnlyTo w pool d later_pool later → (v : ℕ) → v ≢ w → HasOffered pool d v →
       HasOffered later_pool later v
   offered_still w pool d later_pool later o v n (inl h) =
-      inl (rw (o.ring_stays, o.owed_else v n, o.held_else v n)
-      (waits_on (nat_le d.ring (length (of_worker (parts_of d).owed v))) (parts_of d).progress (parts_of later).progress
-      (of_worker (parts_of d).held v) o.forgets h))
+      inl (ap (λ lane. first_waits (progress_in later.progress) lane.queue.held) (o.others v n)
+      ∙ first_waits_on (progress_in d.progress) (progress_in later.progress) (queue_of d.queues v).held o.forgets h)
   offered_still w pool d later_pool later o v n (inr full) =
-      inr (rw (o.accepts_else v n, o.takes_stay, o.capacity_stays) full)
-
-  -- what was taken out was offered, or put back
-  pub next_only : (went : Bool) (w : ℕ) (leg : Leg) (pool : Pool M G Leg Answer) (d mid : Dispatcher)
-      (later_pool : Pool M G Leg Answer) (later : Dispatcher) → mid.ring ≡ d.ring →
-      TakesFirst w (parts_of d) (parts_of mid) →
-      MatchBool went (Offers w leg pool mid later_pool later) (PutsBack w leg pool mid later_pool later) →
-      OffersOnlyTo w pool d later_pool later
-  next_only true w leg pool d mid later_pool later ring t o =
-      only_both w pool d pool mid later_pool later (only_taken w pool d mid ring t)
-      (only_offered w leg pool mid later_pool later o)
-  next_only false w leg pool d mid later_pool later ring t o =
-      only_both w pool d pool mid later_pool later (only_taken w pool d mid ring t)
-      (only_put_back w leg pool mid later_pool later o)
-
-  pub next_went : (went : Bool) (w : ℕ) (leg : Leg) (pool : Pool M G Leg Answer) (d mid : Dispatcher)
-      (later_pool : Pool M G Leg Answer) (later : Dispatcher) → w < length (parts_of d).held →
-      TakesFirst w (parts_of d) (parts_of mid) →
-      MatchBool went (Offers w leg pool mid later_pool later) (PutsBack w leg pool mid later_pool later) →
-      MatchBool went
-      (length (of_worker (parts_of later).held w) + 1 ≡ length (of_worker (parts_of d).held w))
-      (HasOffered later_pool later w)
-  next_went true w leg pool d mid later_pool later within t o =
-      rw (ap (λ (p : Parts). p.held) o.parts_are) (taken_less w (parts_of d) (parts_of mid) within t)
-  next_went false w leg pool d mid later_pool later within t o = full_after w leg pool mid later_pool later o
+      inr (ap (λ lane. length lane.offered) (o.others v n)
+      ∙ (full ∙ (ap (λ c. length (of_worker (takes pool) v) + c) (sym o.capacity_stays)
+      ∙ ap (λ lane. length lane.taken + capacity_of later_pool) (sym (o.others v n)))))
 
 -- ANSWERS
 
--- one answer was taken
-pub taken_one : (w : ℕ) (owed : Owed) (parts later : Parts) → w < length parts.owed →
-    Popped w owed parts.owed later.owed → HasTaken parts later true
-taken_one w owed parts later within popped =
-    let less : many_in later.owed + 1 ≡ many_in parts.owed = many_popped parts.owed w within owed later.owed popped in
-    omega arith
+pub notes_none : (w : ℕ) (d : Dispatcher) → NotesAll w [] d d
+notes_none w d = record {
+  journal_stays = refl;
+  keeps = λ offered taken. subst (λ (f : ℕ → List Answer). Keeps (state_with offered taken d) (state_with offered f d))
+      (sym (added_none w taken)) (λ rules done all s. s);
+}
 
--- and more after others
-pub taken_more : (parts mid later : Parts) (any more : Bool) → HasTaken parts mid any → HasTaken mid later more →
-    HasTaken parts later (more || any)
-taken_more parts mid later true true a b = omega arith
-taken_more parts mid later false true a b = rw a at b
-taken_more parts mid later true false a b = rw b a
-taken_more parts mid later false false a b = b ∙ a
+module _ (w : ℕ) (answer : Answer) (mid later : Dispatcher) (within : w < length mid.queues)
+    (n : Noted w answer mid later) where
+  answered_inside : w < length later.queues
+  answered_inside = rw (ap length n.answered ∙ length_with later.queues w (with_oldest n.owed)) at within
+
+  -- one answer more was noted
+  pub notes_more : (answers : List Answer) (d : Dispatcher) → NotesAll w answers d mid →
+      NotesAll w (answers ++ answer ∷ []) d later
+  notes_more answers d a = record {
+    journal_stays = written_same answer.number n.progress mid.progress later.progress n.written ∙ a.journal_stays;
+    keeps = λ offered taken. subst (λ (f : ℕ → List Answer). Keeps (state_with offered taken d)
+        (state_with offered f later)) (sym (added_more w answers taken (answer ∷ []))) (λ rules done all s.
+        queues_keep w mid later later.queues (with_oldest n.owed) (λ q. q) offered offered (added w answers taken)
+        (added w (answer ∷ []) (added w answers taken)) answered_inside n.answered
+        (sym (set-get_or later.queues w unused))
+        (λ v m. (refl, added_other w (answer ∷ []) (added w answers taken) v m))
+        (λ rules all. rw (added_own w (answer ∷ []) (added w answers taken), n.written.progress_is)
+        (answer_keeps rules all w answer n.owed n.progress n.told (offered w) (added w answers taken w)
+        (queue_of later.queues w) (progress_in mid.progress)))
+        rules done all (a.keeps offered taken rules done all s));
+  }
+
+  -- fewer are owed
+  pub noted_less : many_owed later.queues + 1 ≡ many_owed mid.queues
+  noted_less =
+      let all = sum_with later.queues w (with_oldest n.owed) (λ q. length q.owed) answered_inside in
+      let was : many_owed mid.queues ≡ many_owed (with_queue w (with_oldest n.owed) later.queues) =
+      ap many_owed n.answered in
+      omega (arith, all, was)
+
+-- answers were taken from the pool and noted
+pub answered_keeps : {M G : Type 0} (w : ℕ) (answers : List Answer) (pool : Pool M G Leg Answer) (d : Dispatcher)
+    (later_pool : Pool M G Leg Answer) (later : Dispatcher) → w < length (starts pool) →
+    accepts later_pool ≡ accepts pool →
+    takes later_pool ≡ slice_set (takes pool) w (of_worker (takes pool) w ++ answers) → NotesAll w answers d later →
+    Keeps (state_of pool d) (state_of later_pool later)
+answered_keeps w answers pool d later_pool later within same took n =
+    let taken_now : of_worker (takes later_pool) ≡ added w answers (of_worker (takes pool)) =
+    ap of_worker took ∙ set_added (takes pool) w answers (rw length-map (rw length-map at within)) in
+    subst (λ (f : ℕ → List Answer). Keeps (state_of pool d) (state_with (of_worker (accepts later_pool)) f later))
+    (sym taken_now)
+    (subst (λ (lists : List (List Leg)). Keeps (state_of pool d) (state_with (of_worker lists)
+    (added w answers (of_worker (takes pool))) later)) (sym same)
+    (n.keeps (of_worker (accepts pool)) (of_worker (takes pool))))
+
+-- some were taken after others, or none
+pub taken_more : (d mid later : Dispatcher) (any more both : Bool) → both ≡ (more || any) → HasTaken d mid any →
+    HasTaken mid later more → HasTaken d later both
+taken_more d mid later true true both e a b = rw e (omega arith)
+taken_more d mid later false true both e a b = rw e (rw a.0 at b)
+taken_more d mid later true false both e a b = rw (e, b.0) a
+taken_more d mid later false false both e a b = rw e (b.0 ∙ a.0, b.1 ∙ a.1)
+
+pub taken_on : (d mid later : Dispatcher) (any more : Bool) → more ≡ true → HasTaken d mid any →
+    HasTaken mid later more → HasTaken d later true
+taken_on d mid later any more e a b = taken_more d mid later any more true (sym (ap (λ m. m || any) e)) a b
+
+pub taken_none : (d mid later : Dispatcher) (more : Bool) → more ≡ false → IsSame d mid → HasTaken mid later more →
+    IsSame d later
+taken_none d mid later more e a b = taken_more d mid later false more false (sym (ap (λ m. m || false) e)) a b

@@ -1,146 +1,121 @@
--- The queue of one worker changes.
-use Rattle.std.proofs.Common.{◌≡◌, ℕ, ◌+◌, ◌-◌, ◌<◌, ◌^◌, List, [], ◌∷◌, ◌++◌, length, set, get_or, sym, ◌∙◌, ap, arith, replicate, Option, Some, None, MatchOption, Result, Ok, Err, OnOk}
-use Rattle.std.proofs.lemmas.List.{map-set, length-map, length-set, length-replicate, get_or-map, set-get_or}
-use Rattle.napt_pool.proofs.Lists.{map-kept}
-use Rattle.napt_dispatch.specs.declared.dispatcher.held.Held.{Held}
-use Rattle.napt_dispatch.specs.declared.dispatcher.held.Owed.{Owed}
-use Rattle.napt_dispatch.specs.Dispatch.{of_worker}
-use Rattle.napt_dispatch.specs.Queues.{pushed, put_first, many_in}
-use Rattle.napt_dispatch.specs.QueueStates.{QueueState, unused, counts_in, owed_in, held_in, AreCounted, Holds, Releases, Owes, Settles}
-use Rattle.napt_dispatch.proofs.Lists.{of_replicate, map_replicate}
-use Rattle.napt_dispatch.proofs.Queues.{queue_at, queue_pushed, queue_popped, many_set, many_popped, many_none}
+-- The queues of one worker change.
+use Rattle.std.proofs.Common.{◌≡◌, ◌≢◌, ℕ, zero, suc, ◌+◌, ◌<◌, ◌≤◌, ◌^◌, List, [], ◌∷◌, length, set, get_or, refl, sym, ◌∙◌, ap, arith, replicate, Option, Some, None, MatchOption, Result, Ok, Err, OnOk}
+use Rattle.std.specs.Prelude.{slice_index_or}
+use Rattle.std.specs.List.{sum_by}
+use Rattle.std.proofs.lemmas.List.{length-set, length-replicate, set-set, set-get_or, get_or_default, get_or-set_same, get_or-set_other}
+use Rattle.std.proofs.lemmas.List.Sums.{sum_by-cons, sum_by-set}
+use Rattle.napt_dispatch.specs.declared.dispatcher.holding.Held.{Held}
+use Rattle.napt_dispatch.specs.declared.dispatcher.holding.Owed.{Owed}
+use Rattle.napt_dispatch.specs.QueueStates.{QueueState, unused, queue_of, many_held, AreCounted, with_first, with_oldest, with_queue}
+
+module _ (queues : List QueueState) (w : ℕ) (change : QueueState → QueueState) where
+  pub queue_own : w < length queues → queue_of (with_queue w change queues) w ≡ change (queue_of queues w)
+  queue_own lt = get_or-set_same queues w (change (queue_of queues w)) unused lt
+
+  pub queue_other : (v : ℕ) → v ≢ w → queue_of (with_queue w change queues) v ≡ queue_of queues v
+  queue_other v n = get_or-set_other queues w v (change (queue_of queues w)) unused n
+
+  pub length_with : length (with_queue w change queues) ≡ length queues
+  length_with = length-set queues w (change (queue_of queues w))
+
+  pub sum_with : (f : QueueState → ℕ) → w < length queues → sum_by f (with_queue w change queues)
+      + f (queue_of queues w) ≡ sum_by f queues + f (change (queue_of queues w))
+  sum_with f lt = sum_by-set f queues w (change (queue_of queues w)) unused lt
 
 module _ (queues : List QueueState) (w : ℕ) (queue later : QueueState) (lt : w < length queues)
     (at : queue ≡ get_or queues w queue) where
-  below_held : w < length (held_in queues)
-  below_held = rw length-map lt
+  pub queue_is : queue_of queues w ≡ queue
+  queue_is = get_or_default queues w unused queue lt ∙ sym at
 
-  below_owed : w < length (owed_in queues)
-  below_owed = rw length-map lt
+  -- it was changed
+  pub changed : (change : QueueState → QueueState) → later ≡ change queue →
+      set queues w later ≡ with_queue w change queues
+  changed change e = ap (set queues w) (e ∙ ap change (sym queue_is))
 
-  -- HELD
+  -- it was what a change makes of it now
+  pub changed_from : (change : QueueState → QueueState) → queue ≡ change later →
+      queues ≡ with_queue w change (set queues w later)
+  changed_from change e =
+      sym (ap (λ q. set (set queues w later) w (change q)) (get_or-set_same queues w later unused lt)
+      ∙ (set-set queues w later (change later) ∙ (ap (set queues w) (sym e ∙ at) ∙ set-get_or queues w queue)))
 
-  own_held : of_worker (held_in queues) w ≡ queue.held
-  own_held = queue_at queues (λ q. q.held) w queue below_held at
+  pub changed_on_ok : {T E : Type 0} (r : Result T E) (change : QueueState → QueueState) →
+      OnOk r (later ≡ change queue) → OnOk r (set queues w later ≡ with_queue w change queues)
+  changed_on_ok (Ok x) change e = changed change e
+  changed_on_ok (Err x) change e = tt
 
-  pub held_now : (xs : List Held) → later ≡ record queue { held = xs } →
-      Holds (set (held_in queues) w xs) queues (set queues w later)
-  held_now xs e = record {
-    held_is = map-set (λ q. q.held) queues w later ∙ ap (set (held_in queues) w) (ap (λ q. q.held) e);
-    counts_stay = map-kept (λ q. q.offered) queues w later queue at (ap (λ q. q.offered) e);
-    owed_stays = map-kept (λ q. q.owed) queues w later queue at (ap (λ q. q.owed) e);
+  -- how much is held
+  pub sum_held : many_held (set queues w later) + length queue.held ≡ many_held queues + length later.held
+  sum_held = let all : many_held (set queues w later) + length (queue_of queues w).held
+      ≡ many_held queues + length later.held = sum_by-set (λ q. length q.held) queues w later unused lt in
+      rw queue_is at all
+
+  pub counted_by : (many now : ℕ) → now + length queue.held ≡ many + length later.held → now ≤ 65536 →
+      AreCounted many queues → AreCounted now (set queues w later)
+  counted_by many now same few c = record {
+    counted = omega (arith, sum_held, same, c.counted);
+    few = few;
+    some = rw length-set c.some;
+    numbered = rw length-set c.numbered;
   }
 
-  pub held_last : (x : Held) → later ≡ record queue { held = queue.held ++ x ∷ [] } →
-      Holds (pushed w x (held_in queues)) queues (set queues w later)
-  held_last x e = rw own_held (held_now (queue.held ++ x ∷ []) e)
+  pub counted_same : (many : ℕ) → later.held ≡ queue.held → AreCounted many queues →
+      AreCounted many (set queues w later)
+  counted_same many e c = counted_by many many (ap (λ xs. many + length xs) (sym e)) c.few c
 
-  pub held_first : (x : Held) → later ≡ record queue { held = x ∷ queue.held } →
-      Holds (put_first w x (held_in queues)) queues (set queues w later)
-  held_first x e = rw own_held (held_now (x ∷ queue.held) e)
-
-  pub released : (x : Held) → queue.held ≡ x ∷ later.held → later ≡ record queue { held = later.held } →
-      Releases w x queues (set queues w later)
-  released x first e = record {
-    popped = queue_popped queues (λ q. q.held) w queue later x below_held at first;
-    counts_stay = map-kept (λ q. q.offered) queues w later queue at (ap (λ q. q.offered) e);
-    owed_stays = map-kept (λ q. q.owed) queues w later queue at (ap (λ q. q.owed) e);
-  }
-
-  pub queue_same : later ≡ queue → set queues w later ≡ queues
-  queue_same e = ap (set queues w) (e ∙ at) ∙ set-get_or queues w queue
-
-  pub none_held_at : queue.held ≡ [] → of_worker (held_in queues) w ≡ []
-  none_held_at e = own_held ∙ e
-
-  -- OWED
-
-  pub owes_more : (owed : Owed) →
-      later ≡ record queue { offered = queue.offered + 1; owed = queue.owed ++ owed ∷ [] } →
-      Owes w owed queues (set queues w later)
-  owes_more owed e =
-      let was : get_or (counts_in queues) w 0 ≡ queue.offered =
-      get_or-map (λ q. q.offered) queues w queue 0 lt ∙ sym (ap (λ q. q.offered) at) in
-      record {
-        counts_are = map-set (λ q. q.offered) queues w later
-            ∙ ap (λ n. set (counts_in queues) w n) (ap (λ q. q.offered) e ∙ ap (λ n. n + 1) (sym was));
-        owed_is = queue_pushed queues (λ q. q.owed) w queue later owed below_owed at (ap (λ q. q.owed) e);
-        held_stays = map-kept (λ q. q.held) queues w later queue at (ap (λ q. q.held) e);
-      }
-
-  pub owes_by : {T E : Type 0} (r : Result T E) (owed : Owed) →
-      OnOk r (later ≡ record queue { offered = queue.offered + 1; owed = queue.owed ++ owed ∷ [] }) →
-      OnOk r (Owes w owed queues (set queues w later))
-  owes_by (Ok x) owed e = owes_more owed e
-  owes_by (Err x) owed e = tt
-
-  pub settles_by : (o : Option Owed) →
-      MatchOption o (queue.owed ≡ []) (λ owed. queue.owed ≡ owed ∷ later.owed) →
+  -- the oldest leg was answered, if there was one
+  pub answered_by : (o : Option Owed) → MatchOption o (queue.owed ≡ []) (λ owed. queue.owed ≡ owed ∷ later.owed) →
       later ≡ record queue { owed = later.owed } →
-      MatchOption o (of_worker (owed_in queues) w ≡ []) (λ owed. Settles w owed queues (set queues w later))
-  settles_by None first e = queue_at queues (λ q. q.owed) w queue below_owed at ∙ first
-  settles_by (Some owed) first e = record {
-    popped = queue_popped queues (λ q. q.owed) w queue later owed below_owed at first;
-    counts_stay = map-kept (λ q. q.offered) queues w later queue at (ap (λ q. q.offered) e);
-    held_stays = map-kept (λ q. q.held) queues w later queue at (ap (λ q. q.held) e);
-  }
+      MatchOption o ((queue_of queues w).owed ≡ [])
+      (λ owed. queues ≡ with_queue w (with_oldest owed) (set queues w later))
+  answered_by None first e = ap (λ q. q.owed) queue_is ∙ first
+  answered_by (Some owed) first e = changed_from (with_oldest owed) (λ i. record {
+    offered = sym (ap (λ (q : QueueState). q.offered) e) i;
+    owed = first i;
+    held = sym (ap (λ (q : QueueState). q.held) e) i;
+  })
 
-  -- HOW MUCH IS HELD
+-- what is held first was taken out
+pub taken_out : (held : Held) (queue later : QueueState) → queue.held ≡ held ∷ later.held →
+    later ≡ record queue { held = later.held } → queue ≡ with_first held later
+taken_out held queue later first e = λ i. record {
+  offered = sym (ap (λ (q : QueueState). q.offered) e) i;
+  owed = sym (ap (λ (q : QueueState). q.owed) e) i;
+  held = first i;
+}
 
-  module _ (many : ℕ) (counted : AreCounted many queues) where
-    same_count : length (set queues w later) ≡ length queues
-    same_count = length-set queues w later
+-- NOTHING
 
-    -- one more is held
-    pub counted_more : length later.held ≡ length queue.held + 1 → many < 65536 →
-        AreCounted (many + 1) (set queues w later)
-    counted_more more room =
-        let held : held_in (set queues w later) ≡ set (held_in queues) w later.held =
-        map-set (λ q. q.held) queues w later in
-        let all : many_in (held_in (set queues w later)) + length queue.held
-        ≡ many_in (held_in queues) + length later.held =
-        rw held (rw own_held at (many_set (held_in queues) w below_held later.held)) in
-        record {
-          counted = omega (arith, counted.counted, all, more);
-          few = omega (arith, room);
-          some = rw same_count counted.some;
-          numbered = rw same_count counted.numbered;
-        }
+pub nothing : {X : Type 0} (xs : List X) → length xs ≡ 0 → xs ≡ []
+nothing [] e = refl
+nothing (x ∷ xs) e = absurd (omega arith)
 
-    pub released_less : (x : Held) → queue.held ≡ x ∷ later.held → later ≡ record queue { held = later.held } →
-        many_in (held_in (set queues w later)) + 1 ≡ many
-    released_less x first e =
-        many_popped (held_in queues) w below_held x (held_in (set queues w later)) (released x first e).popped
-        ∙ sym counted.counted
+pub of_replicate : {X : Type 0} (n w : ℕ) (x : X) → slice_index_or (replicate n x) w x ≡ x
+of_replicate zero w x = refl
+of_replicate (suc n) zero x = refl
+of_replicate (suc n) (suc w) x = of_replicate n w x
 
-    pub counted_less : (x : Held) → queue.held ≡ x ∷ later.held → later ≡ record queue { held = later.held } →
-        AreCounted (many - 1) (set queues w later)
-    counted_less x first e =
-        let less = released_less x first e in
-        record {
-          counted = omega (arith, less);
-          few = omega (arith, counted.few);
-          some = rw same_count counted.some;
-          numbered = rw same_count counted.numbered;
-        }
+pub none_held : (queues : List QueueState) → many_held queues ≡ 0 → (w : ℕ) → (queue_of queues w).held ≡ []
+none_held [] e w = refl
+none_held (q ∷ queues) e zero = nothing q.held (omega (arith, sym (sum_by-cons (λ q. length q.held) q queues) ∙ e))
+none_held (q ∷ queues) e (suc w) =
+    none_held queues (omega (arith, sym (sum_by-cons (λ q. length q.held) q queues) ∙ e)) w
 
-    -- what is held is as it was
-    pub counted_same : later.held ≡ queue.held → AreCounted many (set queues w later)
-    counted_same e = record {
-      counted = counted.counted ∙ ap many_in (sym (map-kept (λ q. q.held) queues w later queue at e));
-      few = counted.few;
-      some = rw same_count counted.some;
-      numbered = rw same_count counted.numbered;
-    }
+pub held_none : (queues : List QueueState) → ((w : ℕ) → (queue_of queues w).held ≡ []) → many_held queues ≡ 0
+held_none [] none = refl
+held_none (q ∷ queues) none =
+    let here : length q.held ≡ 0 = ap length (none zero) in
+    let rest : many_held queues ≡ 0 = held_none queues (λ w. none (suc w)) in
+    sum_by-cons (λ q. length q.held) q queues ∙ omega (arith, here, rest)
 
 -- before any offer nothing is held
 pub counted_none : (queues : List QueueState) (n : ℕ) → queues ≡ replicate n unused → 0 < n → n < 2 ^ 32 →
     AreCounted 0 queues
 counted_none queues n e some numbered =
     let long : length queues ≡ n = ap length e ∙ length-replicate n unused in
-    let held : held_in queues ≡ replicate n [] = ap held_in e ∙ map_replicate (λ q. q.held) n unused in
     record {
-      counted = sym (many_none (held_in queues) (λ w. rw held (of_replicate Held n w)));
+      counted = sym (held_none queues (λ w. ap (λ qs. (queue_of qs w).held) e
+          ∙ ap (λ q. q.held) (of_replicate n w unused)));
       few = omega arith;
       some = omega (arith, long, some);
       numbered = omega (arith, long, numbered);

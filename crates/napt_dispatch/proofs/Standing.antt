@@ -1,8 +1,8 @@
 -- What stands while a dispatcher hands out the legs of a run.
-use Rattle.std.proofs.Common.{◌≡◌, ◌≢◌, ℕ, ◌+◌, ◌<◌, ◌≤◌, ◌==◌, max, Bool, true, false, cond, List, [], ◌∷◌, ◌++◌, length, map, replicate, Option, Some, None, Ok, Err, refl, sym, ◌∙◌, ap, subst, arith, inl, inr, append_assoc, append-nil, length-append}
-use Rattle.std.specs.Prelude.{IfSome, MatchOption, flat_map, slice_index, slice_get, slice_set}
+use Rattle.std.proofs.Common.{◌≡◌, ◌≢◌, ℕ, suc, ◌+◌, ◌<◌, ◌≤◌, ◌==◌, max, Bool, true, false, cond, List, [], ◌∷◌, ◌++◌, length, map, replicate, Option, Some, None, Ok, Err, refl, sym, ◌∙◌, ap, arith, inl, inr, append_assoc, append-nil, length-append}
+use Rattle.std.specs.Prelude.{IfSome, MatchOption, flat_map, slice_index, slice_index_or, slice_get, slice_set}
 use Rattle.std.proofs.lemmas.Bool.{cases_eq, eq-eqb, ne_eqb}
-use Rattle.std.proofs.lemmas.List.{length-set, set-set, length_push, map-append, get_or-set_same, length-replicate, length-map}
+use Rattle.std.proofs.lemmas.List.{length_push, map-append, length-replicate, length-map, get_or-map, set-get_or}
 use Rattle.std.proofs.lemmas.Grind.{flat_map-append}
 use Rattle.std.proofs.lemmas.Simd.{map-map}
 use Rattle.napt_wire.specs.declared.Way.{Way}
@@ -13,193 +13,238 @@ use Rattle.napt_wire.specs.declared.Side.TheVariants.{Inside, Outside}
 use Rattle.napt_wire.specs.Fields.{destination}
 use Rattle.napt_wire.specs.Packet.{IsPacket}
 use Rattle.napt_config.specs.Rules.{Rules, place_of}
-use Rattle.napt_rules.specs.Prelude.{Each, opening, way_from, served_at, Acted, act, Arrival, admission, Act, Course, run, last_clock, acts_at, legs_at, answer_of}
+use Rattle.napt_rules.specs.Prelude.{Each, opening, way_from, served_at, Acted, act, follow_by, Arrival, admission, Act, Course, run, last_clock, acts_at, legs_at, answer_of, Kept, kept_after, kept_answer, kept_replies}
 use Rattle.napt_rules.specs.declared.Leg.{Leg}
 use Rattle.napt_rules.specs.declared.Answer.{Answer}
 use Rattle.napt_rules.specs.declared.End.{End}
 use Rattle.napt_rules.specs.declared.End.TheVariants as ends
 use Rattle.napt_rules.specs.declared.Outcome.{Outcome}
 use Rattle.napt_rules.specs.declared.Outcome.TheVariants as outcomes
-use Rattle.napt_dispatch.specs.declared.dispatcher.held.Held.{Held}
-use Rattle.napt_dispatch.specs.declared.dispatcher.held.Held.TheVariants.{Ready, Place}
-use Rattle.napt_dispatch.specs.declared.dispatcher.held.Owed.{Owed}
+use Rattle.napt_dispatch.specs.declared.dispatcher.holding.Held.{Held}
+use Rattle.napt_dispatch.specs.declared.dispatcher.holding.Held.TheVariants.{Ready, Place}
+use Rattle.napt_dispatch.specs.declared.dispatcher.holding.Owed.{Owed}
 use Rattle.napt_dispatch.specs.declared.dispatcher.progress.Progress.{Progress}
 use Rattle.napt_dispatch.specs.declared.dispatcher.progress.Progress.TheVariants.{Awaited, Onward, EndedOut, EndedIn}
-use Rattle.napt_dispatch.specs.declared.dispatcher.progress.Second.TheVariants as seconds
+use Rattle.napt_dispatch.specs.declared.dispatcher.Dispatcher.{Dispatcher}
 use Rattle.napt_laws.specs.Dispatching.{IsFront, outcome_told, IsTold, IsForetold, OnwardIsForetold}
-use Rattle.napt_dispatch.specs.Dispatch.{of_worker, Right, Distinct, IsDispatched}
 use Rattle.napt_laws.specs.Places.{first_act, second_legs, second_of, IsSeconded}
-use Rattle.napt_dispatch.specs.Queues.{pushed, put_first, Popped}
-use Rattle.napt_dispatch.specs.Collecting.{outcome_of}
-use Rattle.napt_dispatch.specs.Passing.{timed}
-use Rattle.napt_dispatch.specs.QueueStates.{QueueState, unused, counts_in, owed_in, held_in, Owes}
-use Rattle.napt_dispatch.specs.Windows.{Window, progress_in, times_in, next_leg, IsKnown, IsWritten, IsMarked}
-use Rattle.napt_dispatch.specs.Standing.{Journal, journal_of, Parts, parts_with, DispatchState, owed_of, IsOwed, resolved, Reaches, Stands, Keeps, with_held, with_progress, with_first, ended, IsToldBy, Noted, IsSecond, Admits, IsDone}
-use Rattle.napt_dispatch.proofs.Windows.{known_set, known_push, left_front, left_whole, timed_outcomes}
-use Rattle.napt_dispatch.proofs.Lists.{push_own, push_other, count_push, place_within, no_lengths, of_replicate, map_replicate}
 use Rattle.napt_laws.proofs.Dispatched.{right_answers, answers_tell}
 use Rattle.napt_laws.proofs.Grown.{outcomes_long}
-use Rattle.napt_laws.proofs.Places.{legs_append, answers_fill, cond_map, place_stands, acts_grow}
-use Rattle.napt_dispatch.proofs.Hairpin.{offer_back, answer_back, single_by}
 use Rattle.napt_laws.proofs.OneInput.{acts_begin, outcomes_begin, get_at, grown}
+use Rattle.napt_laws.proofs.Places.{legs_append, answers_fill, cond_map, place_stands, acts_grow}
 use Rattle.napt_laws.proofs.Pools.{stands_at}
+use Rattle.napt_dispatch.specs.Dispatch.{of_worker, fresh, Distinct, IsDispatched}
+use Rattle.napt_dispatch.specs.Collecting.{outcome_of}
+use Rattle.napt_dispatch.specs.Passing.{timed}
+use Rattle.napt_dispatch.specs.QueueStates.{QueueState, unused, queue_of, counts_in, with_last, with_first, with_offer, with_oldest, with_queue}
+use Rattle.napt_dispatch.specs.Windows.{Window, progress_in, times_in, next_leg, IsKnown, AllKnown}
+use Rattle.napt_dispatch.specs.Standing.{Lane, DispatchState, state_with, added, owed_of, IsOwed, LaneStands, resolved, lane_legs, IsRight, AreRight, Reaches, Stands, Keeps, ended, IsToldBy, Admits, IsDone}
 use Rattle.napt_dispatch.proofs.Ended.{map_at}
+use Rattle.napt_dispatch.proofs.Lanes.{added_own, added_other, place_within}
+use Rattle.napt_dispatch.proofs.QueueStates.{queue_own, queue_other, length_with, of_replicate}
+use Rattle.napt_dispatch.proofs.Windows.{known_set, known_push, left_front, left_whole, timed_outcomes}
 
--- LISTS OF WORKERS
+-- FRONTS
 
-pub set_own : {X : Type 0} (lists : List (List X)) (w : ℕ) (xs : List X) → w < length lists →
-    of_worker (slice_set lists w xs) w ≡ xs
-set_own lists w xs lt = get_or-set_same lists w xs [] lt
+-- a front that is short enough is a front of the front
+short_front : {X : Type 0} (xs ys : List X) (zs : List X) → length xs ≤ length ys → IsFront xs (ys ++ zs) →
+    IsFront xs ys
+short_front [] ys zs le h = (ys, refl)
+short_front (x ∷ xs) [] zs le h = absurd (omega arith)
+short_front (x ∷ xs) (y ∷ ys) zs le h =
+    let rest : xs ++ h.0 ≡ ys ++ zs = cc (h.1) in
+    let more = short_front xs ys zs (omega arith) (h.0, rest) in
+    (more.0, (cc))
 
--- what is read of each list after one more
-pub push_reads : {X Y : Type 0} (f : X → List Y) (lists : List (List X)) (w : ℕ) (x : X) → w < length lists → (v : ℕ) →
-    flat_map f (of_worker (pushed w x lists) v) ≡ flat_map f (of_worker lists v) ++ cond (v == w) (f x) []
-push_reads f lists w x lt v = elim (cases_eq v w) [
-  | inl e ↦ rw (e, push_own lists w x lt, flat_map-append, append-nil (f x), eq-eqb w w refl) refl
-  | inr n ↦ rw (push_other lists w (of_worker lists w ++ x ∷ []) v n, ne_eqb v w n, append-nil) refl
-]
+replies_push : (rules : Rules) (address : ℕ) (legs : List Leg) (leg : Leg) (kept : Kept) → (last : Answer)
+    × (kept_replies rules address (legs ++ leg ∷ []) kept ≡ kept_replies rules address legs kept ++ last ∷ [])
+replies_push rules address [] leg kept = (kept_answer rules address leg kept, refl)
+replies_push rules address (l ∷ legs) leg kept =
+    let more = replies_push rules address legs leg (kept_after rules address l kept) in
+    (more.0, ap (λ (xs : List Answer). kept_answer rules address l kept ∷ xs) more.1)
 
--- by the addresses of workers as by their places
-same_test : (pool : List ℕ) → Distinct pool → (v w : ℕ) → v < length pool → w < length pool →
-    (slice_index pool w == slice_index pool v) ≡ (v == w)
-same_test pool distinct v w lv lw = elim (cases_eq v w) [
-  | inl e ↦ rw (e, eq-eqb (slice_index pool w) (slice_index pool w) refl, eq-eqb w w refl) refl
-  | inr n ↦ rw (ne_eqb (slice_index pool w) (slice_index pool v) (λ h. n (distinct v w lv lw (sym h))), ne_eqb v w n)
-      refl
-]
+length_replies : (rules : Rules) (address : ℕ) (legs : List Leg) (kept : Kept) →
+    length (kept_replies rules address legs kept) ≡ length legs
+length_replies rules address [] kept = refl
+length_replies rules address (l ∷ legs) kept =
+    ap suc (length_replies rules address legs (kept_after rules address l kept))
 
--- by their fields
-state_as : {offered offered' : List (List Leg)} {taken taken' : List (List Answer)} {parts parts' : Parts} →
-    offered ≡ offered' → taken ≡ taken' → parts ≡ parts' →
-    (let l : DispatchState = record { offered = offered; taken = taken; parts = parts } in l)
-    ≡ record { offered = offered'; taken = taken'; parts = parts' }
-state_as a b c = rw (a, b, c)
+-- a front of a front
+front_less : {X : Type 0} (xs ys zs : List X) → IsFront (xs ++ ys) zs → IsFront xs zs
+front_less xs ys zs h = (ys ++ h.0, sym (append_assoc xs ys h.0) ∙ h.1)
 
-pub parts_as : {counts counts' : List ℕ} {owed owed' : List (List Owed)} {held held' : List (List Held)}
-    {progress progress' : List Progress} {journal journal' : Journal} →
-    counts ≡ counts' → owed ≡ owed' → held ≡ held' → progress ≡ progress' → journal ≡ journal' →
-    (let p : Parts = record { counts = counts; owed = owed; held = held; progress = progress; journal = journal } in p)
-    ≡ record { counts = counts'; owed = owed'; held = held'; progress = progress'; journal = journal' }
-parts_as a b c d e = rw (a, b, c, d, e)
+-- ONE LANE
 
-journal_as : {times times' : List ℕ} {left left' : List (ℕ × Outcome)} → times ≡ times' → left ≡ left' →
-    (let j : Journal = record { times = times; left = left } in j) ≡ record { times = times'; left = left' }
-journal_as a b = rw (a, b)
+-- what was offered to a worker begins its legs of the whole run
+offered_front : (rules : Rules) (done all : List Arrival) (state : DispatchState) → Stands rules done all state →
+    Reaches rules done all state → (w : ℕ) → w < length rules.pool → IsFront (state.lane w).offered
+    (legs_at (slice_index rules.pool w) (run rules all (opening rules)).acts)
+offered_front rules done all state s r w lt =
+    let address : ℕ = slice_index rules.pool w in
+    let more : IsFront (run rules done (opening rules)).acts (run rules all (opening rules)).acts =
+    rw s.whole at (acts_begin rules 0 0 done s.rest (opening rules)) in
+    let held : List Leg = flat_map (resolved (run rules all (opening rules)).acts) (state.lane w).queue.held in (
+      held ++ legs_at address more.0,
+      rw (
+        ← append_assoc (state.lane w).offered held (legs_at address more.0),
+        r.reached w lt,
+        ← legs_append address (run rules done (opening rules)).acts more.0,
+        more.1,
+      ) refl,
+    )
 
--- OWED
+-- a lane and the progress of the inputs change, so that what stands goes on standing
+pub record LaneKeeps (rules : Rules) (all : List Arrival) (w : ℕ) (one two : Lane) (progress later : List Progress)
+    : Type 0 where
+  pub stands : LaneStands one → LaneStands two
+  pub right : LaneStands one → IsRight rules w two → IsRight rules w one
+  pub legs : AllKnown (run rules all (opening rules)) progress →
+      lane_legs (run rules all (opening rules)).acts two ≡ lane_legs (run rules all (opening rules)).acts one
+  pub known : LaneStands one → IsRight rules w two →
+      IsFront one.offered (legs_at (slice_index rules.pool w) (run rules all (opening rules)).acts) →
+      AllKnown (run rules all (opening rules)) progress → AllKnown (run rules all (opening rules)) later
 
-answers_few : (offered : List Leg) (taken : List Answer) (owed : List Owed) → IsOwed offered taken owed → length taken
-    ≤ length offered
-answers_few offered taken owed o =
-    let long : length o.before ≡ length taken = o.long in
-    let all : length offered ≡ length o.before + length o.rest = ap length o.parts ∙ length-append o.before o.rest in
-    omega arith
+lane_keeps : (w : ℕ) (state later : DispatchState) (one two : Lane) → w < state.many → later.many ≡ state.many →
+    state.lane w ≡ one → later.lane w ≡ two → ((v : ℕ) → v ≢ w → later.lane v ≡ state.lane v) →
+    ((rules : Rules) (all : List Arrival) → LaneKeeps rules all w one two state.progress later.progress) →
+    Keeps state later
+lane_keeps w state later one two lt many was is others step = λ rules done all s.
+    let k : LaneKeeps rules all w one two state.progress later.progress = step rules all in
+    let within : w < length rules.pool = rw s.many at lt in
+    let own : LaneStands one = rw was at (s.lanes w within) in
+    record {
+      rest = s.rest;
+      whole = s.whole;
+      many = many ∙ s.many;
+      lanes = λ v lt. elim (cases_eq v w) [
+        | inl e ↦ rw (e, is) (k.stands own)
+        | inr n ↦ rw (others v n) (s.lanes v lt)
+      ];
+      reaches = λ right.
+          let here : IsRight rules w two = rw is at (right w within) in
+          let r : Reaches rules done all state = s.reaches (λ v lt. elim (cases_eq v w) [
+            | inl e ↦ rw (e, was) (k.right own here)
+            | inr n ↦ rw (others v n) at (right v lt)
+          ]) in
+          record {
+            reached = λ v lt. elim (cases_eq v w) [
+              | inl e ↦ rw (e, is) (k.legs r.known ∙ rw was at (r.reached w within))
+              | inr n ↦ rw (others v n) (r.reached v lt)
+            ];
+            known = k.known own here (rw was at (offered_front rules done all state s r w within)) r.known;
+          };
+    }
+
+-- the queues of one worker, and perhaps what it was offered and answered
+pub queues_keep : (w : ℕ) (d later : Dispatcher) (queues : List QueueState) (one two : QueueState → QueueState)
+    (offered more : ℕ → List Leg) (taken answers : ℕ → List Answer) → w < length queues →
+    d.queues ≡ with_queue w one queues → later.queues ≡ with_queue w two queues →
+    ((v : ℕ) → v ≢ w → (more v ≡ offered v) × (answers v ≡ taken v)) →
+    ((rules : Rules) (all : List Arrival) → LaneKeeps rules all w
+    (record { offered = offered w; taken = taken w; queue = one (queue_of queues w) })
+    (record { offered = more w; taken = answers w; queue = two (queue_of queues w) })
+    (progress_in d.progress) (progress_in later.progress)) →
+    Keeps (state_with offered taken d) (state_with more answers later)
+queues_keep w d later queues one two offered more taken answers lt was is others step =
+    let many : length d.queues ≡ length queues = ap length was ∙ length_with queues w one in
+    let count : length later.queues ≡ length queues = ap length is ∙ length_with queues w two in
+    lane_keeps w (state_with offered taken d) (state_with more answers later)
+    (record { offered = offered w; taken = taken w; queue = one (queue_of queues w) })
+    (record { offered = more w; taken = answers w; queue = two (queue_of queues w) })
+    (omega (arith, lt, many)) (count ∙ sym many)
+    (λ i. record {
+      offered = offered w;
+      taken = taken w;
+      queue = (ap (λ qs. queue_of qs w) was ∙ queue_own queues w one lt) i;
+    })
+    (λ i. record {
+      offered = more w;
+      taken = answers w;
+      queue = (ap (λ qs. queue_of qs w) is ∙ queue_own queues w two lt) i;
+    })
+    (λ v n i. record {
+      offered = (others v n).0 i;
+      taken = (others v n).1 i;
+      queue = (ap (λ qs. queue_of qs v) is ∙ (queue_other queues w two v n
+          ∙ sym (ap (λ qs. queue_of qs v) was ∙ queue_other queues w one v n))) i;
+    })
+    step
+
+-- only more is known, or as much
+pub known_keeps : (many : ℕ) (lane : ℕ → Lane) (progress later : List Progress) →
+    ((course : Course) → AllKnown course progress → AllKnown course later) →
+    Keeps (record { many = many; lane = lane; progress = progress }) (record {
+      many = many;
+      lane = lane;
+      progress = later;
+    })
+known_keeps many lane progress later known = λ rules done all s. record {
+  rest = s.rest;
+  whole = s.whole;
+  many = s.many;
+  lanes = s.lanes;
+  reaches = λ right.
+      let r : Reaches rules done all (record { many = many; lane = lane; progress = progress }) = s.reaches right in
+      record { reached = r.reached; known = known (run rules all (opening rules)) r.known };
+}
 
 -- AN OFFER
 
-module _ (w : ℕ) (leg : Leg) (state : DispatchState) (within : w < length state.parts.held) where
-  abbrev offered_parts : Parts
-  offered_parts = record state.parts {
-    counts = slice_set state.parts.counts w (slice_index state.parts.counts w
-        + 1);
-    owed = pushed w (owed_of leg) state.parts.owed;
+-- the leg held first is counted as offered
+pub offer_keeps : (rules : Rules) (all : List Arrival) (w : ℕ) (leg : Leg) (offered : List Leg) (taken : List Answer)
+    (q : QueueState) (progress : List Progress) → LaneKeeps rules all w
+    (record { offered = offered; taken = taken; queue = with_first (Ready leg) q })
+    (record { offered = offered ++ leg ∷ []; taken = taken; queue = with_offer (owed_of leg) q }) progress progress
+offer_keeps rules all w leg offered taken q progress =
+    let address : ℕ = slice_index rules.pool w in
+    let more = replies_push rules address offered leg (fresh rules address) in
+    let replies = length_replies rules address offered (fresh rules address) in
+    record {
+      stands = λ o. record {
+        before = o.before;
+        rest = o.rest ++ leg ∷ [];
+        parts = ap (λ ls. ls ++ leg ∷ []) o.parts ∙ append_assoc o.before o.rest (leg ∷ []);
+        long = o.long;
+        owed_is = ap (λ os. os ++ owed_of leg ∷ []) o.owed_is ∙ sym (map-append owed_of o.rest (leg ∷ []));
+        counted = ap (λ n. n + 1) o.counted ∙ sym (length_push offered leg);
+      };
+      right = λ o right.
+          let all = ap length o.parts ∙ length-append o.before o.rest in
+          short_front taken (kept_replies rules address offered (fresh rules address)) (more.0 ∷ [])
+          (omega (arith, all, o.long, replies)) (rw more.1 at right);
+      legs = λ known. append_assoc offered (leg ∷ []) (flat_map (resolved (run rules all (opening rules)).acts) q.held);
+      known = λ o right front known. known;
+    }
+
+-- WHAT IS HELD FIRST
+
+module _ (rules : Rules) (all : List Arrival) (w number : ℕ) (offered : List Leg) (taken : List Answer) (q : QueueState)
+    (progress : List Progress) where
+  -- a placeholder that stands for no leg
+  pub gone_keeps : (outcome : Outcome) → slice_get progress number ≡ Some (EndedOut outcome) → LaneKeeps rules all w
+      (record { offered = offered; taken = taken; queue = with_first (Place number) q })
+      (record { offered = offered; taken = taken; queue = q }) progress progress
+  gone_keeps outcome is = record {
+    stands = λ o. o;
+    right = λ o right. right;
+    legs = λ known. ap (λ ls. offered ++ (ls ++ flat_map (resolved (run rules all (opening rules)).acts) q.held))
+        (sym (known number (EndedOut outcome) is).1);
+    known = λ o right front known. known;
   }
 
-  abbrev offered_now : DispatchState
-  offered_now = record { offered = pushed w leg state.offered; taken = state.taken; parts = offered_parts }
-
-  module _ (rules : Rules) (done all : List Arrival) (s : Stands rules done all (with_first w leg state)) where
-    long_held : length state.parts.held ≡ length rules.pool
-    long_held = sym (length-set state.parts.held w (Ready leg ∷ of_worker state.parts.held w)) ∙ s.held_many
-
-    inside : w < length rules.pool
-    inside = rw long_held at within
-
-    in_offered : w < length state.offered
-    in_offered = rw s.offered_many inside
-
-    in_owed : w < length state.parts.owed
-    in_owed = rw s.owed_many inside
-
-    own : of_worker (pushed w leg state.offered) w ≡ of_worker state.offered w ++ leg ∷ []
-    own = push_own state.offered w leg in_offered
-
-    others : (v : ℕ) → v ≢ w → of_worker (pushed w leg state.offered) v ≡ of_worker state.offered v
-    others v n = push_other state.offered w (of_worker state.offered w ++ leg ∷ []) v n
-
-    owes_here : IsOwed (of_worker (pushed w leg state.offered) w) (of_worker state.taken w)
-        (of_worker (pushed w (owed_of leg) state.parts.owed) w)
-    owes_here =
-        let o : IsOwed (of_worker state.offered w) (of_worker state.taken w) (of_worker state.parts.owed w) =
-        s.owes w inside in
-        record {
-          before = o.before;
-          rest = o.rest ++ leg ∷ [];
-          parts = rw (own, o.parts, append_assoc o.before o.rest (leg ∷ [])) refl;
-          long = o.long;
-          owed_is = rw (push_own state.parts.owed w (owed_of leg) in_owed, o.owed_is)
-              (sym (map-append owed_of o.rest (leg ∷ [])));
-        }
-
-    offered_reached : Reaches rules done all (with_first w leg state) → Reaches rules done all offered_now
-    offered_reached r =
-        record {
-          reached = λ v lt. elim (cases_eq v w) [
-            | inl e ↦ rw (e, own, append_assoc)
-                (rw (set_own state.parts.held w (Ready leg ∷ of_worker state.parts.held w) within) at
-                (r.reached w inside))
-            | inr n ↦ rw (others v n)
-                (rw (push_other state.parts.held w (Ready leg ∷ of_worker state.parts.held w) v n) at (r.reached v lt))
-          ];
-          known = r.known;
-        }
-
-    offered_stand : Stands rules done all offered_now
-    offered_stand = record {
-      rest = s.rest;
-      whole = s.whole;
-      owed_many = length-set state.parts.owed w (of_worker state.parts.owed w ++ owed_of leg ∷ []) ∙ s.owed_many;
-      held_many = long_held;
-      offered_many = length-set state.offered w (of_worker state.offered w ++ leg ∷ []) ∙ s.offered_many;
-      taken_many = s.taken_many;
-      counts_are = count_push state.offered w leg state.parts.counts s.counts_are;
-      owes = λ v lt. elim (cases_eq v w) [
-        | inl e ↦ rw e owes_here
-        | inr n ↦ rw (others v n, push_other state.parts.owed w (of_worker state.parts.owed w ++ owed_of leg ∷ []) v n)
-            (s.owes v lt)
-      ];
-      reaches = λ right.
-          offered_reached (s.reaches (offer_back rules state.offered (pushed w leg state.offered) state.taken w leg
-          (λ v lt. answers_few (of_worker state.offered v) (of_worker state.taken v) (of_worker state.parts.owed v)
-          (s.owes v lt)) own others right));
-    }
-
-  pub offered_keeps : (later : DispatchState) → later.offered ≡ pushed w leg state.offered → later.taken ≡ state.taken →
-      later.parts ≡ offered_parts → Keeps (with_first w leg state) later
-  offered_keeps later a b c = λ rules done all s.
-      subst (Stands rules done all) (sym (state_as a b c)) (offered_stand rules done all s)
-
-pub offered_parts_are : (w : ℕ) (leg : Leg) (queues later : List QueueState) (window : Window) →
-    Owes w (owed_of leg) queues later →
-    parts_with later window ≡ record (parts_with queues window) {
-      counts = slice_set (counts_in queues) w (slice_index (counts_in queues) w + 1);
-      owed =
-          pushed w (owed_of leg) (owed_in queues);
-    }
-offered_parts_are w leg queues later window o = parts_as o.counts_are o.owed_is o.held_stays refl refl
-
--- WHAT IS HELD, BY THE QUEUES
-
-pub marked_same : (number : ℕ) (mark : Bool) (window later : Window) → IsMarked number mark window later →
-    journal_of later ≡ journal_of window
-marked_same number mark window later m = journal_as m.times_stay m.left_stays
-
--- a worker has a list of each kind
-pub within_owed : (queues : List QueueState) (w : ℕ) → w < length queues → w < length (owed_in queues)
-within_owed queues w lt = rw length-map lt
-
-pub within_held : (queues : List QueueState) (w : ℕ) → w < length queues → w < length (held_in queues)
-within_held queues w lt = rw length-map lt
+  -- one that stands for a leg that is known
+  pub next_keeps : (leg : Leg) → slice_get progress number ≡ Some (Onward leg.now leg.packet) →
+      leg ≡ next_leg number leg.now leg.packet → LaneKeeps rules all w
+      (record { offered = offered; taken = taken; queue = with_first (Place number) q })
+      (record { offered = offered; taken = taken; queue = with_first (Ready leg) q }) progress
+      (slice_set progress number Awaited)
+  next_keeps leg is leg_is = record {
+    stands = λ o. o;
+    right = λ o right. right;
+    legs = λ known. ap (λ ls. offered ++ (ls ++ flat_map (resolved (run rules all (opening rules)).acts) q.held))
+        (ap (λ l. l ∷ []) leg_is ∙ sym (known number (Onward leg.now leg.packet) is));
+    known = λ o right front known. known_set (run rules all (opening rules)) progress number Awaited tt known;
+  }
 
 -- AN ANSWER
 
@@ -267,242 +312,95 @@ first_owed : (legs : List Leg) (o : Owed) (os : List Owed) → o ∷ os ≡ map 
 first_owed [] o os h = cc
 first_owed (leg ∷ legs) o os h = (leg, legs, refl, cc, cc)
 
--- what was offered to a worker begins its legs of the whole run
-offered_front : (rules : Rules) (done all : List Arrival) (state : DispatchState) → Stands rules done all state →
-    Reaches rules done all state → (w : ℕ) → w < length rules.pool →
-    IsFront (of_worker state.offered w) (legs_at (slice_index rules.pool w) (run rules all (opening rules)).acts)
-offered_front rules done all state s r w lt =
-    let address : ℕ = slice_index rules.pool w in
-    let more : IsFront (run rules done (opening rules)).acts (run rules all (opening rules)).acts =
-    rw s.whole at (acts_begin rules 0 0 done s.rest (opening rules)) in
-    let held : List Leg = flat_map (resolved (run rules all (opening rules)).acts) (of_worker state.parts.held w) in (
-      held ++ legs_at address more.0,
-      rw (
-        ← append_assoc (of_worker state.offered w) held (legs_at address more.0),
-        r.reached w lt,
-        ← legs_append address (run rules done (opening rules)).acts more.0,
-        more.1,
-      ) refl,
-    )
+module _ (rules : Rules) (all : List Arrival) (w : ℕ) (answer : Answer) (owed : Owed) (p : Progress)
+    (told : IsToldBy owed answer.end p) (offered : List Leg) (taken : List Answer) (q : QueueState) where
+  abbrev course : Course
+  course = run rules all (opening rules)
 
-module _ (w : ℕ) (answer : Answer) (state later : DispatchState) (within : w < length state.parts.owed)
-    (same : later.offered ≡ state.offered) (took : later.taken ≡ pushed w answer state.taken)
-    (n : Noted w answer state.parts later.parts) where
-  abbrev answered_parts : Parts
-  answered_parts = record {
-    counts = state.parts.counts;
-    owed = slice_set state.parts.owed w n.popped.rest;
-    held =
-        state.parts.held;
-    progress = slice_set state.parts.progress answer.number n.progress;
-    journal = state.parts.journal;
+  abbrev address : ℕ
+  address = slice_index rules.pool w
+
+  abbrev one : Lane
+  one = record { offered = offered; taken = taken; queue = with_oldest owed q }
+
+  abbrev two : Lane
+  two = record { offered = offered; taken = taken ++ answer ∷ []; queue = q }
+
+  head : (o : LaneStands one) → (leg : Leg) × (rest : List Leg) × (o.rest ≡ leg ∷ rest) × (owed ≡ owed_of leg)
+      × (q.owed ≡ map owed_of rest)
+  head o = first_owed o.rest owed q.owed o.owed_is
+
+  answer_known : LaneStands one → IsRight rules w two → IsFront offered (legs_at address course.acts) →
+      IsKnown course answer.number p
+  answer_known o right front =
+      let first = head o in
+      let told_front = right_answers rules all (opening rules) address offered (taken ++ answer ∷ []) front right in
+      let each : Each (Tells course) (acts_at address course.acts) =
+      each_at (Tells course) address course.acts (each_both (IsTold course.outcomes) (IsSeconded course.acts)
+      course.acts (answers_tell rules all (opening rules)) (answers_fill rules all (opening rules))) in
+      let legs : o.before ++ first.0 ∷ (first.1 ++ front.0) ≡ map (λ (a : Act). a.leg) (acts_at address course.acts) =
+      rw (o.parts, first.2, append_assoc) at front.1 in
+      act_tells course first.0 answer p (act_at (Tells course) (acts_at address course.acts) o.before
+      (first.1 ++ front.0) first.0 taken told_front.0 answer o.long each legs told_front.1) (rw first.3 at told)
+
+  pub answer_keeps : (progress : List Progress) →
+      LaneKeeps rules all w one two progress (slice_set progress answer.number p)
+  answer_keeps progress = record {
+    stands = λ o.
+        let first = head o in
+        record {
+          before = o.before ++ first.0 ∷ [];
+          rest = first.1;
+          parts = o.parts ∙ (ap (λ ls. o.before ++ ls) first.2 ∙ sym (append_assoc o.before (first.0 ∷ []) first.1));
+          long = length_push o.before first.0 ∙ (ap (λ n. n + 1) o.long ∙ sym (length_push taken answer));
+          owed_is = first.4;
+          counted = o.counted;
+        };
+    right = λ o right. front_less taken (answer ∷ []) (kept_replies rules address offered (fresh rules address)) right;
+    legs = λ known. refl;
+    known = λ o right front known. known_set course progress answer.number p (answer_known o right front) known;
   }
 
-  abbrev answered_now : DispatchState
-  answered_now = record { offered = state.offered; taken = pushed w answer state.taken; parts = answered_parts }
-
-  module _ (rules : Rules) (done all : List Arrival) (s : Stands rules done all state) where
-    w_inside : w < length rules.pool
-    w_inside = rw s.owed_many at within
-
-    in_taken : w < length state.taken
-    in_taken = rw s.taken_many w_inside
-
-    own_taken : of_worker (pushed w answer state.taken) w ≡ of_worker state.taken w ++ answer ∷ []
-    own_taken = push_own state.taken w answer in_taken
-
-    other_taken : (v : ℕ) → v ≢ w → of_worker (pushed w answer state.taken) v ≡ of_worker state.taken v
-    other_taken v d = push_other state.taken w (of_worker state.taken w ++ answer ∷ []) v d
-
-    abbrev here : IsOwed (of_worker state.offered w) (of_worker state.taken w) (of_worker state.parts.owed w)
-    here = s.owes w w_inside
-
-    head : (leg : Leg) × (rest : List Leg) × (here.rest ≡ leg ∷ rest) × (n.owed ≡ owed_of leg)
-        × (n.popped.rest ≡ map owed_of rest)
-    head = first_owed here.rest n.owed n.popped.rest (sym n.popped.first ∙ here.owed_is)
-
-    offered_is : of_worker state.offered w ≡ here.before ++ head.0 ∷ head.1
-    offered_is = rw head.2 at here.parts
-
-    answered_owes : IsOwed (of_worker state.offered w) (of_worker (pushed w answer state.taken) w)
-        (of_worker (slice_set state.parts.owed w n.popped.rest) w)
-    answered_owes =
-        let one : length (here.before ++ head.0 ∷ []) ≡ length here.before + 1 = length_push here.before head.0 in
-        let two : length (of_worker (pushed w answer state.taken) w) ≡ length (of_worker state.taken w) + 1 =
-        ap length own_taken ∙ length_push (of_worker state.taken w) answer in
-        let long : length here.before ≡ length (of_worker state.taken w) = here.long in
-        record {
-          before = here.before ++ head.0 ∷ [];
-          rest = head.1;
-          parts = offered_is ∙ sym (append_assoc here.before (head.0 ∷ []) head.1);
-          long = omega arith;
-          owed_is = set_own state.parts.owed w n.popped.rest within ∙ head.4;
-        }
-
-    abbrev course : Course
-    course = run rules all (opening rules)
-
-    answer_known : Right rules state.offered (pushed w answer state.taken) → Reaches rules done all state →
-        IsKnown course answer.number n.progress
-    answer_known right r =
-        let address : ℕ = slice_index rules.pool w in
-        let offers : IsFront (of_worker state.offered w) (legs_at address course.acts) =
-        offered_front rules done all state s r w w_inside in
-        let told_front = right_answers rules all (opening rules) address (of_worker state.offered w)
-        (of_worker state.taken w ++ answer ∷ []) offers (rw own_taken at (right w w_inside)) in
-        let each : Each (Tells course) (acts_at address course.acts) =
-        each_at (Tells course) address course.acts (each_both (IsTold course.outcomes) (IsSeconded course.acts)
-        course.acts (answers_tell rules all (opening rules)) (answers_fill rules all (opening rules))) in
-        let legs : here.before ++ head.0 ∷ (head.1 ++ offers.0) ≡ map (λ (a : Act). a.leg)
-        (acts_at address course.acts) = rw (offered_is, append_assoc) at offers.1 in
-        act_tells course head.0 answer n.progress (act_at (Tells course) (acts_at address course.acts) here.before
-        (head.1 ++ offers.0) head.0 (of_worker state.taken w) told_front.0 answer here.long each legs told_front.1)
-        (rw head.3 at n.told)
-
-    answered_reached : Right rules state.offered (pushed w answer state.taken) → Reaches rules done all answered_now
-    answered_reached right =
-        let r : Reaches rules done all state =
-        s.reaches (answer_back rules state.offered state.taken (pushed w answer state.taken) w answer own_taken
-        other_taken right) in
-        record {
-          reached = r.reached;
-          known = known_set course state.parts.progress answer.number n.progress (answer_known right r) r.known;
-        }
-
-    answered_stand : Stands rules done all answered_now
-    answered_stand = record {
-      rest = s.rest;
-      whole = s.whole;
-      owed_many = length-set state.parts.owed w n.popped.rest ∙ s.owed_many;
-      held_many = s.held_many;
-      offered_many = s.offered_many;
-      taken_many = length-set state.taken w (of_worker state.taken w ++ answer ∷ []) ∙ s.taken_many;
-      counts_are = s.counts_are;
-      owes = λ v lt. elim (cases_eq v w) [
-        | inl e ↦ rw e answered_owes
-        | inr d ↦ rw (other_taken v d, push_other state.parts.owed w n.popped.rest v d) (s.owes v lt)
-      ];
-      reaches = answered_reached;
-    }
-
-  pub answered_keeps : Keeps state later
-  answered_keeps = λ rules done all s.
-      subst (Stands rules done all)
-      (sym (state_as same took (parts_as n.counts_are n.popped.later_is n.held_is n.progress_is n.journal_stays)))
-      (answered_stand rules done all s)
-
--- WHAT IS HELD
-
-abbrev pub held_as : DispatchState → List (List Held) → List Progress → DispatchState
-held_as state held progress = record state { parts = record state.parts { held = held; progress = progress } }
-
--- the same but for what is held and known, after perhaps more inputs
-stand_as : (rules : Rules) (done later rest all : List Arrival) (state : DispatchState) (held : List (List Held))
-    (progress : List Progress) → later ++ rest ≡ all → length held ≡ length state.parts.held →
-    (Reaches rules done all state → Reaches rules later all (held_as state held progress)) →
-    Stands rules done all state → Stands rules later all (held_as state held progress)
-stand_as rules done later rest all state held progress whole long reaches s = record {
-  rest = rest;
-  whole = whole;
-  owed_many = s.owed_many;
-  held_many = long ∙ s.held_many;
-  offered_many = s.offered_many;
-  taken_many = s.taken_many;
-  counts_are = s.counts_are;
-  owes = s.owes;
-  reaches = λ right. reaches (s.reaches right);
-}
-
--- other things held and known, for the same legs
-abbrev StandFor : Rules → List Arrival → List Arrival → DispatchState → List (List Held) → List Progress → Type 0
-StandFor rules done all state held progress =
-    Reaches rules done all state →
-    ((v : ℕ) → v < length rules.pool →
-    flat_map (resolved (run rules all (opening rules)).acts) (of_worker held v)
-    ≡ flat_map (resolved (run rules all (opening rules)).acts) (of_worker state.parts.held v))
-    × ((i : ℕ) (p : Progress) → slice_get progress i ≡ Some p → IsKnown (run rules all (opening rules)) i p)
-
-held_stand : (rules : Rules) (done all : List Arrival) (state : DispatchState) (held : List (List Held))
-    (progress : List Progress) → length held ≡ length state.parts.held →
-    StandFor rules done all state held progress → Stands rules done all state →
-    Stands rules done all (held_as state held progress)
-held_stand rules done all state held progress long for s =
-    stand_as rules done done s.rest all state held progress s.whole long
-    (λ r. record { reached = λ v lt. rw ((for r).0 v lt) (r.reached v lt); known = (for r).1 }) s
-
--- the first of a worker's list stands for these
-first_reads : (f : Held → List Leg) (lists : List (List Held)) (w : ℕ) (x : Held) (xs ys : List Held) →
-    w < length lists → of_worker lists w ≡ x ∷ xs → flat_map f ys ≡ f x ++ flat_map f xs → (v : ℕ) →
-    flat_map f (of_worker (slice_set lists w ys) v) ≡ flat_map f (of_worker lists v)
-first_reads f lists w x xs ys lt first same v = elim (cases_eq v w) [
-  | inl e ↦ rw (e, set_own lists w ys lt, first) same
-  | inr n ↦ ap (flat_map f) (push_other lists w ys v n)
-]
-
-module _ (w : ℕ) (number : ℕ) (state : DispatchState) (held : List (List Held)) (within : w < length state.parts.held)
-    (p : Popped w (Place number) state.parts.held held) where
-  -- a place that stands for no leg
-  pub gone_keeps : (outcome : Outcome) → slice_get state.parts.progress number ≡ Some (EndedOut outcome) →
-      Keeps state (held_as state held state.parts.progress)
-  gone_keeps outcome is = λ rules done all s.
-      let f : Held → List Leg = resolved (run rules all (opening rules)).acts in
-      rw p.later_is (held_stand rules done all state (slice_set state.parts.held w p.rest) state.parts.progress
-      (length-set state.parts.held w p.rest)
-      (λ r. (
-        λ v lt. first_reads f state.parts.held w (Place number) p.rest p.rest within p.first
-            (rw (r.known number (EndedOut outcome) is).1 refl) v,
-        r.known,
-      )) s)
-
-  -- one that stands for a leg that is known
-  pub next_keeps : (leg : Leg) → slice_get state.parts.progress number ≡ Some (Onward leg.now leg.packet) →
-      leg ≡ next_leg number leg.now leg.packet →
-      Keeps state (held_as state (put_first w (Ready leg) held) (slice_set state.parts.progress number Awaited))
-  next_keeps leg is leg_is = λ rules done all s.
-      let f : Held → List Leg = resolved (run rules all (opening rules)).acts in
-      let put : put_first w (Ready leg) held ≡ slice_set state.parts.held w (Ready leg ∷ p.rest) =
-      rw (p.later_is, set_own state.parts.held w p.rest within)
-      (set-set state.parts.held w p.rest (Ready leg ∷ p.rest)) in
-      rw put
-      (held_stand rules done all state (slice_set state.parts.held w (Ready leg ∷ p.rest))
-      (slice_set state.parts.progress number Awaited) (length-set state.parts.held w (Ready leg ∷ p.rest))
-      (λ r. (
-        λ v lt. first_reads f state.parts.held w (Place number) p.rest (Ready leg ∷ p.rest) within p.first
-            (rw (r.known number (Onward leg.now leg.packet) is) (ap (λ (l : Leg). l ∷ flat_map f p.rest) leg_is)) v,
-        known_set (run rules all (opening rules)) state.parts.progress number Awaited tt r.known,
-      )) s)
-
-pub journal_same : (number : ℕ) (p : Progress) (window later : Window) → IsWritten number p window later →
-    journal_of later ≡ journal_of window
-journal_same number p window later is = journal_as is.times_stay is.left_stays
-
-pub next_keeps_as : (w number : ℕ) (state : DispatchState) (held : List (List Held)) → w < length state.parts.held →
-    Popped w (Place number) state.parts.held held → (leg : Leg) (window later : Window) →
-    IsSecond number window later (seconds.Known leg) → state.parts.progress ≡ progress_in window →
-    state.parts.journal ≡ journal_of window →
-    Keeps state (with_first w leg (record state {
-      parts = record state.parts {
-        held = held;
-        progress = progress_in later;
-        journal = journal_of later;
-      };
-    }))
-next_keeps_as w number state held within p leg window later is before journal = λ rules done all s.
-    let known : slice_get state.parts.progress number ≡ Some (Onward leg.now leg.packet) =
-    ap (λ ps. slice_get ps number) before ∙ is.1 in
-    let same : journal_of later ≡ state.parts.journal = journal_same number Awaited window later is.0 ∙ sym journal in
-    let now : progress_in later ≡ slice_set state.parts.progress number Awaited =
-    is.0.progress_is ∙ ap (λ ps. slice_set ps number Awaited) (sym before) in
-    rw (same, now) (next_keeps w number state held within p leg known is.2 rules done all s)
-
 -- ONE INPUT MORE
+
+single_by : (rules : Rules) (at : ℕ) (leg : Leg) (first : Acted) (e : End) →
+    ((place : ℕ) (packet : List ℕ) → e ≢ ends.Onward place packet) → (follow_by rules at leg first e).acts
+    ≡ record { address = at; leg = leg; end = first.end; through = first.through } ∷ []
+single_by rules at leg first (ends.ToOutside packet) n = refl
+single_by rules at leg first (ends.ToInside packet) n = refl
+single_by rules at leg first (ends.Dropped cause) n = refl
+single_by rules at leg first (ends.Onward place packet) n = absurd (n place packet refl)
 
 from_inside : (side : Side) → way_from side ≡ Outgoing → side ≡ Inside
 from_inside Inside h = refl
 from_inside Outside h = cc
 
+-- by the addresses of workers as by their places
+same_test : (pool : List ℕ) → Distinct pool → (v w : ℕ) → v < length pool → w < length pool →
+    (slice_index pool w == slice_index pool v) ≡ (v == w)
+same_test pool distinct v w lv lw = elim (cases_eq v w) [
+  | inl e ↦ rw (e, eq-eqb (slice_index pool w) (slice_index pool w) refl, eq-eqb w w refl) refl
+  | inr n ↦ rw (ne_eqb (slice_index pool w) (slice_index pool v) (λ h. n (distinct v w lv lw (sym h))), ne_eqb v w n)
+      refl
+]
+
+reads_if : {X Y : Type 0} (f : X → List Y) (b : Bool) (x : X) → flat_map f (cond b (x ∷ []) []) ≡ cond b (f x) []
+reads_if f true x = append-nil (f x)
+reads_if f false x = refl
+
+-- one worker holds more
+held_last : (queues : List QueueState) (w : ℕ) (x : Held) → w < length queues → (v : ℕ) →
+    queue_of (with_queue w (with_last x) queues) v ≡ record (queue_of queues v) {
+      held = (queue_of queues v).held ++ cond (v == w) (x ∷ []) [];
+    }
+held_last queues w x lt v = elim (cases_eq v w) [
+  | inl e ↦ rw (e, queue_own queues w (with_last x) lt, eq-eqb w w refl) refl
+  | inr n ↦ rw (queue_other queues w (with_last x) v n, ne_eqb v w n, append-nil) refl
+]
+
 module _ (rules : Rules) (distinct : Distinct rules.pool) (done rest : List Arrival) (input : Arrival) (number now : ℕ)
-    (long : length done ≡ number) (clock : max (last_clock 0 done) input.clock ≡ now) (state : DispatchState) where
+    (long : length done ≡ number) (clock : max (last_clock 0 done) input.clock ≡ now) (offered : ℕ → List Leg)
+    (taken : ℕ → List Answer) (d later : Dispatcher) where
   abbrev all_of : List Arrival
   all_of = (done ++ input ∷ []) ++ rest
 
@@ -515,31 +413,43 @@ module _ (rules : Rules) (distinct : Distinct rules.pool) (done rest : List Arri
   abbrev at_place : ℕ → ℕ
   at_place v = slice_index rules.pool v
 
-  -- the same but for what is held, with the legs of one input more
-  grown_stands : (held : List (List Held)) → length held ≡ length state.parts.held →
-      ((v : ℕ) → v < length rules.pool → (more : List Leg) ×
-      (flat_map (resolved acts_all) (of_worker held v) ≡ flat_map (resolved acts_all) (of_worker state.parts.held v)
-      ++ more)
-      × (legs_at (at_place v) (run rules now_done (opening rules)).acts
-      ≡ legs_at (at_place v) (run rules done (opening rules)).acts ++ more)) →
-      Stands rules done all_of state → Stands rules now_done all_of (held_as state held state.parts.progress)
-  grown_stands held many more s = stand_as rules done now_done rest all_of state held state.parts.progress refl many
-      (λ r. record {
-        reached = λ v lt.
-            rw (
-              (more v lt).1,
-              ← append_assoc (of_worker state.offered v)
-                  (flat_map (resolved acts_all) (of_worker state.parts.held v)) (more v lt).0,
-              r.reached v lt,
-            )
-            (sym (more v lt).2);
-        known = r.known;
-      }) s
+  -- the same, but for more that is held and known, with the legs of one input more
+  grown_stands : (extra : ℕ → List Held) → length later.queues ≡ length d.queues →
+      ((v : ℕ) → queue_of later.queues v ≡ record (queue_of d.queues v) {
+        held = (queue_of d.queues v).held ++ extra v;
+      }) →
+      ((v : ℕ) → v < length rules.pool → legs_at (at_place v) (run rules now_done (opening rules)).acts
+      ≡ legs_at (at_place v) (run rules done (opening rules)).acts ++ flat_map (resolved acts_all) (extra v)) →
+      (AllKnown (run rules all_of (opening rules)) (progress_in d.progress) →
+      AllKnown (run rules all_of (opening rules)) (progress_in later.progress)) →
+      Stands rules done all_of (state_with offered taken d) →
+      Stands rules now_done all_of (state_with offered taken later)
+  grown_stands extra many queue legs known s = record {
+    rest = rest;
+    whole = refl;
+    many = many ∙ s.many;
+    lanes = λ v lt. rw (queue v) (s.lanes v lt);
+    reaches = λ right.
+        let r : Reaches rules done all_of (state_with offered taken d) = s.reaches right in
+        record {
+          reached = λ v lt.
+              rw (
+                queue v,
+                flat_map-append,
+                ← append_assoc (offered v) (flat_map (resolved acts_all) (queue_of d.queues v).held)
+                    (flat_map (resolved acts_all) (extra v)),
+                r.reached v lt,
+              )
+              (sym (legs v lt));
+          known = known r.known;
+        };
+  }
 
-  pub refused_stands : (cause : Cause) → admission rules input ≡ Err cause → Stands rules done all_of state →
-      Stands rules now_done all_of (held_as state state.parts.held (slice_set state.parts.progress number
-      (EndedIn (outcomes.Dropped cause))))
-  refused_stands cause is s =
+  pub refused_stands : (cause : Cause) → admission rules input ≡ Err cause → later.queues ≡ d.queues →
+      progress_in later.progress ≡ slice_set (progress_in d.progress) number (EndedIn (outcomes.Dropped cause)) →
+      Stands rules done all_of (state_with offered taken d) →
+      Stands rules now_done all_of (state_with offered taken later)
+  refused_stands cause is queues written =
       let before : Course = run rules done (opening rules) in
       let acts : (run rules now_done (opening rules)).acts ≡ before.acts =
       ap (λ (r : Course). r.acts) (grown rules done rest input number now long clock (Err cause) is)
@@ -553,25 +463,23 @@ module _ (rules : Rules) (distinct : Distinct rules.pool) (done rest : List Arri
       let there : slice_get (run rules all_of (opening rules)).outcomes number ≡ Some (outcomes.Dropped cause) =
       ap (λ (os : List Outcome). slice_get os number) e ∙ get_at before.outcomes (outcomes.Dropped cause) front.0
       number (outcomes_long rules 0 0 done (opening rules) ∙ long) in
-      stand_as rules done now_done rest all_of state state.parts.held (slice_set state.parts.progress number
-      (EndedIn (outcomes.Dropped cause))) refl refl
-      (λ r. record {
-        reached = λ v lt. rw acts (r.reached v lt);
-        known = known_set (run rules all_of (opening rules)) state.parts.progress number
-            (EndedIn (outcomes.Dropped cause)) there r.known;
-      }) s
+      grown_stands (λ v. []) (ap length queues) (λ v. rw (queues, append-nil) refl)
+      (λ v lt. rw (acts, append-nil) refl)
+      (λ known. rw written (known_set (run rules all_of (opening rules)) (progress_in d.progress) number
+      (EndedIn (outcomes.Dropped cause)) there known))
 
   module _ (packet : List ℕ) (admitted : admission rules input ≡ Ok packet) (foretold : OnwardIsForetold)
       (is : IsPacket packet) (w : ℕ) (within : w < length rules.pool) (served : at_place w
-      ≡ served_at rules (way_from input.side) packet) where
+      ≡ served_at rules (way_from input.side) packet)
+      (same : progress_in later.progress ≡ progress_in d.progress) where
     abbrev leg_of : Leg
     leg_of = record { number = number; now = now; way = way_from input.side; packet = packet }
 
-    abbrev held_first : List (List Held)
-    held_first = pushed w (Ready leg_of) state.parts.held
+    abbrev queues_first : List QueueState
+    queues_first = with_queue w (with_last (Ready leg_of)) d.queues
 
-    held_within : Stands rules done all_of state → w < length state.parts.held
-    held_within s = rw s.held_many within
+    long_first : length queues_first ≡ length d.queues
+    long_first = length_with d.queues w (with_last (Ready leg_of))
 
     same_first : (v : ℕ) → v < length rules.pool →
         (served_at rules (way_from input.side) packet == at_place v) ≡ (v == w)
@@ -579,9 +487,11 @@ module _ (rules : Rules) (distinct : Distinct rules.pool) (done rest : List Arri
 
     -- its first leg alone
     pub alone_stands : (input.side ≡ Inside → place_of rules (destination packet).address ≡ None) →
-        Stands rules done all_of state → Stands rules now_done all_of (held_as state held_first state.parts.progress)
-    alone_stands none s = grown_stands held_first (length-set state.parts.held w (of_worker state.parts.held w
-        ++ Ready leg_of ∷ []))
+        later.queues ≡ queues_first → Stands rules done all_of (state_with offered taken d) →
+        Stands rules now_done all_of (state_with offered taken later)
+    alone_stands none queues s =
+        grown_stands (λ v. cond (v == w) (Ready leg_of ∷ []) []) (ap length queues ∙ long_first)
+        (λ v. rw queues (held_last d.queues w (Ready leg_of) (rw s.many within) v))
         (λ v lt.
         let before : Course = run rules done (opening rules) in
         let at_w : ℕ = served_at rules (way_from input.side) packet in
@@ -594,116 +504,77 @@ module _ (rules : Rules) (distinct : Distinct rules.pool) (done rest : List Arri
         let acts : (run rules now_done (opening rules)).acts ≡ before.acts ++ first_act rules at_w leg_of before.list
         ∷ [] =
         acts_grow rules done rest input number now long clock packet admitted ∙ ap (λ (xs : List Act). before.acts
-        ++ xs) (single_by rules at_w leg_of first first.end never) in (
-          cond (v == w) (leg_of ∷ []) [],
-          push_reads (resolved acts_all) state.parts.held w (Ready leg_of) (held_within s) v,
-          rw (
-            acts,
-            legs_append (at_place v) before.acts (first_act rules at_w leg_of before.list ∷ []),
-            cond_map,
-            same_first v lt,
-          ) refl,
-        )) s
+        ++ xs) (single_by rules at_w leg_of first first.end never) in
+        rw (
+          acts,
+          legs_append (at_place v) before.acts (first_act rules at_w leg_of before.list ∷ []),
+          cond_map,
+          same_first v lt,
+          reads_if (resolved acts_all) (v == w) (Ready leg_of),
+        ) refl)
+        (λ known. rw same known) s
 
     -- with a place for the second
     pub placed_stands : (to : ℕ) → to < length rules.pool → at_place to ≡ (destination packet).address →
-        input.side ≡ Inside → Stands rules done all_of state →
-        Stands rules now_done all_of (held_as state (pushed to (Place number) held_first) state.parts.progress)
-    placed_stands to to_within goes side s =
-        let long_first : length held_first ≡ length state.parts.held =
-        length-set state.parts.held w (of_worker state.parts.held w ++ Ready leg_of ∷ []) in
-        grown_stands (pushed to (Place number) held_first) (length-set held_first to (of_worker held_first to
-        ++ Place number ∷ []) ∙ long_first)
-        (λ v lt.
-        let before : Course = run rules done (opening rules) in
-        let at_w : ℕ = served_at rules (way_from input.side) packet in
-        let f : Held → List Leg = resolved acts_all in
-        let one : List Leg = cond (v == w) (leg_of ∷ []) [] in
-        let two : List Leg = cond (v == to) (second_legs number acts_all) [] in
-        let to_held : to < length held_first =
-        rw (long_first, s.held_many) to_within in (
-          one ++ two,
-          push_reads f held_first to (Place number) to_held v
-              ∙ (ap (λ (ls : List Leg). ls ++ two) (push_reads f state.parts.held w (Ready leg_of) (held_within s) v)
-              ∙ append_assoc (flat_map f (of_worker state.parts.held v)) one two),
-          rw (
-            place_stands rules done rest input number now long clock packet admitted foretold is (ap way_from side)
-                (at_place v),
-            same_first v lt,
-            ← goes,
-            same_test rules.pool distinct v to lt to_within,
-          ) refl,
-        )) s
+        input.side ≡ Inside → later.queues ≡ with_queue to (with_last (Place number)) queues_first →
+        Stands rules done all_of (state_with offered taken d) →
+        Stands rules now_done all_of (state_with offered taken later)
+    placed_stands to to_within goes side queues s =
+        grown_stands (λ v. cond (v == w) (Ready leg_of ∷ []) [] ++ cond (v == to) (Place number ∷ []) [])
+        (ap length queues ∙ (length_with queues_first to (with_last (Place number)) ∙ long_first))
+        (λ v. rw (
+          queues,
+          held_last queues_first to (Place number) (rw (long_first, s.many) to_within) v,
+          held_last d.queues w (Ready leg_of) (rw s.many within) v,
+          append_assoc,
+        ) refl)
+        (λ v lt. rw (
+          place_stands rules done rest input number now long clock packet admitted foretold is (ap way_from side)
+              (at_place v),
+          same_first v lt,
+          ← goes,
+          same_test rules.pool distinct v to lt to_within,
+          flat_map-append,
+          reads_if (resolved acts_all) (v == w) (Ready leg_of),
+          reads_if (resolved acts_all) (v == to) (Place number),
+        ) refl)
+        (λ known. rw same known) s
 
 -- an input that is dropped before any leg
-pub refused_admits : (rules : Rules) (number now : ℕ) (input : Arrival) (parts later : Parts) (cause : Cause) →
-    Distinct rules.pool → admission rules input ≡ Err cause →
-    later ≡ with_progress (slice_set parts.progress number (EndedIn (outcomes.Dropped cause))) parts →
-    Admits rules number now input parts later
-refused_admits rules number now input parts later cause distinct is e = λ offered taken done rest long clock s.
-    rw e (refused_stands rules distinct done rest input number now long clock (record {
-      offered = offered;
-      taken = taken;
-      parts = parts;
-    }) cause is s)
+pub refused_admits : (rules : Rules) (number now : ℕ) (input : Arrival) (d later : Dispatcher) (cause : Cause) →
+    Distinct rules.pool → admission rules input ≡ Err cause → later.queues ≡ d.queues →
+    progress_in later.progress ≡ slice_set (progress_in d.progress) number (EndedIn (outcomes.Dropped cause)) →
+    Admits rules number now input d later
+refused_admits rules number now input d later cause distinct is queues written =
+    λ offered taken done rest long clock s.
+    refused_stands rules distinct done rest input number now long clock offered taken d later cause is queues written s
 
 -- an input with a first leg, and perhaps a place for its second
-pub admitted_admits : (rules : Rules) (number now : ℕ) (input : Arrival) (parts later : Parts) (packet : List ℕ)
+pub admitted_admits : (rules : Rules) (number now : ℕ) (input : Arrival) (d later : Dispatcher) (packet : List ℕ)
     (w : ℕ) → Distinct rules.pool → OnwardIsForetold → IsPacket packet → admission rules input ≡ Ok packet →
     slice_get rules.pool w ≡ Some (served_at rules (way_from input.side) packet) →
+    progress_in later.progress ≡ progress_in d.progress →
     (to : Option ℕ) → IfSome to (λ place. (input.side ≡ Inside) × (place_of rules (destination packet).address
     ≡ Some place)) → (to ≡ None → input.side ≡ Inside → place_of rules (destination packet).address ≡ None) →
     (let leg : Leg = record { number = number; now = now; way = way_from input.side; packet = packet } in
-    MatchOption to (later ≡ with_held (pushed w (Ready leg) parts.held) parts) (λ v.
-    later ≡ with_held (pushed v (Place number) (pushed w (Ready leg) parts.held)) parts)) →
-    Admits rules number now input parts later
-admitted_admits rules number now input parts later packet w distinct foretold is admitted place None some none e =
+    let one : List QueueState = with_queue w (with_last (Ready leg)) d.queues in
+    MatchOption to (later.queues ≡ one) (λ v. later.queues ≡ with_queue v (with_last (Place number)) one)) →
+    Admits rules number now input d later
+admitted_admits rules number now input d later packet w distinct foretold is admitted place same None some none e =
     λ offered taken done rest long clock s.
     let p : (w < length rules.pool) × (slice_index rules.pool w ≡ served_at rules (way_from input.side) packet) =
     place_within rules.pool w (served_at rules (way_from input.side) packet) place in
-    rw e (alone_stands rules distinct done rest input number now long clock (record {
-      offered = offered;
-      taken = taken;
-      parts = parts;
-    }) packet admitted foretold is w p.0 p.1 (none refl) s)
-admitted_admits rules number now input parts later packet w distinct foretold is admitted place (Some v) some none e =
+    alone_stands rules distinct done rest input number now long clock offered taken d later packet admitted foretold is
+    w p.0 p.1 same (none refl) e s
+admitted_admits rules number now input d later packet w distinct foretold is admitted place same (Some v) some none e =
     λ offered taken done rest long clock s.
     let p : (w < length rules.pool) × (slice_index rules.pool w ≡ served_at rules (way_from input.side) packet) =
     place_within rules.pool w (served_at rules (way_from input.side) packet) place in
     let q : (v < length rules.pool) × (slice_index rules.pool v ≡ (destination packet).address) =
     place_within rules.pool v (destination packet).address
     (stands_at rules.pool (destination packet).address v some.1) in
-    rw e (placed_stands rules distinct done rest input number now long clock (record {
-      offered = offered;
-      taken = taken;
-      parts = parts;
-    }) packet admitted foretold is w p.0 p.1 v q.0 q.1 some.0 s)
-
--- a place for what is known of the next input
-pub expected_keeps : (offered : List (List Leg)) (taken : List (List Answer)) (parts later : Parts) →
-    later.counts ≡ parts.counts → later.owed ≡ parts.owed → later.held ≡ parts.held →
-    later.progress ≡ parts.progress ++ Awaited ∷ [] →
-    Keeps (record { offered = offered; taken = taken; parts = parts }) (record {
-      offered = offered;
-      taken = taken;
-      parts = later;
-    })
-expected_keeps offered taken parts later counts owed held progress = λ rules done all s. record {
-  rest = s.rest;
-  whole = s.whole;
-  owed_many = rw owed s.owed_many;
-  held_many = rw held s.held_many;
-  offered_many = s.offered_many;
-  taken_many = s.taken_many;
-  counts_are = counts ∙ s.counts_are;
-  owes = λ v lt. rw owed (s.owes v lt);
-  reaches = λ right.
-      let r : Reaches rules done all (record { offered = offered; taken = taken; parts = parts }) = s.reaches right in
-      record {
-        reached = λ v lt. rw held (r.reached v lt);
-        known = rw progress (known_push (run rules all (opening rules)) parts.progress r.known);
-      };
-}
+    placed_stands rules distinct done rest input number now long clock offered taken d later packet admitted foretold is
+    w p.0 p.1 same v q.0 q.1 some.0 e s
 
 -- THE START
 
@@ -711,88 +582,74 @@ none_known : (course : Course) (i : ℕ) (p : Progress) → slice_get (let ps : 
     IsKnown course i p
 none_known course i p h = cc
 
-pub begin_stands : (rules : Rules) (inputs : List Arrival) (state : DispatchState) (queues : List QueueState)
-    (window : Window) → state.parts ≡ parts_with queues window → queues ≡ replicate (length rules.pool) unused →
-    state.offered ≡ replicate (length rules.pool) [] → state.taken ≡ replicate (length rules.pool) [] →
-    state.parts.progress ≡ [] → Stands rules [] inputs state
-begin_stands rules inputs state queues window parts is offered taken progress =
+pub begin_stands : (rules : Rules) (inputs : List Arrival) (offered : List (List Leg)) (taken : List (List Answer))
+    (d : Dispatcher) → d.queues ≡ replicate (length rules.pool) unused →
+    offered ≡ replicate (length rules.pool) [] → taken ≡ replicate (length rules.pool) [] →
+    progress_in d.progress ≡ [] → Stands rules [] inputs (state_with (of_worker offered) (of_worker taken) d)
+begin_stands rules inputs offered taken d is no_legs no_answers progress =
     let n : ℕ = length rules.pool in
-    let none : (v : ℕ) → of_worker state.offered v ≡ [] = λ v. rw offered (of_replicate Leg n v) in
-    let no_answers : (v : ℕ) → of_worker state.taken v ≡ [] = λ v. rw taken (of_replicate Answer n v) in
-    let counts : state.parts.counts ≡ replicate n 0 = rw (parts, is) (map_replicate (λ q. q.offered) n unused) in
-    let owed : state.parts.owed ≡ replicate n [] = rw (parts, is) (map_replicate (λ q. q.owed) n unused) in
-    let held : state.parts.held ≡ replicate n [] = rw (parts, is) (map_replicate (λ q. q.held) n unused) in
+    let none : (v : ℕ) → of_worker offered v ≡ [] = λ v. rw no_legs (of_replicate n v []) in
+    let no : (v : ℕ) → of_worker taken v ≡ [] = λ v. rw no_answers (of_replicate n v []) in
+    let queue : (v : ℕ) → queue_of d.queues v ≡ unused = λ v. rw is (of_replicate n v unused) in
     record {
       rest = inputs;
       whole = refl;
-      offered_many = ap length offered ∙ length-replicate n [];
-      taken_many = ap length taken ∙ length-replicate n [];
-      owed_many = ap length owed ∙ length-replicate n [];
-      held_many = ap length held ∙ length-replicate n [];
-      counts_are = counts ∙ (sym (no_lengths Leg n) ∙ ap (map length) (sym offered));
-      owes = λ v lt. record {
+      many = ap length is ∙ length-replicate n unused;
+      lanes = λ v lt. rw (none v, no v, queue v) (record {
         before = [];
         rest = [];
-        parts = none v;
-        long = ap length (sym (no_answers v));
-        owed_is = rw owed (of_replicate Owed n v);
-      };
+        parts = refl;
+        long = refl;
+        owed_is = refl;
+        counted = refl;
+      });
       reaches = λ right. record {
-        reached = λ v lt. rw (none v, held, of_replicate Held n v) refl;
+        reached = λ v lt. rw (none v, queue v) refl;
         known = λ i p h. none_known (run rules inputs (opening rules)) i p (rw progress at h);
       };
     }
 
 -- THE END
 
-none_owed : (offered : List Leg) (taken : List Answer) (owed : List Owed) → IsOwed offered taken owed → owed ≡ [] →
-    length taken ≡ length offered
-none_owed offered taken owed o none =
-    let no_rest : length o.rest ≡ 0 = sym (length-map o.rest owed_of) ∙ ap length (sym o.owed_is ∙ none) in
-    let all : length offered ≡ length o.before + length o.rest = ap length o.parts ∙ length-append o.before o.rest in
-    let long : length o.before ≡ length taken = o.long in
-    omega arith
-
 -- all answers were taken
-pub all_taken : (rules : Rules) (done all : List Arrival) (state : DispatchState) → Stands rules done all state →
-    IsDone state.parts → (v : ℕ) → v < length rules.pool → length (of_worker state.taken v)
-    ≡ length (of_worker state.offered v)
-all_taken rules done all state s idle v lt = none_owed (of_worker state.offered v) (of_worker state.taken v)
-    (of_worker state.parts.owed v) (s.owes v lt) (idle.owed v)
+pub all_taken : (lane : Lane) → LaneStands lane → lane.queue.owed ≡ [] → length lane.taken ≡ length lane.offered
+all_taken lane o none =
+    let no_rest : length o.rest ≡ 0 = sym (length-map o.rest owed_of) ∙ ap length (sym o.owed_is ∙ none) in
+    let all : length lane.offered ≡ length o.before + length o.rest =
+    ap length o.parts ∙ length-append o.before o.rest in
+    omega (arith, no_rest, all, o.long)
 
--- what left is the front of what the run gives
-pub left_right : (rules : Rules) (inputs : List Arrival) (state : DispatchState) (window : Window) →
-    Stands rules inputs inputs state → state.parts.progress ≡ progress_in window →
-    times_in window ≡ map (λ i. i.time) inputs → Right rules state.offered state.taken →
-    IsFront window.left (timed inputs (run rules inputs (opening rules)).outcomes)
-left_right rules inputs state window s progress times right =
-    left_front (run rules inputs (opening rules)) window inputs times
-    (λ i p h. (s.reaches right).known i p (ap (λ ps. slice_get ps i) progress ∙ h))
-    (outcomes_long rules 0 0 inputs (opening rules))
+module _ (rules : Rules) (inputs : List Arrival) (offered : List (List Leg)) (taken : ℕ → List Answer) (d : Dispatcher)
+    (s : Stands rules inputs inputs (state_with (of_worker offered) taken d))
+    (times : times_in d.progress ≡ map (λ i. i.time) inputs)
+    (right : AreRight rules (state_with (of_worker offered) taken d)) where
+  abbrev whole : Course
+  whole = run rules inputs (opening rules)
 
--- all of it, where no input is open
-pub dispatched : (rules : Rules) (inputs : List Arrival) (state : DispatchState) (window : Window) →
-    Stands rules inputs inputs state → IsDone state.parts → state.parts.progress ≡ progress_in window →
-    times_in window ≡ map (λ i. i.time) inputs → window.under_way ≡ [] → Right rules state.offered state.taken →
-    (window.left ≡ timed inputs (run rules inputs (opening rules)).outcomes)
-    × IsDispatched rules inputs state.offered (map outcome_of window.left) state.parts.counts
-dispatched rules inputs state window s idle progress times none right =
-    let course : Course = run rules inputs (opening rules) in
-    let r : Reaches rules inputs inputs state = s.reaches right in
-    let reached : (w : ℕ) → w < length rules.pool → of_worker state.offered w
-    ≡ legs_at (slice_index rules.pool w) course.acts = λ w lt.
-    rw (idle.held w, append-nil) at (r.reached w lt) in
-    let legs : state.offered ≡ map (λ (address : ℕ). legs_at address course.acts) rules.pool =
-    map_at (λ address. legs_at address course.acts) state.offered rules.pool s.offered_many reached in
-    let run_long : length course.outcomes ≡ length inputs = outcomes_long rules 0 0 inputs (opening rules) in
-    let left : window.left ≡ timed inputs course.outcomes =
-    left_whole course window inputs times (λ i p h. r.known i p (ap (λ ps. slice_get ps i) progress
-    ∙ h)) run_long none in (
-      left,
-      record {
-        legs = legs;
-        outcomes_are = ap (map outcome_of) left ∙ timed_outcomes inputs course.outcomes run_long;
-        numbers_are = s.counts_are
-            ∙ (ap (map length) legs ∙ map-map length (λ (address : ℕ). legs_at address course.acts) rules.pool);
-      },
-    )
+  run_long : length whole.outcomes ≡ length inputs
+  run_long = outcomes_long rules 0 0 inputs (opening rules)
+
+  -- what left is the front of what the run gives
+  pub left_right : IsFront d.progress.left (timed inputs whole.outcomes)
+  left_right = left_front whole d.progress inputs times (s.reaches right).known run_long
+
+  -- all of it, where no input is open
+  pub dispatched : length offered ≡ length rules.pool → IsDone d → d.progress.under_way ≡ [] →
+      (d.progress.left ≡ timed inputs whole.outcomes)
+      × IsDispatched rules inputs offered (map outcome_of d.progress.left) (counts_in d.queues)
+  dispatched many idle none =
+      let reached : (w : ℕ) → w < length rules.pool → of_worker offered w
+      ≡ legs_at (slice_index rules.pool w) whole.acts = λ w lt.
+      rw (idle.held w, append-nil) at ((s.reaches right).reached w lt) in
+      let left : d.progress.left ≡ timed inputs whole.outcomes =
+      left_whole whole d.progress inputs times (s.reaches right).known run_long none in (
+        left,
+        record {
+          legs = map_at (λ address. legs_at address whole.acts) offered [] rules.pool many reached;
+          outcomes_are = ap (map outcome_of) left ∙ timed_outcomes inputs whole.outcomes run_long;
+          numbers_are = map_at (λ address. length (legs_at address whole.acts)) (counts_in d.queues) 0 rules.pool
+              (length-map d.queues (λ q. q.offered) ∙ s.many)
+              (λ w lt. get_or-map (λ q. q.offered) d.queues w unused 0 (rw s.many lt)
+              ∙ ((s.lanes w lt).counted ∙ ap length (reached w lt)));
+        },
+      )

@@ -10,8 +10,8 @@ use Rattle.napt_rules.specs.declared.Outcome.{Outcome}
 use Rattle.napt_sequential.specs.Inputs.{Came}
 use Rattle.napt_laws.specs.Dispatching.{IsFront}
 use Rattle.napt_dispatch.specs.declared.dispatcher.Dispatcher.{Dispatcher}
-use Rattle.napt_dispatch.specs.declared.dispatcher.halted.Halted.{Halted}
-use Rattle.napt_dispatch.specs.declared.dispatcher.halted.Halted.TheVariants as halts
+use Rattle.napt_dispatch.specs.declared.stopped.Halted.{Halted}
+use Rattle.napt_dispatch.specs.declared.stopped.Halted.TheVariants as halts
 use Rattle.napt_dispatch.specs.declared.dispatcher.Dispatched.{Dispatched}
 use Rattle.napt_dispatch.specs.declared.dispatcher.Ending.{Ending}
 use Rattle.napt_dispatch.specs.declared.dispatcher.Ending.TheVariants as endings
@@ -22,8 +22,8 @@ use Rattle.napt_dispatch.specs.declared.workers.Passed.{Passed}
 use Rattle.napt_dispatch.specs.declared.workers.TimedRun.{TimedRun}
 use Rattle.napt_dispatch.specs.Collecting.{outcome_of}
 use Rattle.napt_dispatch.specs.Dispatch.{IsDispatchFault, IsFaultUnder, IsDispatched, Right}
-use Rattle.napt_dispatch.specs.Windows.{Window, IsHandedOver}
-use Rattle.napt_dispatch.specs.Standing.{parts_of, state_of, IsSizedFor, Stands, Keeps, IsDone}
+use Rattle.napt_dispatch.specs.Windows.{Window, progress_in, times_in, IsHandedOver}
+use Rattle.napt_dispatch.specs.Standing.{state_of, IsSizedFor, Stands, KeepsAt, IsDone}
 
 -- OUTCOMES THAT LEAVE
 
@@ -64,9 +64,9 @@ pub record GoesOn {M G : Type 0} (pool : Pool M G Leg Answer) (d : Dispatcher) (
     (later_pool : Pool M G Leg Answer) (later : Dispatcher) : Type 0 where
   pub starts_stay : starts later_pool ≡ starts pool
   pub sized : IsSizedFor later_pool later
-  pub times_stay : (parts_of later).journal.times ≡ (parts_of d).journal.times
-  pub left_is : (parts_of later).journal.left ≡ (parts_of d).journal.left ++ went
-  pub keeps : Keeps (state_of pool d) (state_of later_pool later)
+  pub times_stay : times_in later.progress ≡ times_in d.progress
+  pub left_is : later.progress.left ≡ d.progress.left ++ went
+  pub keeps : KeepsAt pool d later_pool later
 
 -- and were taken
 pub record LetsGo {M G S : Type 0} (takes : S → List (ℕ × Outcome) → S → Type 0) (pool : Pool M G Leg Answer)
@@ -114,9 +114,9 @@ pub record Serves {M G : Type 0} (rules : Rules) (now : ℕ) (input : Arrival) (
     (d : Dispatcher) (later_pool : Pool M G Leg Answer) (later : Dispatcher) : Type 0 where
   pub starts_stay : starts later_pool ≡ starts pool
   pub sized : IsSizedFor later_pool later
-  pub times_are : (parts_of later).journal.times ≡ (parts_of d).journal.times ++ input.time ∷ []
-  pub left_stays : (parts_of later).journal.left ≡ (parts_of d).journal.left
-  pub served : (done rest : List Arrival) → length done ≡ length (parts_of d).progress →
+  pub times_are : times_in later.progress ≡ times_in d.progress ++ input.time ∷ []
+  pub left_stays : later.progress.left ≡ d.progress.left
+  pub served : (done rest : List Arrival) → length done ≡ length (progress_in d.progress) →
       max (last_clock 0 done) input.clock ≡ now →
       Stands rules done ((done ++ input ∷ []) ++ rest) (state_of pool d) →
       Stands rules (done ++ input ∷ []) ((done ++ input ∷ []) ++ rest) (state_of later_pool later)
@@ -126,8 +126,8 @@ pub record Reads {M G : Type 0} (rules : Rules) (pool : Pool M G Leg Answer) (d 
     (went : List (ℕ × Outcome)) (later_pool : Pool M G Leg Answer) (later : Dispatcher) : Type 0 where
   pub starts_stay : starts later_pool ≡ starts pool
   pub sized : IsSizedFor later_pool later
-  pub times_are : (parts_of later).journal.times ≡ map (λ i. i.time) inputs
-  pub left_is : (parts_of later).journal.left ≡ went
+  pub times_are : times_in later.progress ≡ map (λ i. i.time) inputs
+  pub left_is : later.progress.left ≡ went
   pub served : (rest : List Arrival) → Stands rules [] (inputs ++ rest) (state_of pool d) →
       Stands rules inputs (inputs ++ rest) (state_of later_pool later)
 
@@ -154,7 +154,7 @@ module _ {A F S B : Type 0} (rules : Rules) (hands : A → List Arrival → A �
     -- and every outcome has left and is settled
     pub record ReadsAll (end : EndOfInputs F) : Type 0 where
       pub to_end : ReadsToEnd end
-      pub done : IsDone (parts_of later)
+      pub done : IsDone later
       pub none_under_way : later.progress.under_way ≡ []
       pub few : length later.progress.left < 2 ^ 64
       pub settled : is_settled after

@@ -1,8 +1,8 @@
 -- The queues of workers, and how they change.
-use Rattle.std.specs.Prelude.{◌≡◌, ℕ, ◌+◌, ◌<◌, ◌≤◌, ◌^◌, List, [], map, length, slice_set, slice_index}
-use Rattle.napt_dispatch.specs.declared.dispatcher.held.Held.{Held}
-use Rattle.napt_dispatch.specs.declared.dispatcher.held.Owed.{Owed}
-use Rattle.napt_dispatch.specs.Queues.{pushed, Popped, many_in}
+use Rattle.std.specs.Prelude.{◌≡◌, ℕ, ◌+◌, ◌<◌, ◌≤◌, ◌^◌, List, [], ◌∷◌, ◌++◌, map, length, slice_set, slice_index_or}
+use Rattle.std.specs.List.{sum_by}
+use Rattle.napt_dispatch.specs.declared.dispatcher.holding.Held.{Held}
+use Rattle.napt_dispatch.specs.declared.dispatcher.holding.Owed.{Owed}
 
 -- one worker: the number of legs offered, the legs not answered yet, and what is held
 pub record QueueState : Type 0 where
@@ -14,45 +14,49 @@ pub record QueueState : Type 0 where
 abbrev pub unused : QueueState
 unused = record { offered = 0; owed = []; held = [] }
 
--- the same parts of all workers
+-- the queues of worker w
+abbrev pub queue_of : List QueueState → ℕ → QueueState
+queue_of queues w = slice_index_or queues w unused
+
+-- the number of legs offered to each worker
 abbrev pub counts_in : List QueueState → List ℕ
 counts_in queues = map (λ q. q.offered) queues
 
-abbrev pub owed_in : List QueueState → List (List Owed)
-owed_in queues = map (λ q. q.owed) queues
+-- how many legs are not answered yet, and how much is held, at all workers
+abbrev pub many_owed : List QueueState → ℕ
+many_owed queues = sum_by (λ q. length q.owed) queues
 
-abbrev pub held_in : List QueueState → List (List Held)
-held_in queues = map (λ q. q.held) queues
+abbrev pub many_held : List QueueState → ℕ
+many_held queues = sum_by (λ q. length q.held) queues
 
 -- the count of legs and placeholders held is right, and there is a worker
 pub record AreCounted (many : ℕ) (queues : List QueueState) : Type 0 where
-  pub counted : many ≡ many_in (held_in queues)
+  pub counted : many ≡ many_held queues
   pub few : many ≤ 65536
   pub some : 0 < length queues
   pub numbered : length queues < 2 ^ 32
 
+-- x is the first element
+abbrev pub BeginsWith : {X : Type 0} → X → List X → Type 0
+BeginsWith {X} x xs = (rest : List X) × (xs ≡ x ∷ rest)
+
 -- STEPS
 
--- this is held now, and nothing else changed
-pub record Holds (held : List (List Held)) (queues later : List QueueState) : Type 0 where
-  pub held_is : held_in later ≡ held
-  pub counts_stay : counts_in later ≡ counts_in queues
-  pub owed_stays : owed_in later ≡ owed_in queues
+-- more is held, behind everything else or in front of it
+abbrev pub with_last : Held → QueueState → QueueState
+with_last held q = record q { held = q.held ++ held ∷ [] }
 
--- the first leg or placeholder held for worker w was taken out
-pub record Releases (w : ℕ) (first : Held) (queues later : List QueueState) : Type 0 where
-  pub popped : Popped w first (held_in queues) (held_in later)
-  pub counts_stay : counts_in later ≡ counts_in queues
-  pub owed_stays : owed_in later ≡ owed_in queues
+abbrev pub with_first : Held → QueueState → QueueState
+with_first held q = record q { held = held ∷ q.held }
 
--- one more leg was offered to worker w and awaits its answer
-pub record Owes (w : ℕ) (owed : Owed) (queues later : List QueueState) : Type 0 where
-  pub counts_are : counts_in later ≡ slice_set (counts_in queues) w (slice_index (counts_in queues) w + 1)
-  pub owed_is : owed_in later ≡ pushed w owed (owed_in queues)
-  pub held_stays : held_in later ≡ held_in queues
+-- one more leg was offered, and awaits its answer
+abbrev pub with_offer : Owed → QueueState → QueueState
+with_offer owed q = record q { offered = q.offered + 1; owed = q.owed ++ owed ∷ [] }
 
--- worker w answered its oldest leg
-pub record Settles (w : ℕ) (owed : Owed) (queues later : List QueueState) : Type 0 where
-  pub popped : Popped w owed (owed_in queues) (owed_in later)
-  pub counts_stay : counts_in later ≡ counts_in queues
-  pub held_stays : held_in later ≡ held_in queues
+-- a leg awaits its answer before all others
+abbrev pub with_oldest : Owed → QueueState → QueueState
+with_oldest owed q = record q { owed = owed ∷ q.owed }
+
+-- the queues of worker w change, and no other
+abbrev pub with_queue : ℕ → (QueueState → QueueState) → List QueueState → List QueueState
+with_queue w change queues = slice_set queues w (change (queue_of queues w))

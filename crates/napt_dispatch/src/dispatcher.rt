@@ -11,15 +11,15 @@ ghost use Rattle.napt_dispatch.specs.Dispatch.{started, IsDispatchFault, IsDispa
 ghost use Rattle.napt_dispatch.specs.Passing.{EndsBy};
 ghost use Rattle.napt_dispatch.specs.QueueStates.{unused};
 
-mod halted;
-mod held;
 mod holding;
 mod offering;
+mod placing;
 mod progress;
 mod reading;
 mod run_progress;
 mod spares;
 mod taking;
+mod vectors;
 mod worker_queue;
 mod worker_queues;
 
@@ -27,7 +27,7 @@ use crate::Worker;
 use crate::collected::Collected;
 use crate::departures::Departures;
 use crate::inputs::copies;
-use halted::Halted;
+use crate::stopped::Halted;
 use napt_config::Config;
 use napt_pool::{Gate, Machine, Pool};
 use napt_sequential::{Arrivals, Input, Outcome, RunFault};
@@ -35,6 +35,7 @@ use reading::EndOfInputs;
 use run_progress::RunProgress;
 use std::alloc::{AllocError, Global};
 use std::sync::Wait;
+use vectors::Vectors;
 use worker_queues::WorkerQueues;
 
 /// The dispatcher's state: the queues of each worker and the progress of each input.
@@ -45,13 +46,13 @@ pub(crate) struct Dispatcher {
     ring: usize,
     queues: WorkerQueues,
     progress: RunProgress,
+    vectors: Vectors,
 }
 
 impl Dispatcher {
     /// The state before the first input, for a number of workers and the number of legs that fit in a ring.
     fn new(alloc: Global, workers: u32, ring: usize) -> Result<Dispatcher, AllocError>
         requires { 0 < workers }
-        ensures ring { IfOk result (λ d. d.ring ≡ ring) }
         ensures queues { IfOk result (λ d. d.queues ≡ replicate workers unused) }
         ensures left { IfOk result (λ d. d.progress.left ≡ []) }
         ensures under_way { IfOk result (λ d. d.progress.under_way ≡ []) }
@@ -61,6 +62,7 @@ impl Dispatcher {
             ring,
             queues: WorkerQueues::new(alloc, workers)?,
             progress: RunProgress::new(alloc),
+            vectors: Vectors::new(alloc),
         })
     }
 }

@@ -5,11 +5,13 @@ mod capture;
 mod cause;
 mod config;
 mod expected;
+mod inside;
 mod part;
 mod reason;
 mod spelling;
 
-pub use crate::reasons::capture::capture_reasons;
+pub use crate::reasons::capture::{Splitting, capture_reasons};
 pub use crate::reasons::cause::{advice, meaning};
 pub use crate::reasons::config::config_reasons;
+pub use crate::reasons::inside::inside_prefixes;
 pub use crate::reasons::reason::Reason;

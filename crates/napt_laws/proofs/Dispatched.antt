@@ -5,7 +5,7 @@ use Rattle.napt_wire.specs.declared.Way.TheVariants.{Incoming}
 use Rattle.napt_wire.specs.Fields.{destination, kind}
 use Rattle.napt_wire.specs.Laws.{SourcesLeaveDestinations, ErrorsLeaveDestinations}
 use Rattle.napt_config.specs.Rules.{Rules, place_of}
-use Rattle.napt_rules.specs.Prelude.{Binding, Each, of, Acted, act, Arrival, Act, Course, outcome_of, follow_by, run_from, run, Kept, kept_after, kept_answer, kept_replies, answers_at}
+use Rattle.napt_rules.specs.Prelude.{Through, Binding, Each, of, Acted, act, Arrival, Act, Course, outcome_of, follow_by, run_from, run, Kept, kept_after, kept_answer, kept_replies, answers_at}
 use Rattle.napt_laws.proofs.Lists.{each_weaker, each_append}
 use Rattle.napt_rules.specs.declared.Leg.{Leg}
 use Rattle.napt_rules.specs.declared.Answer.{Answer}
@@ -58,14 +58,14 @@ end_told (ToInside packet) = refl
 end_told (Onward place packet) = tt
 end_told (Dropped cause) = refl
 
-follow_tells : (rules : Rules) (address : ℕ) (leg : Leg) (list : List Binding) (end : End) →
-    (let first : Acted = record { end = end; list = list } in
+follow_tells : (rules : Rules) (address : ℕ) (leg : Leg) (through : Option Through) (list : List Binding) (end : End) →
+    (let first : Acted = record { end = end; through = through; list = list } in
     Each (TellsHere leg.number (follow_by rules address leg first end).outcomes)
     (follow_by rules address leg first end).acts)
-follow_tells rules address leg list (ToOutside packet) = ((refl, refl), tt)
-follow_tells rules address leg list (ToInside packet) = ((refl, refl), tt)
-follow_tells rules address leg list (Dropped cause) = ((refl, refl), tt)
-follow_tells rules address leg list (Onward place packet) =
+follow_tells rules address leg through list (ToOutside packet) = ((refl, refl), tt)
+follow_tells rules address leg through list (ToInside packet) = ((refl, refl), tt)
+follow_tells rules address leg through list (Dropped cause) = ((refl, refl), tt)
+follow_tells rules address leg through list (Onward place packet) =
     let next : Leg = record leg { way = Incoming; packet = packet } in
     ((refl, tt), ((refl, end_told (act rules (destination packet).address next list).end), tt))
 

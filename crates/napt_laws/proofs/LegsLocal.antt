@@ -23,6 +23,7 @@ use Rattle.napt_laws.proofs.Acts.{of_act}
 -- what a leg gives on the one and on the other
 pub record ActsAlike (rules : Rules) (address now : ℕ) (own whole : Acted) : Type 0 where
   pub end : own.end ≡ whole.end
+  pub through : own.through ≡ whole.through
   pub list : Agrees rules address now own.list whole.list
 
 module _ (rules : Rules) (address : ℕ) (leg : Leg) (own list : List Binding) (same : purge rules.timers leg.now own
@@ -33,11 +34,12 @@ module _ (rules : Rules) (address : ℕ) (leg : Leg) (own list : List Binding) (
       let packet : Sent = sent_of protocol flags leg.now leg.packet in
       let whole : Out = step_out rules.timers rules.quota address packet list in
       let e : step_out rules.timers rules.quota address packet own
-      ≡ record { number = whole.number; list = of address whole.list } =
+      ≡ record { number = whole.number; through = whole.through; list = of address whole.list } =
       ap (out_purged rules.quota address packet) same
       ∙ out_local rules.quota address packet (purge rules.timers leg.now list) in
       record {
         end = ap (λ (o : Out). end_out rules address leg.packet o.number) e;
+        through = ap (λ (o : Out). o.through) e;
         list = record { same = ap (λ (o : Out). purge rules.timers leg.now o.list) e };
       }
 
@@ -47,11 +49,12 @@ module _ (rules : Rules) (address : ℕ) (leg : Leg) (own list : List Binding) (
       let packet : Received = received_of protocol flags leg.now leg.packet in
       let whole : In = step_in rules.timers (inbound_of rules) address packet list in
       let e : step_in rules.timers (inbound_of rules) address packet own
-      ≡ record { inside = whole.inside; list = of address whole.list } =
+      ≡ record { inside = whole.inside; through = whole.through; list = of address whole.list } =
       ap (in_purged (inbound_of rules) address packet) same
       ∙ in_local (inbound_of rules) address packet (purge rules.timers leg.now list) in
       record {
         end = ap (λ (o : In). end_in leg.packet o.inside) e;
+        through = ap (λ (o : In). o.through) e;
         list = record { same = ap (λ (o : In). purge rules.timers leg.now o.list) e };
       }
 
@@ -69,6 +72,7 @@ module _ (rules : Rules) (address : ℕ) (leg : Leg) (own list : List Binding) (
         ∙ find_filter (λ b. is_at address b.row) (λ b.
         same_protocol inner.protocol b.row.protocol && same_endpoint inner.destination b.row.inside)
         (purge rules.timers leg.now list));
+    through = refl;
     list = record { same = same ∙ of_purge rules.timers leg.now address list };
   }
   alike_by Incoming (ErrorOf inner) = record {
@@ -77,6 +81,7 @@ module _ (rules : Rules) (address : ℕ) (leg : Leg) (own list : List Binding) (
         ∙ find_filter (λ b. is_at address b.row) (λ b.
         same_protocol inner.protocol b.row.protocol && eqb b.row.external.number inner.source.number)
         (purge rules.timers leg.now list));
+    through = refl;
     list = record { same = same ∙ of_purge rules.timers leg.now address list };
   }
 

@@ -28,6 +28,7 @@ pub mod LegLaws
 pub mod Foreseen
 pub mod Onward
 pub mod LegsLocal
+pub mod Through
 -- RUNS
 
 pub mod AnyStep

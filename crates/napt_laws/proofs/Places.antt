@@ -1,5 +1,5 @@
 -- Second legs by the number of their input.
-use Rattle.std.proofs.Common.{◌≡◌, ◌≢◌, ℕ, ◌+◌, ◌≤◌, ◌==◌, max, Bool, true, false, cond, List, [], ◌∷◌, ◌++◌, length, map, Ok, refl, sym, ◌∙◌, ap, subst, arith, append_assoc, append-nil}
+use Rattle.std.proofs.Common.{◌≡◌, ◌≢◌, ℕ, ◌+◌, ◌≤◌, ◌==◌, max, Bool, true, false, cond, Option, List, [], ◌∷◌, ◌++◌, length, map, Ok, refl, sym, ◌∙◌, ap, subst, arith, append_assoc, append-nil}
 use Rattle.std.proofs.lemmas.Bool.{eq-eqb, ne_eqb}
 use Rattle.std.proofs.lemmas.List.{map-append}
 use Rattle.std.proofs.lemmas.List.Elements.{filter-append}
@@ -8,7 +8,7 @@ use Rattle.napt_wire.specs.declared.Way.TheVariants.{Outgoing}
 use Rattle.napt_wire.specs.Fields.{destination}
 use Rattle.napt_wire.specs.Packet.{IsPacket}
 use Rattle.napt_config.specs.Rules.{Rules}
-use Rattle.napt_rules.specs.Prelude.{Binding, Each, opening, way_from, served_at, Acted, act, Arrival, admission, Act, Course, follow_by, run, last_clock, acts_at, legs_at}
+use Rattle.napt_rules.specs.Prelude.{Through, Binding, Each, opening, way_from, served_at, Acted, act, Arrival, admission, Act, Course, follow_by, run, last_clock, acts_at, legs_at}
 use Rattle.napt_laws.proofs.Lists.{each_weaker, each_append}
 use Rattle.napt_rules.specs.declared.Leg.{Leg}
 use Rattle.napt_rules.specs.declared.End.{End}
@@ -45,14 +45,14 @@ abbrev SecondsHere : ℕ → List Act → Act → Type 0
 SecondsHere number acts a = (a.leg.number ≡ number) × (a.leg.way ≡ Outgoing →
     map (λ (x : Act). x.leg) (all_but_first acts) ≡ second_of a.leg a.end)
 
-follow_seconds : (rules : Rules) (address : ℕ) (leg : Leg) (list : List Binding) (end : End) →
-    (let first : Acted = record { end = end; list = list } in
+follow_seconds : (rules : Rules) (address : ℕ) (leg : Leg) (through : Option Through) (list : List Binding)
+    (end : End) → (let first : Acted = record { end = end; through = through; list = list } in
     Each (SecondsHere leg.number (follow_by rules address leg first end).acts)
     (follow_by rules address leg first end).acts)
-follow_seconds rules address leg list (ToOutside packet) = ((refl, λ way. refl), tt)
-follow_seconds rules address leg list (ToInside packet) = ((refl, λ way. refl), tt)
-follow_seconds rules address leg list (Dropped cause) = ((refl, λ way. refl), tt)
-follow_seconds rules address leg list (Onward place packet) = ((refl, λ way. refl), ((refl, λ way. cc), tt))
+follow_seconds rules address leg through list (ToOutside packet) = ((refl, λ way. refl), tt)
+follow_seconds rules address leg through list (ToInside packet) = ((refl, λ way. refl), tt)
+follow_seconds rules address leg through list (Dropped cause) = ((refl, λ way. refl), tt)
+follow_seconds rules address leg through list (Onward place packet) = ((refl, λ way. refl), ((refl, λ way. cc), tt))
 
 -- A RUN
 
@@ -147,7 +147,8 @@ at_seam P (y ∷ xs) x rest h = at_seam P xs x rest h.1
 
 -- a first leg comes first
 head_by : (rules : Rules) (address : ℕ) (leg : Leg) (first : Acted) (e : End) → (tail : List Act)
-    × ((follow_by rules address leg first e).acts ≡ record { address = address; leg = leg; end = first.end } ∷ tail)
+    × ((follow_by rules address leg first e).acts
+    ≡ record { address = address; leg = leg; end = first.end; through = first.through } ∷ tail)
 head_by rules address leg first (ToOutside packet) = ([], refl)
 head_by rules address leg first (ToInside packet) = ([], refl)
 head_by rules address leg first (Dropped cause) = ([], refl)

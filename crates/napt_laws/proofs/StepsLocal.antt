@@ -29,20 +29,23 @@ module _ (quota : Option ℕ) (address : ℕ) (packet : Sent) where
   out_made_local : (list : List Binding) (granted : Result ℕ Cause) → out_made (of address list) address packet granted
       ≡ record {
         number = (out_made list address packet granted).number;
+        through = (out_made list address packet granted).through;
         list =
             of address (out_made list address packet granted).list;
       }
   out_made_local list (Err cause) = refl
-  out_made_local list (Ok n) = ap (λ (l : List Binding). record { number = Ok n; list = l })
+  out_made_local list (Ok n) = ap (λ (l : List Binding). record (out_made list address packet (Ok n)) { list = l })
       (sym (of_push address list (sent_by packet (fresh address packet n)) (eq-eqb address address refl)))
 
   out_found_local : (list : List Binding) (found : Option Binding) →
       out_found quota (of address list) address packet found ≡ record {
         number = (out_found quota list address packet found).number;
+        through = (out_found quota list address packet found).through;
         list =
             of address (out_found quota list address packet found).list;
       }
-  out_found_local list (Some b) = ap (λ (l : List Binding). record { number = Ok b.row.external.number; list = l })
+  out_found_local list (Some b) =
+      ap (λ (l : List Binding). record (out_found quota list address packet (Some b)) { list = l })
       (sym (filter_change (λ b. is_at address b.row) (λ b. same_protocol packet.protocol b.row.protocol && same_endpoint
       packet.inside b.row.inside) (sent_by packet) list (λ b. refl)))
   out_found_local list None =
@@ -52,6 +55,7 @@ module _ (quota : Option ℕ) (address : ℕ) (packet : Sent) where
   -- an outgoing leg needs the bindings of its address alone
   pub out_local : (list : List Binding) → out_purged quota address packet (of address list) ≡ record {
     number = (out_purged quota address packet list).number;
+    through = (out_purged quota address packet list).through;
     list =
         of address (out_purged quota address packet list).list;
   }
@@ -80,9 +84,11 @@ module _ (inbound : Inbound) (address : ℕ) (packet : Received) where
   in_passed_local : (list : List Binding) (b : Binding) (passes : Bool) →
       in_passed inbound (of address list) address packet b passes ≡ record {
         inside = (in_passed inbound list address packet b passes).inside;
+        through = (in_passed inbound list address packet b passes).through;
         list = of address (in_passed inbound list address packet b passes).list;
       }
-  in_passed_local list b true = ap (λ (l : List Binding). record { inside = Ok b.row.inside; list = l })
+  in_passed_local list b true =
+      ap (λ (l : List Binding). record (in_passed inbound list address packet b true) { list = l })
       (sym (filter_change (λ b. is_at address b.row)
       (λ b. same_protocol packet.protocol b.row.protocol && eqb b.row.external.number
       packet.number)
@@ -92,6 +98,7 @@ module _ (inbound : Inbound) (address : ℕ) (packet : Received) where
   in_found_local : (list : List Binding) (found : Option Binding) →
       in_found inbound (of address list) address packet found ≡ record {
         inside = (in_found inbound list address packet found).inside;
+        through = (in_found inbound list address packet found).through;
         list =
             of address (in_found inbound list address packet found).list;
       }
@@ -101,6 +108,7 @@ module _ (inbound : Inbound) (address : ℕ) (packet : Received) where
   -- an incoming leg needs the bindings of its address alone
   pub in_local : (list : List Binding) → in_purged inbound address packet (of address list) ≡ record {
     inside = (in_purged inbound address packet list).inside;
+    through = (in_purged inbound address packet list).through;
     list =
         of address (in_purged inbound address packet list).list;
   }

@@ -1,3 +1,4 @@
 pub mod Agreeing
 pub mod Dispatching
 pub mod Places
+pub mod Through

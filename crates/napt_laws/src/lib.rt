@@ -11,7 +11,7 @@ mod runs;
 mod steps;
 
 pub use dispatching::{places_stand_for_legs, right_answers};
-pub use legs::{legs_are_local, legs_keep_to_their_way};
+pub use legs::{legs_are_local, legs_keep_to_their_way, legs_say_their_binding};
 pub use numbers::candidates_are_the_class;
 pub use runs::{runs_are_sound, runs_keep_the_quota, translators_are_local};
 pub use steps::{

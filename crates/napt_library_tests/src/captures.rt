@@ -28,7 +28,7 @@ fn read(alloc: Global, bytes: &[u8]) -> Result<Capture, CaptureFault> {
 fn assert_record(rt: &impl Abort, record: &Record, time: u64, bytes: &[u8]) {
     assert_eq!(rt; record.time, time);
     assert_eq!(rt; record.bytes.as_slice(), bytes);
-    assert_eq!(rt; record.original, 30);
+    assert_eq!(rt; record.original as usize, bytes.len());
 }
 
 /// A capture of the one packet at a time, or one whose only record is cut.
@@ -444,6 +444,18 @@ fn read_back(alloc: Global, records: &[Record]) -> Result<Capture, Fail>
     let mut text = Vec::new(alloc);
     write_capture(&mut Watched::new(&mut text), records)?;
     Ok(read(alloc, &text)?)
+}
+
+/// A record without bytes is one like any other.
+#[test]
+fn record_without_bytes_reads_back(rt: HostRuntime) -> Result<(), Fail> {
+    let records = [record_of(rt.alloc(), 7, &[])?];
+    let capture = read_back(rt.alloc(), &records)?;
+    assert_eq!(rt; (capture.records.len(), capture.cut), (1, false));
+    for record in &capture.records {
+        assert_record(&rt, record, 7, &[]);
+    }
+    Ok(())
 }
 
 #[test]

@@ -7,7 +7,7 @@ use Rattle.clap.specs.declared.error.kind.ErrorKind.{ErrorKind}
 use Rattle.clap.specs.declared.error.kind.ErrorKind.TheVariants as kind
 use Rattle.clap.specs.declared.error.Error.{Error}
 use Rattle.clap.specs.declared.parser.matches.ArgMatches.{ArgMatches}
-use Rattle.napt_program.specs.CommandLine.{files, files_in, help, line_by, line_of_words, mistake, napt_app}
+use Rattle.napt_program.specs.CommandLine.{files, files_in, help, line_by, line_of_words, mistake, napt_app, version}
 use Rattle.napt_program.proofs.OneKind.{one_fault}
 
 pub napt_is_simple : is_simple napt_app ≡ true
@@ -57,18 +57,28 @@ help_line app words e is fails shown =
     let only = fault_is app words e is fails (λ m. cc) in
     rw (only, shown) refl
 
-mistake_by : (k : ErrorKind) (rows : List Row) → k ≢ kind.DisplayHelp → line_by (k ∷ []) rows ≡ mistake
-mistake_by kind.DisplayHelp rows h = absurd (h refl)
-mistake_by _ rows h = refl
+-- and one at which it shows its version asks for that
+pub version_line : (app : App) (words : List Text) (e : Error) → app ≡ napt_app
+    → (is_simple_and_free app ≡ true → HasKind (fault_of app words) e) → kind_of e ≡ kind.DisplayVersion
+    → line_of_words words ≡ version
+unfolding line_of_words
+version_line app words e is fails shown =
+    let only = fault_is app words e is fails (λ m. cc) in
+    rw (only, shown) refl
+
+mistake_by : (k : ErrorKind) (rows : List Row) → k ≢ kind.DisplayHelp → k ≢ kind.DisplayVersion
+    → line_by (k ∷ []) rows ≡ mistake
+mistake_by kind.DisplayHelp rows h v = absurd (h refl)
+mistake_by kind.DisplayVersion rows h v = absurd (v refl)
+mistake_by _ rows h v = refl
 
 -- and one that it refuses for another cause than memory is a mistake
 pub mistaken_line : (app : App) (words : List Text) (e : Error) → app ≡ napt_app
-    → (is_simple_and_free app ≡ true → HasKind (fault_of app words) e) → kind_of e ≢ kind.DisplayHelp →
-    kind_of e ≢ kind.OutOfMemory
-    → line_of_words words ≡ mistake
+    → (is_simple_and_free app ≡ true → HasKind (fault_of app words) e) → kind_of e ≢ kind.DisplayHelp
+    → kind_of e ≢ kind.DisplayVersion → kind_of e ≢ kind.OutOfMemory → line_of_words words ≡ mistake
 unfolding line_of_words
-mistaken_line app words e is fails shown memory =
-    rw (fault_is app words e is fails memory) (mistake_by (kind_of e) (matches_of napt_app words) shown)
+mistaken_line app words e is fails no_help no_version memory =
+    rw (fault_is app words e is fails memory) (mistake_by (kind_of e) (matches_of napt_app words) no_help no_version)
 
 -- the files of the matches, as `get_str` reads them
 pub files_read : (m : ArgMatches) (config inside outside to_outside to_inside report : Option Text)

@@ -1,12 +1,15 @@
 -- What stops a program: its arguments, what it opens, or its run.
 use Rattle.std.specs.Prelude.{◌≡◌, ◌||◌, Bool, true, false, not, is_some}
-use Rattle.napt_program.specs.CommandLine.{Files, Line, files, help, mistake}
+use Rattle.napt_program.specs.CommandLine.{Files, Line, files, help, mistake, version}
 use Rattle.napt_program.specs.declared.role.Role.{Role}
 use Rattle.napt_program.specs.declared.role.Role.TheVariants as role
 use Rattle.napt_program.specs.declared.stop.Stop.{Stop}
 use Rattle.napt_program.specs.declared.stop.Stop.TheVariants as stop
 use Rattle.napt_program.specs.declared.streams.Streams.{Streams}
 use Rattle.napt_records.specs.Faults.{tells_shut_gate}
+use Rattle.napt_records.specs.declared.Fault.{Fault}
+use Rattle.napt_records.specs.declared.Fault.TheVariants.{Capture}
+use Rattle.napt_wire.specs.declared.Side.TheVariants.{Outside}
 
 -- what may fail as a file: one that is named, or a closed standard stream
 abbrev pub can_fail : Streams → Files → Role → Bool
@@ -17,15 +20,20 @@ can_fail streams named role.ToOutside = is_some named.to_outside || not streams.
 can_fail streams named role.ToInside = is_some named.to_inside
 can_fail streams named role.Report = is_some named.report
 
+-- a fault of the outside capture comes of one that is named
+abbrev pub IsOfGiven : Files → Fault → Type 0
+IsOfGiven named (Capture Outside fault) = is_some named.outside ≡ true
+IsOfGiven named other = Unit {0}
+
 -- what stops a run over these files, under a gate that always opens
 abbrev pub IsRunStop : Streams → Files → Stop → Type 0
 IsRunStop streams named stop.LineMemory = Unit {0}
 IsRunStop streams named (stop.Config fault) = Unit {0}
 IsRunStop streams named (stop.File role) = can_fail streams named role ≡ true
-IsRunStop streams named (stop.Run fault) = tells_shut_gate fault ≡ false
+IsRunStop streams named (stop.Run fault) = (tells_shut_gate fault ≡ false) × IsOfGiven named fault
 IsRunStop streams named other = ⊥
 
--- the help text could not be made or written
+-- the text of the help or the version could not be made or written
 abbrev pub IsHelpStop : Stop → Type 0
 IsHelpStop stop.LineMemory = Unit {0}
 IsHelpStop stop.Help = Unit {0}
@@ -40,6 +48,7 @@ IsUsageStop other = ⊥
 abbrev pub IsLineStop : Streams → Line → Stop → Type 0
 IsLineStop streams (files named) s = IsRunStop streams named s
 IsLineStop streams help s = IsHelpStop s
+IsLineStop streams version s = IsHelpStop s
 IsLineStop streams mistake s = IsUsageStop s
 
 -- the arguments were understood

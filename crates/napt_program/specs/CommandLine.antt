@@ -1,11 +1,11 @@
 -- What a command line means, by clap's own specification.
-use Rattle.std.specs.Prelude.{List, [], ◌∷◌, Bool, Option, Some, codes, is_some, option_map, string_bytes}
+use Rattle.std.specs.Prelude.{List, [], ◌∷◌, Bool, true, Option, Some, codes, is_some, option_map, string_bytes}
 use Rattle.clap.specs.Words.{App, Kinds, Row, Rule, Text, fault_of, first_of, matches_of, new_app, new_rule, with_rule}
 use Rattle.clap.specs.declared.builder.action.ArgAction.TheVariants.{Set}
-use Rattle.clap.specs.declared.error.kind.ErrorKind.TheVariants.{DisplayHelp}
+use Rattle.clap.specs.declared.error.kind.ErrorKind.TheVariants.{DisplayHelp, DisplayVersion}
 use Rattle.napt_program.specs.declared.options.Options.{Options}
 use Rattle.napt_program.specs.declared.options.LineFault.{LineFault}
-use Rattle.napt_program.specs.declared.options.LineFault.TheVariants.{Help}
+use Rattle.napt_program.specs.declared.options.LineFault.TheVariants.{Help, Version}
 use Rattle.napt_program.specs.declared.role.Role.{Role}
 use Rattle.napt_program.specs.declared.role.Role.TheVariants as role
 
@@ -23,9 +23,13 @@ abbrev pub option_names : List Text
 option_names = codes "config" ∷ codes "inside" ∷ codes "outside" ∷ codes "to-outside" ∷ codes "to-inside"
     ∷ codes "report" ∷ []
 
--- the program's command; clap adds `-h` and `--help` to it
+-- the command with a version
+abbrev pub with_version : App → App
+with_version a = record a { top = record a.top { has_version = true } }
+
+-- the program's command; clap adds `-h` and `--help`, `-V` and `--version` to it
 abbrev pub napt_app : App
-napt_app = with_options (new_app (codes "napt")) option_names
+napt_app = with_options (with_version (new_app (codes "napt"))) option_names
 
 -- the file that each option names
 pub record Files : Type 0 where
@@ -57,16 +61,18 @@ files_in rows = record {
   report = first_of (codes "report") rows;
 }
 
--- what a command line means: files, a request for help, or a mistake
+-- what a command line means: files, a request for help or for the version, or a mistake
 pub data Line : Type 0 where
   files : Files → Line
   help : Line
+  version : Line
   mistake : Line
 
--- clap finds no fault in arguments that it accepts, and reports help as a fault of that kind
+-- clap finds no fault in arguments that it accepts, and reports help and the version as faults of those kinds
 abbrev pub line_by : Kinds → List Row → Line
 line_by [] rows = files (files_in rows)
 line_by (DisplayHelp ∷ more) rows = help
+line_by (DisplayVersion ∷ more) rows = version
 line_by (other ∷ more) rows = mistake
 
 -- the arguments begin with the program's name
@@ -94,3 +100,7 @@ is_named options role.Report = is_some options.report
 abbrev pub IsHelp : LineFault → Type 0
 IsHelp (Help text) = Unit {0}
 IsHelp _ = ⊥
+
+abbrev pub IsVersion : LineFault → Type 0
+IsVersion (Version text) = Unit {0}
+IsVersion _ = ⊥

@@ -1,9 +1,10 @@
 -- What contracts see of the devices that are made over files.
-use Rattle.std.specs.Prelude.{◌≡◌, ℕ, List, Option, IfSome, option_map}
+use Rattle.std.specs.Prelude.{◌≡◌, ℕ, List, Option, option_map}
 use Rattle.std.specs.Io.Buffered.{reader_remaining, writer_contents}
 use Rattle.std.specs.declared.io.buffered.BufReader.{BufReader}
 use Rattle.std.specs.declared.io.buffered.BufWriter.{BufWriter}
-use Rattle.either.specs.Either.{either}
+use Rattle.either.specs.Either.{either, left}
+use Rattle.either.specs.declared.Either.{Either}
 use Rattle.napt_capture.specs.Watched.{device_of, failed_of}
 use Rattle.napt_capture.specs.declared.watched.Watched.{Watched}
 use Rattle.napt_program.specs.declared.devices.Devices.{Devices}
@@ -21,13 +22,17 @@ bytes_left remaining made = reader_remaining remaining (device_of made)
 abbrev pub bytes_written : {D A : Type 0} → (D → Bytes) → Watched (BufWriter D A) → Bytes
 bytes_written contents made = writer_contents contents (device_of made)
 
+-- how many calls of a device failed, or of what stands for it and never fails
+abbrev pub failed_in : {D E : Type 0} → Either (Watched D) E → ℕ
+failed_in device = either failed_of (λ other. 0) device
+
 -- no call of a device failed yet
 abbrev pub AreFresh : {S T F : Type 0} → Devices S T F → Type 0
 AreFresh devices = (failed_of devices.inside ≡ 0)
-    × IfSome devices.outside (λ source. failed_of source ≡ 0)
+    × (failed_in devices.outside ≡ 0)
     × (failed_of devices.to_outside ≡ 0)
-    × IfSome devices.to_inside (λ sink. failed_of sink ≡ 0)
-    × IfSome devices.report (λ sink. failed_of sink ≡ 0)
+    × (failed_in devices.to_inside ≡ 0)
+    × (failed_in devices.report ≡ 0)
 
 -- each device tells or shows what its file does: by what standard input tells, standard output shows, and a file tells
 -- and shows
@@ -35,7 +40,10 @@ abbrev pub AreOver : {S T F : Type 0} → (S → Bytes) → (T → Bytes) → (F
     → RunFiles S T F → Devices S T F → Type 0
 AreOver input output remaining contents files devices =
     (bytes_left (either input remaining) devices.inside ≡ either input remaining files.inside)
-    × (option_map (bytes_left remaining) devices.outside ≡ option_map remaining files.outside)
+    × (option_map (bytes_left (either input remaining)) (left devices.outside)
+    ≡ option_map (either input remaining) files.outside)
     × (bytes_written (either output contents) devices.to_outside ≡ either output contents files.to_outside)
-    × (option_map (bytes_written contents) devices.to_inside ≡ option_map contents files.to_inside)
-    × (option_map (bytes_written contents) devices.report ≡ option_map contents files.report)
+    × (option_map (bytes_written (either output contents)) (left devices.to_inside)
+    ≡ option_map (either output contents) files.to_inside)
+    × (option_map (bytes_written (either output contents)) (left devices.report)
+    ≡ option_map (either output contents) files.report)

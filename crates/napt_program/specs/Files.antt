@@ -1,25 +1,27 @@
 -- The result of opening the files of a run.
-use Rattle.std.specs.Prelude.{◌≡◌, true, not, is_some}
+use Rattle.std.specs.Prelude.{◌≡◌, true, option_map}
 use Rattle.either.specs.Either.{is_left}
-use Rattle.napt_program.specs.CommandLine.{is_named}
+use Rattle.napt_program.specs.CommandLine.{Files, is_named}
+use Rattle.napt_program.specs.Standard.{is_dash, is_standard}
 use Rattle.napt_program.specs.declared.options.Options.{Options}
 use Rattle.napt_program.specs.declared.files.InputFiles.{InputFiles}
 use Rattle.napt_program.specs.declared.files.RunFiles.{RunFiles}
+use Rattle.napt_program.specs.declared.role.Role.TheVariants as role
 use Rattle.napt_program.specs.declared.stop.Stop.{Stop}
 use Rattle.napt_program.specs.declared.stop.Stop.TheVariants as stop
 
--- exactly the files that are named are there, and a standard stream in place of a capture that is not named
-abbrev pub AreOpen : {S T F : Type 0} → Options → RunFiles S T F → Type 0
-AreOpen options files = (is_left files.inside ≡ not (is_some options.inside))
-    × (is_some files.outside ≡ is_some options.outside)
-    × (is_left files.to_outside ≡ not (is_some options.to_outside))
-    × (is_some files.to_inside ≡ is_some options.to_inside)
-    × (is_some files.report ≡ is_some options.report)
+-- exactly the files that are named are there, a standard stream for `-`, and in place of a capture that is not named
+abbrev pub AreOpen : {S T F : Type 0} → Files → RunFiles S T F → Type 0
+AreOpen named files = (is_left files.inside ≡ is_standard named role.Inside)
+    × (option_map is_left files.outside ≡ option_map is_dash named.outside)
+    × (is_left files.to_outside ≡ is_standard named role.ToOutside)
+    × (option_map is_left files.to_inside ≡ option_map is_dash named.to_inside)
+    × (option_map is_left files.report ≡ option_map is_dash named.report)
 
 -- the same of the captures alone
-abbrev pub AreInputsOpen : {S F : Type 0} → Options → InputFiles S F → Type 0
-AreInputsOpen options files = (is_left files.inside ≡ not (is_some options.inside))
-    × (is_some files.outside ≡ is_some options.outside)
+abbrev pub AreInputsOpen : {S F : Type 0} → Files → InputFiles S F → Type 0
+AreInputsOpen named files = (is_left files.inside ≡ is_standard named role.Inside)
+    × (option_map is_left files.outside ≡ option_map is_dash named.outside)
 
 -- a fault of a file that is named
 abbrev pub IsFileStop : Options → Stop → Type 0

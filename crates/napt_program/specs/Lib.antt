@@ -5,5 +5,6 @@ pub mod Devices
 pub mod Files
 pub mod Place
 pub mod Places
+pub mod Standard
 pub mod Stop
 pub mod Streams

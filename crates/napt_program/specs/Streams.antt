@@ -1,13 +1,22 @@
 -- The standard streams that are needed.
-use Rattle.std.specs.Prelude.{◌&&◌, not, Option, Some, None, is_some, if◌then◌else◌}
-use Rattle.napt_program.specs.declared.options.Options.{Options}
+use Rattle.std.specs.Prelude.{◌&&◌, not, Option, Some, None, if◌then◌else◌}
+use Rattle.napt_program.specs.CommandLine.{Files}
+use Rattle.napt_program.specs.Standard.{is_standard, is_stream}
 use Rattle.napt_program.specs.declared.role.Role.{Role}
 use Rattle.napt_program.specs.declared.role.Role.TheVariants as role
 use Rattle.napt_program.specs.declared.streams.Streams.{Streams}
 
--- the first standard stream that is needed, because no file is named, and is closed
-abbrev pub closed_stream : Streams → Options → Option Role
-closed_stream streams options =
-    if not (is_some options.inside) && not streams.input then Some role.Inside
-    else (if not (is_some options.to_outside) && not streams.output then Some role.ToOutside
-    else None)
+-- the first output that needs standard output, if that is closed
+abbrev pub closed_output : Streams → Files → Option Role
+closed_output streams named =
+    if not streams.output && is_standard named role.ToOutside then Some role.ToOutside
+    else (if not streams.output && is_stream named role.ToInside then Some role.ToInside
+    else (if not streams.output && is_stream named role.Report then Some role.Report else None))
+
+-- the first standard stream that is needed and closed: its option is `-`, or it stands for an absent one
+abbrev pub closed_stream : Streams → Files → Option Role
+closed_stream streams named =
+    if not streams.input && is_stream named role.Config then Some role.Config
+    else (if not streams.input && is_standard named role.Inside then Some role.Inside
+    else (if not streams.input && is_stream named role.Outside then Some role.Outside
+    else closed_output streams named))

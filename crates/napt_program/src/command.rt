@@ -1,19 +1,23 @@
 //! The arguments of a program, and everything that it opens for its run.
 
-ghost use Rattle.std.specs.Prelude.{◌≡◌, ◌≢◌, ◌⊎◌, Err, IfErr, IfOk, IfSome};
+ghost use Rattle.std.specs.Prelude.{◌≡◌, ◌≢◌, ◌⊎◌, Err, IfErr, IfOk, IfSome, None, false, is_some, true};
 ghost use Rattle.std.specs.IoError.{error_kind};
 ghost use Rattle.napt_program.specs.CommandLine.{files_of};
 ghost use Rattle.napt_program.specs.Command.{IsRunStop};
+ghost use Rattle.napt_records.specs.Faults.{tells_shut_gate};
 ghost use Rattle.napt_program.specs.Devices.{AreFresh};
+ghost use Rattle.napt_program.specs.Standard.{standard_again};
 ghost use Rattle.napt_program.specs.Streams.{closed_stream};
 
 use crate::config_file::configuration;
 use crate::devices::{Devices, buffered};
 use crate::files::open_files;
 use crate::options::Options;
-use crate::stop::Stop;
+use crate::stop::{MEMORY, Stop};
 use crate::streams::{Streams, closed_stream};
 use napt_config::Config;
+use napt_records::Fault;
+use napt_wire::Side;
 use std::env::Env;
 use std::io::{ErrorKind, Printer, Write};
 use std::rt::Files;
@@ -51,22 +55,41 @@ pub struct Opened<S, T: Write + Drop, F: Write + Drop> {
 /// Opens the files of the options, or the standard streams in their place: first the configuration, then the captures and the
 /// outputs, each behind a buffer.
 ///
-/// Before anything is opened, fails with the role of a needed standard stream that is closed; then if the configuration is
-/// refused, or with the role of a file that cannot be opened or created.
+/// Before anything is opened, fails with the role of a needed standard stream that is closed, and then with that of an option
+/// that wants a standard stream which another has; then if the configuration is refused, or with the role of a file that
+/// cannot be opened or created.
 pub fn open<'r, R: Files + Input + Print + AllocGlobal>(
     rt: &'r R,
     streams: Streams,
     options: &Options,
-) -> Result<Opened<R::Reader, Printer<'r, R>, R::File>, Stop>
+) -> Result<Opened<Box<R::Reader>, Printer<'r, R>, R::File>, Stop>
     ensures fresh { IfOk result (λ opened. AreFresh opened.devices) }
     ensures stop { IfErr result (IsRunStop streams (files_of options.now)) }
-    ensures closed { IfSome (closed_stream streams options.now) (λ role.
+    ensures closed { IfSome (closed_stream streams (files_of options.now)) (λ role.
         result ≡ Err (Stop.File role)) }
+    ensures again { closed_stream streams (files_of options.now) ≡ None →
+        IfSome (standard_again (files_of options.now)) (λ role. result ≡ Err (Stop.File role)) }
 {
     if let Some(role) = closed_stream(streams, options) {
+        return Err(Stop::File(role));
+    }
+    if let Some(role) = options.standard_again() {
         return Err(Stop::File(role));
     }
     let config = configuration(rt, options.config.as_ref())?;
     let devices = buffered(rt.alloc(), open_files(rt, options)?)?;
     Ok(Opened { config, devices })
+}
+
+/// Why a program stops after a fault of its run. What stands for an outside capture that was not given has no fault: if it
+/// could not be read, memory was refused to the run.
+pub fn stop_of_run(options: &Options, fault: Fault) -> Stop
+    requires { tells_shut_gate fault ≡ false }
+    ensures stop { (streams : Streams) → IsRunStop streams (files_of options.now) result }
+    ensures given { is_some (files_of options.now).outside ≡ true → result ≡ Stop.Run fault }
+{
+    match fault {
+        Fault::Capture(Side::Outside, _) if options.outside.is_none() => MEMORY,
+        fault => Stop::Run(fault),
+    }
 }

@@ -3,10 +3,14 @@
 ghost use Rattle.std.specs.Prelude.{◌≡◌, ◌≢◌, ◌≤◌, IfErr, IfOk, IfSome, None, OnOk, is_some, length, true, vec_len};
 ghost use Rattle.std.specs.IoError.{error_kind};
 ghost use Rattle.napt_config.specs.Configured.{built_in};
+ghost use Rattle.either.specs.Either.{is_left};
 ghost use Rattle.napt_program.specs.Config.{IsConfigStop, IsReadingOf, IsUnread};
+ghost use Rattle.napt_program.specs.Standard.{is_dash};
 
+use crate::options::is_dash;
 use crate::role::Role;
 use crate::stop::Stop;
+use either::{Either, Left, Right};
 use napt_config::{Config, ConfigFault};
 use std::alloc::Global;
 use std::fs::File;
@@ -17,9 +21,12 @@ use std::rt::Files;
 /// The most bytes that a configuration may have, 64 MiB: an endless file is not read further.
 pub const MOST_BYTES: u64 = 67_108_864;
 
-/// The configuration in the file, or the built-in one if no file is named. Fails as `config_from` does, and with the file's
+/// The configuration in the file, that on standard input for `-`, or the built-in one if no file is named. Fails as `config_from` does, and with the file's
 /// role if it cannot be opened.
-pub fn configuration<R: Files + AllocGlobal>(rt: &R, path: Option<&String>) -> Result<Config, Stop>
+pub fn configuration<R: Files + Input + AllocGlobal>(
+    rt: &R,
+    path: Option<&String>,
+) -> Result<Config, Stop>
     ensures built_in { path.entry ≡ None → IfOk result (λ config. config ≡ built_in) }
     ensures stop { IfErr result (IsConfigStop (is_some path.entry)) }
 {
@@ -29,11 +36,17 @@ pub fn configuration<R: Files + AllocGlobal>(rt: &R, path: Option<&String>) -> R
     config_from(rt.alloc(), open_config(rt, path)?)
 }
 
-/// Opens a configuration for reading. Fails with its role, or with `ConfigFault::Memory` if memory ran out.
-pub fn open_config<R: Files>(rt: &R, path: &str) -> Result<R::File, Stop>
-    ensures { IfErr result IsUnread }
+/// Opens a configuration for reading, or standard input for `-`. Fails with its role, or with `ConfigFault::Memory` if memory
+/// ran out.
+pub fn open_config<R: Files + Input>(rt: &R, path: &str) -> Result<Either<R::Reader, R::File>, Stop>
+    ensures stream { IfOk result (λ device. is_left device ≡ is_dash path.now) }
+    ensures refused { IfErr result IsUnread }
 {
-    File::open(rt, path).map_err(|error| unread_config(&error))
+    if is_dash(path) {
+        return Ok(Left(rt.reader()));
+    }
+    let file = File::open(rt, path).map_err(|error| unread_config(&error))?;
+    Ok(Right(file))
 }
 
 /// Reads a configuration to the reader's end.

@@ -1,27 +1,29 @@
 //! The devices of a run: its files behind buffers, with failed calls counted.
 
-ghost use Rattle.std.specs.Prelude.{◌≡◌, IfErr, IfOk, IfSome, is_some, option_map};
+ghost use Rattle.std.specs.Prelude.{◌≡◌, IfErr, IfOk, is_some, option_map};
+ghost use Rattle.either.specs.Either.{is_left, left};
 ghost use Rattle.napt_capture.specs.Watched.{failed_of};
-ghost use Rattle.napt_program.specs.Devices.{AreFresh, AreOver, bytes_left, bytes_written};
+ghost use Rattle.napt_program.specs.Devices.{AreFresh, AreOver, bytes_left, bytes_written, failed_in};
 
 use crate::files::RunFiles;
 use crate::stop::{MEMORY, Stop};
-use either::Either;
-use napt_capture::Watched;
+use either::{Either, Left, Right};
+use napt_capture::{NoPackets, Nowhere, Watched};
 use std::alloc::Global;
 use std::io::{BufReader, BufWriter, Read, Write};
 
 /// How many bytes each buffer holds.
 const BUFFERED: usize = 65_536;
 
-/// A device for each file of a run, as `RunFiles` names them.
+/// A device for each file of a run, as `RunFiles` names them; `NoPackets` stands for a capture that was not given, and
+/// `Nowhere` for an output that nobody asked for.
 #[derive(Drop)]
 pub struct Devices<S, T: Write + Drop, F: Write + Drop> {
     pub inside: Watched<BufReader<Either<S, F>>>,
-    pub outside: Option<Watched<BufReader<F>>>,
+    pub outside: Either<Watched<BufReader<Either<S, F>>>, NoPackets>,
     pub to_outside: Watched<BufWriter<Either<T, F>>>,
-    pub to_inside: Option<Watched<BufWriter<F>>>,
-    pub report: Option<Watched<BufWriter<F>>>,
+    pub to_inside: Either<Watched<BufWriter<Either<T, F>>>, Nowhere>,
+    pub report: Either<Watched<BufWriter<Either<T, F>>>, Nowhere>,
 }
 
 /// Puts the files behind buffers: each device reads what its file reads, or writes what its file writes. Fails, as a run
@@ -56,20 +58,20 @@ fn source<D: Read + Drop>(alloc: Global, device: D) -> Result<Watched<BufReader<
     }
 }
 
-/// The same, if there is a reader.
+/// The same, or without a reader a capture without packets.
 fn source_over<D: Read + Drop>(
     alloc: Global,
     device: Option<D>,
-) -> Result<Option<Watched<BufReader<D>>>, Stop>
-    ensures fresh { IfOk result (λ made. IfSome made (λ source. failed_of source ≡ 0)) }
-    ensures given { IfOk result (λ made. is_some made ≡ is_some device) }
-    ensures tells { IfOk result (λ made. option_map (bytes_left D.remaining) made
+) -> Result<Either<Watched<BufReader<D>>, NoPackets>, Stop>
+    ensures fresh { IfOk result (λ made. failed_in made ≡ 0) }
+    ensures given { IfOk result (λ made. is_left made ≡ is_some device) }
+    ensures tells { IfOk result (λ made. option_map (bytes_left D.remaining) (left made)
         ≡ option_map D.remaining device) }
     ensures refused { IfErr result (λ stop. stop ≡ MEMORY) }
 {
     match device {
-        None => Ok(None),
-        Some(device) => Ok(Some(source(alloc, device)?)),
+        None => Ok(Right(NoPackets::new())),
+        Some(device) => Ok(Left(source(alloc, device)?)),
     }
 }
 
@@ -85,19 +87,19 @@ fn sink<D: Write + Drop>(alloc: Global, device: D) -> Result<Watched<BufWriter<D
     }
 }
 
-/// The same, if there is a writer.
+/// The same, or without a writer one that discards everything.
 fn sink_over<D: Write + Drop>(
     alloc: Global,
     device: Option<D>,
-) -> Result<Option<Watched<BufWriter<D>>>, Stop>
-    ensures fresh { IfOk result (λ made. IfSome made (λ sink. failed_of sink ≡ 0)) }
-    ensures given { IfOk result (λ made. is_some made ≡ is_some device) }
-    ensures shows { IfOk result (λ made. option_map (bytes_written D.contents) made
+) -> Result<Either<Watched<BufWriter<D>>, Nowhere>, Stop>
+    ensures fresh { IfOk result (λ made. failed_in made ≡ 0) }
+    ensures given { IfOk result (λ made. is_left made ≡ is_some device) }
+    ensures shows { IfOk result (λ made. option_map (bytes_written D.contents) (left made)
         ≡ option_map D.contents device) }
     ensures refused { IfErr result (λ stop. stop ≡ MEMORY) }
 {
     match device {
-        None => Ok(None),
-        Some(device) => Ok(Some(sink(alloc, device)?)),
+        None => Ok(Right(Nowhere::new())),
+        Some(device) => Ok(Left(sink(alloc, device)?)),
     }
 }

@@ -1,58 +1,62 @@
 //! The files of a run, opened in a fixed order.
 
-ghost use Rattle.std.specs.Prelude.{◌≡◌, IfErr, IfOk, IsSome, is_some};
+ghost use Rattle.std.specs.Prelude.{◌≡◌, ◌⊎◌, IfErr, IfOk, IsSome, false, option_map, string_bytes, true};
+ghost use Rattle.either.specs.Either.{is_left};
+ghost use Rattle.napt_program.specs.CommandLine.{files_of};
 ghost use Rattle.napt_program.specs.Files.{AreInputsOpen, AreOpen, IsFileStop};
+ghost use Rattle.napt_program.specs.Standard.{is_dash};
 
-use crate::options::Options;
+use crate::options::{Options, is_dash};
 use crate::places::lost_file;
 use crate::role::Role;
-use crate::stop::Stop;
+use crate::stop::{MEMORY, Stop};
 use either::{Either, Left, Right};
 use std::fs::File;
 use std::io;
 use std::io::Printer;
 use std::rt::Files;
 
-/// The open files of a run: those that are named, and the standard streams in place of captures that are not. `S` reads
-/// standard input, `T` writes standard output, and `F` is a file.
+/// The open files of a run: those that are named, and the standard streams for `-`, and in place of captures that are not
+/// named. `S` reads standard input, `T` writes standard output, and `F` is a file.
 #[derive(Drop)]
 pub struct RunFiles<S, T, F> {
     /// The capture of what inside hosts send.
     pub inside: Either<S, F>,
     /// The capture of what comes from the outside.
-    pub outside: Option<F>,
+    pub outside: Option<Either<S, F>>,
     /// The capture that goes to the outside.
     pub to_outside: Either<T, F>,
     /// The capture that goes to inside hosts.
-    pub to_inside: Option<F>,
+    pub to_inside: Option<Either<T, F>>,
     /// The report.
-    pub report: Option<F>,
+    pub report: Option<Either<T, F>>,
 }
 
-/// The open captures of a run: those that are named, and standard input in place of an inside capture that is not.
+/// The open captures of a run: those that are named, and standard input for `-`, and in place of an inside capture that is
+/// not named.
 #[derive(Drop)]
 pub struct InputFiles<S, F> {
     /// The capture of what inside hosts send.
     pub inside: Either<S, F>,
     /// The capture of what comes from the outside.
-    pub outside: Option<F>,
+    pub outside: Option<Either<S, F>>,
 }
 
 /// Opens the captures, the inside first; then creates or empties the outputs: to the outside, to the inside, the report.
 ///
-/// Fails with the role of a file that cannot be opened or created; and, before any output is touched, with the role of one
-/// that an earlier option also names.
-pub fn open_files<'r, R: Files + Input + Print>(
+/// Fails with the role of a file that cannot be opened or created, and, before any output is touched, with the role of one
+/// that an earlier option also names; and, as a run does, if memory runs out for standard input.
+pub fn open_files<'r, R: Files + Input + Print + AllocGlobal>(
     rt: &'r R,
     options: &Options,
-) -> Result<RunFiles<R::Reader, Printer<'r, R>, R::File>, Stop>
-    ensures open { IfOk result (AreOpen options.now) }
-    ensures refused { IfErr result (IsFileStop options.now) }
+) -> Result<RunFiles<Box<R::Reader>, Printer<'r, R>, R::File>, Stop>
+    ensures open { IfOk result (AreOpen (files_of options.now)) }
+    ensures refused { IfErr result (λ stop. (stop ≡ MEMORY) ⊎ IsFileStop options.now stop) }
 {
     let InputFiles { inside, outside } = open_inputs(rt, options)?;
     let to_outside = match &options.to_outside {
         None => Left(io::writer(rt)),
-        Some(path) => Right(created(rt, path, Role::ToOutside)?),
+        Some(path) => created(rt, path, Role::ToOutside)?,
     };
     Ok(RunFiles {
         inside,
@@ -65,17 +69,18 @@ pub fn open_files<'r, R: Files + Input + Print>(
 
 /// Opens the captures, the inside first. Creates and empties nothing.
 ///
-/// Fails with the role of a capture that cannot be opened, then with that of an output that an earlier option also names.
-pub fn open_inputs<R: Files + Input>(
+/// Fails with the role of a capture that cannot be opened, then with that of an output that an earlier option also names;
+/// and, as a run does, if memory runs out for standard input.
+pub fn open_inputs<R: Files + Input + AllocGlobal>(
     rt: &R,
     options: &Options,
-) -> Result<InputFiles<R::Reader, R::File>, Stop>
-    ensures open { IfOk result (AreInputsOpen options.now) }
-    ensures refused { IfErr result (IsFileStop options.now) }
+) -> Result<InputFiles<Box<R::Reader>, R::File>, Stop>
+    ensures open { IfOk result (AreInputsOpen (files_of options.now)) }
+    ensures refused { IfErr result (λ stop. (stop ≡ MEMORY) ⊎ IsFileStop options.now stop) }
 {
     let inside = match &options.inside {
-        None => Left(rt.reader()),
-        Some(path) => Right(opened(rt, path, Role::Inside)?),
+        None => Left(standard_input(rt)?),
+        Some(path) => opened(rt, path, Role::Inside)?,
     };
     let outside = match &options.outside {
         None => None,
@@ -95,23 +100,56 @@ fn refuse_lost_file<R: Files>(rt: &R, options: &Options) -> Result<(), Stop>
     }
 }
 
-/// Opens a file for reading. Fails with its role.
-fn opened<R: Files>(rt: &R, path: &str, role: Role) -> Result<R::File, Stop>
-    ensures { IfErr result (λ stop. stop ≡ Stop.File role) }
+/// Opens a file for reading, or standard input for `-`. Fails with its role, or, as a run does, if memory runs out for
+/// standard input.
+fn opened<R: Files + Input + AllocGlobal>(
+    rt: &R,
+    path: &str,
+    role: Role,
+) -> Result<Either<Box<R::Reader>, R::File>, Stop>
+    ensures stream { IfOk result (λ file. is_left file ≡ is_dash path.now) }
+    ensures file { is_dash path.now ≡ false → IfErr result (λ stop. stop ≡ Stop.File role) }
+    ensures input { is_dash path.now ≡ true → IfErr result (λ stop. stop ≡ MEMORY) }
 {
-    File::open(rt, path).map_err(|_| Stop::File(role))
+    if is_dash(path) {
+        return Ok(Left(standard_input(rt)?));
+    }
+    let file = File::open(rt, path).map_err(|_| Stop::File(role))?;
+    Ok(Right(file))
 }
 
-/// Creates or empties a file for writing. Fails with its role.
-fn created<R: Files>(rt: &R, path: &str, role: Role) -> Result<R::File, Stop>
-    ensures { IfErr result (λ stop. stop ≡ Stop.File role) }
+/// The reader of standard input. It has a buffer of 8 KiB, so it stands on the heap: where it is moved, a stack that cannot
+/// grow would end the program without a word. Fails, as a run does, if memory runs out.
+fn standard_input<R: Input + AllocGlobal>(rt: &R) -> Result<Box<R::Reader>, Stop>
+    ensures { IfErr result (λ stop. stop ≡ MEMORY) }
 {
-    File::create(rt, path).map_err(|_| Stop::File(role))
+    Box::new(rt.alloc(), rt.reader()).map_err(|_| MEMORY)
+}
+
+/// Creates or empties a file for writing; for `-` it is standard output. Fails with its role.
+fn created<'r, R: Files + Print>(
+    rt: &'r R,
+    path: &str,
+    role: Role,
+) -> Result<Either<Printer<'r, R>, R::File>, Stop>
+    ensures stream { IfOk result (λ file. is_left file ≡ is_dash path.now) }
+    ensures refused { IfErr result (λ stop. stop ≡ Stop.File role) }
+{
+    if is_dash(path) {
+        return Ok(Left(io::writer(rt)));
+    }
+    let file = File::create(rt, path).map_err(|_| Stop::File(role))?;
+    Ok(Right(file))
 }
 
 /// The same, if there is a path.
-fn created_at<R: Files>(rt: &R, path: Option<&String>, role: Role) -> Result<Option<R::File>, Stop>
-    ensures given { IfOk result (λ made. is_some made ≡ is_some path.entry) }
+fn created_at<'r, R: Files + Print>(
+    rt: &'r R,
+    path: Option<&String>,
+    role: Role,
+) -> Result<Option<Either<Printer<'r, R>, R::File>>, Stop>
+    ensures stream { IfOk result (λ made. option_map is_left made
+        ≡ option_map (λ path. is_dash (string_bytes path.now)) path.entry) }
     ensures refused { IfErr result (λ stop. stop ≡ Stop.File role) }
     ensures path { IfErr result (λ stop. IsSome path.entry) }
 {

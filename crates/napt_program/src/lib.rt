@@ -2,6 +2,7 @@
 //! and why a program stops.
 #![tactic(auto)]
 
+mod call;
 mod command;
 mod config_file;
 mod devices;
@@ -13,17 +14,23 @@ mod places;
 mod role;
 mod stop;
 mod streams;
+mod tally;
 
-pub use crate::command::{Opened, open, words};
+pub use crate::call::Call;
+pub use crate::command::{Opened, open, stop_of_run, words};
 pub use crate::config_file::{
     MOST_BYTES, config_from, config_text, configuration, open_config, unread_config,
 };
 pub use crate::devices::{Devices, buffered};
 pub use crate::files::{InputFiles, RunFiles, open_files, open_inputs};
-pub use crate::options::{LineFault, Manual, Options, parse_words, parse_words_of};
+pub use crate::options::{LineFault, Manual, Options, VERSION, parse_words, parse_words_of};
 pub use crate::outputs::{refuse_unmade, unmade};
 pub use crate::place::{Node, Place, is_same, place_of};
 pub use crate::places::lost_file;
 pub use crate::role::Role;
-pub use crate::stop::{MEMORY, Stop, StopLine, line_at_end, status_at_end, stop_line, stop_status};
+pub use crate::stop::{
+    CaptureFaultName, MEMORY, Stop, StopLine, line_at_end, name_of_config_fault, status_at_end,
+    stop_line, stop_status,
+};
 pub use crate::streams::{Streams, closed_stream};
+pub use crate::tally::Tallied;

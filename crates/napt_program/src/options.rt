@@ -1,11 +1,18 @@
 //! The command line: which files a program reads and writes.
-ghost use Rattle.std.specs.Prelude.{◌≡◌, ◌≢◌, IfErr, IfOk, false, map, option_map, string_bytes};
+ghost use Rattle.std.specs.Prelude.{◌≡◌, ◌≢◌, IfErr, IfOk, IfSome, false, map, option_map, string_bytes, true};
 ghost use Rattle.clap.specs.Words.{app_of, first_value, found_of, kind_of, rule_of};
-ghost use Rattle.napt_program.specs.CommandLine.{IsHelp, file_option, files, files_of, help, line_of_words, mistake, napt_app};
+ghost use Rattle.napt_program.specs.CommandLine.{IsHelp, IsVersion, file_option, files, files_of, help, is_named, line_of_words, mistake, napt_app, version};
+ghost use Rattle.napt_program.specs.Standard.{file_for, is_dash, is_standard, is_stream, output_again, standard_again};
 
+use crate::role::Role;
 use clap::error::ErrorKind;
 use clap::{Arg, ArgAction, ArgMatches, Command, Error};
 use std::alloc::{AllocError, Global};
+
+/// What a program says of itself with `--version`, behind its name: the number of its version, and on a line of its own what
+/// its sources were proved with.
+pub const VERSION: &str = "0.1.0
+sources proved with Rattle's logic dac8208d650f15bf";
 
 /// A program that takes these options, with the texts of its help.
 #[derive(Clone, Copy, Debug)]
@@ -29,7 +36,9 @@ const ABOUT: &str = "Network address and port translation for IPv4: reads captur
 that inside hosts and the outside send, and writes the captures of what leaves for the other side, \
 with addresses and ports translated.";
 
-const NOTES: &str = "Examples:
+const NOTES: &str = "FILE may be -, standard input or standard output; a file of that name is ./-
+
+Examples:
   napt < inside.pcap > to-outside.pcap
   napt --config napt.toml --inside inside.pcap --outside outside.pcap \\
        --to-outside to-outside.pcap --to-inside to-inside.pcap --report report.txt
@@ -75,12 +84,10 @@ words tells where in a file, and what to do):
        ring             the ends of a ring disagree; nothing is known to cause it
   6  napt: file OPTION
        not opened, read or created; its stream is closed; a configuration of more
-       than 64 MiB; or an output that another option names too
+       than 64 MiB; or an output, or a standard stream, that another option has too
      napt: write OPTION
        writing failed; help goes where to-outside goes by default, so that help
-       which could not be written to standard output is write to-outside
-
-napt 1.0, its sources proved with Rattle's logic dac8208d650f15bf";
+       which could not be written to standard output is write to-outside";
 
 // The options, each with its meaning, in the order of the help text.
 const OPTIONS: [(&str, &str); 6] = [
@@ -127,11 +134,90 @@ pub struct Options {
     pub report: Option<String>,
 }
 
+impl Options {
+    /// The file that the option of a role names.
+    fn file_for(&self, role: Role) -> Option<&String>
+        ensures { option_map (λ path. string_bytes path.now) result
+            ≡ file_for (files_of self.now) role }
+    {
+        match role {
+            Role::Config => self.config.as_ref(),
+            Role::Inside => self.inside.as_ref(),
+            Role::Outside => self.outside.as_ref(),
+            Role::ToOutside => self.to_outside.as_ref(),
+            Role::ToInside => self.to_inside.as_ref(),
+            Role::Report => self.report.as_ref(),
+        }
+    }
+
+    /// Whether the option of a role is given as `-`, which is standard input or standard output.
+    pub fn is_stream(&self, role: Role) -> bool
+        ensures stream { result ≡ is_stream (files_of self.now) role }
+        ensures named { result ≡ true → is_named self.now role ≡ true }
+    {
+        match self.file_for(role) {
+            Some(path) => is_dash(path),
+            None => false,
+        }
+    }
+
+    /// Whether a capture stands on its standard stream: its option is absent, or given as `-`.
+    pub fn is_standard(&self, role: Role) -> bool
+        ensures { result ≡ is_standard (files_of self.now) role }
+    {
+        self.file_for(role).is_none() || self.is_stream(role)
+    }
+
+    /// The role of the first option, captures before outputs, that wants a standard stream which another has.
+    pub fn standard_again(&self) -> Option<Role>
+        ensures again { result ≡ standard_again (files_of self.now) }
+        ensures named { IfSome result (λ role. is_named self.now role ≡ true) }
+    {
+        let has_config = self.is_stream(Role::Config);
+        if has_config && self.inside.is_none() {
+            Some(Role::Config)
+        } else if has_config && self.is_stream(Role::Inside) {
+            Some(Role::Inside)
+        } else if self.is_stream(Role::Outside) && (has_config || self.is_standard(Role::Inside)) {
+            Some(Role::Outside)
+        } else {
+            self.output_again()
+        }
+    }
+
+    /// The same among the outputs.
+    fn output_again(&self) -> Option<Role>
+        ensures again { result ≡ output_again (files_of self.now) }
+        ensures named { IfSome result (λ role. is_named self.now role ≡ true) }
+    {
+        let (has_capture, to_inside) = (
+            self.is_standard(Role::ToOutside),
+            self.is_stream(Role::ToInside),
+        );
+        if to_inside && has_capture {
+            Some(Role::ToInside)
+        } else if self.is_stream(Role::Report) && (to_inside || has_capture) {
+            Some(Role::Report)
+        } else {
+            None
+        }
+    }
+}
+
+/// Whether a file is given as `-`.
+pub(crate) fn is_dash(path: &str) -> bool
+    ensures { result ≡ is_dash path.now }
+{
+    path == "-"
+}
+
 /// Why a command line was not accepted.
 #[derive(Debug, PartialEq, Eq, Drop)]
 pub enum LineFault {
     /// Help was requested: its text, for standard output, with status 0.
     Help(String),
+    /// The version was requested: its text, for the same.
+    Version(String),
     /// The arguments are not understood.
     Usage,
     /// Memory ran out.
@@ -151,13 +237,15 @@ impl From<AllocError> for LineFault {
 /// Parses the arguments of `napt`, the program's name first, as `clap` does.
 ///
 /// Each option is a long one with one value, in the next argument or after `=`, and may be given once. A value begins with
-/// `-` only if it is `-` itself, or follows `=`. `-h` and `--help` print help; there is no `--version`. `Memory` may be
-/// returned in place of any other result.
+/// `-` only if it is `-` itself, or follows `=`. `-h` and `--help` ask for help, `-V` and `--version` for the version. `Memory`
+/// may be returned in place of any other result.
 pub fn parse_words(alloc: Global, words: Vec<String>) -> Result<Options, LineFault>
     ensures ok { IfOk result (λ o. line_of_words (map string_bytes words.items)
         ≡ files (files_of o)) }
     ensures help { IfErr result (λ fault. IsHelp fault
         → line_of_words (map string_bytes words.items) ≡ help) }
+    ensures version { IfErr result (λ fault. IsVersion fault
+        → line_of_words (map string_bytes words.items) ≡ version) }
     ensures usage { result ≡ Err LineFault.Usage
         → line_of_words (map string_bytes words.items) ≡ mistake }
 {
@@ -174,6 +262,8 @@ pub fn parse_words_of(
         ≡ files (files_of o)) }
     ensures help { IfErr result (λ fault. IsHelp fault
         → line_of_words (map string_bytes words.items) ≡ help) }
+    ensures version { IfErr result (λ fault. IsVersion fault
+        → line_of_words (map string_bytes words.items) ≡ version) }
     ensures usage { result ≡ Err LineFault.Usage
         → line_of_words (map string_bytes words.items) ≡ mistake }
 {
@@ -197,6 +287,8 @@ fn command_of<'a>(alloc: Global, manual: Manual) -> Result<Command<'a>, AllocErr
 {
     let mut command = Command::new(alloc, "napt")
         .bin_name(manual.name)?
+        .display_name(manual.name)?
+        .version(VERSION)
         .about(manual.about)
         .after_help(manual.notes);
     for (name, meaning) in OPTIONS {
@@ -233,12 +325,15 @@ fn value_of(
 
 fn fault_of(alloc: Global, error: &Error) -> Result<LineFault, AllocError>
     ensures help { IfOk result (λ fault. IsHelp fault → kind_of error.now ≡ ErrorKind.DisplayHelp) }
-    ensures usage { result ≡ Ok LineFault.Usage
-        → (kind_of error.now ≢ ErrorKind.DisplayHelp) × (kind_of error.now ≢ ErrorKind.OutOfMemory) }
+    ensures version { IfOk result (λ fault. IsVersion fault
+        → kind_of error.now ≡ ErrorKind.DisplayVersion) }
+    ensures usage { result ≡ Ok LineFault.Usage → (kind_of error.now ≢ ErrorKind.DisplayHelp)
+        × (kind_of error.now ≢ ErrorKind.DisplayVersion) × (kind_of error.now ≢ ErrorKind.OutOfMemory) }
     ensures memory { result ≡ Ok LineFault.Memory → kind_of error.now ≡ ErrorKind.OutOfMemory }
 {
     match error.kind() {
         ErrorKind::DisplayHelp => Ok(LineFault::Help(error.to_string(alloc)?)),
+        ErrorKind::DisplayVersion => Ok(LineFault::Version(error.to_string(alloc)?)),
         ErrorKind::OutOfMemory => Ok(LineFault::Memory),
         _ => Ok(LineFault::Usage),
     }

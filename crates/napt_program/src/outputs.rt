@@ -3,7 +3,7 @@
 ghost use Rattle.std.specs.Prelude.{◌≡◌, IfErr, IsSome};
 ghost use Rattle.napt_program.specs.Files.{IsFileStop};
 
-use crate::options::Options;
+use crate::options::{Options, is_dash};
 use crate::place::folder_of;
 use crate::role::Role;
 use crate::stop::Stop;
@@ -37,10 +37,13 @@ fn refuse_unmade_file<R: Files>(rt: &R, path: Option<&String>, role: Role) -> Re
 
 /// Why the file cannot be created or emptied, as far as that can be known without touching it.
 ///
-/// An existing file is opened for writing, which changes nothing; a device or a pipe is not opened. If there is no file, its
+/// `-` is standard output, and is not opened. An existing file is opened for writing, which changes nothing; a device or a pipe is not opened. If there is no file, its
 /// folder must exist. Unknown beforehand: whether the folder takes a new file, whether a link leads to a missing folder, and
 /// what only writing shows, such as a full disk.
 pub fn unmade<R: Files>(rt: &R, path: &str) -> Option<io::Error> {
+    if is_dash(path) {
+        return None;
+    }
     match fs::metadata(rt, path) {
         Ok(known) if is_aside(known.file_type()) => None,
         Ok(_) => OpenOptions::new().write(true).open(rt, path).err(),

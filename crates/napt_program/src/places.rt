@@ -3,12 +3,17 @@ ghost use Rattle.std.specs.Prelude.{◌≡◌, IfSome, is_some, not, true};
 ghost use Rattle.napt_program.specs.CommandLine.{is_named};
 ghost use Rattle.napt_program.specs.Places.{ArePlacesOf, is_again, is_input, is_placed, is_there, output_named_again};
 
-use crate::options::Options;
+use crate::options::{Options, is_dash};
 use crate::place::{Place, is_same, place_of};
 use crate::role::Role;
 use std::rt::Files;
 
-/// The place of the file of each option, and of the standard streams in place of absent options.
+/// The paths of the standard streams.
+const INPUT: &str = "/dev/stdin";
+
+const OUTPUT: &str = "/dev/stdout";
+
+/// The place of the file of each option, and of the standard streams for `-` and in place of absent options.
 #[derive(Clone, Copy, Debug)]
 struct Places<'a> {
     config: Option<Place<'a>>,
@@ -32,21 +37,23 @@ fn places_of<'a, R: Files>(rt: &R, options: &'a Options) -> Places<'a>
     ensures { ArePlacesOf options.now result }
 {
     Places {
-        config: place_at(rt, options.config.as_ref()),
-        standard_input: place_of_stream(rt, options.inside.as_ref(), "/dev/stdin"),
-        inside: place_at(rt, options.inside.as_ref()),
-        outside: place_at(rt, options.outside.as_ref()),
-        standard_output: place_of_stream(rt, options.to_outside.as_ref(), "/dev/stdout"),
-        to_outside: place_at(rt, options.to_outside.as_ref()),
-        to_inside: place_at(rt, options.to_inside.as_ref()),
-        report: place_at(rt, options.report.as_ref()),
+        config: place_at(rt, options.config.as_ref(), INPUT),
+        standard_input: place_of_stream(rt, options.inside.as_ref(), INPUT),
+        inside: place_at(rt, options.inside.as_ref(), INPUT),
+        outside: place_at(rt, options.outside.as_ref(), INPUT),
+        standard_output: place_of_stream(rt, options.to_outside.as_ref(), OUTPUT),
+        to_outside: place_at(rt, options.to_outside.as_ref(), OUTPUT),
+        to_inside: place_at(rt, options.to_inside.as_ref(), OUTPUT),
+        report: place_at(rt, options.report.as_ref(), OUTPUT),
     }
 }
 
-fn place_at<'a, R: Files>(rt: &R, path: Option<&'a String>) -> Option<Place<'a>>
+/// The place of an option's file, or of the standard stream for `-`.
+fn place_at<'a, R: Files>(rt: &R, path: Option<&'a String>, stream: &'a str) -> Option<Place<'a>>
     ensures { is_some result ≡ is_some path.entry }
 {
     match path {
+        Some(path) if is_dash(path) => Some(place_of(rt, stream)),
         Some(path) => Some(place_of(rt, path)),
         None => None,
     }

@@ -197,8 +197,8 @@ fn role_of(which: Which) -> Role
 }
 
 /// A capture's fault, printed as its name, with its record's number if it has one.
-#[derive(Clone, Copy)]
-struct CaptureFaultName(CaptureFault);
+#[derive(Clone, Copy, Debug)]
+pub struct CaptureFaultName(pub CaptureFault);
 
 impl fmt::Display for CaptureFaultName {
     ghost output = { λ name. Some (capture_name name.0) };
@@ -218,7 +218,8 @@ impl fmt::Display for CaptureFaultName {
     }
 }
 
-fn name_of_config_fault(fault: ConfigFault) -> &'static str
+/// The name of a configuration's fault.
+pub fn name_of_config_fault(fault: ConfigFault) -> &'static str
     ensures { result.now ≡ config_name fault }
 {
     match fault {

@@ -1,7 +1,9 @@
 //! The standard streams that the program was started with.
 
-ghost use Rattle.std.specs.Prelude.{◌≡◌};
-ghost use Rattle.napt_program.specs.Streams.{closed_stream};
+ghost use Rattle.std.specs.Prelude.{◌≡◌, IfSome, true};
+ghost use Rattle.napt_program.specs.Command.{can_fail};
+ghost use Rattle.napt_program.specs.CommandLine.{files_of};
+ghost use Rattle.napt_program.specs.Streams.{closed_output, closed_stream};
 
 use crate::options::Options;
 use crate::role::Role;
@@ -38,14 +40,34 @@ fn is_open(stream: &impl AsFd) -> bool {
     }
 }
 
-/// The role of the first standard stream that is needed, because no file is named for the role, and is closed.
+/// The role of the first standard stream that is needed, because its option is `-` or no file is named for the role, and is
+/// closed.
 pub fn closed_stream(streams: Streams, options: &Options) -> Option<Role>
-    ensures { result ≡ closed_stream streams options.now }
+    ensures first { result ≡ closed_stream streams (files_of options.now) }
+    ensures needed { IfSome result (λ role. can_fail streams (files_of options.now) role ≡ true) }
 {
-    if options.inside.is_none() && !streams.input {
+    if !streams.input && options.is_stream(Role::Config) {
+        Some(Role::Config)
+    } else if !streams.input && options.is_standard(Role::Inside) {
         Some(Role::Inside)
-    } else if options.to_outside.is_none() && !streams.output {
+    } else if !streams.input && options.is_stream(Role::Outside) {
+        Some(Role::Outside)
+    } else {
+        closed_output(streams, options)
+    }
+}
+
+/// The role of the first output that needs standard output, if that is closed.
+fn closed_output(streams: Streams, options: &Options) -> Option<Role>
+    ensures first { result ≡ closed_output streams (files_of options.now) }
+    ensures needed { IfSome result (λ role. can_fail streams (files_of options.now) role ≡ true) }
+{
+    if !streams.output && options.is_standard(Role::ToOutside) {
         Some(Role::ToOutside)
+    } else if !streams.output && options.is_stream(Role::ToInside) {
+        Some(Role::ToInside)
+    } else if !streams.output && options.is_stream(Role::Report) {
+        Some(Role::Report)
     } else {
         None
     }

@@ -1,23 +1,25 @@
 -- What is taken of the records that were read is what merging takes of all that is left.
-use Rattle.std.proofs.Common.{◌≡◌, ℕ, max, Bool, true, false, All, List, [], ◌∷◌, ◌++◌, Option, None, Some, IsSome, unwrap_or, Ok, refl, sym, ap, ◌∙◌, subst, subst₂, arith}
+use Rattle.std.proofs.Common.{◌≡◌, ℕ, Bool, true, false, All, List, [], ◌∷◌, ◌++◌, Option, None, Some, IfSome, IsSome, unwrap_or, Result, Ok, Err, refl, sym, ap, ◌∙◌, subst, subst₂, append-nil}
+use Rattle.std.specs.Option.{option_map}
 use Rattle.napt_wire.specs.declared.Side.{Side}
 use Rattle.napt_wire.specs.declared.Side.TheVariants.{Inside, Outside}
 use Rattle.napt_capture.specs.declared.device.Source.{Ghosts}
 use Rattle.napt_capture.specs.declared.records.Records.{Records}
 use Rattle.napt_capture.specs.declared.fault.CaptureFault.{CaptureFault}
 use Rattle.napt_capture.specs.Contents.{Entry}
+use Rattle.napt_capture.specs.Capture.{Held}
+use Rattle.napt_capture.specs.Records.{left_of}
+use Rattle.napt_capture.specs.Reading.{StopsBy}
 use Rattle.napt_records.specs.declared.stream.Stream.{Stream}
 use Rattle.napt_records.specs.declared.merged_streams.MergedStreams.{MergedStreams}
-use Rattle.napt_capture.specs.Reading.{StopsBy}
 use Rattle.napt_records.proofs.Left.{StopsBy-then}
-use Rattle.napt_records.proofs.Merges.{none_yet, takes_timely}
+use Rattle.napt_records.proofs.Merges.{IsKnown, hands_until, takes_timely}
 use Rattle.napt_records.specs.Output.{IsTimely}
 use Rattle.napt_sequential.specs.Inputs.{Hands}
 use Rattle.napt_rules.specs.Prelude.{Arrival}
-use Rattle.napt_records.specs.Merged.{AreLive, AreSame, CountsIf, EndsWith, HandsOut, Has, IsSame, IsSameIf, IsToldIf, Looks, NoneFailed, NoneFailedIf, StreamHasIf, TakesAny, TakesFirst, cut_if, cut_of}
-use Rattle.napt_records.specs.Rests.{HasRest, StreamHas}
-use Rattle.napt_records.specs.Streams.{IsAtFault, IsLooked, Rest, Sides, Stops, TakesInput, TakesInputs, no_rest}
-use Rattle.napt_records.specs.Taking.{Takes, is_outside_next}
+use Rattle.napt_records.specs.Merged.{AreLive, AreSame, EndsWith, HandsOut, IsSame, Looks, TakesAny, TakesFirst, cut_of}
+use Rattle.napt_records.specs.Rests.{Follows, Stays, both_hold, held_in, holds_by, inputs_of, stream_holds}
+use Rattle.napt_records.specs.Taking.{Inputs, Takes, at_end, at_fault, inputs_from, is_outside_next}
 
 -- ---- more records behind those that were read
 
@@ -45,262 +47,223 @@ takes_more ins outs ins_left outs_left more others Outside entry (is, same, next
   rw is (outside_next entry ins outs_left (outs_left ++ others) more shown (rw is at next)),
 )
 
-stays_none : (ins outs ins_left outs_left : List Entry) (side : Side) (entry : Entry) →
-    Takes ins outs (Some (side, entry)) ins_left outs_left → outs ≡ [] → outs_left ≡ []
-stays_none ins outs ins_left outs_left Inside entry (is, same, next) none = sym same ∙ none
-stays_none ins outs ins_left outs_left Outside entry (is, same, next) none =
-    let never : entry ∷ outs_left ≡ [] = sym is ∙ none in cc
+-- ---- what a side holds behind the records that were read
 
-stays_none_in : (ins outs ins_left outs_left : List Entry) (side : Side) (entry : Entry) →
-    Takes ins outs (Some (side, entry)) ins_left outs_left → ins ≡ [] → ins_left ≡ []
-stays_none_in ins outs ins_left outs_left Outside entry (is, same, next) none = sym same ∙ none
-stays_none_in ins outs ins_left outs_left Inside entry (is, same, next) none =
-    let never : entry ∷ ins_left ≡ [] = sym is ∙ none in cc
-
--- ---- what is left of a side once some of the records that were read are taken
-
-abbrev After : List Entry → List Entry → Rest → Rest
-After firsts more rest = record { records = firsts ++ more; end = rest.end }
-
-has_after : (records : Records) (left : Option (List ℕ)) (cut : Option Bool) (firsts later : List Entry) (rest : Rest)
-    (p : HasRest records left cut firsts rest) → HasRest records left cut later (After later p.more rest)
-has_after records left cut firsts later rest p = record {
-  text = p.text;
-  left_is = p.left_is;
-  more = p.more;
-  has = p.has;
-  records_are = refl;
-  told = p.told;
-}
-
--- more records, that are behind those that were read
-record More (firsts : List Entry) (rest : Rest) (Later : List Entry → Rest → Type 0) : Type 0 where
+record More (firsts : List Entry) (later : List Entry → Option Held) (held : Held) : Type 0 where
   more : List Entry
-  is : rest.records ≡ firsts ++ more
-  after : (later : List Entry) → (firsts ≡ [] → later ≡ []) → Later later (After later more rest)
+  is : held.records ≡ firsts ++ more
+  none : firsts ≡ [] → more ≡ []
+  known : IsKnown held.records held.end
+  after : (left : List Entry) → later left ≡ Some (record { records = left ++ more; end = held.end })
 
-more_of : {R : Type 0} {G : Ghosts R} (remaining : R → Option (List ℕ)) (stream : Stream R G) (firsts : List Entry)
-    (rest : Rest) → StreamHas remaining stream firsts rest → More firsts rest (StreamHas remaining stream)
-more_of remaining stream firsts rest p = record {
-  more = p.more;
-  is = p.records_are;
-  after = λ later none. has_after _ _ _ firsts later rest p;
-}
+ended : (firsts : List Entry) (cut : Bool) → IsKnown firsts (Ok cut)
+ended [] cut = tt
+ended (first ∷ firsts) cut = tt
 
-none_after : (later : List Entry) (rest : Rest) → rest ≡ no_rest → later ≡ [] → After later [] rest ≡ no_rest
-none_after later rest is none = rw (is, none) refl
-
-more_if : {R : Type 0} {G : Ghosts R} (remaining : R → Option (List ℕ)) (stream : Option (Stream R G))
-    (firsts : List Entry) (rest : Rest) → StreamHasIf remaining stream firsts rest →
-    More firsts rest (StreamHasIf remaining stream)
-more_if remaining None firsts rest (is, none) = record {
+more_ended : (firsts : List Entry) (cut : Bool) → More firsts
+    (λ left. Some (record { records = left; end = Ok cut }))
+    (record { records = firsts; end = Ok cut })
+more_ended firsts cut = record {
   more = [];
-  is = rw (is, none) refl;
-  after = λ later stays. (none_after later rest is (stays none), stays none);
-}
-more_if remaining (Some stream) firsts rest p = record {
-  more = p.more;
-  is = p.records_are;
-  after = λ later none. has_after _ _ _ firsts later rest p;
+  is = sym (append-nil firsts);
+  none = λ none. refl;
+  known = ended firsts cut;
+  after = λ left. ap (λ l. Some (record { records = l; end = Ok cut })) (sym (append-nil left));
 }
 
-no_more : (firsts more : List Entry) (rest : Rest) → rest.records ≡ firsts ++ more → IsLooked firsts rest →
-    firsts ≡ [] → more ≡ []
-no_more firsts more rest is looked none = ap (λ l. l ++ more) (sym none) ∙ sym is ∙ looked.shown none
+more_by : (cut : Option Bool) (records : Records) (text : Option (List ℕ)) (firsts : List Entry) (held : Held) →
+    (firsts ≡ [] → IsSome cut) → holds_by cut firsts (option_map (held_in records firsts) text) ≡ Some held
+    → More firsts (λ left. holds_by cut left (option_map (held_in records left) text)) held
+more_by (Some cut) records text firsts held told is =
+    let same : record { records = firsts; end = Ok cut } ≡ held = cc in
+    subst (More firsts (λ left. Some (record { records = left; end = Ok cut }))) same (more_ended firsts cut)
+more_by None records None firsts held told is = absurd cc
+more_by None records (Some text) [] held told is = let never : false ≡ true = told refl in absurd cc
+more_by None records (Some text) (first ∷ firsts) held told is =
+    let same : held_in records (first ∷ firsts) text ≡ held = cc in
+    subst (More (first ∷ firsts) (λ left. Some (held_in records left text))) same (record {
+      more = (held_in records [] text).records;
+      is = refl;
+      none = λ never. absurd cc;
+      known = tt;
+      after = λ left. refl;
+    })
 
--- ---- how a capture ends, once it was told
+told_by : (cut : Option Bool) (known : Option Held) → IsSome cut → holds_by cut [] known
+    ≡ Some (record { records = []; end = Ok (unwrap_or cut false) })
+told_by None known some = let never : false ≡ true = some in absurd cc
+told_by (Some cut) known some = refl
 
-cut_told : (records : Records) (left : Option (List ℕ)) (cut : Option Bool) (firsts : List Entry) (rest : Rest) →
-    IsSome cut → HasRest records left cut firsts rest → rest.end ≡ Ok (unwrap_or cut false)
-cut_told records left None firsts rest some p = let never : false ≡ true = some in cc
-cut_told records left (Some cut) firsts rest some p = let told = p.told in told.1
+module _ {R : Type 0} {G : Ghosts R} where
+  more_of : (stream : Stream R G) (firsts : List Entry) → (firsts ≡ [] → IsSome stream.cut) → (held : Held) →
+      stream_holds stream firsts ≡ Some held → More firsts (stream_holds stream) held
+  more_of stream firsts told held is =
+      more_by stream.cut stream.records (left_of stream.records (G.remaining stream.live.source.now)) firsts held told
+      is
 
-module _ {R : Type 0} {G : Ghosts R} (remaining : R → Option (List ℕ)) where
-  ends_cut : (stream : Stream R G) (firsts : List Entry) (rest : Rest) → IsSome stream.cut →
-      StreamHas remaining stream firsts rest → rest.end ≡ Ok (cut_of stream)
-  ends_cut stream firsts rest some p = cut_told _ _ stream.cut firsts rest some p
+  told_holds : (stream : Stream R G) → IsSome stream.cut → stream_holds stream []
+      ≡ Some (record { records = []; end = Ok (cut_of stream) })
+  told_holds stream some =
+      told_by stream.cut (option_map (held_in stream.records []) (left_of stream.records
+      (G.remaining stream.live.source.now))) some
 
-  ends_cut_if : (stream : Option (Stream R G)) (firsts : List Entry) (rest : Rest) → IsToldIf stream →
-      StreamHasIf remaining stream firsts rest → rest.end ≡ Ok (cut_if stream)
-  ends_cut_if None firsts rest some (is, none) = ap (λ r. r.end) is
-  ends_cut_if (Some stream) firsts rest some p = cut_told _ _ stream.cut firsts rest some p
+-- ---- both sides
 
--- ---- one input
+stays_both : (c : ℕ) (a b : Option Held) (d : ℕ) (x y : Option Held) → d ≡ c → Stays a x → Stays b y →
+    Stays (both_hold c a b) (both_hold d x y)
+stays_both c None b d x y clock p q = tt
+stays_both c (Some a) None d x y clock p q = tt
+stays_both c (Some a) (Some b) d None y clock p q = absurd p
+stays_both c (Some a) (Some b) d (Some x) None clock p q = absurd q
+stays_both c (Some a) (Some b) d (Some x) (Some y) clock p q = rw (clock, p, q) refl
 
-module _ {R Q : Type 0} {G : Ghosts R} {H : Ghosts Q} (inside : R → Option (List ℕ)) (outside : Q → Option (List ℕ))
-    (in_failed : R → ℕ) (out_failed : Q → ℕ) where
-  takes_input : (mid new : MergedStreams R Q G H) (input : Arrival) (sides : Sides) → Has inside outside mid sides
-      → IsLooked mid.inside_first.items sides.inside → IsLooked mid.outside_first.items sides.outside
-      → TakesFirst mid.inside_first.items mid.outside_first.items mid.clock input new.inside_first.items
-      new.outside_first.items new.clock
-      → new.inside ≡ mid.inside → new.outside ≡ mid.outside
-      → (later : Sides) × Has inside outside new later × TakesInputs sides (input ∷ []) later
-  takes_input mid new input sides has looked other_looked first same other_same =
-      let ins = mid.inside_first.items in
-      let outs = mid.outside_first.items in
-      let a = more_of inside mid.inside ins sides.inside has.inside_has in
-      let b = more_if outside mid.outside outs sides.outside has.outside_has in
-      let later : Sides = record {
-        clock = new.clock;
-        inside = After new.inside_first.items a.more sides.inside;
-        outside = After new.outside_first.items b.more sides.outside;
-      } in
-      let clock : new.clock ≡ max sides.clock first.entry.time =
-      first.clock_is ∙ ap (λ n. max n first.entry.time) (sym has.clock) in
-      let taken = takes_more ins outs new.inside_first.items new.outside_first.items a.more b.more first.side
-      first.entry
-      first.taken (no_more ins a.more sides.inside a.is looked) (no_more outs b.more sides.outside b.is other_looked) in
-      let whole : Takes sides.inside.records sides.outside.records (Some (first.side, first.entry))
-      (new.inside_first.items ++ a.more) (new.outside_first.items ++ b.more) =
-      subst₂ (λ x y. Takes x y (Some (first.side, first.entry)) (new.inside_first.items ++ a.more)
-      (new.outside_first.items ++ b.more)) (sym a.is) (sym b.is) taken in
-      let step : TakesInput sides input later = record {
-        inside_known = looked.known;
-        outside_known = other_looked.known;
-        side = first.side;
-        entry = first.entry;
-        taken = whole;
-        clock = clock;
-        input_is = first.input_is;
-        inside_end = refl;
-        outside_end = refl;
-      } in
-      let now : Has inside outside new later = record {
-        clock = refl;
-        inside_has =
-            subst (λ s. StreamHas inside s new.inside_first.items later.inside) (sym same)
-            (a.after new.inside_first.items (stays_none_in ins outs new.inside_first.items new.outside_first.items
-            first.side first.entry first.taken));
-        outside_has =
-            subst (λ s. StreamHasIf outside s new.outside_first.items later.outside) (sym other_same)
-            (b.after new.outside_first.items (stays_none ins outs new.inside_first.items new.outside_first.items
-            first.side first.entry first.taken));
-      } in
-      (later, now, (later, step, refl))
+follows_after : (x y z : Option Inputs) (xs : List Arrival) → Stays x y → Follows y xs z → Follows x xs z
+follows_after None y z xs stays follows = tt
+follows_after (Some x) None z xs stays follows = absurd stays
+follows_after (Some x) (Some y) None xs stays follows = absurd follows
+follows_after (Some x) (Some y) (Some z) xs stays follows = sym stays ∙ follows
 
+stays_is : {X : Type 0} (x y : Option X) (a : X) → Stays x y → y ≡ Some a → IfSome x (λ b. b ≡ a)
+stays_is None y a stays is = tt
+stays_is (Some x) None a stays is = absurd stays
+stays_is (Some x) (Some y) a stays is = let same : y ≡ a = cc in sym stays ∙ same
+
+takes_one : (ins outs ins_left outs_left : List Entry) (clock now : ℕ) (input : Arrival) (a b : Option Held)
+    (x y : List Entry → Option Held)
+    → ((held : Held) → a ≡ Some held → More ins x held) → ((held : Held) → b ≡ Some held → More outs y held)
+    → TakesFirst ins outs clock input ins_left outs_left now
+    → Follows (both_hold clock a b) (input ∷ []) (both_hold now (x ins_left) (y outs_left))
+takes_one ins outs ins_left outs_left clock now input None b x y first second taken = tt
+takes_one ins outs ins_left outs_left clock now input (Some a) None x y first second taken = tt
+takes_one ins outs ins_left outs_left clock now input (Some a) (Some b) x y first second taken =
+    let p = first a refl in
+    let q = second b refl in
+    let whole = takes_more ins outs ins_left outs_left p.more q.more taken.side taken.entry taken.taken p.none q.none in
+    let all : Takes a.records b.records (Some (taken.side, taken.entry)) (ins_left ++ p.more) (outs_left ++ q.more) =
+    subst₂ (λ i o. Takes i o (Some (taken.side, taken.entry)) (ins_left ++ p.more) (outs_left ++ q.more)) (sym p.is)
+    (sym q.is) whole in
+    let clock_is = taken.clock_is in
+    rw (p.after ins_left, q.after outs_left, taken.input_is, clock_is)
+    (hands_until a.end b.end a.records b.records (ins_left ++ p.more) (outs_left ++ q.more) clock taken.side taken.entry
+    p.known q.known all)
+
+fault_inside : (clock : ℕ) (a b : Option Held) (fault : CaptureFault) →
+    IfSome a (λ held. held ≡ record { records = []; end = Err fault })
+    → IfSome (both_hold clock a b) (λ inputs. inputs ≡ at_fault Inside fault)
+fault_inside clock None b fault is = tt
+fault_inside clock (Some a) None fault is = tt
+fault_inside clock (Some a) (Some b) fault is = rw is refl
+
+outside_at : (end : Result Bool CaptureFault) (records : List Entry) (clock : ℕ) (fault : CaptureFault) →
+    IsKnown records end → inputs_from end (Err fault) records clock [] ≡ at_fault Outside fault
+outside_at (Ok cut) [] clock fault known = refl
+outside_at (Err its) [] clock fault known = absurd known
+outside_at end (entry ∷ records) clock fault known = refl
+
+fault_outside : (clock : ℕ) (a b x : Option Held) (fault : CaptureFault) → Stays a x →
+    ((held : Held) → x ≡ Some held → IsKnown held.records held.end)
+    → IfSome b (λ held. held ≡ record { records = []; end = Err fault })
+    → IfSome (both_hold clock a b) (λ inputs. inputs ≡ at_fault Outside fault)
+fault_outside clock None b x fault stays known is = tt
+fault_outside clock (Some a) None x fault stays known is = tt
+fault_outside clock (Some a) (Some b) None fault stays known is = absurd stays
+fault_outside clock (Some a) (Some b) (Some x) fault stays known is =
+    rw is (outside_at a.end a.records clock fault (subst (λ (h : Held). IsKnown h.records h.end) stays (known x refl)))
+
+module _ {R Q : Type 0} {G : Ghosts R} {H : Ghosts Q} where
   same_moved : (old mid new : MergedStreams R Q G H) → AreSame old mid → new.inside ≡ mid.inside → new.outside
       ≡ mid.outside → AreSame old new
   same_moved old mid new same ins outs = (
     subst (λ s. IsSame old.inside s) (sym ins) same.0,
-    subst (λ s. IsSameIf old.outside s) (sym outs) same.1,
+    subst (λ s. IsSame old.outside s) (sym outs) same.1,
   )
 
-  pub HandsOut-one : (old mid new : MergedStreams R Q G H) (input : Arrival) → AreSame old mid →
-      (AreLive old → Looks inside outside in_failed out_failed old mid)
+  looks_stay : (old mid : MergedStreams R Q G H) → Looks old mid →
+      Stays (inputs_of old) (inputs_of mid)
+  looks_stay old mid p = stays_both old.clock _ _ mid.clock _ _ p.clock p.inside_stays p.outside_stays
+
+  HandsOut-one : (old mid new : MergedStreams R Q G H) (input : Arrival) → AreSame old mid →
+      (AreLive old → Looks old mid)
       → TakesFirst mid.inside_first.items mid.outside_first.items mid.clock input new.inside_first.items
       new.outside_first.items new.clock
       → new.inside ≡ mid.inside → new.outside ≡ mid.outside
-      → HandsOut inside outside in_failed out_failed old (input ∷ []) new
+      → HandsOut old (input ∷ []) new
   HandsOut-one old mid new input same looks first ins outs = (
     same_moved old mid new same ins outs,
     λ live.
         let looked = looks live in
-        let kept = takes_timely [] mid.inside_first.items mid.outside_first.items new.inside_first.items
-        new.outside_first.items new.clock first.side first.entry first.taken (none_yet, looked.live.1) in
+        let kept = takes_timely mid.inside_first.items mid.outside_first.items new.inside_first.items
+        new.outside_first.items new.clock first.side first.entry first.taken looked.live.1 in
+        let taken = takes_one mid.inside_first.items mid.outside_first.items new.inside_first.items
+        new.outside_first.items mid.clock new.clock input
+        (stream_holds mid.inside mid.inside_first.items)
+        (stream_holds mid.outside mid.outside_first.items)
+        (stream_holds mid.inside) (stream_holds mid.outside)
+        (more_of mid.inside mid.inside_first.items looked.inside_told)
+        (more_of mid.outside mid.outside_first.items looked.outside_told) first in
         record {
           live = (rw (ins, outs) looked.live.0, kept.1);
           inside_count = rw ins looked.inside_count;
           outside_count = rw outs looked.outside_count;
           timely = subst (λ i. All IsTimely (i ∷ [])) (sym first.input_is) kept.0;
-          takes =
-              λ sides has. takes_input mid new input sides (looked.keeps sides has) (looked.inside_looked sides has)
-              (looked.outside_looked sides has) first ins outs;
+          takes = rw (ins, outs)
+              (follows_after (inputs_of old) (inputs_of mid) _ (input ∷ [])
+              (looks_stay old mid looked) taken);
         },
   )
 
-  pub EndsWith-none : (old mid new : MergedStreams R Q G H) → AreSame old mid →
-      (AreLive old → Looks inside outside in_failed out_failed old mid)
+  EndsWith-none : (old mid new : MergedStreams R Q G H) → AreSame old mid →
+      (AreLive old → Looks old mid)
       → TakesAny mid.inside_first.items mid.outside_first.items mid.clock None new.inside_first.items
       new.outside_first.items new.clock
       → new.inside ≡ mid.inside → new.outside ≡ mid.outside
-      → EndsWith inside outside in_failed out_failed old None new
+      → EndsWith old None new
   EndsWith-none old mid new same looks (((none, other), (now_none, other_now)), clock) ins outs = (
     same_moved old mid new same ins outs,
     λ live.
         let looked = looks live in
+        let is : inputs_of mid ≡ Some (at_end (cut_of mid.inside) (Ok (cut_of mid.outside))) =
+        rw (
+          none,
+          other,
+          told_holds mid.inside (looked.inside_told none),
+          told_holds mid.outside (looked.outside_told other),
+        ) refl in
         record {
           inside_count = rw ins looked.inside_count;
           outside_count = rw outs looked.outside_count;
-          stops =
-              λ sides has.
-              let a = looked.inside_looked sides has in
-              let b = looked.outside_looked sides has in
-              ((a.shown none, b.shown other), (a.known, b.known));
-          inside_cut =
-              λ sides has. ends_cut inside mid.inside mid.inside_first.items sides.inside (looked.inside_told none)
-              ((looked.keeps sides has).inside_has) ∙ ap (λ s. Ok (cut_of s)) (sym ins);
-          outside_cut =
-              λ sides has. ends_cut_if outside mid.outside mid.outside_first.items sides.outside
-              (looked.outside_told other)
-              ((looked.keeps sides has).outside_has) ∙ ap (λ s. Ok (cut_if s)) (sym outs);
+          stops = rw (ins, outs) (stays_is (inputs_of old) (inputs_of mid)
+              (at_end (cut_of mid.inside) (Ok (cut_of mid.outside))) (looks_stay old mid looked) is);
         },
   )
 
-  -- ---- what is next becomes known
-
-  pub Looks-both : (old new : MergedStreams R Q G H) → AreLive new → NoneFailed in_failed old.inside new.inside
-      → NoneFailedIf out_failed old.outside new.outside → new.clock ≡ old.clock
-      → (new.inside_first.items ≡ [] → IsSome new.inside.cut) → (new.outside_first.items ≡ [] → IsToldIf new.outside)
-      → ((rest : Rest) → StreamHas inside old.inside old.inside_first.items rest →
-      StreamHas inside new.inside new.inside_first.items rest × IsLooked new.inside_first.items rest)
-      → ((rest : Rest) → StreamHasIf outside old.outside old.outside_first.items rest →
-      StreamHasIf outside new.outside new.outside_first.items rest × IsLooked new.outside_first.items rest)
-      → Looks inside outside in_failed out_failed old new
-  Looks-both old new live count other_count clock told other_told looked other_looked = record {
-    live = live;
-    inside_count = count;
-    outside_count = other_count;
-    inside_told = told;
-    outside_told = other_told;
-    keeps =
-        λ sides has. record {
-          clock = has.clock ∙ sym clock;
-          inside_has = (looked sides.inside has.inside_has).0;
-          outside_has = (other_looked sides.outside has.outside_has).0;
-        };
-    inside_looked = λ sides has. (looked sides.inside has.inside_has).1;
-    outside_looked = λ sides has. (other_looked sides.outside has.outside_has).1;
-  }
-
   pub stops_inside : (old : MergedStreams R Q G H) (fault : CaptureFault)
-      → StopsBy fault ((rest : Rest) → StreamHas inside old.inside old.inside_first.items rest → IsAtFault rest fault)
-      → StopsBy fault ((sides : Sides) → Has inside outside old sides → Stops sides (Some (Inside, fault)))
+      → StopsBy fault (IfSome (stream_holds old.inside old.inside_first.items)
+      (λ held. held ≡ record { records = []; end = Err fault }))
+      → StopsBy fault (IfSome (inputs_of old) (λ inputs. inputs ≡ at_fault Inside fault))
   stops_inside old fault p =
-      StopsBy-then fault
-      (λ (q : (rest : Rest) → StreamHas inside old.inside old.inside_first.items rest → IsAtFault rest fault)
-      (sides : Sides) (has : Has inside outside old sides). q sides.inside has.inside_has) p
+      StopsBy-then fault (fault_inside old.clock (stream_holds old.inside old.inside_first.items)
+      (stream_holds old.outside old.outside_first.items) fault) p
 
   pub stops_outside : (old : MergedStreams R Q G H) (now : Stream R G) (firsts : List Entry) (fault : CaptureFault)
-      → ((rest : Rest) → StreamHas inside old.inside old.inside_first.items rest →
-      StreamHas inside now firsts rest × IsLooked firsts rest)
-      → StopsBy fault ((rest : Rest) → StreamHasIf outside old.outside old.outside_first.items rest →
-      IsAtFault rest fault)
-      → StopsBy fault ((sides : Sides) → Has inside outside old sides → Stops sides (Some (Outside, fault)))
-  stops_outside old now firsts fault looked p =
-      StopsBy-then fault
-      (λ (q : (rest : Rest) → StreamHasIf outside old.outside old.outside_first.items rest → IsAtFault rest fault)
-      (sides : Sides) (has : Has inside outside old sides).
-      let known = (looked sides.inside has.inside_has).1 in
-      (known.known, q sides.outside has.outside_has)) p
+      → (firsts ≡ [] → IsSome now.cut)
+      → Stays (stream_holds old.inside old.inside_first.items) (stream_holds now firsts)
+      → StopsBy fault (IfSome (stream_holds old.outside old.outside_first.items)
+      (λ held. held ≡ record { records = []; end = Err fault }))
+      → StopsBy fault (IfSome (inputs_of old) (λ inputs. inputs ≡ at_fault Outside fault))
+  stops_outside old now firsts fault told stays p =
+      StopsBy-then fault (fault_outside old.clock (stream_holds old.inside old.inside_first.items)
+      (stream_holds old.outside old.outside_first.items) (stream_holds now firsts) fault stays
+      (λ held is. (more_of now firsts told held is).known)) p
 
   pub Hands-any : (old mid new : MergedStreams R Q G H) (taken : Option Arrival) → AreSame old mid →
-      (AreLive old → Looks inside outside in_failed out_failed old mid)
+      (AreLive old → Looks old mid)
       → TakesAny mid.inside_first.items mid.outside_first.items mid.clock taken new.inside_first.items
       new.outside_first.items new.clock
       → new.inside ≡ mid.inside → new.outside ≡ mid.outside
-      → Hands (HandsOut inside outside in_failed out_failed) (EndsWith inside outside in_failed out_failed) old
+      → Hands HandsOut EndsWith old
       (Ok taken)
       new
   Hands-any old mid new None same looks taken ins outs = EndsWith-none old mid new same looks taken ins outs
   Hands-any old mid new (Some input) same looks taken ins outs = HandsOut-one old mid new input same looks taken ins
       outs
-
-module _ {Q : Type 0} {H : Ghosts Q} (failed : Q → ℕ) where
-  pub CountsIf-none : (o : Option (Stream Q H)) → CountsIf failed o 0 o
-  CountsIf-none None = refl
-  CountsIf-none (Some stream) = omega arith
-
-  pub NoneFailedIf-counts : (a b : Option (Stream Q H)) → CountsIf failed a 0 b → NoneFailedIf failed a b
-  NoneFailedIf-counts None b p = tt
-  NoneFailedIf-counts (Some x) None p = tt
-  NoneFailedIf-counts (Some x) (Some y) p = omega (arith, p)

@@ -1,432 +1,638 @@
--- A merged list, record by record.
-use Rattle.std.proofs.Common.{◌≡◌, ℕ, zero, suc, ◌+◌, ◌<◌, ◌≤◌, max, ◌⊎◌, inl, inr, Bool, true, false, cond, ◌↔◌, List, [], ◌∷◌, ◌++◌, length, map, take, drop, All, Option, Some, None, refl, sym, ◌∙◌, ap, subst, subst₂, arith, append_assoc}
-use Rattle.std.specs.Prelude.{filter, slice_get}
-use Rattle.std.proofs.lemmas.Option.{slice_get_within}
-use Rattle.std.proofs.lemmas.List.{take-append-drop, take-append-le, append-nil, map-append}
-use Rattle.std.proofs.lemmas.List.Elements.{filter-append, All-append, All-tail}
-use Rattle.std.proofs.lemmas.List.Recursion.{max_push}
-use Rattle.std.proofs.Math.Seq.{take-append-add}
-use Rattle.std.proofs.lemmas.Bool.{ltb-false, ltb-true}
+-- What holds of merging holds step by step: its laws, its order and its clocks.
+use Rattle.std.proofs.Common.{◌≡◌, ℕ, zero, suc, ◌+◌, ◌<◌, ◌≤◌, max, inl, inr, Bool, true, false, ◌↔◌, List, [], ◌∷◌, ◌++◌, append-nil, length, map, take, All, Option, Some, None, Result, Ok, Err, refl, sym, ◌∙◌, ap, subst, arith}
+use Rattle.std.specs.Prelude.{filter, slice_get, nat_lt}
+use Rattle.std.proofs.lemmas.Bool.{ltb-false, ltb-true, cases_Bool}
+use Rattle.std.proofs.lemmas.List.{length-map}
+use Rattle.std.proofs.lemmas.List.Elements.{All-nil, All-cons, All-head, All-tail}
 use Rattle.napt_wire.specs.declared.Side.{Side}
 use Rattle.napt_wire.specs.declared.Side.TheVariants.{Inside, Outside}
 use Rattle.napt_capture.specs.Contents.{Entry}
+use Rattle.napt_capture.specs.Text.{IsWritable}
 use Rattle.napt_rules.specs.Prelude.{Arrival}
 use Rattle.napt_sequential.specs.Inputs.{IsTaken}
-use Rattle.napt_capture.specs.Text.{IsWritable}
 use Rattle.napt_records.specs.Output.{IsTimely}
-use Rattle.napt_records.specs.Taking.{Takes, input_of, is_outside_next}
-use Rattle.napt_records.specs.Merge.{Timed, of_record, of_input, same_side, is_from, latest, clock_at, reach, AreInOrder, HaveClocks, IsMerged}
+use Rattle.napt_records.specs.Taking.{Inputs, Takes, alone, alone_by, at_end, at_fault, before, input_of, inputs_from, inputs_until, is_outside_next, merged, merged_from, unless_fault, until}
+use Rattle.napt_records.specs.MergeLaws.{HaveAll, MergeEnds, MergeMeets, MergesBefore, MergesFront, MergesWhole, TellsInsideFirst, held_of}
+use Rattle.napt_records.specs.declared.merged_streams.Cuts.{Cuts}
+use Rattle.napt_records.specs.declared.merged_streams.SideFault.{SideFault}
+use Rattle.napt_capture.specs.Capture.{Held}
+use Rattle.napt_capture.specs.declared.fault.CaptureFault.{CaptureFault}
+use Rattle.napt_records.specs.Merge.{of_record, of_input, is_from, latest, clock_at, reach, IsMerged}
 
--- TIMES
+-- THE UNFOLDING LAWS
 
-pub latest-push : (xs : List Arrival) (x : Arrival) → latest (xs ++ x ∷ []) ≡ max (latest xs) x.time
-latest-push xs x = max_push latest (λ (a : Arrival). a.time) refl (λ a l. refl) xs x
+-- where a capture has no record left, it ended without a fault
+abbrev pub IsKnown : List Entry → Result Bool CaptureFault → Type 0
+IsKnown [] (Ok cut) = Unit {0}
+IsKnown [] (Err fault) = ⊥
+IsKnown (entry ∷ entries) end = Unit {0}
 
-latest-append : (xs ys : List Arrival) → latest xs ≤ latest (xs ++ ys)
-latest-append [] ys = omega arith
-latest-append (x ∷ xs) ys = let more : latest xs ≤ latest (xs ++ ys) = latest-append xs ys in omega arith
+inside_first : (a b : Result Bool CaptureFault) (entry : Entry) (ins outs : List Entry) (clock : ℕ) → IsKnown outs b →
+    is_outside_next (entry ∷ ins) outs ≡ false → inputs_from a b (entry ∷ ins) clock outs
+    ≡ before (input_of Inside (max clock entry.time) entry) (inputs_from a b ins (max clock entry.time) outs)
+inside_first a (Ok cut) entry ins [] clock known next = refl
+inside_first a (Err fault) entry ins [] clock known next = absurd known
+inside_first a b entry ins (other ∷ outs) clock known next = rw next refl
 
--- the greatest time of one side's inputs
-abbrev pub whole : Side → List Arrival → ℕ
-whole side inputs = latest (filter (is_from side) inputs)
+outside_first : (a b : Result Bool CaptureFault) (entry : Entry) (ins outs : List Entry) (clock : ℕ) → IsKnown ins a →
+    is_outside_next ins (entry ∷ outs) ≡ true → inputs_from a b ins clock (entry ∷ outs)
+    ≡ before (input_of Outside (max clock entry.time) entry) (inputs_from a b ins (max clock entry.time) outs)
+outside_first (Ok cut) b entry [] outs clock known next = refl
+outside_first (Err fault) b entry [] outs clock known next = absurd known
+outside_first a b entry (first ∷ ins) outs clock known next = rw next refl
 
-pub whole-own : (side : Side) (xs : List Arrival) (x : Arrival) → is_from side x ≡ true → whole side (xs ++ x ∷ [])
-    ≡ max (whole side xs) x.time
-whole-own side xs x own =
-    ap latest (filter-append (is_from side) xs (x ∷ []) ∙ ap (λ (b : Bool). filter (is_from side) xs
-    ++ cond b (x ∷ []) []) own)
-    ∙ latest-push (filter (is_from side) xs) x
+pub hands_until : (a b : Result Bool CaptureFault) (ins outs ins_left outs_left : List Entry) (clock : ℕ) (side : Side)
+    (entry : Entry) → IsKnown ins a → IsKnown outs b → Takes ins outs (Some (side, entry)) ins_left outs_left
+    → inputs_from a b ins clock outs
+    ≡ before (input_of side (max clock entry.time) entry)
+    (inputs_from a b ins_left (max clock entry.time) outs_left)
+hands_until a b ins outs ins_left outs_left clock Inside entry in_known out_known taken =
+    rw (taken.0, taken.1) (inside_first a b entry ins_left outs_left clock (rw taken.1 at out_known)
+    (rw (taken.0, taken.1) at taken.2))
+hands_until a b ins outs ins_left outs_left clock Outside entry in_known out_known taken =
+    rw (taken.0, taken.1) (outside_first a b entry ins_left outs_left clock (rw taken.1 at in_known)
+    (rw (taken.0, taken.1) at taken.2))
 
-pub filter-other : (side : Side) (xs : List Arrival) (x : Arrival) → is_from side x ≡ false →
-    filter (is_from side) (xs ++ x ∷ []) ≡ filter (is_from side) xs
-filter-other side xs x other =
-    filter-append (is_from side) xs (x ∷ []) ∙ ap (λ (b : Bool). filter (is_from side) xs ++ cond b (x ∷ []) []) other
-    ∙ append-nil (filter (is_from side) xs)
+no_fault : (entries : List Entry) → IsKnown entries (Ok false)
+no_fault [] = tt
+no_fault (entry ∷ entries) = tt
 
-pub whole-other : (side : Side) (xs : List Arrival) (x : Arrival) → is_from side x ≡ false → whole side (xs ++ x ∷ [])
-    ≡ whole side xs
-whole-other side xs x other = ap latest (filter-other side xs x other)
+pub hands : (ins outs ins_left outs_left : List Entry) (clock : ℕ) (side : Side) (entry : Entry) →
+    Takes ins outs (Some (side, entry)) ins_left outs_left → merged_from ins clock outs
+    ≡ input_of side (max clock entry.time) entry ∷ merged_from ins_left (max clock entry.time) outs_left
+hands ins outs ins_left outs_left clock side entry taken =
+    ap (λ (i : Inputs). i.arrivals) (hands_until (Ok false) (Ok false) ins outs ins_left outs_left clock side entry
+    (no_fault ins) (no_fault outs) taken)
 
-reach-whole : (side : Side) (place : ℕ) (xs : List Arrival) → reach side place xs ≤ whole side xs
-reach-whole side place xs =
-    let front = take (place + 1) xs in
-    let parts : filter (is_from side) front ++ filter (is_from side) (drop (place + 1) xs) ≡ filter (is_from side) xs =
-    sym (filter-append (is_from side) front (drop (place + 1) xs)) ∙ ap (filter (is_from side))
-    (take-append-drop (place + 1) xs) in
-    subst (λ (l : List Arrival). reach side place xs ≤ latest l) parts (latest-append (filter (is_from side) front)
-    (filter (is_from side) (drop (place + 1) xs)))
+-- where none is left
+pub none_from : (a b : Bool) (clock : ℕ) → inputs_from (Ok a) (Ok b) [] clock [] ≡ at_end a (Ok b)
+none_from a b clock = refl
 
--- PLACES, BEFORE AND AFTER ONE MORE INPUT
+-- INDUCTION BY STEPS
 
-pub take-within : (xs : List Arrival) (x : Arrival) (place : ℕ) → place < length xs → take (place + 1) (xs ++ x ∷ [])
-    ≡ take (place + 1) xs
-take-within xs x place within = let least : place + 1 ≤ length xs = omega arith in
-    take-append-le (place + 1) xs (x ∷ []) least
+-- what holds where merging ends, and of one more inside or outside record before what it holds of
+record StepsUntil (a b : Result Bool CaptureFault) (P : List Entry → ℕ → List Entry → Inputs → Type 0) : Type 0 where
+  ends : (x y : Bool) (clock : ℕ) → a ≡ Ok x → b ≡ Ok y → P [] clock [] (at_end x (Ok y))
+  bad_inside : (fault : CaptureFault) (outs : List Entry) (clock : ℕ) → a ≡ Err fault →
+      P [] clock outs (at_fault Inside fault)
+  bad_outside : (fault : CaptureFault) (ins : List Entry) (clock : ℕ) → b ≡ Err fault → IsKnown ins a →
+      P ins clock [] (at_fault Outside fault)
+  inside : (entry : Entry) (ins outs : List Entry) (clock : ℕ) (inputs : Inputs) → IsKnown outs b →
+      is_outside_next (entry ∷ ins) outs ≡ false → P ins (max clock entry.time) outs inputs
+      → P (entry ∷ ins) clock outs (before (input_of Inside (max clock entry.time) entry) inputs)
+  outside : (entry : Entry) (ins outs : List Entry) (clock : ℕ) (inputs : Inputs) → IsKnown ins a →
+      is_outside_next ins (entry ∷ outs) ≡ true → P ins (max clock entry.time) outs inputs
+      → P ins clock (entry ∷ outs) (before (input_of Outside (max clock entry.time) entry) inputs)
 
-pub take-last : (xs : List Arrival) (x : Arrival) → take (length xs + 1) (xs ++ x ∷ []) ≡ xs ++ x ∷ []
-take-last xs x = take-append-add xs (x ∷ []) 1
+known_end : (end : Result Bool CaptureFault) (cut : Bool) → end ≡ Ok cut → IsKnown [] end
+known_end end cut is = rw is tt
 
-get-push : (xs : List Arrival) (x : Arrival) (place : ℕ) (a : Arrival) → slice_get (xs ++ x ∷ []) place ≡ Some a
-    → (slice_get xs place ≡ Some a) ⊎ ((place ≡ length xs) × (a ≡ x))
-get-push [] x zero a is = inr (refl, cc)
-get-push [] x (suc place) a is = cc
-get-push (y ∷ xs) x zero a is = inl is
-get-push (y ∷ xs) x (suc place) a is = elim (get-push xs x place a is) [
-  | inl within ↦ inl within
-  | inr last ↦ inr
-      (ap suc last.0, last.1)
-]
+module _ (a b : Result Bool CaptureFault) (P : List Entry → ℕ → List Entry → Inputs → Type 0)
+    (steps : StepsUntil a b P) where
+  of_end : (cut : Bool) (end : Result Bool CaptureFault) (clock : ℕ) → a ≡ Ok cut → b ≡ end →
+      P [] clock [] (at_end cut end)
+  of_end cut (Ok other) clock is also = steps.ends cut other clock is also
+  of_end cut (Err fault) clock is also = steps.bad_outside fault [] clock also (known_end a cut is)
 
-pub within-reach : (side : Side) (xs : List Arrival) (x : Arrival) (place : ℕ) → place < length xs →
-    reach side place (xs ++ x ∷ []) ≡ reach side place xs
-within-reach side xs x place within = ap (λ (l : List Arrival). latest (filter (is_from side) l))
-    (take-within xs x place within)
+  of_alone : (cut : Bool) (outs : List Entry) (clock : ℕ) → a ≡ Ok cut → P [] clock outs (alone cut b clock outs)
+  of_alone cut [] clock is = of_end cut b clock is refl
+  of_alone cut (other ∷ outs) clock is =
+      steps.outside other [] outs clock (alone cut b (max clock other.time) outs) (known_end a cut is) refl
+      (of_alone cut outs (max clock other.time) is)
 
-pub last-reach : (side : Side) (xs : List Arrival) (x : Arrival) → reach side (length xs) (xs ++ x ∷ [])
-    ≡ whole side (xs ++ x ∷ [])
-last-reach side xs x = ap (λ (l : List Arrival). latest (filter (is_from side) l)) (take-last xs x)
+  of_last : (first : Entry) (ins : List Entry) (clock : ℕ) (end : Result Bool CaptureFault) → b ≡ end →
+      P ins (max clock first.time) [] (inputs_from a b ins (max clock first.time) [])
+      → P (first ∷ ins) clock [] (unless_fault end (before (input_of Inside (max clock first.time) first)
+      (inputs_from a b ins (max clock first.time) [])))
+  of_last first ins clock (Ok cut) is more =
+      steps.inside first ins [] clock (inputs_from a b ins (max clock first.time) []) (known_end b cut is) refl more
+  of_last first ins clock (Err fault) is more = steps.bad_outside fault (first ∷ ins) clock is tt
 
--- CLOCKS
+  of_until : (first : Entry) (ins outs : List Entry) (clock : ℕ) →
+      ((now : ℕ) (left : List Entry) → P ins now left (inputs_from a b ins now left))
+      → P (first ∷ ins) clock outs (until b first (inputs_from a b ins) clock outs)
+  of_until first ins [] clock more = of_last first ins clock b refl (more (max clock first.time) [])
+  of_until first ins (other ∷ outs) clock more = elim (cases_Bool (nat_lt other.time first.time)) [
+    | inl earlier ↦ rw earlier (steps.outside other (first ∷ ins) outs clock
+        (until b first (inputs_from a b ins) (max clock other.time) outs) tt earlier
+        (of_until first ins outs (max clock other.time) more))
+    | inr later ↦ rw later (steps.inside first ins (other ∷ outs) clock
+        (inputs_from a b ins (max clock first.time) (other ∷ outs)) tt later
+        (more (max clock first.time) (other ∷ outs)))
+  ]
 
-pub clocks-push : (xs : List Arrival) (x : Arrival) → HaveClocks xs → x.clock ≡ max (latest xs) x.time →
-    HaveClocks (xs ++ x ∷ [])
-clocks-push xs x clocks clock place a is = elim (get-push xs x place a is) [
-  | inl old ↦
-      clocks place a old ∙ ap latest (sym (take-within xs x place (slice_get_within xs place a old)))
-  | inr last ↦
-      ap (λ (i : Arrival). i.clock) last.1 ∙ clock ∙ sym (latest-push xs x) ∙ ap latest (sym (take-last xs x))
-      ∙ ap (λ (n : ℕ). clock_at n (xs ++ x ∷ [])) (sym last.0)
-]
+  of_none : (end : Result Bool CaptureFault) (outs : List Entry) (clock : ℕ) → a ≡ end →
+      P [] clock outs (alone_by end b clock outs)
+  of_none (Ok cut) outs clock is = of_alone cut outs clock is
+  of_none (Err fault) outs clock is = steps.bad_inside fault outs clock is
 
--- ORDER
+  of_inputs : (ins outs : List Entry) (clock : ℕ) → P ins clock outs (inputs_from a b ins clock outs)
+  of_inputs [] outs clock = of_none a outs clock refl
+  of_inputs (first ∷ ins) outs clock = of_until first ins outs clock (λ now left. of_inputs ins left now)
 
-none-some : {X : Type 0} {x : X} → None ≡ Some x → ⊥
-none-some is = cc
+-- the same of the merged list
+record Steps (P : List Entry → ℕ → List Entry → List Arrival → Type 0) : Type 0 where
+  none : (clock : ℕ) → P [] clock [] []
+  inside : (entry : Entry) (ins outs : List Entry) (clock : ℕ) (xs : List Arrival) →
+      is_outside_next (entry ∷ ins) outs ≡ false → P ins (max clock entry.time) outs xs
+      → P (entry ∷ ins) clock outs (input_of Inside (max clock entry.time) entry ∷ xs)
+  outside : (entry : Entry) (ins outs : List Entry) (clock : ℕ) (xs : List Arrival) →
+      is_outside_next ins (entry ∷ outs) ≡ true → P ins (max clock entry.time) outs xs
+      → P ins clock (entry ∷ outs) (input_of Outside (max clock entry.time) entry ∷ xs)
 
-cons-nil : {X : Type 0} {x : X} {xs : List X} → x ∷ xs ≡ [] → ⊥
-cons-nil is = cc
+of_merged : (P : List Entry → ℕ → List Entry → List Arrival → Type 0) → Steps P → (ins outs : List Entry) (clock : ℕ) →
+    P ins clock outs (merged_from ins clock outs)
+of_merged P steps = of_inputs (Ok false) (Ok false) (λ ins clock outs inputs. P ins clock outs inputs.arrivals)
+    (record {
+      ends = λ x y clock is also. steps.none clock;
+      bad_inside = λ fault outs clock is. absurd cc;
+      bad_outside = λ fault ins clock is known. absurd cc;
+      inside = λ entry ins outs clock inputs known next p. steps.inside entry ins outs clock inputs.arrivals next p;
+      outside = λ entry ins outs clock inputs known next p. steps.outside entry ins outs clock inputs.arrivals next p;
+    })
 
-some-is : {X : Type 0} {x y : X} → Some x ≡ Some y → x ≡ y
-some-is is = cc
+-- A FAULT ENDS IT EARLY
 
-inside-not-outside : Inside ≡ Outside → ⊥
-inside-not-outside is = cc
+-- what is handed out is a front of these, and all if there is no fault
+record IsFront (inputs : Inputs) (all : List Arrival) : Type 0 where
+  pub left : List Arrival
+  pub is : all ≡ inputs.arrivals ++ left
+  pub whole : (cuts : Cuts) → inputs.end ≡ Ok cuts → left ≡ []
 
-not_both : (a : Arrival) → a.side ≡ Inside → a.side ≡ Outside → ⊥
-not_both a is other = inside-not-outside (sym is ∙ other)
+front_before : (x : Arrival) (inputs : Inputs) (some all : List Arrival) → all ≡ x ∷ some → IsFront inputs some →
+    IsFront (before x inputs) all
+front_before x inputs some all is p =
+    record { left = p.left; is = is ∙ ap (λ l. x ∷ l) p.is; whole = p.whole }
 
-pub own_from : (side : Side) (a : Arrival) → a.side ≡ side → is_from side a ≡ true
-own_from Inside a is = ap (same_side Inside) is
-own_from Outside a is = ap (same_side Outside) is
+front_fault : (side : Side) (fault : CaptureFault) (all : List Arrival) → IsFront (at_fault side fault) all
+front_fault side fault all = record { left = all; is = refl; whole = λ cuts never. absurd cc }
 
--- a side's input at a place is among that side's
-has_by : (side : Side) (x : Arrival) (xs : List Arrival) (b : Bool) → (filter (is_from side) xs ≡ [] → ⊥) →
-    cond b (x ∷ filter (is_from side) xs) (filter (is_from side) xs) ≡ [] → ⊥
-has_by side x xs true more none = cons-nil none
-has_by side x xs false more none = more none
+front_from : (a b : Result Bool CaptureFault) (ins outs : List Entry) (clock : ℕ) →
+    IsFront (inputs_from a b ins clock outs) (merged_from ins clock outs)
+front_from a b = of_inputs a b (λ ins clock outs inputs. IsFront inputs (merged_from ins clock outs)) (record {
+  ends = λ x y clock is also. record { left = []; is = refl; whole = λ cuts same. refl };
+  bad_inside = λ fault outs clock is. front_fault Inside fault (merged_from [] clock outs);
+  bad_outside = λ fault ins clock is known. front_fault Outside fault (merged_from ins clock []);
+  inside = λ entry ins outs clock inputs known next p. front_before _ inputs _ _
+      (hands (entry ∷ ins) outs ins outs clock Inside entry (refl, refl, next)) p;
+  outside = λ entry ins outs clock inputs known next p. front_before _ inputs _ _
+      (hands ins (entry ∷ outs) ins outs clock Outside entry (refl, refl, next)) p;
+})
 
-has_one : (side : Side) (xs : List Arrival) (place : ℕ) (a : Arrival) → slice_get xs place ≡ Some a → is_from side a
-    ≡ true → filter (is_from side) xs ≡ [] → ⊥
-has_one side [] place a is own none = none-some is
-has_one side (x ∷ xs) zero a is own none =
-    let here : is_from side x ≡ true = ap (is_from side) (some-is is) ∙ own in
-    cons-nil (sym (ap (λ (b : Bool). cond b (x ∷ filter (is_from side) xs) (filter (is_from side) xs)) here) ∙ none)
-has_one side (x ∷ xs) (suc place) a is own none = has_by side x xs (is_from side x) (has_one side xs place a is own)
-    none
+pub merges_front : MergesFront
+merges_front inside outside =
+    let p = front_from inside.end outside.end inside.records outside.records 0 in
+    (p.left, p.is)
 
--- one more input of the inside may follow, and one of the outside
-abbrev pub MayFollow : Side → List Arrival → ℕ → Type 0
-MayFollow Inside xs time = (filter (is_from Outside) xs ≡ []) ⊎ (whole Outside xs < max (whole Inside xs) time)
-MayFollow Outside xs time = whole Inside xs ≤ max (whole Outside xs) time
+pub merges_whole : MergesWhole
+merges_whole inside outside cuts is =
+    let p = front_from inside.end outside.end inside.records outside.records 0 in
+    sym (p.is ∙ ap (λ l. (inputs_until inside outside).arrivals ++ l) (p.whole cuts is)
+    ∙ append-nil (inputs_until inside outside).arrivals)
 
--- of two places before the new one
-old-order : (xs : List Arrival) (x : Arrival) (i o : ℕ) → i < length xs → o < length xs
-    → ((i < o) ↔ (reach Inside i xs ≤ reach Outside o xs)) →
-    (i < o) ↔ (reach Inside i (xs ++ x ∷ []) ≤ reach Outside o (xs ++ x ∷ []))
-old-order xs x i o within beyond same =
-    let first = within-reach Inside xs x i within in
-    let second = within-reach Outside xs x o beyond in (
-      λ before. subst₂ (λ (m n : ℕ). m ≤ n) (sym first) (sym second) (same.0 before),
-      λ small.
-          same.1 (subst₂ (λ (m n : ℕ). m ≤ n) first second small),
+-- how both captures ended
+abbrev EndAs : Result Bool CaptureFault → Result Bool CaptureFault → Inputs → Type 0
+EndAs a b inputs = (cuts : Cuts) → inputs.end ≡ Ok cuts → (a ≡ Ok cuts.inside) × (b ≡ Ok cuts.outside)
+
+ends_are : (a b : Result Bool CaptureFault) (x y : Bool) → a ≡ Ok x → b ≡ Ok y → EndAs a b (at_end x (Ok y))
+ends_are a b x y is also cuts end =
+    let both : Cuts = record { inside = x; outside = y } in
+    let same : both ≡ cuts = cc in
+    (is ∙ ap (λ (c : Cuts). Ok c.inside) same, also ∙ ap (λ (c : Cuts). Ok c.outside) same)
+
+ends_from : (a b : Result Bool CaptureFault) (ins outs : List Entry) (clock : ℕ) →
+    EndAs a b (inputs_from a b ins clock outs)
+ends_from a b = of_inputs a b (λ ins clock outs inputs. EndAs a b inputs) (record {
+  ends = λ x y clock is also. ends_are a b x y is also;
+  bad_inside = λ fault outs clock is cuts end. absurd cc;
+  bad_outside = λ fault ins clock is known cuts end. absurd cc;
+  inside = λ entry ins outs clock inputs known next p. p;
+  outside = λ entry ins outs clock inputs known next p. p;
+})
+
+pub merge_ends : MergeEnds
+merge_ends inside outside cuts is = ends_from inside.end outside.end inside.records outside.records 0 cuts is
+
+-- WHAT PRECEDES A FAULT
+
+abbrev end_of : Side → Result Bool CaptureFault → Result Bool CaptureFault → Result Bool CaptureFault
+end_of Inside a b = a
+end_of Outside a b = b
+
+abbrev records_of : Side → List Entry → List Entry → List Entry
+records_of Inside ins outs = ins
+records_of Outside ins outs = outs
+
+-- how many of these are of a side
+abbrev count : Side → List Arrival → ℕ
+count side inputs = length (filter (is_from side) inputs)
+
+abbrev HasAllOf : Side → List Entry → List Entry → List Arrival → Type 0
+HasAllOf side ins outs inputs = map of_input (filter (is_from side) inputs) ≡ map of_record (records_of side ins outs)
+
+record IsBefore (a b : Result Bool CaptureFault) (ins outs : List Entry) (inputs : Inputs) : Type 0 where
+  meets : (f : SideFault) → inputs.end ≡ Err f → end_of f.side a b ≡ Err f.fault
+  all : (f : SideFault) → inputs.end ≡ Err f → HasAllOf f.side ins outs inputs.arrivals
+  least : (k : ℕ) (side : Side) (its : CaptureFault) → k < length inputs.arrivals → end_of side a b ≡ Err its →
+      count side (take k inputs.arrivals) < length (records_of side ins outs)
+  first : (fault its : CaptureFault) → inputs.end ≡ Err (record { side = Outside; fault = fault }) → a ≡ Err its →
+      count Inside inputs.arrivals < length ins
+
+before_end : (a b : Result Bool CaptureFault) (x y : Bool) → IsBefore a b [] [] (at_end x (Ok y))
+before_end a b x y = record {
+  meets = λ f is. absurd cc;
+  all = λ f is. absurd cc;
+  least = λ k side its less is. absurd (let no : ⊥ = omega (arith, less) in no);
+  first = λ fault its is also. absurd cc;
+}
+
+fault_is : (side : Side) (fault : CaptureFault) (f : SideFault) → (at_fault side fault).end ≡ Err f →
+    (let at : SideFault = record { side = side; fault = fault } in at ≡ f)
+fault_is side fault f same = cc
+
+-- merging hands out nothing
+at_once : (a b : Result Bool CaptureFault) (ins outs : List Entry) (side : Side) (fault : CaptureFault) →
+    end_of side a b ≡ Err fault → records_of side ins outs ≡ []
+    → ((its : CaptureFault) → side ≡ Outside → a ≡ Err its → 0 < length ins)
+    → IsBefore a b ins outs (at_fault side fault)
+at_once a b ins outs side fault is none more = record {
+  meets = λ f same. subst (λ (g : SideFault). end_of g.side a b ≡ Err g.fault) (fault_is side fault f same) is;
+  all = λ f same. subst (λ (g : SideFault). HasAllOf g.side ins outs []) (fault_is side fault f same)
+      (sym (ap (λ l. map of_record l) none));
+  least = λ k other its less also. absurd (let no : ⊥ = omega (arith, less) in no);
+  first = λ other its same also. more its
+      (ap (λ (g : SideFault). g.side) (fault_is side fault (record { side = Outside; fault = other }) same)) also;
+}
+
+some_left : (entries : List Entry) (end : Result Bool CaptureFault) (fault : CaptureFault) → IsKnown entries end →
+    end ≡ Err fault → 0 < length entries
+some_left [] end fault known is = absurd (let never : IsKnown [] (Err fault) = rw is at known in never)
+some_left (entry ∷ entries) end fault known is = omega arith
+
+-- behind one more inside record
+module _ (a b : Result Bool CaptureFault) (entry : Entry) (ins outs : List Entry) (inputs : Inputs) (now : ℕ) where
+  all_in : (side : Side) → HasAllOf side ins outs inputs.arrivals →
+      HasAllOf side (entry ∷ ins) outs (input_of Inside now entry ∷ inputs.arrivals)
+  all_in Inside has = ap (λ l. of_record entry ∷ l) has
+  all_in Outside has = has
+
+  least_in : IsKnown outs b → IsBefore a b ins outs inputs → (k : ℕ) (side : Side) (its : CaptureFault) →
+      k < length (input_of Inside now entry ∷ inputs.arrivals) → end_of side a b ≡ Err its →
+      count side (take k (input_of Inside now entry ∷ inputs.arrivals)) < length (records_of side (entry ∷ ins) outs)
+  least_in known p zero Inside its less is = omega arith
+  least_in known p zero Outside its less is = some_left outs b its known is
+  least_in known p (suc k) Inside its less is =
+      let before = p.least k Inside its (omega (arith, less)) is in omega (arith, before)
+  least_in known p (suc k) Outside its less is = p.least k Outside its (omega (arith, less)) is
+
+  before_in : IsKnown outs b → IsBefore a b ins outs inputs →
+      IsBefore a b (entry ∷ ins) outs (before (input_of Inside now entry) inputs)
+  before_in known p = record {
+    meets = p.meets;
+    all = λ f is. all_in f.side (p.all f is);
+    least = least_in known p;
+    first = λ fault its is also. let less = p.first fault its is also in omega (arith, less);
+  }
+
+  -- and outside record
+  all_out : (side : Side) → HasAllOf side ins outs inputs.arrivals →
+      HasAllOf side ins (entry ∷ outs) (input_of Outside now entry ∷ inputs.arrivals)
+  all_out Inside has = has
+  all_out Outside has = ap (λ l. of_record entry ∷ l) has
+
+  least_out : IsKnown ins a → IsBefore a b ins outs inputs → (k : ℕ) (side : Side) (its : CaptureFault) →
+      k < length (input_of Outside now entry ∷ inputs.arrivals) → end_of side a b ≡ Err its →
+      count side (take k (input_of Outside now entry ∷ inputs.arrivals)) < length (records_of side ins (entry ∷ outs))
+  least_out known p zero Inside its less is = some_left ins a its known is
+  least_out known p zero Outside its less is = omega arith
+  least_out known p (suc k) Inside its less is = p.least k Inside its (omega (arith, less)) is
+  least_out known p (suc k) Outside its less is =
+      let before = p.least k Outside its (omega (arith, less)) is in omega (arith, before)
+
+  before_out : IsKnown ins a → IsBefore a b ins outs inputs →
+      IsBefore a b ins (entry ∷ outs) (before (input_of Outside now entry) inputs)
+  before_out known p = record {
+    meets = p.meets;
+    all = λ f is. all_out f.side (p.all f is);
+    least = least_out known p;
+    first = λ fault its is also. p.first fault its is also;
+  }
+
+out_is_in : Inside ≡ Outside → ⊥
+out_is_in is = cc
+
+before_from : (a b : Result Bool CaptureFault) (ins outs : List Entry) (clock : ℕ) →
+    IsBefore a b ins outs (inputs_from a b ins clock outs)
+before_from a b = of_inputs a b (λ ins clock outs inputs. IsBefore a b ins outs inputs) (record {
+  ends = λ x y clock is also. before_end a b x y;
+  bad_inside = λ fault outs clock is. at_once a b [] outs Inside fault is refl
+      (λ its never also. absurd (out_is_in never));
+  bad_outside = λ fault ins clock is known. at_once a b ins [] Outside fault is refl
+      (λ its same also. some_left ins a its known also);
+  inside = λ entry ins outs clock inputs known next p.
+      before_in a b entry ins outs inputs (max clock entry.time) known p;
+  outside = λ entry ins outs clock inputs known next p.
+      before_out a b entry ins outs inputs (max clock entry.time) known p;
+})
+
+held_end_of : (side : Side) (inside outside : Held) → (held_of side inside outside).end
+    ≡ end_of side inside.end outside.end
+held_end_of Inside inside outside = refl
+held_end_of Outside inside outside = refl
+
+held_records_of : (side : Side) (inside outside : Held) → (held_of side inside outside).records
+    ≡ records_of side inside.records outside.records
+held_records_of Inside inside outside = refl
+held_records_of Outside inside outside = refl
+
+pub merge_meets : MergeMeets
+merge_meets inside outside fault is =
+    held_end_of fault.side inside outside
+    ∙ (before_from inside.end outside.end inside.records outside.records 0).meets fault is
+
+-- where all of a side's records were handed out, there are as many
+all_counted : (side : Side) (inside outside : Held) (inputs : List Arrival) → HaveAll side inside outside inputs →
+    count side inputs ≡ length (records_of side inside.records outside.records)
+all_counted side inside outside inputs have =
+    sym (length-map (filter (is_from side) inputs) of_input)
+    ∙ ap (λ l. length l) have
+    ∙ length-map (held_of side inside outside).records of_record
+    ∙ ap (λ (l : List Entry). length l) (held_records_of side inside outside)
+
+pub merges_before : MergesBefore
+merges_before inside outside fault is =
+    let p = before_from inside.end outside.end inside.records outside.records 0 in
+    let inputs = (inputs_until inside outside).arrivals in (
+      subst (λ (l : List Entry). map of_input (filter (is_from fault.side) inputs) ≡ map of_record l)
+          (sym (held_records_of fault.side inside outside)) (p.all fault is),
+      λ k other its less ends have.
+          let few = p.least k other its less (sym (held_end_of other inside outside) ∙ ends) in
+          omega (arith, few, all_counted other inside outside (take k inputs) have),
     )
 
--- of a new outside input behind an inside one
-outside-last : (xs : List Arrival) (x : Arrival) (i : ℕ) → i < length xs → x.side ≡ Outside →
-    MayFollow Outside xs x.time
-    → (i < length xs) ↔ (reach Inside i (xs ++ x ∷ []) ≤ reach Outside (length xs) (xs ++ x ∷ []))
-outside-last xs x i within side may =
-    let first : reach Inside i (xs ++ x ∷ []) ≡ reach Inside i xs = within-reach Inside xs x i within in
-    let most : reach Inside i xs ≤ whole Inside xs = reach-whole Inside i xs in
-    let last : reach Outside (length xs) (xs ++ x ∷ []) ≡ max (whole Outside xs) x.time = last-reach Outside xs x
-    ∙ whole-own Outside xs x (own_from Outside x side) in
-    (λ before. omega (arith, first, most, last, may), λ small. within)
+pub tells_inside_first : TellsInsideFirst
+tells_inside_first inside outside fault its is also have =
+    let p = before_from inside.end outside.end inside.records outside.records 0 in
+    let few = p.first fault its is also in
+    omega (arith, few, all_counted Inside inside outside (inputs_until inside outside).arrivals have)
 
--- of a new inside input behind an outside one
-inside-last : (xs : List Arrival) (x b : Arrival) (o : ℕ) → slice_get xs o ≡ Some b → b.side ≡ Outside →
-    x.side ≡ Inside → MayFollow Inside xs x.time
-    → (length xs < o) ↔ (reach Inside (length xs) (xs ++ x ∷ []) ≤ reach Outside o (xs ++ x ∷ []))
-inside-last xs x b o at other side (inl none) = absurd (has_one Outside xs o b at (own_from Outside b other) none)
-inside-last xs x b o at other side (inr may) =
-    let within : o < length xs = slice_get_within xs o b at in
-    let first : reach Outside o (xs ++ x ∷ []) ≡ reach Outside o xs = within-reach Outside xs x o within in
-    let most : reach Outside o xs ≤ whole Outside xs = reach-whole Outside o xs in
-    let last : reach Inside (length xs) (xs ++ x ∷ []) ≡ max (whole Inside xs) x.time = last-reach Inside xs x
-    ∙ whole-own Inside xs x (own_from Inside x side) in
-    (λ before. omega (arith, before, within), λ small. omega (arith, small, first, most, last, may))
+-- HOW MANY
 
-order-by : (xs : List Arrival) (x : Arrival) → AreInOrder xs → MayFollow x.side xs x.time → (i o : ℕ) (a b : Arrival)
-    → (slice_get xs i ≡ Some a) ⊎ ((i ≡ length xs) × (a ≡ x)) →
-    (slice_get xs o ≡ Some b) ⊎ ((o ≡ length xs) × (b ≡ x)) → a.side ≡ Inside → b.side ≡ Outside
-    → (i < o) ↔ (reach Inside i (xs ++ x ∷ []) ≤ reach Outside o (xs ++ x ∷ []))
-order-by xs x order may i o a b (inl old) (inl also) inside outside =
-    old-order xs x i o (slice_get_within xs i a old) (slice_get_within xs o b also)
-    (order i o a b old also inside outside)
-order-by xs x order may i o a b (inl old) (inr new) inside outside =
-    let side : x.side ≡ Outside = ap (λ (c : Arrival). c.side) (sym new.1) ∙ outside in
-    subst (λ (n : ℕ). (i < n) ↔ (reach Inside i (xs ++ x ∷ []) ≤ reach Outside n (xs ++ x ∷ []))) (sym new.0)
-    (outside-last xs x i (slice_get_within xs i a old) side (subst (λ (s : Side). MayFollow s xs x.time) side may))
-order-by xs x order may i o a b (inr new) (inl old) inside outside =
-    let side : x.side ≡ Inside = ap (λ (c : Arrival). c.side) (sym new.1) ∙ inside in
-    subst (λ (n : ℕ). (n < o) ↔ (reach Inside n (xs ++ x ∷ []) ≤ reach Outside o (xs ++ x ∷ []))) (sym new.0)
-    (inside-last xs x b o old outside side (subst (λ (s : Side). MayFollow s xs x.time) side may))
-order-by xs x order may i o a b (inr new) (inr also) inside outside =
-    absurd (not_both a inside (ap (λ (c : Arrival). c.side) (new.1 ∙ sym also.1) ∙ outside))
-
-pub order-push : (xs : List Arrival) (x : Arrival) → AreInOrder xs → MayFollow x.side xs x.time →
-    AreInOrder (xs ++ x ∷ [])
-order-push xs x order may i o a b at also inside outside = order-by xs x order may i o a b (get-push xs x i a at)
-    (get-push xs x o b also) inside outside
-
--- RECORDS
-
--- what the inputs of a side have of their records
-abbrev pub held : Side → List Arrival → List Timed
-held side inputs = map of_input (filter (is_from side) inputs)
-
-pub held-push : (side : Side) (xs : List Arrival) (x : Arrival) → is_from side x ≡ true → held side (xs ++ x ∷ [])
-    ≡ held side xs ++ of_input x ∷ []
-held-push side xs x own =
-    let mine : List Arrival = filter (is_from side) xs in
-    ap (map of_input) (filter-append (is_from side) xs (x ∷ []) ∙ ap (λ (b : Bool). mine ++ cond b (x ∷ []) []) own)
-    ∙ map-append of_input mine (x ∷ [])
-
-held-own : (side : Side) (xs : List Arrival) (x : Arrival) (entry : Entry) (rest : List Entry) (all : List Timed) →
-    is_from side x ≡ true → of_input x ≡ of_record entry
-    → held side xs ++ map of_record (entry ∷ rest) ≡ all → held side (xs ++ x ∷ []) ++ map of_record rest ≡ all
-held-own side xs x entry rest all own same whole_is =
-    ap (λ (l : List Timed). l ++ map of_record rest) (held-push side xs x own)
-    ∙ append_assoc (held side xs) (of_input x ∷ []) (map of_record rest)
-    ∙ ap (λ (t : Timed). held side xs ++ t ∷ map of_record rest) same
-    ∙ whole_is
-
-pub held-other : (side : Side) (xs : List Arrival) (x : Arrival) → is_from side x ≡ false → held side (xs ++ x ∷ [])
-    ≡ held side xs
-held-other side xs x other = ap (map of_input) (filter-other side xs x other)
-
--- A MERGE ON ITS WAY
-
-abbrev pub NextMayFollow : Side → List Arrival → List Entry → Type 0
-NextMayFollow side inputs [] = Unit {0}
-NextMayFollow side inputs (entry ∷ rest) = MayFollow side inputs entry.time
-
--- these inputs were made of records of both lists, and these records are left
-pub record Merging (insides outsides : List Entry) (inputs : List Arrival) (ins outs : List Entry)
-    (clock_now : ℕ) : Type 0 where
-  pub inside : held Inside inputs ++ map of_record ins ≡ map of_record insides
-  pub outside : held Outside inputs ++ map of_record outs ≡ map of_record outsides
-  pub order : AreInOrder inputs
-  pub clocks : HaveClocks inputs
-  pub now : clock_now ≡ latest inputs
-  pub next_inside : NextMayFollow Inside inputs ins
-  pub next_outside : NextMayFollow Outside inputs outs
-
-may_begin_inside : (ins : List Entry) → NextMayFollow Inside [] ins
-may_begin_inside [] = tt
-may_begin_inside (entry ∷ ins) = inl refl
-
-may_begin_outside : (outs : List Entry) → NextMayFollow Outside [] outs
-may_begin_outside [] = tt
-may_begin_outside (entry ∷ outs) = omega arith
-
-pub begins : (insides outsides : List Entry) → Merging insides outsides [] insides outsides 0
-begins insides outsides = record {
-  inside = refl;
-  outside = refl;
-  order = λ i o a b at. absurd (none-some at);
-  clocks = λ place input at. absurd (none-some at);
-  now = refl;
-  next_inside = may_begin_inside insides;
-  next_outside = may_begin_outside outsides;
-}
-
-pub ends : (insides outsides : List Entry) (inputs : List Arrival) (ins outs : List Entry) (clock : ℕ) →
-    Merging insides outsides inputs ins outs clock → ins ≡ [] → outs ≡ []
-    → IsMerged insides outsides inputs
-ends insides outsides inputs ins outs clock merging none also = record {
-  inside = sym (append-nil (held Inside inputs)) ∙ ap (λ (l : List Entry). held Inside inputs ++ map of_record l)
-      (sym none) ∙ merging.inside;
-  outside = sym (append-nil (held Outside inputs)) ∙ ap (λ (l : List Entry). held Outside inputs ++ map of_record l)
-      (sym also) ∙ merging.outside;
-  order = merging.order;
-  clock = merging.clocks;
-}
-
--- AFTER AN INSIDE RECORD
-
--- the next inside record: no outside input came since
-inside-inside : (xs : List Arrival) (x : Arrival) (ins : List Entry) → x.side ≡ Inside → MayFollow Inside xs x.time →
-    NextMayFollow Inside (xs ++ x ∷ []) ins
-inside-inside xs x [] side may = tt
-inside-inside xs x (entry ∷ ins) side (inl none) =
-    inl (filter-other Outside xs x (ap (same_side Outside) side) ∙ none)
-inside-inside xs x (entry ∷ ins) side (inr may) =
-    let mine : whole Inside (xs ++ x ∷ []) ≡ max (whole Inside xs) x.time =
-    whole-own Inside xs x (ap (same_side Inside) side) in
-    let others : whole Outside (xs ++ x ∷ []) ≡ whole Outside xs =
-    whole-other Outside xs x (ap (same_side Outside) side) in
-    inr (omega (arith, mine, others, may))
-
--- the next outside record: it isn't earlier
-inside-outside : (xs : List Arrival) (x : Arrival) (entry : Entry) (ins outs : List Entry) → x.side ≡ Inside →
-    x.time ≡ entry.time → is_outside_next (entry ∷ ins) outs ≡ false
-    → NextMayFollow Outside xs outs → NextMayFollow Outside (xs ++ x ∷ []) outs
-inside-outside xs x entry ins [] side time next may = tt
-inside-outside xs x entry ins (other ∷ outs) side time next may =
-    let mine : whole Inside (xs ++ x ∷ []) ≡ max (whole Inside xs) x.time =
-    whole-own Inside xs x (ap (same_side Inside) side) in
-    let others : whole Outside (xs ++ x ∷ []) ≡ whole Outside xs =
-    whole-other Outside xs x (ap (same_side Outside) side) in
-    let late : entry.time ≤ other.time = ltb-false other.time entry.time next in
-    omega (arith, mine, others, may, late, time)
-
--- AFTER AN OUTSIDE RECORD
-
-outside-outside : (xs : List Arrival) (x : Arrival) (outs : List Entry) → x.side ≡ Outside →
-    MayFollow Outside xs x.time → NextMayFollow Outside (xs ++ x ∷ []) outs
-outside-outside xs x [] side may = tt
-outside-outside xs x (entry ∷ outs) side may =
-    let mine : whole Outside (xs ++ x ∷ []) ≡ max (whole Outside xs) x.time =
-    whole-own Outside xs x (ap (same_side Outside) side) in
-    let others : whole Inside (xs ++ x ∷ []) ≡ whole Inside xs = whole-other Inside xs x (ap (same_side Inside) side) in
-    omega (arith, mine, others, may)
-
-outside-before : (xs : List Arrival) (x : Arrival) (first : Entry) → x.side ≡ Outside → x.time < first.time →
-    MayFollow Inside xs first.time
-    → whole Outside (xs ++ x ∷ []) < max (whole Inside (xs ++ x ∷ [])) first.time
-outside-before xs x first side early (inl none) =
-    let mine : whole Outside (xs ++ x ∷ []) ≡ max (whole Outside xs) x.time =
-    whole-own Outside xs x (ap (same_side Outside) side) in
-    let others : whole Inside (xs ++ x ∷ []) ≡ whole Inside xs = whole-other Inside xs x (ap (same_side Inside) side) in
-    let empty : whole Outside xs ≡ 0 = ap latest none in
-    omega (arith, mine, others, empty, early)
-outside-before xs x first side early (inr may) =
-    let mine : whole Outside (xs ++ x ∷ []) ≡ max (whole Outside xs) x.time =
-    whole-own Outside xs x (ap (same_side Outside) side) in
-    let others : whole Inside (xs ++ x ∷ []) ≡ whole Inside xs = whole-other Inside xs x (ap (same_side Inside) side) in
-    omega (arith, mine, others, may, early)
-
-outside-inside : (xs : List Arrival) (x : Arrival) (entry : Entry) (ins outs : List Entry) → x.side ≡ Outside →
-    x.time ≡ entry.time → is_outside_next ins (entry ∷ outs) ≡ true
-    → NextMayFollow Inside xs ins → NextMayFollow Inside (xs ++ x ∷ []) ins
-outside-inside xs x entry [] outs side time next may = tt
-outside-inside xs x entry (first ∷ ins) outs side time next may =
-    inr (outside-before xs x first side (subst (λ (t : ℕ). t < first.time) (sym time)
-    (ltb-true entry.time first.time next)) may)
-
--- ONE RECORD
-
-takes_inside : (insides outsides : List Entry) (inputs : List Arrival) (entry : Entry) (ins outs : List Entry)
-    (clock now : ℕ) → Merging insides outsides inputs (entry ∷ ins) outs clock
-    → is_outside_next (entry ∷ ins) outs ≡ false → now ≡ max clock entry.time →
-    Merging insides outsides (inputs ++ input_of Inside now entry ∷ []) ins outs now
-takes_inside insides outsides inputs entry ins outs clock now merging next is =
-    let x : Arrival = input_of Inside now entry in
-    let latest_is : now ≡ max (latest inputs) x.time = is ∙ ap (λ (n : ℕ). max n entry.time) merging.now in
-    record {
-      inside = held-own Inside inputs x entry ins (map of_record insides) refl refl merging.inside;
-      outside = ap (λ (l : List Timed). l ++ map of_record outs) (held-other Outside inputs x refl) ∙ merging.outside;
-      order = order-push inputs x merging.order merging.next_inside;
-      clocks = clocks-push inputs x merging.clocks latest_is;
-      now = latest_is ∙ sym (latest-push inputs x);
-      next_inside = inside-inside inputs x ins refl merging.next_inside;
-      next_outside = inside-outside inputs x entry ins outs refl refl next merging.next_outside;
-    }
-
-takes_outside : (insides outsides : List Entry) (inputs : List Arrival) (entry : Entry) (ins outs : List Entry)
-    (clock now : ℕ) → Merging insides outsides inputs ins (entry ∷ outs) clock
-    → is_outside_next ins (entry ∷ outs) ≡ true → now ≡ max clock entry.time →
-    Merging insides outsides (inputs ++ input_of Outside now entry ∷ []) ins outs now
-takes_outside insides outsides inputs entry ins outs clock now merging next is =
-    let x : Arrival = input_of Outside now entry in
-    let latest_is : now ≡ max (latest inputs) x.time = is ∙ ap (λ (n : ℕ). max n entry.time) merging.now in
-    record {
-      inside = ap (λ (l : List Timed). l ++ map of_record ins) (held-other Inside inputs x refl) ∙ merging.inside;
-      outside = held-own Outside inputs x entry outs (map of_record outsides) refl refl merging.outside;
-      order = order-push inputs x merging.order merging.next_outside;
-      clocks = clocks-push inputs x merging.clocks latest_is;
-      now = latest_is ∙ sym (latest-push inputs x);
-      next_inside = outside-inside inputs x entry ins outs refl refl next merging.next_inside;
-      next_outside = outside-outside inputs x outs refl merging.next_outside;
-    }
-
-pub takes : (insides outsides : List Entry) (inputs : List Arrival) (ins outs ins_left outs_left : List Entry)
-    (clock now : ℕ) (side : Side) (entry : Entry)
-    → Merging insides outsides inputs ins outs clock → Takes ins outs (Some (side, entry)) ins_left outs_left →
-    now ≡ max clock entry.time
-    → Merging insides outsides (inputs ++ input_of side now entry ∷ []) ins_left outs_left now
-takes insides outsides inputs ins outs ins_left outs_left clock now Inside entry merging taken is =
-    takes_inside insides outsides inputs entry ins_left outs_left clock now
-    (subst₂ (λ (i o : List Entry). Merging insides outsides inputs i o clock) taken.0 taken.1 merging)
-    (subst₂ (λ (i o : List Entry). is_outside_next i o ≡ false) taken.0 taken.1 taken.2) is
-takes insides outsides inputs ins outs ins_left outs_left clock now Outside entry merging taken is =
-    takes_outside insides outsides inputs entry ins_left outs_left clock now
-    (subst₂ (λ (i o : List Entry). Merging insides outsides inputs i o clock) taken.1 taken.0 merging)
-    (subst₂ (λ (i o : List Entry). is_outside_next i o ≡ true) taken.1 taken.0 taken.2) is
-
--- it is one of those that were left
-pub takes_one : (ins outs ins_left outs_left : List Entry) (side : Side) (entry : Entry) →
-    Takes ins outs (Some (side, entry)) ins_left outs_left
-    → length ins_left + length outs_left < length ins + length outs
-takes_one ins outs ins_left outs_left Inside entry taken =
-    let longer : length ins ≡ suc (length ins_left) = ap length taken.0 in
-    let same : length outs ≡ length outs_left = ap length taken.1 in
-    omega (arith, longer, same)
-takes_one ins outs ins_left outs_left Outside entry taken =
-    let longer : length outs ≡ suc (length outs_left) = ap length taken.0 in
-    let same : length ins ≡ length ins_left = ap length taken.1 in
-    omega (arith, longer, same)
+pub as_many : (ins outs : List Entry) (clock : ℕ) → length (merged_from ins clock outs) ≡ length ins + length outs
+as_many = of_merged (λ ins clock outs xs. length xs ≡ length ins + length outs) (record {
+  none = λ clock. refl;
+  inside = λ entry ins outs clock xs next long. omega (arith, long);
+  outside = λ entry ins outs clock xs next long. omega (arith, long);
+})
 
 -- TIMES THAT A CAPTURE HAS ROOM FOR
 
-All-one : {X : Type 0} (P : X → Type 0) (x : X) → P x → All P (x ∷ [])
-All-one P x holds zero d within = holds
-All-one P x holds (suc k) d within = absurd (let none : suc k < 1 = within in omega (arith, none))
+pub timely_from : (ins outs : List Entry) (clock : ℕ) → All IsWritable ins → All IsWritable outs →
+    All IsTimely (merged_from ins clock outs)
+timely_from = of_merged (λ ins clock outs xs. All IsWritable ins → All IsWritable outs → All IsTimely xs) (record {
+  none = λ clock first second. All-nil IsTimely;
+  inside =
+      λ entry ins outs clock xs next more first second.
+      All-cons IsTimely (input_of Inside (max clock entry.time) entry) xs ((All-head IsWritable entry ins first).time)
+      (more (All-tail IsWritable entry ins first) second);
+  outside =
+      λ entry ins outs clock xs next more first second.
+      All-cons IsTimely (input_of Outside (max clock entry.time) entry) xs
+      ((All-head IsWritable entry outs second).time) (more first (All-tail IsWritable entry outs second));
+})
 
-All-first : {X : Type 0} (P : X → Type 0) (x : X) (xs : List X) → All P (x ∷ xs) → P x
-All-first P x xs all = all 0 x (let some : 0 < suc (length xs) = omega arith in some)
-
-pub takes_timely : (inputs : List Arrival) (ins outs ins_left outs_left : List Entry) (now : ℕ) (side : Side)
-    (entry : Entry) → Takes ins outs (Some (side, entry)) ins_left outs_left
-    → All IsTimely inputs × (All IsWritable ins × All IsWritable outs) →
-    All IsTimely (inputs ++ input_of side now entry ∷ []) × (All IsWritable ins_left × All IsWritable outs_left)
-takes_timely inputs ins outs ins_left outs_left now Inside entry taken all =
-    let mine : All IsWritable (entry ∷ ins_left) = subst (All IsWritable) taken.0 all.1.0 in
-    let first : IsWritable entry = All-first IsWritable entry ins_left mine in (
-      All-append IsTimely inputs (input_of Inside now entry ∷ []) all.0
-          (All-one IsTimely (input_of Inside now entry) first.time),
-      (All-tail IsWritable entry ins_left mine, subst (All IsWritable) taken.1 all.1.1),
+pub takes_timely : (ins outs ins_left outs_left : List Entry) (now : ℕ) (side : Side) (entry : Entry) →
+    Takes ins outs (Some (side, entry)) ins_left outs_left → All IsWritable ins × All IsWritable outs
+    → All IsTimely (input_of side now entry ∷ []) × (All IsWritable ins_left × All IsWritable outs_left)
+takes_timely ins outs ins_left outs_left now Inside entry taken all =
+    let mine : All IsWritable (entry ∷ ins_left) = subst (All IsWritable) taken.0 all.0 in (
+      All-cons IsTimely (input_of Inside now entry) [] (All-head IsWritable entry ins_left mine).time
+          (All-nil IsTimely),
+      (All-tail IsWritable entry ins_left mine, subst (All IsWritable) taken.1 all.1),
     )
-takes_timely inputs ins outs ins_left outs_left now Outside entry taken all =
-    let mine : All IsWritable (entry ∷ outs_left) = subst (All IsWritable) taken.0 all.1.1 in
-    let first : IsWritable entry = All-first IsWritable entry outs_left mine in (
-      All-append IsTimely inputs (input_of Outside now entry ∷ []) all.0
-          (All-one IsTimely (input_of Outside now entry) first.time),
-      (subst (All IsWritable) taken.1 all.1.0, All-tail IsWritable entry outs_left mine),
+takes_timely ins outs ins_left outs_left now Outside entry taken all =
+    let mine : All IsWritable (entry ∷ outs_left) = subst (All IsWritable) taken.0 all.1 in (
+      All-cons IsTimely (input_of Outside now entry) [] (All-head IsWritable entry outs_left mine).time
+          (All-nil IsTimely),
+      (subst (All IsWritable) taken.1 all.0, All-tail IsWritable entry outs_left mine),
     )
 
-pub none_yet : All IsTimely []
-none_yet k d within = absurd (let none : k < 0 = within in omega (arith, none))
+-- ORDER AND CLOCKS
+
+take_more : (place : ℕ) (x : Arrival) (xs : List Arrival) → take (suc place + 1) (x ∷ xs) ≡ x ∷ take (place + 1) xs
+take_more place x xs = let more : suc place + 1 ≡ suc (place + 1) = omega arith in
+    ap (λ n. take n (x ∷ xs)) more
+
+reach_more : (side : Side) (place : ℕ) (x : Arrival) (xs : List Arrival) → reach side (suc place) (x ∷ xs)
+    ≡ latest (filter (is_from side) (x ∷ take (place + 1) xs))
+reach_more side place x xs = ap (λ l. latest (filter (is_from side) l)) (take_more place x xs)
+
+clock_more : (place : ℕ) (x : Arrival) (xs : List Arrival) → clock_at (suc place) (x ∷ xs)
+    ≡ max x.time (clock_at place xs)
+clock_more place x xs = ap latest (take_more place x xs)
+
+-- the first of these is no later than this
+abbrev IsFloor : List Entry → ℕ → Type 0
+IsFloor [] time = ⊥
+IsFloor (entry ∷ entries) time = entry.time ≤ time
+
+-- inside records were taken up to this time, and outside ones up to before that one; then the next inside record, and
+-- the next outside one
+abbrev MayIn : ℕ → ℕ → List Entry → Type 0
+MayIn m q [] = Unit {0}
+MayIn m q (entry ∷ entries) = q ≤ max m entry.time
+
+abbrev MayOut : ℕ → ℕ → List Entry → Type 0
+MayOut m q [] = Unit {0}
+MayOut m q (entry ∷ entries) = m < max q (suc entry.time)
+
+in_reaches : (m q time : ℕ) (ins : List Entry) → MayIn m q ins → IsFloor ins time → q ≤ max m time
+in_reaches m q time [] may floor = absurd floor
+in_reaches m q time (entry ∷ ins) may floor = omega (arith, may, floor)
+
+out_reaches : (m q time : ℕ) (outs : List Entry) → MayOut m q outs → IsFloor outs time → m < max q (suc time)
+out_reaches m q time [] may floor = absurd floor
+out_reaches m q time (entry ∷ outs) may floor = omega (arith, may, floor)
+
+-- after an inside record
+in_in : (m q time : ℕ) (ins : List Entry) → q ≤ max m time → MayIn (max m time) q ins
+in_in m q time [] may = tt
+in_in m q time (entry ∷ ins) may = omega (arith, may)
+
+in_out : (m q : ℕ) (entry : Entry) (ins outs : List Entry) → is_outside_next (entry ∷ ins) outs ≡ false →
+    MayOut m q outs → MayOut (max m entry.time) q outs
+in_out m q entry ins [] next may = tt
+in_out m q entry ins (other ∷ outs) next may = omega (arith, may, ltb-false other.time entry.time next)
+
+-- after an outside record
+out_out : (m q time : ℕ) (outs : List Entry) → m < max q (suc time) → MayOut m (max q (suc time)) outs
+out_out m q time [] may = tt
+out_out m q time (entry ∷ outs) may = omega (arith, may)
+
+out_in : (m q : ℕ) (entry : Entry) (ins outs : List Entry) → is_outside_next ins (entry ∷ outs) ≡ true →
+    MayIn m q ins → MayIn m (max q (suc entry.time)) ins
+out_in m q entry [] outs next may = tt
+out_in m q entry (first ∷ ins) outs next may = omega (arith, may, ltb-true entry.time first.time next)
+
+some_side : (x a : Arrival) → Some x ≡ Some a → x.side ≡ a.side
+some_side x a is = let same : x ≡ a = cc in ap (λ (b : Arrival). b.side) same
+
+in_out_apart : Inside ≡ Outside → ⊥
+in_out_apart is = cc
+
+abbrev OrderFrom : ℕ → ℕ → List Arrival → Type 0
+OrderFrom m q xs =
+    (i o : ℕ) (a b : Arrival) → slice_get xs i ≡ Some a → slice_get xs o ≡ Some b → a.side ≡ Inside → b.side ≡ Outside
+    → (i < o) ↔ (max m (reach Inside i xs) < max q (suc (reach Outside o xs)))
+
+abbrev Floors : Side → List Entry → List Arrival → Type 0
+Floors side entries xs = (place : ℕ) (a : Arrival) → slice_get xs place ≡ Some a → a.side ≡ side →
+    IsFloor entries (reach side place xs)
+
+order_in : (m q now : ℕ) (entry : Entry) (outs : List Entry) (xs : List Arrival) →
+    MayOut (max m entry.time) q outs → Floors Outside outs xs → OrderFrom (max m entry.time) q xs
+    → OrderFrom m q (input_of Inside now entry ∷ xs)
+order_in m q now entry outs xs may floors order i zero a b at also inside outside =
+    absurd (in_out_apart (some_side (input_of Inside now entry) b also ∙ outside))
+order_in m q now entry outs xs may floors order zero (suc o) a b at also inside outside =
+    let reaches = out_reaches (max m entry.time) q (reach Outside o xs) outs may (floors o b also outside) in
+    let out_is : reach Outside (suc o) (input_of Inside now entry ∷ xs) ≡ reach Outside o xs =
+    reach_more Outside o (input_of Inside now entry) xs in
+    (λ before. omega (arith, reaches, out_is), λ less. omega arith)
+order_in m q now entry outs xs may floors order (suc i) (suc o) a b at also inside outside =
+    let older = order i o a b at also inside outside in
+    let in_is : reach Inside (suc i) (input_of Inside now entry ∷ xs) ≡ max entry.time (reach Inside i xs) =
+    reach_more Inside i (input_of Inside now entry) xs in
+    let out_is : reach Outside (suc o) (input_of Inside now entry ∷ xs) ≡ reach Outside o xs =
+    reach_more Outside o (input_of Inside now entry) xs in (
+      λ before. let less = older.0 (omega (arith, before)) in omega (arith, less, in_is, out_is),
+      λ less. let before : i < o = older.1 (omega (arith, less, in_is, out_is)) in omega (arith, before),
+    )
+
+order_out : (m q now : ℕ) (entry : Entry) (ins : List Entry) (xs : List Arrival) →
+    MayIn m (max q (suc entry.time)) ins → Floors Inside ins xs → OrderFrom m (max q (suc entry.time)) xs
+    → OrderFrom m q (input_of Outside now entry ∷ xs)
+order_out m q now entry ins xs may floors order zero o a b at also inside outside =
+    absurd (in_out_apart (sym inside ∙ sym (some_side (input_of Outside now entry) a at)))
+order_out m q now entry ins xs may floors order (suc i) zero a b at also inside outside =
+    let reaches = in_reaches m (max q (suc entry.time)) (reach Inside i xs) ins may (floors i a at inside) in
+    let in_is : reach Inside (suc i) (input_of Outside now entry ∷ xs) ≡ reach Inside i xs =
+    reach_more Inside i (input_of Outside now entry) xs in
+    (λ before. omega (arith, before), λ less. let none : ⊥ = omega (arith, less, reaches, in_is) in absurd none)
+order_out m q now entry ins xs may floors order (suc i) (suc o) a b at also inside outside =
+    let older = order i o a b at also inside outside in
+    let in_is : reach Inside (suc i) (input_of Outside now entry ∷ xs) ≡ reach Inside i xs =
+    reach_more Inside i (input_of Outside now entry) xs in
+    let out_is : reach Outside (suc o) (input_of Outside now entry ∷ xs) ≡ max entry.time (reach Outside o xs) =
+    reach_more Outside o (input_of Outside now entry) xs in (
+      λ before. let less = older.0 (omega (arith, before)) in omega (arith, less, in_is, out_is),
+      λ less. let before : i < o = older.1 (omega (arith, less, in_is, out_is)) in omega (arith, before),
+    )
+
+floor_own : (side : Side) (now : ℕ) (entry : Entry) (rest : List Entry) (xs : List Arrival) →
+    Floors side (entry ∷ rest) (input_of side now entry ∷ xs)
+floor_own Inside now entry rest xs zero a at is = omega arith
+floor_own Outside now entry rest xs zero a at is = omega arith
+floor_own Inside now entry rest xs (suc place) a at is =
+    omega (arith, reach_more Inside place (input_of Inside now entry) xs)
+floor_own Outside now entry rest xs (suc place) a at is =
+    omega (arith, reach_more Outside place (input_of Outside now entry) xs)
+
+floor_in : (now : ℕ) (entry : Entry) (ins : List Entry) (xs : List Arrival) → Floors Inside ins xs →
+    Floors Inside ins (input_of Outside now entry ∷ xs)
+floor_in now entry ins xs floors zero a at is =
+    absurd (in_out_apart (sym is ∙ sym (some_side (input_of Outside now entry) a at)))
+floor_in now entry ins xs floors (suc place) a at is =
+    subst (IsFloor ins) (sym (reach_more Inside place (input_of Outside now entry) xs)) (floors place a at is)
+
+floor_out : (now : ℕ) (entry : Entry) (outs : List Entry) (xs : List Arrival) → Floors Outside outs xs →
+    Floors Outside outs (input_of Inside now entry ∷ xs)
+floor_out now entry outs xs floors zero a at is =
+    absurd (in_out_apart (some_side (input_of Inside now entry) a at ∙ is))
+floor_out now entry outs xs floors (suc place) a at is =
+    subst (IsFloor outs) (sym (reach_more Outside place (input_of Inside now entry) xs)) (floors place a at is)
+
+abbrev ClocksFrom : ℕ → List Arrival → Type 0
+ClocksFrom clock xs = (place : ℕ) (a : Arrival) → slice_get xs place ≡ Some a → a.clock ≡ max clock (clock_at place xs)
+
+clocks_more : (side : Side) (clock : ℕ) (entry : Entry) (xs : List Arrival) → ClocksFrom (max clock entry.time) xs →
+    ClocksFrom clock (input_of side (max clock entry.time) entry ∷ xs)
+clocks_more side clock entry xs clocks zero a at =
+    let same : a ≡ input_of side (max clock entry.time) entry = cc in
+    let is : a.clock ≡ max clock entry.time = ap (λ (b : Arrival). b.clock) same in
+    omega (arith, is)
+clocks_more side clock entry xs clocks (suc place) a at =
+    omega (arith, clocks place a at, clock_more place (input_of side (max clock entry.time) entry) xs)
+
+-- what the merged list of some records is
+record IsGood (ins : List Entry) (clock : ℕ) (outs : List Entry) (xs : List Arrival) : Type 0 where
+  inside : map of_input (filter (is_from Inside) xs) ≡ map of_record ins
+  outside : map of_input (filter (is_from Outside) xs) ≡ map of_record outs
+  in_floors : Floors Inside ins xs
+  out_floors : Floors Outside outs xs
+  order : (m q : ℕ) → MayIn m q ins → MayOut m q outs → OrderFrom m q xs
+  clocks : ClocksFrom clock xs
+
+none_there : {A : Type 0} {a : Arrival} → None ≡ Some a → A
+none_there is = cc
+
+good : Steps IsGood
+good = record {
+  none = λ clock. record {
+    inside = refl;
+    outside = refl;
+    in_floors = λ place a at is. none_there at;
+    out_floors = λ place a at is. none_there at;
+    order = λ m q first second i o a b at. none_there at;
+    clocks = λ place a at. none_there at;
+  };
+  inside = λ entry ins outs clock xs next p. record {
+    inside = ap (λ l. of_record entry ∷ l) p.inside;
+    outside = p.outside;
+    in_floors = floor_own Inside (max clock entry.time) entry ins xs;
+    out_floors = floor_out (max clock entry.time) entry outs xs p.out_floors;
+    order =
+        λ m q first second.
+        let may = in_out m q entry ins outs next second in
+        order_in m q (max clock entry.time) entry outs xs may p.out_floors
+        (p.order (max m entry.time) q (in_in m q entry.time ins first) may);
+    clocks = clocks_more Inside clock entry xs p.clocks;
+  };
+  outside = λ entry ins outs clock xs next p. record {
+    inside = p.inside;
+    outside = ap (λ l. of_record entry ∷ l) p.outside;
+    in_floors = floor_in (max clock entry.time) entry ins xs p.in_floors;
+    out_floors = floor_own Outside (max clock entry.time) entry outs xs;
+    order =
+        λ m q first second.
+        let may = out_in m q entry ins outs next first in
+        order_out m q (max clock entry.time) entry ins xs may p.in_floors
+        (p.order m (max q (suc entry.time)) may (out_out m q entry.time outs second));
+    clocks = clocks_more Outside clock entry xs p.clocks;
+  };
+}
+
+begin_in : (ins : List Entry) → MayIn 0 0 ins
+begin_in [] = tt
+begin_in (entry ∷ ins) = omega arith
+
+begin_out : (outs : List Entry) → MayOut 0 0 outs
+begin_out [] = tt
+begin_out (entry ∷ outs) = omega arith
+
+pub merged_good : (ins outs : List Entry) → IsMerged ins outs (merged ins outs)
+merged_good ins outs =
+    let p = of_merged IsGood good ins outs 0 in
+    let order = p.order 0 0 (begin_in ins) (begin_out outs) in
+    record {
+      inside = p.inside;
+      outside = p.outside;
+      order =
+          λ i o a b at also inside outside.
+          let same = order i o a b at also inside outside in
+          (λ before. let less = same.0 before in omega (arith, less), λ less. same.1 (omega (arith, less)));
+      clock = λ place a at. omega (arith, p.clocks place a at);
+    }
 
 -- where nothing was handed out, nothing is left
 pub none_left : (before after : List Arrival) (handed : Option Arrival) → ((x : Arrival) → handed ≡ Some x → ⊥) →

@@ -1,35 +1,60 @@
--- Two captures determine one run: their records have exactly one merged list, and a fault ends it at one place.
-use Rattle.std.specs.Prelude.{◌≡◌, List, Some, None, Err}
+-- What merging two captures makes of their records.
+use Rattle.std.specs.Prelude.{◌≡◌, ℕ, ◌<◌, List, ◌++◌, length, map, filter, take, Ok, Err}
 use Rattle.napt_wire.specs.declared.Side.{Side}
 use Rattle.napt_wire.specs.declared.Side.TheVariants.{Inside, Outside}
 use Rattle.napt_capture.specs.declared.fault.CaptureFault.{CaptureFault}
 use Rattle.napt_capture.specs.Contents.{Entry}
+use Rattle.napt_capture.specs.Capture.{Held}
 use Rattle.napt_rules.specs.Prelude.{Arrival}
-use Rattle.napt_records.specs.Merge.{IsMerged}
-use Rattle.napt_records.specs.Streams.{IsMergedUntil}
-use Rattle.napt_records.specs.UntilFault.{AreBefore, Both, HaveAll}
+use Rattle.napt_records.specs.declared.merged_streams.Cuts.{Cuts}
+use Rattle.napt_records.specs.declared.merged_streams.SideFault.{SideFault}
+use Rattle.napt_records.specs.Merge.{IsMerged, is_from, of_input, of_record}
+use Rattle.napt_records.specs.Taking.{inputs_until, merged}
 
--- two lists of records have at most one merged list
-abbrev pub MergeIsOne : Type 0
-MergeIsOne = (insides outsides : List Entry) (xs ys : List Arrival) → IsMerged insides outsides xs →
-    IsMerged insides outsides ys → xs ≡ ys
+-- the merged list has each side's records in order, the sides in order, and the clocks
+abbrev pub MergeIsInOrder : Type 0
+MergeIsInOrder = (insides outsides : List Entry) → IsMerged insides outsides (merged insides outsides)
 
--- and at least one
-abbrev pub MergeIsThere : Type 0
-MergeIsThere = (insides outsides : List Entry) → (xs : List Arrival) × IsMerged insides outsides xs
+-- what merging hands out is a front of it
+abbrev pub MergesFront : Type 0
+MergesFront = (inside outside : Held) →
+    (left : List Arrival) × (merged inside.records outside.records ≡ (inputs_until inside outside).arrivals ++ left)
 
--- if merging ends without a fault, it has merged everything
+-- and all of it, if it meets no fault
 abbrev pub MergesWhole : Type 0
-MergesWhole = (both : Both) (inputs : List Arrival) → IsMergedUntil both.inside both.outside inputs None →
-    IsMerged both.inside.records both.outside.records inputs
+MergesWhole = (inside outside : Held) (cuts : Cuts) → (inputs_until inside outside).end ≡ Ok cuts →
+    (inputs_until inside outside).arrivals ≡ merged inside.records outside.records
 
--- if it ends with a fault, everything before that
+-- it meets none if neither has one
+abbrev pub MergeEnds : Type 0
+MergeEnds = (inside outside : Held) (cuts : Cuts) → (inputs_until inside outside).end ≡ Ok cuts →
+    (inside.end ≡ Ok cuts.inside) × (outside.end ≡ Ok cuts.outside)
+
+abbrev pub held_of : Side → Held → Held → Held
+held_of Inside inside outside = inside
+held_of Outside inside outside = outside
+
+-- a fault that it meets is that of its side
+abbrev pub MergeMeets : Type 0
+MergeMeets = (inside outside : Held) (fault : SideFault) → (inputs_until inside outside).end ≡ Err fault →
+    (held_of fault.side inside outside).end ≡ Err fault.fault
+
+-- these inputs have all records of a side
+abbrev pub HaveAll : Side → Held → Held → List Arrival → Type 0
+HaveAll side inside outside inputs =
+    map of_input (filter (is_from side) inputs) ≡ map of_record (held_of side inside outside).records
+
+-- then it hands out the shortest front that has all records of a side with a fault, and that side is this one: merging
+-- needs what follows them
 abbrev pub MergesBefore : Type 0
-MergesBefore = (both : Both) (inputs : List Arrival) (side : Side) (fault : CaptureFault) →
-    IsMergedUntil both.inside both.outside inputs (Some (side, fault)) → AreBefore side fault both inputs
+MergesBefore = (inside outside : Held) (fault : SideFault) → (inputs_until inside outside).end ≡ Err fault →
+    HaveAll fault.side inside outside (inputs_until inside outside).arrivals
+    × ((k : ℕ) (other : Side) (its : CaptureFault) → k < length (inputs_until inside outside).arrivals →
+    (held_of other inside outside).end ≡ Err its
+    → ¬ HaveAll other inside outside (take k (inputs_until inside outside).arrivals))
 
--- and if both sides have a fault next, the inside's is returned
+-- and if both sides have a fault next, the inside's ends it
 abbrev pub TellsInsideFirst : Type 0
-TellsInsideFirst = (both : Both) (inputs : List Arrival) (fault its : CaptureFault) →
-    IsMergedUntil both.inside both.outside inputs (Some (Outside, fault)) → both.inside.end ≡ Err its
-    → ¬ HaveAll Inside both inputs
+TellsInsideFirst = (inside outside : Held) (fault its : CaptureFault) →
+    (inputs_until inside outside).end ≡ Err (record { side = Outside; fault = fault }) → inside.end ≡ Err its
+    → ¬ HaveAll Inside inside outside (inputs_until inside outside).arrivals

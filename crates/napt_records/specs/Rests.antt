@@ -1,25 +1,54 @@
--- What is left of a capture that is read as it arrives.
-use Rattle.std.specs.Prelude.{◌≡◌, ℕ, Bool, List, [], ◌++◌, Option, Some, IfSome, Ok}
+-- What is left of two captures that are read as they arrive.
+use Rattle.std.specs.Prelude.{◌≡◌, ⊤, ℕ, Bool, List, ◌++◌, Option, Some, None, Ok}
+use Rattle.std.specs.Option.{option_map}
 use Rattle.napt_capture.specs.declared.device.Source.{Ghosts}
 use Rattle.napt_capture.specs.declared.records.Records.{Records}
 use Rattle.napt_capture.specs.Contents.{Entry}
-use Rattle.napt_capture.specs.Records.{left_of}
-use Rattle.napt_capture.specs.Stream.{HasRecords}
+use Rattle.napt_capture.specs.Capture.{Held}
+use Rattle.napt_capture.specs.Records.{left_of, rest_of}
+use Rattle.napt_rules.specs.Prelude.{Arrival}
 use Rattle.napt_records.specs.declared.stream.Stream.{Stream}
-use Rattle.napt_records.specs.Streams.{Rest}
+use Rattle.napt_records.specs.declared.merged_streams.MergedStreams.{MergedStreams}
+use Rattle.napt_records.specs.Taking.{Inputs, inputs_from}
 
--- what a reader has left: this text, the records that it read but did not hand out, and the end, if it reached it
-pub record HasRest (records : Records) (left : Option (List ℕ)) (cut : Option Bool) (firsts : List Entry)
-    (rest : Rest) :
-    Type 0 where
-  pub text : List ℕ
-  pub left_is : left ≡ Some text
-  pub more : List Entry
-  pub has : HasRecords records.spelling records.number text more rest.end
-  pub records_are : rest.records ≡ firsts ++ more
-  pub told : IfSome cut (λ cut. (more ≡ []) × (rest.end ≡ Ok cut))
+-- what a reader with this text left holds, and the records that it read but did not hand out
+abbrev pub held_in : Records → List Entry → List ℕ → Held
+held_in records firsts text = record {
+  records = firsts ++ (rest_of records text).records;
+  end = (rest_of records text).end;
+}
 
--- of a stream
-abbrev pub StreamHas : {R : Type 0} {G : Ghosts R} → (R → Option (List ℕ)) → Stream R G → List Entry → Rest → Type 0
-StreamHas remaining stream firsts rest =
-    HasRest stream.records (left_of stream.records (remaining stream.live.source.now)) stream.cut firsts rest
+-- the same once the end was told
+abbrev pub holds_by : Option Bool → List Entry → Option Held → Option Held
+holds_by (Some cut) firsts known = Some (record { records = firsts; end = Ok cut })
+holds_by None firsts known = known
+
+-- of a stream, if its bytes are known
+abbrev pub stream_holds : {R : Type 0} {G : Ghosts R} → Stream R G → List Entry → Option Held
+stream_holds {R} {G} stream firsts =
+    holds_by stream.cut firsts
+    (option_map (held_in stream.records firsts) (left_of stream.records (G.remaining stream.live.source.now)))
+
+abbrev pub both_hold : ℕ → Option Held → Option Held → Option Inputs
+both_hold clock (Some a) (Some b) = Some (inputs_from a.end b.end a.records clock b.records)
+both_hold clock (Some a) None = None
+both_hold clock None b = None
+
+-- what merging will hand out
+abbrev pub inputs_of : {R Q : Type 0} {G : Ghosts R} {H : Ghosts Q} → MergedStreams R Q G H → Option Inputs
+inputs_of both =
+    both_hold both.clock (stream_holds both.inside both.inside_first.items)
+    (stream_holds both.outside both.outside_first.items)
+
+-- what is known stays
+abbrev pub Stays : {X : Type 0} → Option X → Option X → Type 0
+Stays None new = ⊤
+Stays (Some x) None = ⊥
+Stays (Some x) (Some y) = y ≡ x
+
+-- these came first
+abbrev pub Follows : Option Inputs → List Arrival → Option Inputs → Type 0
+Follows None arrivals later = ⊤
+Follows (Some inputs) arrivals None = ⊥
+Follows (Some inputs) arrivals (Some later) =
+    inputs ≡ record { arrivals = arrivals ++ later.arrivals; end = later.end }

@@ -1,16 +1,19 @@
-//! Laws of merging: two captures have exactly one merged order.
-ghost use Rattle.napt_records.specs.MergeLaws.{MergeIsOne, MergeIsThere, MergesBefore, MergesWhole, TellsInsideFirst};
+//! Laws of merging.
+ghost use Rattle.napt_records.specs.MergeLaws.{MergeEnds, MergeIsInOrder, MergeMeets, MergesBefore, MergesFront, MergesWhole, TellsInsideFirst};
 
-/// Two lists of records have exactly one merged list: the records alone decide the inputs, their order and their clocks.
-pub fn merge_is_one()
-    ensures unique { MergeIsOne }
-    ensures exists { MergeIsThere }
+/// The merged list has each side's records in order, the sides in order, and the clocks.
+pub fn merge_is_in_order()
+    ensures { MergeIsInOrder }
 {}
 
-/// If a capture has a fault, merging hands out the shortest front of the merged list that has all of its records. If both
-/// sides come to a fault at once, the inside's is returned.
+/// What merging hands out is a front of the merged list, and all of it if it meets no fault. A fault that it meets is that of
+/// its side; then it hands out the shortest front that has all of the records of that side. If both sides come to a fault at
+/// once, the inside's ends it.
 pub fn merge_until_fault()
+    ensures front { MergesFront }
     ensures whole { MergesWhole }
+    ensures ends { MergeEnds }
+    ensures meets { MergeMeets }
     ensures before { MergesBefore }
     ensures inside_first { TellsInsideFirst }
 {}

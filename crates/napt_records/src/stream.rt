@@ -27,19 +27,18 @@ pub struct Stream<'a, R: Source> {
 impl<'a, R: Source> Live<'a, R> {
     ghost use Rattle.std.specs.Prelude.{◌≡◌, ◌+◌, ◌^◌, ◌-◌, ◌<◌, None, IfOk, IfErr, Err, OnErr, OnOk};
     ghost use Rattle.napt_capture.specs.Capture.{failed_reads};
-    ghost use Rattle.napt_capture.specs.Reading.{IsWritableNext, StopsBy};
-    ghost use Rattle.napt_capture.specs.Records.{Asks, KeepsLeft, Tells, TellsEnd, next_number, left_of};
+    ghost use Rattle.napt_capture.specs.Reading.{Gives, IsWritableNext, Says};
+    ghost use Rattle.napt_capture.specs.Records.{Asks, KeepsLeft, Tells, next_number, left_of};
 
     /// Reads the next record. After a fault, reads nothing and returns the same fault.
     fn next(&mut self, records: &mut Records, vector: Vec<u8>) -> Result<Next, CaptureFault>
         ensures name { self.new.source.ghost_name ≡ self.old.source.ghost_name }
-        ensures next { self.old.fault ≡ None → IfOk result (Tells records.old
+        ensures next { self.old.fault ≡ None → Says result (Gives
             (left_of records.old (R.remaining self.old.source.now))
-            (left_of records.new (R.remaining self.new.source.now))) }
+            (left_of records.new (R.remaining self.new.source.now)) (Tells records.old result)) }
+        ensures good { OnOk result (self.old.fault ≡ None) }
         ensures number { self.old.fault ≡ None →
             IfOk result (λ next. records.new.number ≡ next_number next records.old.number) }
-        ensures fault { self.old.fault ≡ None → IfErr result (λ fault. StopsBy fault
-            (TellsEnd records.old (Err fault) (left_of records.old (R.remaining self.old.source.now)))) }
         ensures spelling { records.new.spelling ≡ records.old.spelling }
         ensures live { OnOk result (self.new.fault ≡ self.old.fault) }
         ensures kept { self.old.fault ≡ None → OnErr result (KeepsLeft
@@ -64,14 +63,13 @@ impl<'a, R: Source> Live<'a, R> {
 }
 
 impl<'a, R: Source> Stream<'a, R> {
-    ghost use Rattle.std.specs.Prelude.{◌≡◌, ◌+◌, ◌^◌, ◌-◌, ◌<◌, None, All, IfErr, OnErr, OnOk, IsSome, [], false, true};
+    ghost use Rattle.std.specs.Prelude.{◌≡◌, ◌+◌, ◌^◌, ◌-◌, ◌<◌, None, All, IfSome, IfErr, Err, OnErr, OnOk, IsSome, [], false, true};
     ghost use Rattle.napt_capture.specs.Capture.{failed_reads};
     ghost use Rattle.napt_capture.specs.Reading.{StopsBy};
     ghost use Rattle.napt_capture.specs.Text.{IsWritable};
     ghost use Rattle.napt_capture.specs.Records.{KeepsLeft};
     ghost use Rattle.napt_records.specs.Merged.{AsksSource, Counts, IsLive, IsSame};
-    ghost use Rattle.napt_records.specs.Streams.{IsAtFault, IsLooked, Rest};
-    ghost use Rattle.napt_records.specs.Rests.{StreamHas};
+    ghost use Rattle.napt_records.specs.Rests.{Stays, stream_holds};
 
     /// The capture of a source whose header has been read.
     pub fn new(source: &'a mut R, records: Records) -> Stream<'a, R>
@@ -102,13 +100,12 @@ impl<'a, R: Source> Stream<'a, R> {
     ) -> Result<(), CaptureFault>
         ensures name { IsSame self.old self.new }
         ensures live { OnOk result (self.new.live.fault ≡ self.old.live.fault) }
-        ensures rest { IsLive self.old → OnOk result ((rest : Rest) →
-            StreamHas R.remaining self.old firsts.old.items rest →
-            StreamHas R.remaining self.new firsts.new.items rest
-            × IsLooked firsts.new.items rest) }
+        ensures rest { IsLive self.old → OnOk result (Stays
+            (stream_holds self.old firsts.old.items)
+            (stream_holds self.new firsts.new.items)) }
         ensures fault { IsLive self.old → IfErr result (λ fault. StopsBy fault
-            ((rest : Rest) → StreamHas R.remaining self.old firsts.old.items rest →
-            IsAtFault rest fault)) }
+            (IfSome (stream_holds self.old firsts.old.items)
+            (λ held. held ≡ record { records = []; end = Err fault }))) }
         ensures told { OnOk result (firsts.new.items ≡ [] → IsSome self.new.cut) }
         ensures kept { IsLive self.old → OnErr result (KeepsLeft
             self.old.records (R.remaining self.old.live.source.now)
@@ -118,7 +115,7 @@ impl<'a, R: Source> Stream<'a, R> {
         ensures writable { OnOk result (All IsWritable firsts.old.items →
             All IsWritable firsts.new.items) }
         ensures count { IsLive self.old →
-            Counts R.failed self.old (failed_reads result) self.new }
+            Counts self.old (failed_reads result) self.new }
         // The source is read only if the next record isn't known without it.
         ensures asks { (¬ AsksSource self.old firsts.old.items) →
             self.new.live.source.now ≡ self.old.live.source.now }

@@ -42,7 +42,8 @@ pub struct Row {
 #[derive(Drop)]
 pub struct Binding<R, F> {
     pub row: R,
-    /// The time of the last outgoing packet, in ns; 0 for a redirect.
+    /// The time of the last outgoing packet (of UDP under `refresh = "both"`, of the last that went through it), in ns;
+    /// 0 for a redirect.
     pub last: u64,
     /// One for each remote endpoint to which a packet went out.
     pub flows: F,

@@ -1,8 +1,9 @@
 -- From what passed between captures that were begun and outputs to what the run did.
-use Rattle.std.proofs.Common.{◌≡◌, inl, inr, ℕ, ◌^◌, ◌<◌, Bool, false, List, [], ◌++◌, length, map, Option, Some, None, Result, Ok, Err, refl, sym, ◌∙◌, ap, subst, arith, append-nil, append_assoc}
+use Rattle.std.proofs.Common.{◌≡◌, inl, inr, ℕ, ◌^◌, ◌<◌, Bool, List, [], ◌++◌, length, map, Option, Some, None, Result, Ok, Err, refl, sym, ◌∙◌, ap, ap₂, subst, arith, append-nil, append_assoc}
 use Rattle.napt_wire.specs.declared.Side.{Side}
 use Rattle.napt_wire.specs.declared.Side.TheVariants as sides
-use Rattle.napt_capture.specs.declared.device.Source.{Ghosts}
+use Rattle.napt_capture.specs.declared.device.Sink as sink
+use Rattle.napt_capture.specs.declared.device.Source as source
 use Rattle.napt_capture.specs.declared.fault.CaptureFault.{CaptureFault}
 use Rattle.napt_capture.specs.declared.fault.CaptureFault.TheVariants.{NoHeader, BadMagic, BadVersion, BadLink, BadFraction, TooLong, TooLarge, Read, Memory}
 use Rattle.napt_capture.specs.declared.fault.WriteFault.{WriteFault}
@@ -11,105 +12,119 @@ use Rattle.napt_config.specs.Rules.{Rules}
 use Rattle.napt_dispatch.specs.Passing.{HasCome, PassesEarly, PassesTo}
 use Rattle.napt_records.specs.Begun.{AreBegun}
 use Rattle.napt_records.specs.Counts.{AreCountsOf}
-use Rattle.napt_records.specs.Merge.{IsMerged}
+use Rattle.napt_laws.specs.Dispatching.{IsFront}
 use Rattle.napt_records.specs.Merged.{AreLive, EndsWith, HandsOut}
-use Rattle.napt_records.specs.UntilFault.{AreFront, AreHeld, Both, rest_of}
+use Rattle.napt_records.specs.Taking.{Inputs}
 use Rattle.napt_records.specs.declared.Fault.{Fault}
 use Rattle.napt_records.specs.declared.Fault.TheVariants.{Capture, Run, Write}
 use Rattle.napt_records.specs.declared.Which.{Which}
 use Rattle.napt_records.specs.declared.Which.TheVariants.{Outside, Inside, Report}
 use Rattle.napt_records.specs.declared.merged_streams.MergedStreams.{MergedStreams}
-use Rattle.napt_records.specs.declared.merged_streams.SideFault.{SideFault}
-use Rattle.napt_records.proofs.Came.{came_ending, came_fault, came_whole, handed_front, handed_timely, never_too_large}
+use Rattle.napt_records.proofs.Came.{came_fault, came_whole, handed_front, handed_timely}
+use Rattle.napt_records.proofs.Left.{StopsBy-then}
 use Rattle.napt_rules.specs.Prelude.{Arrival, ran}
 use Rattle.napt_rules.specs.declared.Outcome.{Outcome}
-use Rattle.napt_run.specs.Leaving.{AreSound, AreTimes, Fails, FailsBy, IsSettled, Takes, Timed, texts}
-use Rattle.napt_run.specs.LeavingLaws.{grows_more, texts-append, times_first, times_second}
+use Rattle.napt_run.specs.Leaving.{AreSound, AreTimes, Fails, FailsBy, IsSettled, Takes, Timed, records_text}
+use Rattle.napt_run.specs.LeavingLaws.{grows_more, records_text-append, times_first, times_second}
 use Rattle.napt_run.specs.Outputs.{Breaks, Grows}
 use Rattle.napt_run.specs.Passed.{PassesAll, PassesOr}
 use Rattle.napt_run.specs.Runs.{FailsInside, FailsOutside, IfHeld, RunsTo, RunsToFault, RunsWell, Writes, left_of}
-use Rattle.napt_run.specs.Streams.{IsFaultOf, IsOfRun, IsReading}
+use Rattle.napt_run.specs.Files.{files_until}
+use Rattle.napt_run.specs.Streams.{AreTaken, IsFaultOf, IsOfRun, IsReading}
 use Rattle.napt_run.specs.declared.leaving.Leaving.{Leaving}
 use Rattle.napt_run.specs.declared.passing.Totals.{Totals}
 use Rattle.napt_run.proofs.Begun.{ReadBy, read_somehow, read_to_fault, read_well, told}
 use Rattle.napt_run.proofs.Breaks.{breaks_more}
+use Rattle.napt_run.proofs.Files.{begun_files, files_large}
 use Rattle.napt_run.proofs.Fronts.{as_many, front_of, outcomes_back, times_of}
 
 -- WHAT IS KNOWN OF THE CAPTURES
 
--- where the captures' bytes are known, this follows for what both hold
-pub IfHeld-by : {P : Both → Type 0} (inside : Option (List ℕ)) (outside : Option (Option (List ℕ)))
-    → ((bytes : List ℕ) (others : Option (List ℕ)) (both : Both) → inside ≡ Some bytes → outside ≡ Some others →
-    AreHeld bytes others both → P both) → IfHeld inside outside P
-IfHeld-by None outside p = tt
-IfHeld-by (Some bytes) None p = tt
-IfHeld-by (Some bytes) (Some others) p = λ both held. p bytes others both refl refl held
+-- where the captures' bytes are known, this follows for what they give
+pub IfHeld-by : (P : Inputs → Type 0) (inside outside : Option (List ℕ))
+    → ((bytes others : List ℕ) → inside ≡ Some bytes → outside ≡ Some others →
+    P (files_until bytes others)) → IfHeld inside outside P
+IfHeld-by P None outside p = tt
+IfHeld-by P (Some bytes) None p = tt
+IfHeld-by P (Some bytes) (Some others) p = p bytes others refl refl
 
-pub fault_told : (side : Side) (fault : CaptureFault) (bytes : List ℕ) (others : Option (List ℕ)) (both : Both) →
-    AreHeld bytes others both → StopsBy fault ((rest_of side both).end ≡ Err fault) → IsFaultOf side fault both
-fault_told side Read bytes others both held stops = tt
-fault_told side Memory bytes others both held stops = tt
-fault_told sides.Inside TooLarge bytes others both held stops = never_too_large bytes both.inside held.inside_holds
-    stops
-fault_told sides.Outside TooLarge bytes (Some theirs) both held stops =
-    never_too_large theirs both.outside held.outside_holds stops
-fault_told sides.Outside TooLarge bytes None both held stops =
-    let ends : Ok false ≡ Err TooLarge = sym (ap (λ r. r.end) held.outside_holds) ∙ stops in cc
-fault_told side NoHeader bytes others both held stops = stops
-fault_told side BadMagic bytes others both held stops = stops
-fault_told side BadVersion bytes others both held stops = stops
-fault_told side BadLink bytes others both held stops = stops
-fault_told side (BadFraction n) bytes others both held stops = stops
-fault_told side (TooLong n) bytes others both held stops = stops
+abbrev pub Ended : Side → CaptureFault → Inputs → List Arrival → Type 0
+Ended side fault all inputs = all ≡ record { arrivals = inputs; end = Err (record { side = side; fault = fault }) }
 
-front_shorter : (both : Both) (inputs first later : List Arrival) → inputs ≡ first ++ later → AreFront both inputs →
-    AreFront both first
-front_shorter both inputs first later whole (rest, merged) = (
-  later ++ rest,
-  subst (λ (l : List Arrival). IsMerged both.inside.records both.outside.records l)
-      (ap (λ (l : List Arrival). l ++ rest) whole ∙ append_assoc first later rest) merged,
-)
+ended_is : (side : Side) (fault : CaptureFault) (all : Inputs) (inputs : List Arrival) → Ended side fault all inputs →
+    all.end ≡ Err (record { side = side; fault = fault })
+ended_is side fault all inputs is = ap (λ (i : Inputs). i.end) is
+
+fault_told : (side : Side) (fault : CaptureFault) (all : Inputs) (inputs : List Arrival) →
+    (all.end ≡ Err (record { side = side; fault = TooLarge }) → ⊥) → StopsBy fault (Ended side fault all inputs) →
+    IsFaultOf side fault all
+fault_told side Read all inputs never stops = tt
+fault_told side Memory all inputs never stops = tt
+fault_told side TooLarge all inputs never stops = never (ended_is side TooLarge all inputs stops)
+fault_told side NoHeader all inputs never stops = ended_is side NoHeader all inputs stops
+fault_told side BadMagic all inputs never stops = ended_is side BadMagic all inputs stops
+fault_told side BadVersion all inputs never stops = ended_is side BadVersion all inputs stops
+fault_told side BadLink all inputs never stops = ended_is side BadLink all inputs stops
+fault_told side (BadFraction n) all inputs never stops = ended_is side (BadFraction n) all inputs stops
+fault_told side (TooLong n) all inputs never stops = ended_is side (TooLong n) all inputs stops
+
+-- what was taken before a fault, and that it is the fault of the files
+pub record Refuses (side : Side) (fault : CaptureFault) (all : Inputs) (inputs : List Arrival) : Type 0 where
+  pub taken : AreTaken side fault all inputs
+  pub is_fault : IsFaultOf side fault all
+
+pub refuses : (side : Side) (fault : CaptureFault) (bytes others : List ℕ) (inputs : List Arrival) →
+    IsFront inputs (files_until bytes others).arrivals →
+    StopsBy fault (Ended side fault (files_until bytes others) inputs)
+    → Refuses side fault (files_until bytes others) inputs
+refuses side fault bytes others inputs front stops = record {
+  taken = (front, stops);
+  is_fault = fault_told side fault (files_until bytes others) inputs (files_large bytes others side) stops;
+}
 
 -- WHAT THE RUN DID
 
-module _ {R Q W V : Type 0} {G : Ghosts R} {H : Ghosts Q} {g h : _} (open_gate : Bool) (rules : Rules)
-    (inside : R → Option (List ℕ)) (outside : Q → Option (List ℕ)) (in_failed : R → ℕ) (out_failed : Q → ℕ)
-    (oc : W → Option (List ℕ)) (of : W → ℕ) (outside_flushed : W → Type 0)
-    (ic : V → Option (List ℕ)) (if : V → ℕ) (inside_flushed : V → Type 0)
-    (begin : MergedStreams R Q G H) (old : Leaving W V g h) (end : MergedStreams R Q G H) (new : Leaving W V g h)
-    (bytes : Option (List ℕ)) (others : Option (Option (List ℕ)))
+module _ {R Q W V : Type 0} {G : source.Ghosts R} {H : source.Ghosts Q} {S : sink.Ghosts W} {T : sink.Ghosts V}
+    (open_gate : Bool) (rules : Rules)
+    (begin : MergedStreams R Q G H) (old : Leaving W V S T) (end : MergedStreams R Q G H) (new : Leaving W V S T)
+    (bytes others : Option (List ℕ))
     (live : AreLive begin)
-    (begun : (b : List ℕ) (o : Option (List ℕ)) → bytes ≡ Some b → others ≡ Some o → AreBegun inside outside begin b o)
+    (begun : (b o : List ℕ) → bytes ≡ Some b → others ≡ Some o → AreBegun begin b o)
     (sound : AreSound old)
     (counts : AreCountsOf [] old.counts) where
-  abbrev Hands : MergedStreams R Q G H → List Arrival → MergedStreams R Q G H → Type 0
-  Hands from inputs to = HandsOut inside outside in_failed out_failed from inputs to
-
-  abbrev Ends : MergedStreams R Q G H → Option SideFault → MergedStreams R Q G H → Type 0
-  Ends from fault to = EndsWith inside outside in_failed out_failed from fault to
-
-  times : (inputs : List Arrival) (mid : MergedStreams R Q G H) → Hands begin inputs mid → AreTimes
+  times : (inputs : List Arrival) (mid : MergedStreams R Q G H) → HandsOut begin inputs mid → AreTimes
       (left_of rules inputs)
   times inputs mid handed =
       times_of inputs (ran rules inputs).outcomes
-      (handed_timely inside outside in_failed out_failed begin mid inputs live handed)
+      (handed_timely begin mid inputs live handed)
+
+  front_at : (inputs first later : List Arrival) (mid : MergedStreams R Q G H) → inputs ≡ first ++ later →
+      HandsOut begin inputs mid → (b o : List ℕ) → bytes ≡ Some b → others ≡ Some o →
+      IsFront first (files_until b o).arrivals
+  front_at inputs first later mid whole handed b o is same =
+      let p = begun b o is same in
+      let (left, split) = handed_front begin mid b o inputs p handed in (
+        later ++ left,
+        sym (ap (λ (i : Inputs). i.arrivals) (begun_files begin b o p) ∙ split
+            ∙ ap (λ (l : List Arrival). l ++ left) whole ∙ append_assoc first later left),
+      )
 
   front : (inputs first later : List Arrival) (mid : MergedStreams R Q G H) → inputs ≡ first ++ later →
-      Hands begin inputs mid → IfHeld bytes others (λ both. AreFront both first)
+      HandsOut begin inputs mid → IfHeld bytes others (λ all. IsFront first all.arrivals)
   front inputs first later mid whole handed =
-      IfHeld-by bytes others (λ b o both is same held. front_shorter both inputs first later whole
-      (handed_front inside outside in_failed out_failed begin mid b o both inputs (begun b o is same) held handed))
+      IfHeld-by (λ all. IsFront first all.arrivals) bytes others
+      (front_at inputs first later mid whole handed)
 
-  wrote : (inputs : List Arrival) → AreTimes (left_of rules inputs) → Takes oc of ic if old (left_of rules inputs) new →
-      IsSettled outside_flushed inside_flushed new →
-      Writes open_gate rules oc of outside_flushed ic if inside_flushed bytes others [] old new inputs
+  wrote : (inputs : List Arrival) → AreTimes (left_of rules inputs) → Takes old (left_of rules inputs) new →
+      IsSettled new →
+      Writes open_gate rules bytes others [] old new inputs
   wrote inputs all took settled = record {
     to_outside = took.to_outside all;
     to_inside = took.to_inside all;
     settled = settled;
   }
 
-  counted : (inputs : List Arrival) → length inputs < 2 ^ 64 → Takes oc of ic if old (left_of rules inputs) new →
+  counted : (inputs : List Arrival) → length inputs < 2 ^ 64 → Takes old (left_of rules inputs) new →
       AreCountsOf (ran rules inputs).outcomes new.counts
   counted inputs few took =
       let back : map (λ (t : Timed). t.1) (left_of rules inputs) ≡ (ran rules inputs).outcomes =
@@ -118,43 +133,52 @@ module _ {R Q W V : Type 0} {G : Ghosts R} {H : Ghosts Q} {g h : _} (open_gate :
       omega (arith, few, ap (λ (l : List Outcome). length l) back, as_many rules inputs) in
       subst (λ (l : List Outcome). AreCountsOf l new.counts) back (took.counts [] short counts)
 
-  well : (totals : Totals) → PassesAll open_gate rules inside outside in_failed out_failed oc of outside_flushed ic if
-      inside_flushed begin old end new totals →
-      RunsWell open_gate rules oc of outside_flushed ic if inside_flushed bytes others [] old new totals
+  well : (totals : Totals) → PassesAll open_gate rules begin old end new totals →
+      RunsWell open_gate rules bytes others [] old new totals
   well totals p =
       let whole = p.well.whole in
       let all = times whole.inputs whole.came.last whole.came.handed in
       record {
         inputs = whole.inputs;
         wrote = wrote whole.inputs all whole.took whole.settled;
-        all = IfHeld-by bytes others (λ b o both is same held.
-            rw (p.cut_inside, p.cut_outside) (came_whole inside outside in_failed out_failed begin end b o both
-            whole.inputs (begun b o is same) held whole.came));
+        all = IfHeld-by (λ all. all ≡ record { arrivals = whole.inputs; end = Ok totals.cuts }) bytes others
+            (λ b o is same.
+            begun_files begin b o (begun b o is same)
+            ∙ came_whole begin end b o whole.inputs (begun b o is same) whole.came
+            ∙ ap₂ (λ x y. record { arrivals = whole.inputs; end = Ok (record { inside = x; outside = y }) })
+            (sym p.cut_inside) (sym p.cut_outside));
         counts = subst (λ c. AreCountsOf (ran rules whole.inputs).outcomes c) (sym p.counts)
             (counted whole.inputs whole.few whole.took);
         bindings = p.well.bindings;
       }
 
-  to_fault : (side : Side) (fault : CaptureFault) → PassesTo rules Hands Ends (Takes oc of ic if) (Fails oc of ic if)
-      (IsSettled outside_flushed inside_flushed) begin old end new (Some (record { side = side; fault = fault })) →
-      RunsToFault open_gate rules oc of outside_flushed ic if inside_flushed bytes others [] old new side fault
+  refused : (side : Side) (fault : CaptureFault) → (p : PassesTo rules HandsOut EndsWith Takes Fails IsSettled begin
+      old end new (Some (record { side = side; fault = fault }))) → (b o : List ℕ) → bytes ≡ Some b →
+      others ≡ Some o → Refuses side fault (files_until b o) p.inputs
+  refused side fault p b o is same =
+      let of_files = begun_files begin b o (begun b o is same) in
+      refuses side fault b o p.inputs (front_at p.inputs p.inputs [] p.came.last (sym (append-nil p.inputs))
+      p.came.handed b o is same)
+      (StopsBy-then fault (λ stops. of_files ∙ stops) (came_fault begin end b o
+      p.inputs (record { side = side; fault = fault }) (begun b o is same) p.came))
+
+  to_fault : (side : Side) (fault : CaptureFault) → PassesTo rules HandsOut EndsWith Takes Fails IsSettled begin old
+      end new (Some (record { side = side; fault = fault })) →
+      RunsToFault open_gate rules bytes others [] old new side fault
   to_fault side fault p =
       let all = times p.inputs p.came.last p.came.handed in
-      let stop : SideFault = record { side = side; fault = fault } in
       record {
         inputs = p.inputs;
         wrote = wrote p.inputs all p.took p.settled;
-        taken = IfHeld-by bytes others (λ b o both is same held.
-            came_fault inside outside in_failed out_failed begin end b o both p.inputs stop (begun b o is same) held
-            p.came);
-        is_fault = IfHeld-by bytes others (λ b o both is same held. fault_told side fault b o both held
-            (came_ending inside outside in_failed out_failed begin end b o both p.inputs stop (begun b o is same) held
-            p.came));
+        taken = IfHeld-by (λ all. AreTaken side fault all p.inputs) bytes others
+            (λ b o is same. (refused side fault p b o is same).taken);
+        is_fault = IfHeld-by (IsFaultOf side fault) bytes others
+            (λ b o is same. (refused side fault p b o is same).is_fault);
       }
 
   -- the outputs told a fault
-  came_somehow : (inputs : List Arrival) → HasCome Hands Ends begin inputs end →
-      (mid : MergedStreams R Q G H) × Hands begin inputs mid
+  came_somehow : (inputs : List Arrival) → HasCome HandsOut EndsWith begin inputs end →
+      (mid : MergedStreams R Q G H) × HandsOut begin inputs mid
   came_somehow inputs (inl handed) = (end, handed)
   came_somehow inputs (inr (stop, came)) = (came.last, came.handed)
 
@@ -164,17 +188,17 @@ module _ {R Q W V : Type 0} {G : Ghosts R} {H : Ghosts Q} {g h : _} (open_gate :
     first_is : List Arrival
     first : List Timed
     later : List Timed
-    middle : Leaving W V g h
-    front_went : IfHeld bytes others (λ both. AreFront both went_is)
-    front_first : IfHeld bytes others (λ both. AreFront both first_is)
+    middle : Leaving W V S T
+    front_went : IfHeld bytes others (λ all. IsFront went_is all.arrivals)
+    front_first : IfHeld bytes others (λ all. IsFront first_is all.arrivals)
     both_are : first ++ later ≡ left_of rules went_is
     first_are : first ≡ left_of rules first_is
-    took_outside : Grows oc of old.to_outside (texts sides.Outside first) middle.to_outside
-    took_inside : Grows ic if old.to_inside (texts sides.Inside first) middle.to_inside
-    failed : FailsBy oc of ic if middle later which fault new
+    took_outside : Grows old.to_outside (records_text sides.Outside first) middle.to_outside
+    took_inside : Grows old.to_inside (records_text sides.Inside first) middle.to_inside
+    failed : FailsBy middle later which fault new
 
-  early : (which : Which) (fault : WriteFault) → PassesEarly rules Hands Ends (Takes oc of ic if) (Fails oc of ic if)
-      (IsSettled outside_flushed inside_flushed) begin old end new (record { which = which; fault = fault }) →
+  early : (which : Which) (fault : WriteFault) → PassesEarly rules HandsOut EndsWith Takes Fails IsSettled begin old end
+      new (record { which = which; fault = fault }) →
       Early which fault
   early which fault p =
       let (mid, handed) = came_somehow p.inputs p.come in
@@ -208,41 +232,41 @@ module _ {R Q W V : Type 0} {G : Ghosts R} {H : Ghosts Q} {g h : _} (open_gate :
   -- the text of both parts
   text_of_both : (side : Side) (first later : List Timed) (inputs : List Arrival) →
       first ++ later ≡ left_of rules inputs →
-      texts side first ++ texts side later ≡ texts side (left_of rules inputs)
+      records_text side first ++ records_text side later ≡ records_text side (left_of rules inputs)
   text_of_both side first later inputs is =
-      sym (texts-append side first later) ∙ ap (λ (l : List Timed). texts side l) is
+      sym (records_text-append side first later) ∙ ap (λ (l : List Timed). records_text side l) is
 
   fails_outside : (fault : WriteFault) → Early Outside fault →
-      FailsOutside open_gate rules oc of outside_flushed ic if inside_flushed bytes others [] old new fault
+      FailsOutside open_gate rules bytes others [] old new fault
   fails_outside fault e = record {
     inputs = e.went_is;
     front_of_all = e.front_went;
-    broke = subst (λ (l : List ℕ). Breaks oc of old.to_outside l fault new.to_outside)
+    broke = subst (λ (l : List ℕ). Breaks old.to_outside l fault new.to_outside)
         (text_of_both sides.Outside e.first e.later e.went_is e.both_are)
-        (breaks_more oc of old.to_outside e.middle.to_outside new.to_outside _ _ fault e.took_outside e.failed.0);
+        (breaks_more old.to_outside e.middle.to_outside new.to_outside _ _ fault e.took_outside e.failed.0);
     before = e.first_is;
     front_before = e.front_first;
-    kept = inl (subst (λ (l : List ℕ). Grows ic if old.to_inside l new.to_inside)
-        (append-nil (texts sides.Inside e.first) ∙ ap (λ (l : List Timed). texts sides.Inside l) e.first_are)
-        (grows_more ic if old.to_inside e.middle.to_inside new.to_inside _ _ e.took_inside e.failed.1));
+    kept = inl (subst (λ (l : List ℕ). Grows old.to_inside l new.to_inside)
+        (append-nil (records_text sides.Inside e.first)
+        ∙ ap (λ (l : List Timed). records_text sides.Inside l) e.first_are)
+        (grows_more old.to_inside e.middle.to_inside new.to_inside _ _ e.took_inside e.failed.1));
   }
 
   fails_inside : (fault : WriteFault) → Early Inside fault →
-      FailsInside open_gate rules oc of outside_flushed ic if inside_flushed bytes others [] old new fault
+      FailsInside open_gate rules bytes others [] old new fault
   fails_inside fault e = record {
     inputs = e.went_is;
     front_of_all = e.front_went;
-    wrote = subst (λ (l : List ℕ). Grows oc of old.to_outside l new.to_outside)
+    wrote = subst (λ (l : List ℕ). Grows old.to_outside l new.to_outside)
         (text_of_both sides.Outside e.first e.later e.went_is e.both_are)
-        (grows_more oc of old.to_outside e.middle.to_outside new.to_outside _ _ e.took_outside e.failed.0);
-    broke = subst (λ (l : List ℕ). Breaks ic if old.to_inside l fault new.to_inside)
+        (grows_more old.to_outside e.middle.to_outside new.to_outside _ _ e.took_outside e.failed.0);
+    broke = subst (λ (l : List ℕ). Breaks old.to_inside l fault new.to_inside)
         (text_of_both sides.Inside e.first e.later e.went_is e.both_are)
-        (breaks_more ic if old.to_inside e.middle.to_inside new.to_inside _ _ fault e.took_inside e.failed.1);
+        (breaks_more old.to_inside e.middle.to_inside new.to_inside _ _ fault e.took_inside e.failed.1);
   }
 
-  pub runs_to : (result : Result Totals Fault) → PassesOr open_gate rules inside outside in_failed out_failed oc of
-      outside_flushed ic if inside_flushed begin old end new result →
-      RunsTo open_gate rules oc of outside_flushed ic if inside_flushed bytes others [] old new result
+  pub runs_to : (result : Result Totals Fault) → PassesOr open_gate rules begin old end new result →
+      RunsTo open_gate rules bytes others [] old new result
   runs_to (Ok totals) p = well totals p
   runs_to (Err (Capture side fault)) p = to_fault side fault p
   runs_to (Err (Write Outside fault)) p = fails_outside fault (early Outside fault p)
@@ -251,22 +275,20 @@ module _ {R Q W V : Type 0} {G : Ghosts R} {H : Ghosts Q} {g h : _} (open_gate :
   runs_to (Err (Run fault)) p = p
 
   -- and how many reads failed
-  pub reads_of : (result : Result Totals Fault) → PassesOr open_gate rules inside outside in_failed out_failed oc of
-      outside_flushed ic if inside_flushed begin old end new result → (¬ IsOfRun result) →
-      (read : Result (Unit {0}) Fault) × IsReading result read × ReadBy inside outside in_failed out_failed begin end
-      live
-      read
+  pub reads_of : (result : Result Totals Fault) → PassesOr open_gate rules begin old end new result →
+      (¬ IsOfRun result) →
+      (read : Result (Unit {0}) Fault) × IsReading result read × ReadBy begin end live read
   reads_of (Ok totals) p not_run =
-      (Ok tt, refl, read_well inside outside in_failed out_failed begin end live p.well.whole.inputs p.well.whole.came)
+      (Ok tt, refl, read_well begin end live p.well.whole.inputs p.well.whole.came)
   reads_of (Err (Capture side fault)) p not_run = (
     told side fault,
     refl,
-    read_to_fault inside outside in_failed out_failed begin end live p.inputs (record { side = side; fault = fault })
+    read_to_fault begin end live p.inputs (record { side = side; fault = fault })
         p.came,
   )
   reads_of (Err (Write Outside fault)) p not_run =
-      read_somehow inside outside in_failed out_failed begin end live p.inputs p.come
+      read_somehow begin end live p.inputs p.come
   reads_of (Err (Write Inside fault)) p not_run =
-      read_somehow inside outside in_failed out_failed begin end live p.inputs p.come
+      read_somehow begin end live p.inputs p.come
   reads_of (Err (Write Report fault)) p not_run = absurd (early Report fault p).failed
   reads_of (Err (Run fault)) p not_run = absurd (not_run tt)

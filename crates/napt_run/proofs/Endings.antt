@@ -1,6 +1,6 @@
 -- What a whole run is told to come to, once its report is written or nobody wants one.
 use Rattle.std.specs.Result.{result_and}
-use Rattle.std.proofs.Common.{◌≡◌, ℕ, ◌+◌, Bool, true, false, List, Option, Result, Ok, Err, IfErr, IfOk, OnOk, refl, sym, ◌∙◌, ap, subst, arith}
+use Rattle.std.proofs.Common.{◌≡◌, ℕ, ◌+◌, Bool, true, false, List, Option, Result, Ok, Err, IfErr, IfOk, OnOk, refl, sym, ◌∙◌, ap, subst}
 use Rattle.napt_wire.specs.declared.Side.TheVariants as sides
 use Rattle.napt_config.specs.Rules.{Rules}
 use Rattle.napt_records.specs.Counts.{AreCountsOf}
@@ -14,7 +14,7 @@ use Rattle.napt_records.specs.Faults.{tells_shut_gate}
 use Rattle.napt_run.specs.Captures.{failed_readings, failed_writings}
 use Rattle.napt_sequential.specs.declared.fault.RunFault.TheVariants as faults
 use Rattle.napt_run.specs.Runs.{IfHeld, IsToldOf}
-use Rattle.napt_run.specs.Streams.{Explains, FailsMore, GetsReport, HasReadIf, IsOfRun, IsReading, IsReportFault, IsSettledBy, IsStopFault, Reports, ReportsAll, Streams, ended}
+use Rattle.napt_run.specs.Streams.{Explains, GetsReport, HasRead, IsOfRun, IsReading, IsReportFault, IsSettledBy, IsStopFault, Reports, ReportsAll, Streams, ended}
 use Rattle.napt_run.specs.declared.passing.Totals.{Totals}
 use Rattle.napt_run.proofs.Streamed.{IfHeld-all, IfHeld-map}
 
@@ -50,26 +50,27 @@ module _ (P : Result Totals Fault → Result (Unit {0}) Fault → Type 0)
   at_end (Err fault) result ends = subst (λ (r : Result (Unit {0}) Fault). P (Err fault) r) (sym ends.fault)
       (stopped fault)
 
-module _ (rules : Rules) (inside : Option (List ℕ)) (outside : Option (Option (List ℕ))) (old new : Option
+module _ (rules : Rules) (inside outside : Option (List ℕ)) (old new : Option
     (List ℕ)) where
   pub outside_ends : (told : Result Totals Fault) (result : Result (Unit {0}) Fault) → Ends told result →
       Streams rules Outside (ended told) inside outside old new → Streams rules Outside result inside outside old new
   outside_ends = at_end (λ told result. Streams rules Outside (ended told) inside outside old new →
       Streams rules Outside result inside outside old new) (λ totals p. p) (λ totals fault p. p)
-      (λ totals p. IfHeld-all inside outside (λ both. tt)) (λ fault p. p)
+      (λ totals p. IfHeld-all (λ all. Unit {0}) inside outside (λ all. tt)) (λ fault p. p)
 
   pub inside_ends : (told : Result Totals Fault) (result : Result (Unit {0}) Fault) → Ends told result →
       Streams rules Inside (ended told) inside outside old new → Streams rules Inside result inside outside old new
   inside_ends = at_end (λ told result. Streams rules Inside (ended told) inside outside old new →
       Streams rules Inside result inside outside old new) (λ totals p. p) (λ totals fault p. p)
-      (λ totals p. IfHeld-all inside outside (λ both. tt)) (λ fault p. p)
+      (λ totals p. IfHeld-all (λ all. Unit {0}) inside outside (λ all. tt)) (λ fault p. p)
 
-pub explains_ends : (inside : Option (List ℕ)) (outside : Option (Option (List ℕ))) (told : Result Totals Fault)
+pub explains_ends : (inside outside : Option (List ℕ)) (told : Result Totals Fault)
     (result : Result (Unit {0}) Fault) → Ends told result → IfErr told (Explains inside outside) →
     IfErr result (Explains inside outside)
 explains_ends inside outside = at_end (λ told result. IfErr told (Explains inside outside) →
-    IfErr result (Explains inside outside)) (λ totals p. tt) (λ totals fault p. IfHeld-all inside outside (λ both. tt))
-    (λ totals p. IfHeld-all inside outside (λ both. tt)) (λ fault p. p)
+    IfErr result (Explains inside outside)) (λ totals p. tt)
+    (λ totals fault p. IfHeld-all (λ all. Unit {0}) inside outside (λ all. tt))
+    (λ totals p. IfHeld-all (λ all. Unit {0}) inside outside (λ all. tt)) (λ fault p. p)
 
 gate_of : (open_gate : Bool) (fault : Fault) → open_gate ≡ true → IsStopFault open_gate fault →
     tells_shut_gate fault ≡ false
@@ -148,16 +149,16 @@ reads_end = at_end (λ told result. (read : Result (Unit {0}) Fault) → IsReadi
 -- THE DEVICES, BY THEIR VALUES BEFORE AND AFTER
 
 module _ (told : Result Totals Fault) (result : Result (Unit {0}) Fault) (ends : Ends told result) where
-  pub reads_by : {R Q : Type 0} (has : Bool) (of : R → ℕ) (if : Q → ℕ) (old new : R) (other last : Q) →
-      ((¬ IsOfRun told) → HasReadIf has of if old new other last told) → (¬ IsOfRun result) →
-      HasReadIf has of if old new other last result
-  reads_by has of if old new other last reads none =
+  pub reads_by : {R Q : Type 0} (of : R → ℕ) (if : Q → ℕ) (old new : R) (other last : Q) →
+      ((¬ IsOfRun told) → HasRead of if old new other last told) → (¬ IsOfRun result) →
+      HasRead of if old new other last result
+  reads_by of if old new other last reads none =
       let (read, is, ours, theirs) = reads (not_run told result ends none) in
       let same = reads_end told result ends read is in (
         same.now,
         same.is,
         ours ∙ ap (λ (n : ℕ). of old + n) same.inside_same,
-        subst (λ (n : ℕ). FailsMore has if other last n) same.outside_same theirs,
+        theirs ∙ ap (λ (n : ℕ). if other + n) same.outside_same,
       )
 
   pub outside_by : (old new : ℕ) → ((¬ IsOfRun told) → new ≡ old + failed_writings Outside (ended told)) →
@@ -169,11 +170,6 @@ module _ (told : Result Totals Fault) (result : Result (Unit {0}) Fault) (ends :
       (¬ IsOfRun result) → new ≡ old + failed_writings Inside result
   inside_by old new fails none = fails (not_run told result ends none)
       ∙ ap (λ (n : ℕ). old + n) (inside_written told result ends none)
-
-  -- of one of which no call fails
-  pub none_by : ((¬ IsOfRun told) → 0 ≡ 0 + failed_writings Inside (ended told)) → (¬ IsOfRun result) →
-      failed_writings Inside result ≡ 0
-  none_by fails none = let is = inside_by 0 0 fails none in omega (arith, is)
 
   pub settled_by : {P : Type 0} → (IsSettledBy (ended told) → P) → IsSettledBy result → P
   settled_by holds settled = holds (settled_ends told result ends settled)
@@ -192,30 +188,33 @@ unfolding report_text
 text_told rules totals inputs is =
     ap (λ b. report_of totals.cuts.inside totals.cuts.outside (ran rules inputs).outcomes b) is
 
-all_reported : (rules : Rules) (inside : Option (List ℕ)) (outside : Option (Option (List ℕ))) (old new : Option
+all_reported : (rules : Rules) (inside outside : Option (List ℕ)) (old new : Option
     (List ℕ))
     (totals : Totals) (result : Result (Unit {0}) Fault) → IsToldOf rules inside outside totals →
-    Written totals result old new → IfHeld inside outside (λ both. ReportsAll rules result both old new)
+    Written totals result old new → IfHeld inside outside (λ all. ReportsAll rules result all old new)
 all_reported rules inside outside old new totals result told written =
-    IfHeld-map inside outside (λ both all. (
-      told.inputs,
-      totals.cuts.inside,
-      totals.cuts.outside,
-      all,
+    IfHeld-map (λ all. all ≡ record { arrivals = told.inputs; end = Ok totals.cuts })
+    (λ all. ReportsAll rules result all old new) inside outside (λ all is. rw is (
+      totals.cuts,
+      refl,
       subst (λ t. GetsReport t result old new) (text_told rules totals told.inputs told.bindings)
           (written (ran rules told.inputs).outcomes told.counts),
     )) told.all
 
-nothing_reported : (rules : Rules) (inside : Option (List ℕ)) (outside : Option (Option (List ℕ)))
+nothing_reported : (rules : Rules) (inside outside : Option (List ℕ))
     (old new : Option (List ℕ)) (fault : Fault) → IsStopFault false fault → new ≡ old →
     Reports rules (Err fault) inside outside old new
-nothing_reported rules inside outside old new (Capture side fault) stop same = IfHeld-all inside outside (λ both. same)
-nothing_reported rules inside outside old new (Run fault) stop same = IfHeld-all inside outside (λ both. same)
-nothing_reported rules inside outside old new (Write Outside fault) stop same = IfHeld-all inside outside (λ both. same)
-nothing_reported rules inside outside old new (Write Inside fault) stop same = IfHeld-all inside outside (λ both. same)
+nothing_reported rules inside outside old new (Capture side fault) stop same =
+    IfHeld-all (λ all. new ≡ old) inside outside (λ all. same)
+nothing_reported rules inside outside old new (Run fault) stop same =
+    IfHeld-all (λ all. new ≡ old) inside outside (λ all. same)
+nothing_reported rules inside outside old new (Write Outside fault) stop same =
+    IfHeld-all (λ all. new ≡ old) inside outside (λ all. same)
+nothing_reported rules inside outside old new (Write Inside fault) stop same =
+    IfHeld-all (λ all. new ≡ old) inside outside (λ all. same)
 nothing_reported rules inside outside old new (Write Report fault) stop same = absurd stop
 
-pub report_ends : (rules : Rules) (inside : Option (List ℕ)) (outside : Option (Option (List ℕ)))
+pub report_ends : (rules : Rules) (inside outside : Option (List ℕ))
     (old new : Option (List ℕ)) (told : Result Totals Fault) (result : Result (Unit {0}) Fault) → Ends told result →
     IfOk told (IsToldOf rules inside outside) → IfErr told (IsStopFault false) → IfErr told (λ _. new ≡ old) →
     IfOk told (λ totals. Written totals result old new) → Reports rules result inside outside old new
@@ -226,8 +225,8 @@ report_ends rules inside outside old new = at_end (λ told result. IfOk told (Is
     (λ totals fault told stop same written. all_reported rules inside outside old new totals (Err
     (Write Report fault)) told
     written)
-    (λ totals told stop same written. IfHeld-all inside outside (λ both. written (ran rules told.inputs).outcomes
-    told.counts))
+    (λ totals told stop same written. IfHeld-all (λ all. new ≡ old) inside outside
+    (λ all. written (ran rules told.inputs).outcomes told.counts))
     (λ fault told stop same written. nothing_reported rules inside outside old new fault stop same)
 
 -- AND WHAT WAS WRITTEN OF IT
@@ -276,13 +275,3 @@ pub written_flushed : (P : Type 0) (told : Result Totals Fault) (written result 
     result ≡ result_and told written → OnOk told (OnOk written P) → OnOk result P
 written_flushed P (Ok totals) written result is flushed = subst (λ r. OnOk r P) (sym is) flushed
 written_flushed P (Err fault) written result is flushed = subst (λ r. OnOk r P) (sym is) tt
-
--- and where there is none
-pub none_told : (told : Result Totals Fault) →
-    IfErr told (λ _. let none : Result (Unit {0}) Fault = Ok tt in none ≡ Ok tt)
-none_told (Ok totals) = tt
-none_told (Err fault) = refl
-
-pub none_flushed : (result : Result (Unit {0}) Fault) → OnOk result (Unit {0})
-none_flushed (Ok done) = tt
-none_flushed (Err fault) = tt

@@ -14,7 +14,7 @@ use Rattle.napt_rules.specs.Prelude.{Arrival, last_clock, opening, ran, run, run
 use Rattle.napt_rules.specs.declared.Outcome.{Outcome}
 use Rattle.napt_laws.specs.Dispatching.{IsFront}
 use Rattle.napt_laws.proofs.Grown.{outcomes_long, run_append}
-use Rattle.napt_run.specs.Leaving.{AreTimes, Timed, texts}
+use Rattle.napt_run.specs.Leaving.{AreTimes, Timed, records_text}
 use Rattle.napt_run.specs.Runs.{left_of}
 use Rattle.napt_run.specs.Streams.{capture_text}
 
@@ -29,7 +29,7 @@ records_same side (input ∷ inputs) (outcome ∷ outcomes) =
     ap (λ (l : List Entry). cons_option (record_at input.time (packet_to side outcome)) l)
     (records_same side inputs outcomes)
 
-pub capture_is : (rules : Rules) (side : Side) (inputs : List Arrival) → file_header ++ texts side
+pub capture_is : (rules : Rules) (side : Side) (inputs : List Arrival) → file_header ++ records_text side
     (left_of rules inputs)
     ≡ capture_text rules side inputs
 unfolding text

@@ -1,65 +1,65 @@
 -- A run behind the headers is one of whole captures.
-use Rattle.std.proofs.Common.{◌≡◌, ◌⊎◌, inl, inr, ℕ, ◌≤◌, Bool, List, [], Option, Result, Ok, Err, sym, subst, arith, append-nil}
+use Rattle.std.proofs.Common.{◌≡◌, ◌⊎◌, inl, inr, ℕ, ◌≤◌, Bool, List, [], Option, Result, Ok, Err, refl, sym, subst, arith, append-nil}
 use Rattle.napt_wire.specs.declared.Side.TheVariants as sides
 use Rattle.napt_capture.specs.Text.{file_header}
+use Rattle.napt_capture.specs.declared.device.Sink.{Ghosts}
 use Rattle.napt_capture.specs.declared.fault.WriteFault.{WriteFault}
 use Rattle.napt_config.specs.Rules.{Rules}
-use Rattle.napt_records.specs.UntilFault.{AreFront}
+use Rattle.napt_laws.specs.Dispatching.{IsFront}
 use Rattle.napt_records.specs.declared.Fault.{Fault}
 use Rattle.napt_records.specs.declared.Fault.TheVariants.{Capture, Run, Write}
 use Rattle.napt_records.specs.declared.Which.TheVariants.{Outside, Inside, Report}
-use Rattle.napt_records.proofs.Came.{none_front}
 use Rattle.napt_rules.specs.Prelude.{Arrival}
 use Rattle.napt_run.specs.Leaving.{Begins, FailsToBegin}
 use Rattle.napt_run.specs.LeavingLaws.{grows_more}
 use Rattle.napt_run.specs.Outputs.{Breaks, Grows}
 use Rattle.napt_run.specs.Runs.{FailsOutside, IfHeld, RunsTo, Writes, text_behind}
+use Rattle.napt_run.specs.Files.{files_until}
 use Rattle.napt_run.specs.Streams.{IsReading}
 use Rattle.napt_run.specs.declared.leaving.Leaving.{Leaving}
 use Rattle.napt_run.specs.declared.passing.Totals.{Totals}
 use Rattle.napt_run.proofs.Behind.{IfHeld-by}
 use Rattle.napt_run.proofs.Breaks.{breaks_more}
 
-none_held : (inside : Option (List ℕ)) (outside : Option (Option (List ℕ))) → IfHeld inside outside
-    (λ both. AreFront both [])
-none_held inside outside = IfHeld-by inside outside (λ b o both is same held. none_front both)
+none_held : (inside outside : Option (List ℕ)) → IfHeld inside outside
+    (λ all. IsFront [] all.arrivals)
+none_held inside outside = IfHeld-by (λ all. IsFront [] all.arrivals) inside outside
+    (λ b o is same. ((files_until b o).arrivals, refl))
 
-module _ {W V : Type 0} {g h : _} (open_gate : Bool) (rules : Rules)
-    (oc : W → Option (List ℕ)) (of : W → ℕ) (outside_flushed : W → Type 0)
-    (ic : V → Option (List ℕ)) (if : V → ℕ) (inside_flushed : V → Type 0)
-    (inside : Option (List ℕ)) (outside : Option (Option (List ℕ))) where
-  abbrev To : List ℕ → Leaving W V g h → Leaving W V g h → Result Totals Fault → Type 0
-  To front old new result = RunsTo open_gate rules oc of outside_flushed ic if inside_flushed inside outside front
+module _ {W V : Type 0} {S : Ghosts W} {T : Ghosts V} (open_gate : Bool) (rules : Rules)
+    (inside outside : Option (List ℕ)) where
+  abbrev To : List ℕ → Leaving W V S T → Leaving W V S T → Result Totals Fault → Type 0
+  To front old new result = RunsTo open_gate rules inside outside front
       old new
       result
 
-  module _ (old mid new : Leaving W V g h) (begins : Begins oc of ic if old mid) where
+  module _ (old mid new : Leaving W V S T) (begins : Begins old mid) where
     wrote : (inputs : List Arrival) →
-        Writes open_gate rules oc of outside_flushed ic if inside_flushed inside outside [] mid new inputs →
-        Writes open_gate rules oc of outside_flushed ic if inside_flushed inside outside file_header old new inputs
+        Writes open_gate rules inside outside [] mid new inputs →
+        Writes open_gate rules inside outside file_header old new inputs
     wrote inputs p = record {
-      to_outside = grows_more oc of old.to_outside mid.to_outside new.to_outside _ _ begins.to_outside p.to_outside;
-      to_inside = grows_more ic if old.to_inside mid.to_inside new.to_inside _ _ begins.to_inside p.to_inside;
+      to_outside = grows_more old.to_outside mid.to_outside new.to_outside _ _ begins.to_outside p.to_outside;
+      to_inside = grows_more old.to_inside mid.to_inside new.to_inside _ _ begins.to_inside p.to_inside;
       settled = p.settled;
     }
 
     broke : (inputs : List Arrival) (fault : WriteFault) →
-        Breaks oc of mid.to_outside (text_behind [] rules sides.Outside inputs) fault new.to_outside →
-        Breaks oc of old.to_outside (text_behind file_header rules sides.Outside inputs) fault new.to_outside
-    broke inputs fault p = breaks_more oc of old.to_outside mid.to_outside new.to_outside _ _ fault begins.to_outside p
+        Breaks mid.to_outside (text_behind [] rules sides.Outside inputs) fault new.to_outside →
+        Breaks old.to_outside (text_behind file_header rules sides.Outside inputs) fault new.to_outside
+    broke inputs fault p = breaks_more old.to_outside mid.to_outside new.to_outside _ _ fault begins.to_outside p
 
     fails_outside : (fault : WriteFault) →
-        (p : FailsOutside open_gate rules oc of outside_flushed ic if inside_flushed inside outside [] mid new fault) →
-        Grows ic if mid.to_inside (text_behind [] rules sides.Inside p.before) new.to_inside
+        (p : FailsOutside open_gate rules inside outside [] mid new fault) →
+        Grows mid.to_inside (text_behind [] rules sides.Inside p.before) new.to_inside
         ⊎ ((fault.written ≤ 0) × (new.to_inside ≡ mid.to_inside)) →
-        FailsOutside open_gate rules oc of outside_flushed ic if inside_flushed inside outside file_header old new fault
+        FailsOutside open_gate rules inside outside file_header old new fault
     fails_outside fault p (inl kept) = record {
       inputs = p.inputs;
       front_of_all = p.front_of_all;
       broke = broke p.inputs fault p.broke;
       before = p.before;
       front_before = p.front_before;
-      kept = inl (grows_more ic if old.to_inside mid.to_inside new.to_inside _ _ begins.to_inside kept);
+      kept = inl (grows_more old.to_inside mid.to_inside new.to_inside _ _ begins.to_inside kept);
     }
     fails_outside fault p (inr (short, same)) = record {
       inputs = p.inputs;
@@ -67,8 +67,8 @@ module _ {W V : Type 0} {g h : _} (open_gate : Bool) (rules : Rules)
       broke = broke p.inputs fault p.broke;
       before = [];
       front_before = none_held inside outside;
-      kept = inl (subst (λ (l : List ℕ). Grows ic if old.to_inside l new.to_inside) (sym (append-nil file_header))
-          (subst (λ o. Grows ic if old.to_inside file_header o) (sym same) begins.to_inside));
+      kept = inl (subst (λ (l : List ℕ). Grows old.to_inside l new.to_inside) (sym (append-nil file_header))
+          (subst (λ o. Grows old.to_inside file_header o) (sym same) begins.to_inside));
     }
 
     pub headed : (result : Result Totals Fault) → To [] mid new result → To file_header old new result
@@ -89,21 +89,21 @@ module _ {W V : Type 0} {g h : _} (open_gate : Bool) (rules : Rules)
     headed (Err (Write Inside fault)) p = record {
       inputs = p.inputs;
       front_of_all = p.front_of_all;
-      wrote = grows_more oc of old.to_outside mid.to_outside new.to_outside _ _ begins.to_outside p.wrote;
-      broke = breaks_more ic if old.to_inside mid.to_inside new.to_inside _ _ fault begins.to_inside p.broke;
+      wrote = grows_more old.to_outside mid.to_outside new.to_outside _ _ begins.to_outside p.wrote;
+      broke = breaks_more old.to_inside mid.to_inside new.to_inside _ _ fault begins.to_inside p.broke;
     }
     headed (Err (Write Report fault)) p = absurd p
     headed (Err (Run fault)) p = p
 
   -- or they could not be written
-  pub unheaded : (old new : Leaving W V g h) → old.to_outside.written ≡ 0 → (fault : Fault) →
-      FailsToBegin oc of ic if old fault new → To file_header old new (Err fault)
+  pub unheaded : (old new : Leaving W V S T) → old.to_outside.written ≡ 0 → (fault : Fault) →
+      FailsToBegin old fault new → To file_header old new (Err fault)
   unheaded old new none (Write Outside fault) (broke, same) =
       let counted = broke.counted 0 (omega (arith, none)) in
       record {
         inputs = [];
         front_of_all = none_held inside outside;
-        broke = subst (λ (l : List ℕ). Breaks oc of old.to_outside l fault new.to_outside) (sym
+        broke = subst (λ (l : List ℕ). Breaks old.to_outside l fault new.to_outside) (sym
             (append-nil file_header))
             broke;
         before = [];
@@ -113,18 +113,18 @@ module _ {W V : Type 0} {g h : _} (open_gate : Bool) (rules : Rules)
   unheaded old new none (Write Inside fault) (wrote, broke) = record {
     inputs = [];
     front_of_all = none_held inside outside;
-    wrote = subst (λ (l : List ℕ). Grows oc of old.to_outside l new.to_outside) (sym (append-nil file_header)) wrote;
-    broke = subst (λ (l : List ℕ). Breaks ic if old.to_inside l fault new.to_inside) (sym (append-nil file_header))
+    wrote = subst (λ (l : List ℕ). Grows old.to_outside l new.to_outside) (sym (append-nil file_header)) wrote;
+    broke = subst (λ (l : List ℕ). Breaks old.to_inside l fault new.to_inside) (sym (append-nil file_header))
         broke;
   }
   unheaded old new none (Write Report fault) p = absurd p
   unheaded old new none (Capture side fault) p = absurd p
   unheaded old new none (Run fault) p = absurd p
 
-  pub none_read : (T : Type 0) (old new : Leaving W V g h) (fault : Fault) → FailsToBegin oc of ic if old fault new →
-      (let told : Result T Fault = Err fault in IsReading told (Ok tt))
-  none_read T old new (Write Outside fault) p = tt
-  none_read T old new (Write Inside fault) p = tt
-  none_read T old new (Write Report fault) p = absurd p
-  none_read T old new (Capture side fault) p = absurd p
-  none_read T old new (Run fault) p = absurd p
+  pub none_read : (X : Type 0) (old new : Leaving W V S T) (fault : Fault) → FailsToBegin old fault new →
+      (let told : Result X Fault = Err fault in IsReading told (Ok tt))
+  none_read X old new (Write Outside fault) p = tt
+  none_read X old new (Write Inside fault) p = tt
+  none_read X old new (Write Report fault) p = absurd p
+  none_read X old new (Capture side fault) p = absurd p
+  none_read X old new (Run fault) p = absurd p

@@ -1,102 +1,89 @@
 -- A header of a capture that is refused, or could not be read.
-use Rattle.std.proofs.Common.{◌≡◌, ◌∙◌, ℕ, ◌+◌, Bool, true, false, List, [], Option, Some, None, Err, refl, sym, ap, subst, add-zero}
-use Rattle.std.specs.Prelude.{is_some}
+use Rattle.std.proofs.Common.{◌≡◌, ◌∙◌, ℕ, ◌+◌, Bool, List, [], take, drop, Option, Some, Result, Ok, Err, refl, sym, ap, subst, arith}
 use Rattle.napt_wire.specs.declared.Side.{Side}
 use Rattle.napt_wire.specs.declared.Side.TheVariants as sides
+use Rattle.napt_capture.specs.declared.device.Sink.{Ghosts}
 use Rattle.napt_capture.specs.declared.fault.CaptureFault.{CaptureFault}
-use Rattle.napt_capture.specs.declared.fault.CaptureFault.TheVariants.{NoHeader, BadMagic, BadVersion, BadLink, BadFraction, TooLong, TooLarge, Read, Memory}
+use Rattle.napt_capture.specs.declared.spelling.Spelling.{Spelling}
 use Rattle.napt_capture.specs.declared.records.Records.{Records}
-use Rattle.napt_capture.specs.Reading.{RefusesFile, StopsBy}
+use Rattle.napt_capture.specs.Capture.{captured, spelling_in}
+use Rattle.napt_capture.specs.Reading.{Gives, Says, StopsBy}
 use Rattle.napt_config.specs.Rules.{Rules}
-use Rattle.napt_records.specs.UntilFault.{AreBefore, AreHeld, AreTaken, Both, Holds, rest_of}
+use Rattle.napt_records.specs.Taking.{Inputs, at_fault, inputs_until}
 use Rattle.napt_records.specs.declared.Fault.{Fault}
 use Rattle.napt_records.specs.declared.Fault.TheVariants.{Capture, Run, Write}
-use Rattle.napt_records.proofs.Came.{none_front, refused_before, refused_rest}
-use Rattle.napt_run.specs.Devices.{bytes_if}
+use Rattle.napt_records.proofs.Left.{StopsBy-says}
+use Rattle.napt_run.specs.Files.{files_until, unless_bad, unless_refused}
 use Rattle.napt_run.specs.Leaving.{IsSettled}
 use Rattle.napt_run.specs.LeavingLaws.{grows_none}
 use Rattle.napt_run.specs.Runs.{RunsTo, RunsToFault}
-use Rattle.napt_run.specs.Streams.{FailsMore, IsBehindHeaderIf, IsFaultOf, IsHeaderFault}
+use Rattle.napt_run.specs.Streams.{AreTaken, IsFaultOf, IsHeaderFault}
 use Rattle.napt_run.specs.declared.leaving.Leaving.{Leaving}
-use Rattle.napt_run.proofs.Behind.{IfHeld-by}
+use Rattle.napt_run.proofs.Behind.{IfHeld-by, refuses}
+use Rattle.napt_run.proofs.Files.{spelled}
 
-refused_taken : (side : Side) (fault : CaptureFault) (both : Both) (bytes : List ℕ) (new : Option (List ℕ)) →
-    RefusesFile fault (Some bytes) new → Holds bytes (rest_of side both) →
-    AreBefore side fault both [] × ((rest_of side both).end ≡ Err fault)
-refused_taken side fault both bytes new refuses holds =
-    let is = refused_rest bytes new (rest_of side both) fault refuses holds in
-    (refused_before side fault both is, ap (λ r. r.end) is)
+-- a header of these bytes was read to this answer
+abbrev pub Heads : Option (List ℕ) → Option (List ℕ) → Result Spelling CaptureFault → Type 0
+Heads known left r = Gives known left (λ bytes left. (spelling_in (take 24 bytes) ≡ r) × (left ≡ drop 24 bytes))
 
--- what was taken before, and that it is the fault of the bytes
-header_taken : (side : Side) (fault : CaptureFault) (both : Both) (bytes : List ℕ) (new : Option (List ℕ)) →
-    StopsBy fault (RefusesFile fault (Some bytes) new) → Holds bytes (rest_of side both) →
-    AreTaken side fault both [] × IsFaultOf side fault both
-header_taken side Read both bytes new stops holds = (none_front both, tt)
-header_taken side Memory both bytes new stops holds = (none_front both, tt)
-header_taken side TooLarge both bytes new stops holds = absurd stops.refused
-header_taken side NoHeader both bytes new stops holds = refused_taken side NoHeader both bytes new stops holds
-header_taken side BadMagic both bytes new stops holds = refused_taken side BadMagic both bytes new stops holds
-header_taken side BadVersion both bytes new stops holds = refused_taken side BadVersion both bytes new stops holds
-header_taken side BadLink both bytes new stops holds = refused_taken side BadLink both bytes new stops holds
-header_taken side (BadFraction n) both bytes new stops holds =
-    refused_taken side (BadFraction n) both bytes new stops holds
-header_taken side (TooLong n) both bytes new stops holds = refused_taken side (TooLong n) both bytes new stops holds
+-- and has this fault, unless the device or memory failed
+abbrev pub HeadsBadly : Option (List ℕ) → Option (List ℕ) → CaptureFault → Type 0
+HeadsBadly known left fault = let answer : Result Records CaptureFault = Err fault in
+    Says answer (Heads known left (Err fault))
 
--- the bytes of a side's capture, where both are known
-abbrev pub KnowsSide : Side → Option (List ℕ) → Option (List ℕ) → Option (Option (List ℕ)) → Type 0
-KnowsSide side known inside outside = (b : List ℕ) (o : Option (List ℕ)) (both : Both) → inside ≡ Some b →
-    outside ≡ Some o → AreHeld b o both → (l : List ℕ) × (known ≡ Some l) × Holds l (rest_of side both)
+-- nothing is handed out of the files, where both are known
+abbrev pub EndsAtHeader : Side → CaptureFault → Option (List ℕ) → Option (List ℕ) → Type 0
+EndsAtHeader side fault inside outside = (b o : List ℕ) → inside ≡ Some b → outside ≡ Some o →
+    StopsBy fault (files_until b o ≡ at_fault side fault)
 
-pub knows_inside : (inside : Option (List ℕ)) (outside : Option (Option (List ℕ))) →
-    KnowsSide sides.Inside inside inside outside
-knows_inside inside outside b o both is same held = (b, is, held.inside_holds)
+abbrev pub all_of : List ℕ → List ℕ → Inputs
+all_of bytes others = inputs_until (captured bytes) (captured others)
 
-pub knows_outside : (inside known : Option (List ℕ)) (has : Bool) → has ≡ true →
-    KnowsSide sides.Outside known inside (bytes_if has known)
-knows_outside inside known false has b o both is same held = absurd (let no : false ≡ true = has in cc)
-knows_outside inside None true has b o both is same held = absurd (let no : None ≡ Some o = same in cc)
-knows_outside inside (Some bytes) true has b None both is same held =
-    absurd (let no : Some (Some bytes) ≡ Some None = same in cc)
-knows_outside inside (Some bytes) true has b (Some others) both is same held =
-    let are : bytes ≡ others = cc in
-    (bytes, refl, subst (λ (l : List ℕ). Holds l both.outside) (sym are) held.outside_holds)
+pub inside_refused : (inside left outside : Option (List ℕ)) (fault : CaptureFault) →
+    HeadsBadly inside left fault → EndsAtHeader sides.Inside fault inside outside
+inside_refused inside left outside fault heads b o is same =
+    StopsBy-says Records fault
+    (λ (p : Heads (Some b) left (Err fault)).
+    ap (λ r. unless_bad sides.Inside r (unless_refused sides.Outside o (all_of b o))) (spelled b left (Err fault) p))
+    (subst (λ (k : Option (List ℕ)). HeadsBadly k left fault) is heads)
 
-module _ {W V : Type 0} {g h : _} (open_gate : Bool) (rules : Rules)
-    (oc : W → Option (List ℕ)) (of : W → ℕ) (outside_flushed : W → Type 0)
-    (ic : V → Option (List ℕ)) (if : V → ℕ) (inside_flushed : V → Type 0)
-    (inside : Option (List ℕ)) (outside : Option (Option (List ℕ)))
-    (old : Leaving W V g h) (settled : IsSettled outside_flushed inside_flushed old) where
-  header_fails : (side : Side) (fault : CaptureFault) (known new : Option (List ℕ)) →
-      KnowsSide side known inside outside →
-      StopsBy fault (RefusesFile fault known new) →
-      RunsToFault open_gate rules oc of outside_flushed ic if inside_flushed inside outside [] old old side fault
-  header_fails side fault known new knows stops = record {
+-- the header of the inside capture is good then
+pub outside_refused : (inside left known other : Option (List ℕ)) (spelling : Spelling) (fault : CaptureFault) →
+    Heads inside left (Ok spelling) → HeadsBadly known other fault → EndsAtHeader sides.Outside fault inside known
+outside_refused inside left known other spelling fault good bad b o is same =
+    let first = spelled b left (Ok spelling) (subst (λ (k : Option (List ℕ)). Heads k left (Ok spelling)) is good) in
+    StopsBy-says Records fault
+    (λ (p : Heads (Some o) other (Err fault)).
+    ap (λ r. unless_bad sides.Inside r (unless_refused sides.Outside o (all_of b o))) first
+    ∙ ap (λ r. unless_bad sides.Outside r (all_of b o)) (spelled o other (Err fault) p))
+    (subst (λ (k : Option (List ℕ)). HeadsBadly k other fault) same bad)
+
+module _ {W V : Type 0} {S : Ghosts W} {T : Ghosts V} (open_gate : Bool) (rules : Rules)
+    (inside outside : Option (List ℕ)) (old : Leaving W V S T) (settled : IsSettled old) where
+  header_fails : (side : Side) (fault : CaptureFault) → EndsAtHeader side fault inside outside →
+      RunsToFault open_gate rules inside outside [] old old side fault
+  header_fails side fault ends = record {
     inputs = [];
     wrote = record {
-      to_outside = grows_none oc of old.to_outside;
-      to_inside = grows_none ic if old.to_inside;
+      to_outside = grows_none old.to_outside;
+      to_inside = grows_none old.to_inside;
       settled = settled;
     };
-    taken = IfHeld-by inside outside (λ b o both is same held.
-        let (l, known_is, holds) = knows b o both is same held in
-        (header_taken side fault both l new
-        (subst (λ (k : Option (List ℕ)). StopsBy fault (RefusesFile fault k new)) known_is stops) holds).0);
-    is_fault = IfHeld-by inside outside (λ b o both is same held.
-        let (l, known_is, holds) = knows b o both is same held in
-        (header_taken side fault both l new
-        (subst (λ (k : Option (List ℕ)). StopsBy fault (RefusesFile fault k new)) known_is stops) holds).1);
+    taken = IfHeld-by (λ all. AreTaken side fault all []) inside outside (λ b o is same.
+        (refuses side fault b o [] ((files_until b o).arrivals, refl) (ends b o is same)).taken);
+    is_fault = IfHeld-by (IsFaultOf side fault) inside outside (λ b o is same.
+        (refuses side fault b o [] ((files_until b o).arrivals, refl) (ends b o is same)).is_fault);
   }
 
-  pub header_failed : (side : Side) (fault : Fault) (known new : Option (List ℕ)) →
-      KnowsSide side known inside outside →
-      IsHeaderFault side known new fault →
-      RunsTo open_gate rules oc of outside_flushed ic if inside_flushed inside outside [] old old (Err fault)
-  header_failed side (Capture other fault) known new knows is =
-      subst (λ (s : Side). RunsToFault open_gate rules oc of outside_flushed ic if inside_flushed inside outside []
-      old old
-      s fault) (sym is.0) (header_fails side fault known new knows is.1)
-  header_failed side (Run fault) known new knows is = absurd is
-  header_failed side (Write which fault) known new knows is = absurd is
+  pub header_failed : (side : Side) (fault : Fault) (known left : Option (List ℕ)) →
+      ((inner : CaptureFault) → HeadsBadly known left inner → EndsAtHeader side inner inside outside) →
+      IsHeaderFault side known left fault →
+      RunsTo open_gate rules inside outside [] old old (Err fault)
+  header_failed side (Capture other fault) known left ends is =
+      subst (λ (s : Side). RunsToFault open_gate rules inside outside []
+      old old s fault) (sym is.0) (header_fails side fault (ends fault is.1))
+  header_failed side (Run fault) known left ends is = absurd is
+  header_failed side (Write which fault) known left ends is = absurd is
 
 -- FAILED READS
 
@@ -106,21 +93,6 @@ header_of side (Capture other fault) old new is = (fault, ap (λ (s : Side). Cap
 header_of side (Run fault) old new is = absurd is
 header_of side (Write which fault) old new is = absurd is
 
-pub none_more : {Q : Type 0} (has : Bool) (failed : Q → ℕ) (old : Q) → FailsMore has failed old old 0
-none_more false failed old = refl
-none_more true failed old = sym (add-zero (failed old))
-
--- whether there is an outside capture
-pub has_is : {Q : Type 0} (remaining : Q → Option (List ℕ)) (has : Bool) (records : Option Records)
-    (bytes : Option (List ℕ)) (source : Q) → IsBehindHeaderIf remaining has records bytes source →
-    is_some records ≡ has
-has_is remaining false None bytes source behind = refl
-has_is remaining false (Some records) bytes source behind = absurd behind
-has_is remaining true None bytes source behind = absurd behind
-has_is remaining true (Some records) bytes source behind = refl
-
 -- behind a header that was read
-pub more_after : {Q : Type 0} (has : Bool) (failed : Q → ℕ) (old mid new : Q) (more : ℕ) → failed mid ≡ failed old →
-    FailsMore has failed mid new more → FailsMore has failed old new more
-more_after false failed old mid new more same is = is
-more_after true failed old mid new more same is = is ∙ ap (λ (n : ℕ). n + more) same
+pub more_after : (old mid new more : ℕ) → mid ≡ old + 0 → new ≡ mid + more → new ≡ old + more
+more_after old mid new more none is = omega (arith, none, is)

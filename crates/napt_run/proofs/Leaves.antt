@@ -1,8 +1,9 @@
 -- What leaving does to the outputs.
-use Rattle.std.proofs.Common.{◌≡◌, ℕ, ◌-◌, ◌^◌, ◌<◌, List, [], ◌∷◌, ◌++◌, length, Option, Result, Ok, Err, IfErr, OnOk, false, sym, subst, arith, append-nil, length-append}
+use Rattle.std.proofs.Common.{◌≡◌, ℕ, ◌-◌, ◌^◌, ◌<◌, List, [], ◌∷◌, ◌++◌, length, Result, Ok, Err, IfErr, OnOk, false, sym, subst, arith, append-nil, length-append}
 use Rattle.std.specs.Prelude.{MatchResult}
 use Rattle.std.proofs.lemmas.List.Elements.{All-head}
 use Rattle.napt_capture.specs.Text.{entry_of_packet, record_text}
+use Rattle.napt_capture.specs.declared.device.Sink.{Ghosts}
 use Rattle.napt_capture.specs.declared.fault.WriteFault.{WriteFault}
 use Rattle.napt_rules.specs.declared.Outcome.{Outcome}
 use Rattle.napt_rules.specs.declared.Outcome.TheVariants.{ToOutside, ToInside}
@@ -29,52 +30,51 @@ fewer : (outcomes : List Outcome) (outcome : Outcome) → length (outcomes ++ ou
 fewer outcomes outcome few = omega (arith, few, length-append outcomes (outcome ∷ []))
 
 -- of a record that is the only one, or of a front of it
-module _ {W : Type 0} (contents : W → Option (List ℕ)) (failed : W → ℕ) {g : _} (old new : Output W g) where
-  grows_one : (text : List ℕ) → Grows contents failed old text new → Grows contents failed old (text ++ []) new
-  grows_one text p = subst (λ (l : List ℕ). Grows contents failed old l new) (sym (append-nil text)) p
+module _ {W : Type 0} {S : Ghosts W} (old new : Output W S) where
+  grows_one : (text : List ℕ) → Grows old text new → Grows old (text ++ []) new
+  grows_one text p = subst (λ (l : List ℕ). Grows old l new) (sym (append-nil text)) p
 
-  breaks_one : (text : List ℕ) (fault : WriteFault) → Breaks contents failed old text fault new →
-      Breaks contents failed old (text ++ []) fault new
-  breaks_one text fault p = subst (λ (l : List ℕ). Breaks contents failed old l fault new) (sym (append-nil text)) p
+  breaks_one : (text : List ℕ) (fault : WriteFault) → Breaks old text fault new →
+      Breaks old (text ++ []) fault new
+  breaks_one text fault p = subst (λ (l : List ℕ). Breaks old l fault new) (sym (append-nil text)) p
 
-module _ {W V : Type 0} (oc : W → Option (List ℕ)) (of : W → ℕ) (ic : V → Option (List ℕ)) (if : V → ℕ) {g h : _}
-    (time : ℕ) (packet : List ℕ) (old : Leaving W V g h) where
+module _ {W V : Type 0} {S : Ghosts W} {T : Ghosts V} (time : ℕ) (packet : List ℕ) (old : Leaving W V S T) where
   -- a packet to the outside
-  pub leaves_outside : (output : Output W g) (counts : Counts) (r : Result (Unit {0}) WriteFault) →
-      (IsTime time → OnOk r (Grows oc of old.to_outside (record_text (entry_of_packet time packet)) output)) →
+  pub leaves_outside : (output : Output W S) (counts : Counts) (r : Result (Unit {0}) WriteFault) →
+      (IsTime time → OnOk r (Grows old.to_outside (record_text (entry_of_packet time packet)) output)) →
       (IsTime time → IfErr r (λ fault. old.to_outside.is_broken ≡ false →
-      Breaks oc of old.to_outside (record_text (entry_of_packet time packet)) fault output)) →
+      Breaks old.to_outside (record_text (entry_of_packet time packet)) fault output)) →
       Counted old.counts (ToOutside packet) counts →
-      MatchResult (named Outside r) (λ _. Takes oc of ic if old ((time, ToOutside packet) ∷ [])
+      MatchResult (named Outside r) (λ _. Takes old ((time, ToOutside packet) ∷ [])
       (record old { to_outside = output; counts = counts }))
-      (λ fault. Fails oc of ic if old ((time, ToOutside packet) ∷ []) fault
+      (λ fault. Fails old ((time, ToOutside packet) ∷ []) fault
       (record old { to_outside = output; counts = counts }))
   leaves_outside output counts (Ok done) ok err counted = record {
-    to_outside = λ times. grows_one oc of old.to_outside output _ (ok (time_of_one time (ToOutside packet) times));
-    to_inside = λ times. grows_none ic if old.to_inside;
+    to_outside = λ times. grows_one old.to_outside output _ (ok (time_of_one time (ToOutside packet) times));
+    to_inside = λ times. grows_none old.to_inside;
     counts = λ outcomes few are. counted outcomes (fewer outcomes (ToOutside packet) few) are;
   }
   leaves_outside output counts (Err fault) ok err counted = λ sound times. (
-    breaks_one oc of old.to_outside output _ fault (err (time_of_one time (ToOutside packet) times) sound.0),
-    grows_none ic if old.to_inside,
+    breaks_one old.to_outside output _ fault (err (time_of_one time (ToOutside packet) times) sound.0),
+    grows_none old.to_inside,
   )
 
   -- a packet to the inside
-  pub leaves_inside : (output : Output V h) (counts : Counts) (r : Result (Unit {0}) WriteFault) →
-      (IsTime time → OnOk r (Grows ic if old.to_inside (record_text (entry_of_packet time packet)) output)) →
+  pub leaves_inside : (output : Output V T) (counts : Counts) (r : Result (Unit {0}) WriteFault) →
+      (IsTime time → OnOk r (Grows old.to_inside (record_text (entry_of_packet time packet)) output)) →
       (IsTime time → IfErr r (λ fault. old.to_inside.is_broken ≡ false →
-      Breaks ic if old.to_inside (record_text (entry_of_packet time packet)) fault output)) →
+      Breaks old.to_inside (record_text (entry_of_packet time packet)) fault output)) →
       Counted old.counts (ToInside packet) counts →
-      MatchResult (named Inside r) (λ _. Takes oc of ic if old ((time, ToInside packet) ∷ [])
+      MatchResult (named Inside r) (λ _. Takes old ((time, ToInside packet) ∷ [])
       (record old { to_inside = output; counts = counts }))
-      (λ fault. Fails oc of ic if old ((time, ToInside packet) ∷ []) fault
+      (λ fault. Fails old ((time, ToInside packet) ∷ []) fault
       (record old { to_inside = output; counts = counts }))
   leaves_inside output counts (Ok done) ok err counted = record {
-    to_outside = λ times. grows_none oc of old.to_outside;
-    to_inside = λ times. grows_one ic if old.to_inside output _ (ok (time_of_one time (ToInside packet) times));
+    to_outside = λ times. grows_none old.to_outside;
+    to_inside = λ times. grows_one old.to_inside output _ (ok (time_of_one time (ToInside packet) times));
     counts = λ outcomes few are. counted outcomes (fewer outcomes (ToInside packet) few) are;
   }
   leaves_inside output counts (Err fault) ok err counted = λ sound times. (
-    grows_none oc of old.to_outside,
-    breaks_one ic if old.to_inside output _ fault (err (time_of_one time (ToInside packet) times) sound.1),
+    grows_none old.to_outside,
+    breaks_one old.to_inside output _ fault (err (time_of_one time (ToInside packet) times) sound.1),
   )

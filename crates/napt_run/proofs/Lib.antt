@@ -1,8 +1,7 @@
 pub mod Received
-pub mod OutputsAreOne
-pub mod TooMany
 pub mod Breaks
 pub mod Fronts
+pub mod Files
 pub mod Behind
 pub mod Begun
 pub mod Headers

@@ -1,68 +1,162 @@
--- Captures that can be read whole hold their records one after another.
-use Rattle.std.proofs.Common.{◌≡◌, ℕ, Bool, false, List, Option, Some, None, Result, Ok, Err, inl, sym, ap, subst}
+-- A run that succeeds writes the same, whether its captures are read as they arrive or whole.
+use Rattle.std.proofs.Common.{◌≡◌, ℕ, ◌+◌, ◌^◌, inl, inr, Bool, List, length, take, Option, Some, None, Result, Ok, Err, refl, sym, ap, ap₂, ◌∙◌, subst}
+use Rattle.std.specs.Prelude.{IsOk, IsOkAnd, nat_le, nat_lt}
 use Rattle.std.specs.Io.KnownBytes.{Appends}
-use Rattle.napt_capture.specs.Capture.{IsCapture}
-use Rattle.napt_capture.specs.Contents.{Contents}
-use Rattle.napt_capture.specs.Stream.{IsStream}
+use Rattle.std.proofs.lemmas.Bool.{cases_Bool}
+use Rattle.napt_wire.specs.declared.Side.{Side}
+use Rattle.napt_wire.specs.declared.Side.TheVariants as sides
+use Rattle.napt_capture.specs.Capture.{Held, asked_of, captured, contents_by, read_whole, spelling_in}
+use Rattle.napt_capture.specs.Contents.{Contents, Entry}
+use Rattle.napt_capture.specs.declared.TheConstants.{MOST_ASKED}
 use Rattle.napt_capture.specs.declared.fault.CaptureFault.{CaptureFault}
+use Rattle.napt_capture.specs.declared.spelling.Spelling.{Spelling}
+use Rattle.napt_config.specs.Rules.{Rules}
+use Rattle.napt_records.specs.declared.Fault.{Fault}
 use Rattle.napt_records.specs.Report.{report_text}
-use Rattle.napt_records.specs.Streams.{Rest}
-use Rattle.napt_records.specs.UntilFault.{AreHeld, Both, HoldsIf}
-use Rattle.napt_records.specs.declared.Which.TheVariants.{Outside, Inside, Report}
-use Rattle.napt_rules.specs.Prelude.{ran}
-use Rattle.napt_run.specs.Captures.{IsOutsideCapture, whole}
-use Rattle.napt_run.specs.Replay.{OutputsAreOne}
+use Rattle.napt_records.specs.Taking.{Inputs, inputs_until}
+use Rattle.napt_records.specs.declared.merged_streams.Cuts.{Cuts}
+use Rattle.napt_records.specs.declared.merged_streams.SideFault.{SideFault}
+use Rattle.napt_records.proofs.Merges.{merge_ends, merges_whole}
+use Rattle.napt_rules.specs.Prelude.{Arrival, ran}
+use Rattle.napt_run.specs.Captures.{Texts, arrivals_of, both_by, texts, texts_by, texts_made}
+use Rattle.napt_run.specs.Files.{files_until, unless_bad, unless_refused}
 use Rattle.napt_run.specs.StreamLaws.{OutputsAreTheSame, ReportsAreTheSame}
+use Rattle.napt_run.specs.Streams.{capture_text}
+use Rattle.napt_run.specs.declared.captures.Captures.{Captures}
 
-abbrev pub rest_in : Contents → Rest
-rest_in contents = record { records = contents.records; end = Ok contents.cut }
+-- what a file holds that reads as these contents
+abbrev held_as : Contents → Held
+held_as contents = record { records = contents.records; end = Ok contents.cut }
 
-abbrev pub both_in : Contents → Contents → Both
-both_in inside outside = record { inside = rest_in inside; outside = rest_in outside }
+contents_are : (records : List Entry) (end : Result Bool CaptureFault) (contents : Contents) →
+    contents_by records end ≡ Ok contents
+    → (let held : Held = record { records = records; end = end } in held ≡ held_as contents)
+contents_are records (Ok cut) contents is =
+    let read : Contents = record { records = records; cut = cut } in
+    let same : read ≡ contents = cc in
+    ap held_as same
+contents_are records (Err fault) contents is = absurd cc
 
-abbrev pub cut_in : Result Bool CaptureFault → Bool
-cut_in (Ok cut) = cut
-cut_in (Err fault) = false
+held_is : (bytes : List ℕ) (contents : Contents) → read_whole bytes ≡ Ok contents → captured bytes ≡ held_as contents
+held_is bytes contents is = elim (cases_Bool (nat_lt MOST_ASKED (asked_of bytes))) [
+  | inl large ↦ let never = rw large at is in absurd cc
+  | inr few ↦ contents_are (captured bytes).records (captured bytes).end contents (rw few at is)
+]
 
-module _ (stream : (bytes : List ℕ) (contents : Contents) → IsCapture bytes (Ok contents) →
-    IsStream bytes contents.records (Ok contents.cut)) where
-  held_if : (outside : Option (List ℕ)) (contents : Contents) → IsOutsideCapture outside contents →
-      HoldsIf outside (rest_in contents)
-  held_if None contents none = ap rest_in none
-  held_if (Some bytes) contents is = inl (stream bytes contents is)
+-- the captures of which the texts are
+record OfCaptures (rules : Rules) (inside outside : Result Contents CaptureFault) (all : Texts) : Type 0 where
+  captures : Captures
+  inside_is : inside ≡ Ok captures.inside
+  outside_is : outside ≡ Ok captures.outside
+  all_is : texts_made rules captures ≡ all
 
-  held : (inside : List ℕ) (outside : Option (List ℕ)) (ins outs : Contents) → IsCapture inside (Ok ins) →
-      IsOutsideCapture outside outs → AreHeld inside outside (both_in ins outs)
-  held inside outside ins outs inside_is outside_is = record {
-    inside_holds = inl (stream inside ins inside_is);
-    outside_holds = held_if outside outs outside_is;
-  }
+few_texts : (rules : Rules) (captures : Captures) (all : Texts) → texts_by rules (Ok captures) ≡ Ok all →
+    texts_made rules captures ≡ all
+few_texts rules captures all is =
+    elim (cases_Bool (nat_le (2 ^ 32) (length captures.inside.records + length captures.outside.records))) [
+      | inl many ↦ let never = rw many at is in absurd cc
+      | inr few ↦ let same = rw few at is in cc
+    ]
 
-  pub outputs_same : OutputsAreOne → OutputsAreTheSame
-  outputs_same one rules inside outside done old new other = (
-    λ got wrote.
-        let (captures, read, gets) = got in
-        let both = both_in captures.inside captures.outside in
-        let (inputs, cut_inside, cut_outside, all, text) = wrote both
-        (held inside outside captures.inside captures.outside read.inside_capture read.outside_capture) in
-        one rules Outside whole inside outside old other new (captures, read, (inputs, all.2, text)) got,
-    λ got wrote.
-        let (captures, read, gets) = got in
-        let both = both_in captures.inside captures.outside in
-        let (inputs, cut_inside, cut_outside, all, text) = wrote both
-        (held inside outside captures.inside captures.outside read.inside_capture read.outside_capture) in
-        one rules Inside whole inside outside old other new (captures, read, (inputs, all.2, text)) got,
-  )
+of_captures : (rules : Rules) (inside outside : Result Contents CaptureFault) (all : Texts) →
+    texts_by rules (both_by inside outside) ≡ Ok all → OfCaptures rules inside outside all
+of_captures rules (Ok a) (Ok b) all is = record {
+  captures = record { inside = a; outside = b };
+  inside_is = refl;
+  outside_is = refl;
+  all_is = few_texts rules (record { inside = a; outside = b }) all is;
+}
+of_captures rules (Ok a) (Err fault) all is = absurd cc
+of_captures rules (Err fault) outside all is = absurd cc
 
-  pub reports_same : OutputsAreOne → ReportsAreTheSame
-  reports_same one rules inside outside done old new other got wrote =
-      let (captures, read, gets) = got in
-      let both = both_in captures.inside captures.outside in
-      let (inputs, cut_inside, cut_outside, all, text) = wrote both
-      (held inside outside captures.inside captures.outside read.inside_capture read.outside_capture) in
-      let same_inside : cut_inside ≡ captures.inside.cut = sym (ap cut_in all.0) in
-      let same_outside : cut_outside ≡ captures.outside.cut = sym (ap cut_in all.1) in
-      let told : Appends (Some old) other (report_text captures.inside.cut captures.outside.cut (ran rules inputs)) =
-      subst (λ cut. Appends (Some old) other (report_text captures.inside.cut cut (ran rules inputs))) same_outside
-      (subst (λ cut. Appends (Some old) other (report_text cut cut_outside (ran rules inputs))) same_inside text) in
-      one rules Report whole inside outside old other new (captures, read, (inputs, all.2, told)) got
+-- the headers are good
+good_by : (side : Side) (r : Result Spelling CaptureFault) (inputs : Inputs) (cuts : Cuts) →
+    (unless_bad side r inputs).end ≡ Ok cuts → unless_bad side r inputs ≡ inputs
+good_by side (Ok spelling) inputs cuts is = refl
+good_by side (Err fault) inputs cuts is = absurd cc
+
+good : (side : Side) (bytes : List ℕ) (inputs : Inputs) (cuts : Cuts) →
+    (unless_refused side bytes inputs).end ≡ Ok cuts → unless_refused side bytes inputs ≡ inputs
+good side bytes inputs cuts is = good_by side (spelling_in (take 24 bytes)) inputs cuts is
+
+behind_headers : (inside outside : List ℕ) (cuts : Cuts) →
+    (files_until inside outside).end ≡ Ok cuts
+    → files_until inside outside ≡ inputs_until (captured inside) (captured outside)
+behind_headers inside outside cuts is =
+    let all : Inputs = inputs_until (captured inside) (captured outside) in
+    let first = good sides.Inside inside (unless_refused sides.Outside outside all) cuts is in
+    first ∙ good sides.Outside outside all cuts (sym (ap (λ (i : Inputs). i.end) first) ∙ is)
+
+-- what the files give as they arrive is what they hold
+record Agree (rules : Rules) (inside outside : List ℕ) (all : Texts) (cuts : Cuts) : Type 0 where
+  captures : Captures
+  all_is : texts_made rules captures ≡ all
+  arrivals : (files_until inside outside).arrivals ≡ arrivals_of captures
+  inside_cut : captures.inside.cut ≡ cuts.inside
+  outside_cut : captures.outside.cut ≡ cuts.outside
+
+ok_is : (a b : Bool) → (let x : Result Bool CaptureFault = Ok a in x ≡ Ok b) → a ≡ b
+ok_is a b is = cc
+
+agree : (rules : Rules) (inside outside : List ℕ) (all : Texts) (cuts : Cuts) →
+    texts rules inside outside ≡ Ok all → (files_until inside outside).end ≡ Ok cuts →
+    Agree rules inside outside all cuts
+agree rules inside outside all cuts is end =
+    let of = of_captures rules (read_whole inside) (read_whole outside) all is in
+    let a : Held = held_as of.captures.inside in
+    let b : Held = held_as of.captures.outside in
+    let files : files_until inside outside ≡ inputs_until a b = behind_headers inside outside cuts end
+    ∙ ap₂ (λ x y. inputs_until x y) (held_is inside of.captures.inside of.inside_is)
+    (held_is outside of.captures.outside of.outside_is) in
+    let ends : (inputs_until a b).end ≡ Ok cuts = sym (ap (λ (i : Inputs). i.end) files) ∙ end in
+    let both = merge_ends a b cuts ends in
+    record {
+      captures = of.captures;
+      all_is = of.all_is;
+      arrivals = ap (λ (i : Inputs). i.arrivals) files ∙ merges_whole a b cuts ends;
+      inside_cut = ok_is of.captures.inside.cut cuts.inside both.0;
+      outside_cut = ok_is of.captures.outside.cut cuts.outside both.1;
+    }
+
+-- WHAT IS WRITTEN
+
+appends_one : (old text : List ℕ) (new other : Option (List ℕ)) → Appends (Some old) new text →
+    Appends (Some old) other text → other ≡ new
+appends_one old text (Some new) (Some other) is also = ap (λ (l : List ℕ). Some l) (also ∙ sym is)
+appends_one old text (Some new) None is also = absurd also
+appends_one old text None other is also = absurd is
+
+ok_and : (r : Result Texts Fault) (P : Texts → Type 0) → IsOkAnd r P → (all : Texts) × (r ≡ Ok all) × P all
+ok_and (Ok all) P p = (all, refl, p)
+ok_and (Err fault) P p = absurd p
+
+is_ok_of : (r : Result Cuts SideFault) → IsOk r → (cuts : Cuts) × (r ≡ Ok cuts)
+is_ok_of (Ok cuts) is = (cuts, refl)
+is_ok_of (Err fault) is = absurd cc
+
+pub outputs_same : OutputsAreTheSame
+outputs_same rules inside outside done old new other = (
+  λ got wrote.
+      let (all, is, text) = ok_and (texts rules inside outside) _ got in
+      let (cuts, end) = is_ok_of (files_until inside outside).end wrote.0 in
+      let p = agree rules inside outside all cuts is end in
+      let same = ap (capture_text rules sides.Outside) p.arrivals ∙ ap (λ (t : Texts). t.outside) p.all_is in
+      appends_one old all.outside new other text (subst (λ l. Appends (Some old) other l) same wrote.1),
+  λ got wrote.
+      let (all, is, text) = ok_and (texts rules inside outside) _ got in
+      let (cuts, end) = is_ok_of (files_until inside outside).end wrote.0 in
+      let p = agree rules inside outside all cuts is end in
+      let same = ap (capture_text rules sides.Inside) p.arrivals ∙ ap (λ (t : Texts). t.inside) p.all_is in
+      appends_one old all.inside new other text (subst (λ l. Appends (Some old) other l) same wrote.1),
+)
+
+pub reports_same : ReportsAreTheSame
+reports_same rules inside outside done old new other got wrote =
+    let (all, is, text) = ok_and (texts rules inside outside) _ got in
+    let (cuts, end, told) = wrote in
+    let p = agree rules inside outside all cuts is end in
+    let same : report_text cuts.inside cuts.outside (ran rules (files_until inside outside).arrivals) ≡ all.report =
+    ap (λ (l : List Arrival). report_text cuts.inside cuts.outside (ran rules l)) p.arrivals
+    ∙ ap₂ (λ x y. report_text x y (ran rules (arrivals_of p.captures))) (sym p.inside_cut) (sym p.outside_cut)
+    ∙ ap (λ (t : Texts). t.report) p.all_is in
+    appends_one old all.report new other text (subst (λ l. Appends (Some old) other l) same told)

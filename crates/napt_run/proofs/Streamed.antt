@@ -4,10 +4,12 @@ use Rattle.std.specs.Io.KnownBytes.{Appends}
 use Rattle.napt_wire.specs.declared.Side.{Side}
 use Rattle.napt_wire.specs.declared.Side.TheVariants as sides
 use Rattle.napt_capture.specs.Text.{file_header}
+use Rattle.napt_capture.specs.declared.device.Sink.{Ghosts}
 use Rattle.napt_capture.specs.declared.fault.CaptureFault.{CaptureFault}
 use Rattle.napt_capture.specs.declared.fault.WriteFault.{WriteFault}
 use Rattle.napt_config.specs.Rules.{Rules}
-use Rattle.napt_records.specs.UntilFault.{AreAll, AreFront, AreTaken, Both}
+use Rattle.napt_laws.specs.Dispatching.{IsFront}
+use Rattle.napt_records.specs.Taking.{Inputs}
 use Rattle.napt_records.specs.declared.Fault.{Fault}
 use Rattle.napt_records.specs.declared.Fault.TheVariants.{Capture, Run, Write}
 use Rattle.napt_records.specs.declared.Which.{Which}
@@ -17,22 +19,23 @@ use Rattle.napt_run.specs.Captures.{failed_writings}
 use Rattle.napt_sequential.specs.declared.fault.RunFault.TheVariants as faults
 use Rattle.napt_run.specs.Outputs.{Breaks, Grows}
 use Rattle.napt_run.specs.Runs.{DeviceGets, FailsOutside, IfHeld, IsToldOf, ResultSays, RunsTo, text_behind}
-use Rattle.napt_run.specs.Streams.{Explains, HasFront, HasText, IsOfRun, IsSettledBy, IsStopFault, Streams, capture_text, ended, side_of}
+use Rattle.napt_run.specs.Files.{files_until}
+use Rattle.napt_run.specs.Streams.{AreTaken, Explains, GetsOf, HasAll, HasFront, HasText, HasWritten, IsOfRun, IsSettledBy, IsStopFault, Streams, capture_text, ended, side_of}
 use Rattle.napt_run.specs.declared.leaving.Leaving.{Leaving}
 use Rattle.napt_run.specs.declared.output.Output.{Output}
 use Rattle.napt_run.specs.declared.passing.Totals.{Totals}
 use Rattle.napt_run.proofs.Behind.{IfHeld-by}
 use Rattle.napt_run.proofs.Fronts.{capture_is}
 
-pub IfHeld-map : {P Q : Both → Type 0} (inside : Option (List ℕ)) (outside : Option (Option (List ℕ))) →
-    ((both : Both) → P both → Q both) → IfHeld inside outside P → IfHeld inside outside Q
-IfHeld-map None outside more p = tt
-IfHeld-map (Some bytes) None more p = tt
-IfHeld-map (Some bytes) (Some others) more p = λ both held. more both (p both held)
+pub IfHeld-map : (P Q : Inputs → Type 0) (inside outside : Option (List ℕ)) →
+    ((all : Inputs) → P all → Q all) → IfHeld inside outside P → IfHeld inside outside Q
+IfHeld-map P Q None outside more p = tt
+IfHeld-map P Q (Some bytes) None more p = tt
+IfHeld-map P Q (Some bytes) (Some others) more p = more (files_until bytes others) p
 
-pub IfHeld-all : {P : Both → Type 0} (inside : Option (List ℕ)) (outside : Option (Option (List ℕ))) →
-    ((both : Both) → P both) → IfHeld inside outside P
-IfHeld-all inside outside all = IfHeld-by inside outside (λ b o both is same held. all both)
+pub IfHeld-all : (P : Inputs → Type 0) (inside outside : Option (List ℕ)) →
+    ((all : Inputs) → P all) → IfHeld inside outside P
+IfHeld-all P inside outside all = IfHeld-by P inside outside (λ b o is same. all (files_until b o))
 
 -- OF ONE OUTPUT
 
@@ -43,41 +46,39 @@ grown_text rules side inputs old new grown =
     subst (λ (l : List ℕ). Appends old new l) (capture_is rules side inputs) grown
 
 -- or a front of it
-broken_text : {W : Type 0} (contents : W → Option (List ℕ)) (failed : W → ℕ) {g : _} (rules : Rules) (side : Side)
-    (inputs : List Arrival) (old new : Output W g) (fault : WriteFault) → old.written ≡ 0 →
-    Breaks contents failed old (text_behind file_header rules side inputs) fault new →
+broken_text : {W : Type 0} {S : Ghosts W} (rules : Rules) (side : Side) (inputs : List Arrival)
+    (old new : Output W S) (fault : WriteFault) → old.written ≡ 0 →
+    Breaks old (text_behind file_header rules side inputs) fault new →
     (count : ℕ) × (fault.written ≡ min count (2 ^ 64 - 1))
     × (count ≤ length (capture_text rules side inputs))
-    × Appends (contents old.device.now) (contents new.device.now) (take count (capture_text rules side inputs))
-broken_text contents failed rules side inputs old new fault none p = (
+    × Appends (S.contents old.device.now) (S.contents new.device.now) (take count (capture_text rules side inputs))
+broken_text {W} {S} rules side inputs old new fault none p = (
   p.count,
   omega (arith, p.counted 0 (omega (arith, none))),
   subst (λ (l : List ℕ). p.count ≤ length l) (capture_is rules side inputs) p.within,
-  subst (λ (l : List ℕ). Appends (contents old.device.now) (contents new.device.now) (take p.count l))
+  subst (λ (l : List ℕ). Appends (S.contents old.device.now) (S.contents new.device.now) (take p.count l))
       (capture_is rules side inputs) p.appended,
 )
 
 -- the device is the same, and so many more of its calls failed
-pub record Counted {W : Type 0} (failed : W → ℕ) {g : _} (old new : Output W g) (more : ℕ) : Type 0 where
+pub record Counted {W : Type 0} {S : Ghosts W} (old new : Output W S) (more : ℕ) : Type 0 where
   pub same : new.device.ghost_name ≡ old.device.ghost_name
-  pub count : failed new.device.now ≡ failed old.device.now + more
+  pub count : S.failed new.device.now ≡ S.failed old.device.now + more
 
-none_counted : {W : Type 0} (contents : W → Option (List ℕ)) (failed : W → ℕ) {g : _} (old new : Output W g)
-    (text : List ℕ) → Grows contents failed old text new → Counted failed old new 0
-none_counted contents failed old new text p =
-    record { same = p.same; count = p.kept ∙ sym (add-zero (failed old.device.now)) }
+none_counted : {W : Type 0} {S : Ghosts W} (old new : Output W S) (text : List ℕ) → Grows old text new →
+    Counted old new 0
+none_counted {W} {S} old new text p =
+    record { same = p.same; count = p.kept ∙ sym (add-zero (S.failed old.device.now)) }
 
-one_counted : {W : Type 0} (contents : W → Option (List ℕ)) (failed : W → ℕ) {g : _} (old new : Output W g)
-    (text : List ℕ) (fault : WriteFault) → Breaks contents failed old text fault new → Counted failed old new 1
-one_counted contents failed old new text fault p = record { same = p.same; count = p.failed_once }
+one_counted : {W : Type 0} {S : Ghosts W} (old new : Output W S) (text : List ℕ) (fault : WriteFault) →
+    Breaks old text fault new → Counted old new 1
+one_counted old new text fault p = record { same = p.same; count = p.failed_once }
 
-module _ {W V : Type 0} {g h : _} (open_gate : Bool) (rules : Rules)
-    (oc : W → Option (List ℕ)) (of : W → ℕ) (outside_flushed : W → Type 0)
-    (ic : V → Option (List ℕ)) (if : V → ℕ) (inside_flushed : V → Type 0)
-    (inside : Option (List ℕ)) (outside : Option (Option (List ℕ)))
-    (old new : Leaving W V g h) where
+module _ {W V : Type 0} {S : Ghosts W} {T : Ghosts V} (open_gate : Bool) (rules : Rules)
+    (inside outside : Option (List ℕ))
+    (old new : Leaving W V S T) where
   abbrev To : Result Totals Fault → Type 0
-  To result = RunsTo open_gate rules oc of outside_flushed ic if inside_flushed inside outside file_header old new
+  To result = RunsTo open_gate rules inside outside file_header old new
       result
 
   -- THE FAULT, AND THE REPORT
@@ -85,10 +86,10 @@ module _ {W V : Type 0} {g h : _} (open_gate : Bool) (rules : Rules)
   explains : (result : Result Totals Fault) → To result → IfErr result (Explains inside outside)
   explains (Ok totals) p = tt
   explains (Err (Capture side fault)) p = p.is_fault
-  explains (Err (Write which fault)) p = IfHeld-all inside outside (λ both. tt)
+  explains (Err (Write which fault)) p = IfHeld-all (λ all. Unit {0}) inside outside (λ all. tt)
   explains (Err (Run faults.TooMany)) p = absurd p
-  explains (Err (Run faults.Memory)) p = IfHeld-all inside outside (λ both. tt)
-  explains (Err (Run (faults.Pool fault))) p = IfHeld-all inside outside (λ both. tt)
+  explains (Err (Run faults.Memory)) p = IfHeld-all (λ all. Unit {0}) inside outside (λ all. tt)
+  explains (Err (Run (faults.Pool fault))) p = IfHeld-all (λ all. Unit {0}) inside outside (λ all. tt)
 
   stops : (result : Result Totals Fault) → To result → IfErr result (IsStopFault open_gate)
   stops (Ok totals) p = tt
@@ -108,141 +109,145 @@ module _ {W V : Type 0} {g h : _} (open_gate : Bool) (rules : Rules)
 -- WHAT AN OUTPUT GOT
 
 -- by what it was before and after
-record At {D : Type 0} {g : _} (rules : Rules) (which : Which) (contents : D → Option (List ℕ)) (failed : D → ℕ)
-    (flushed : D → Type 0) (inside : Option (List ℕ)) (outside : Option (Option (List ℕ)))
-    (result : Result Totals Fault) (old new : Output D g) : Type 0 where
-  gets : Streams rules which (ended result) inside outside (contents old.device.now) (contents new.device.now)
-  counted : Counted failed old new (failed_writings which (ended result))
-  settled : IsSettledBy (ended result) → flushed new.device.now
+record At {D : Type 0} {S : Ghosts D} (rules : Rules) (which : Which) (inside outside : Option (List ℕ))
+    (result : Result Totals Fault) (old new : Output D S) : Type 0 where
+  gets : Streams rules which (ended result) inside outside (S.contents old.device.now) (S.contents new.device.now)
+  counted : Counted old new (failed_writings which (ended result))
+  settled : IsSettledBy (ended result) → S.is_flushed new.device.now
 
-module _ {D : Type 0} {g : _} (rules : Rules) (which : Which) (contents : D → Option (List ℕ)) (failed : D → ℕ)
-    (flushed : D → Type 0) (inside : Option (List ℕ)) (outside : Option (Option (List ℕ))) (old new : Output D g)
-  where
-    abbrev Grew : List Arrival → Type 0
-    Grew inputs = Grows contents failed old (text_behind file_header rules (side_of which) inputs) new
+module _ {D : Type 0} {S : Ghosts D} (rules : Rules) (which : Which) (inside outside : Option (List ℕ))
+    (old new : Output D S) where
+  abbrev Grew : List Arrival → Type 0
+  Grew inputs = Grows old (text_behind file_header rules (side_of which) inputs) new
 
-    abbrev Was : Result Totals Fault → Type 0
-    Was result = At rules which contents failed flushed inside outside result old new
+  abbrev Was : Result Totals Fault → Type 0
+  Was result = At rules which inside outside result old new
 
-    abbrev CountsNone : Fault → Type 0
-    CountsNone fault = failed_writings which (Err fault) ≡ 0
+  abbrev CountsNone : Fault → Type 0
+  CountsNone fault = failed_writings which (Err fault) ≡ 0
 
-    -- it has all that these inputs leave
-    at_end : (totals : Totals) (inputs : List Arrival) → failed_writings which (Ok tt) ≡ 0 →
-        IfHeld inside outside (λ both. AreAll both totals.cuts.inside totals.cuts.outside inputs) → Grew inputs →
-        flushed new.device.now → Was (Ok totals)
-    at_end totals inputs none all grown settled = record {
-      gets = IfHeld-map inside outside (λ both all. (
+  -- it has all that these inputs leave
+  at_end : (totals : Totals) (inputs : List Arrival) → failed_writings which (Ok tt) ≡ 0 →
+      IfHeld inside outside (λ all. all ≡ record { arrivals = inputs; end = Ok totals.cuts }) → Grew inputs →
+      S.is_flushed new.device.now → Was (Ok totals)
+  at_end totals inputs none all grown settled = record {
+    gets = IfHeld-map (λ all. all ≡ record { arrivals = inputs; end = Ok totals.cuts })
+        (λ all. HasAll rules which all (S.contents old.device.now) (S.contents new.device.now)) inside outside
+        (λ all is. rw is (refl, grown_text rules (side_of which) inputs _ _ grown.appended)) all;
+    counted = subst (Counted old new) (sym none) (none_counted _ _ _ grown);
+    settled = λ done. settled;
+  }
+
+  at_fault : (side : Side) (fault : CaptureFault) (inputs : List Arrival) → CountsNone (Capture side fault) →
+      IfHeld inside outside (λ all. AreTaken side fault all inputs) → Grew inputs → S.is_flushed new.device.now →
+      Was (Err (Capture side fault))
+  at_fault side fault inputs none taken grown settled = record {
+    gets = IfHeld-map (λ all. AreTaken side fault all inputs)
+        (λ all. GetsOf rules which (Err (Capture side fault)) all (S.contents old.device.now)
+        (S.contents new.device.now)) inside outside (λ all taken. (
+          inputs,
+          taken,
+          grown_text rules (side_of which) inputs _ _ grown.appended,
+        )) taken;
+    counted = subst (Counted old new) (sym none) (none_counted _ _ _ grown);
+    settled = λ done. settled;
+  }
+
+  has_text : (inputs : List Arrival) → IfHeld inside outside (λ all. IsFront inputs all.arrivals) → Grew inputs →
+      IfHeld inside outside (λ all. HasText rules which all (S.contents old.device.now) (S.contents new.device.now))
+  has_text inputs front grown = IfHeld-map (λ all. IsFront inputs all.arrivals)
+      (λ all. HasText rules which all (S.contents old.device.now) (S.contents new.device.now)) inside outside
+      (λ all front. (
         inputs,
-        totals.cuts.inside,
-        totals.cuts.outside,
-        all,
+        front,
         grown_text rules (side_of which) inputs _ _ grown.appended,
-      )) all;
-      counted = subst (Counted failed old new) (sym none) (none_counted contents failed _ _ _ grown);
-      settled = λ done. settled;
-    }
+      )) front
 
-    at_fault : (side : Side) (fault : CaptureFault) (inputs : List Arrival) → CountsNone (Capture side fault) →
-        IfHeld inside outside (λ both. AreTaken side fault both inputs) → Grew inputs → flushed new.device.now →
-        Was (Err (Capture side fault))
-    at_fault side fault inputs none taken grown settled = record {
-      gets = IfHeld-map inside outside (λ both taken. (
+  has_front : (inputs : List Arrival) (fault : WriteFault) → old.written ≡ 0 →
+      IfHeld inside outside (λ all. IsFront inputs all.arrivals) →
+      Breaks old (text_behind file_header rules (side_of which) inputs) fault new →
+      IfHeld inside outside (λ all. HasFront rules which fault.written all (S.contents old.device.now)
+      (S.contents new.device.now))
+  has_front inputs fault none front broke = IfHeld-map (λ all. IsFront inputs all.arrivals)
+      (λ all. HasFront rules which fault.written all (S.contents old.device.now) (S.contents new.device.now))
+      inside outside (λ all front. (
         inputs,
-        taken,
-        grown_text rules (side_of which) inputs _ _ grown.appended,
-      )) taken;
-      counted = subst (Counted failed old new) (sym none) (none_counted contents failed _ _ _ grown);
-      settled = λ done. settled;
-    }
+        front,
+        broken_text rules (side_of which) inputs old new fault none broke,
+      )) front
 
-    has_text : (inputs : List Arrival) → IfHeld inside outside (λ both. AreFront both inputs) → Grew inputs →
-        IfHeld inside outside (λ both. HasText rules which both (contents old.device.now) (contents new.device.now))
-    has_text inputs front grown = IfHeld-map inside outside (λ both front. (
-      inputs,
-      front,
-      grown_text rules (side_of which) inputs _ _ grown.appended,
-    )) front
-
-    has_front : (inputs : List Arrival) (fault : WriteFault) → old.written ≡ 0 →
-        IfHeld inside outside (λ both. AreFront both inputs) →
-        Breaks contents failed old (text_behind file_header rules (side_of which) inputs) fault new →
-        IfHeld inside outside (λ both. HasFront rules which fault.written both (contents old.device.now)
-        (contents new.device.now))
-    has_front inputs fault none front broke = IfHeld-map inside outside (λ both front. (
-      inputs,
-      front,
-      broken_text contents failed rules (side_of which) inputs old new fault none broke,
-    )) front
-
-module _ {W V : Type 0} {g h : _} (open_gate : Bool) (rules : Rules)
-    (oc : W → Option (List ℕ)) (of : W → ℕ) (outside_flushed : W → Type 0)
-    (ic : V → Option (List ℕ)) (if : V → ℕ) (inside_flushed : V → Type 0)
-    (inside : Option (List ℕ)) (outside : Option (Option (List ℕ)))
-    (old new : Leaving W V g h) where
+module _ {W V : Type 0} {S : Ghosts W} {T : Ghosts V} (open_gate : Bool) (rules : Rules)
+    (inside outside : Option (List ℕ))
+    (old new : Leaving W V S T) where
   abbrev IsAtOutside : Result Totals Fault → Type 0
-  IsAtOutside result = At rules Outside oc of outside_flushed inside outside result old.to_outside new.to_outside
+  IsAtOutside result = At rules Outside inside outside result old.to_outside new.to_outside
 
   abbrev IsAtInside : Result Totals Fault → Type 0
-  IsAtInside result = At rules Inside ic if inside_flushed inside outside result old.to_inside new.to_inside
+  IsAtInside result = At rules Inside inside outside result old.to_inside new.to_inside
 
   abbrev Runs : Result Totals Fault → Type 0
-  Runs result = RunsTo open_gate rules oc of outside_flushed ic if inside_flushed inside outside file_header old new
+  Runs result = RunsTo open_gate rules inside outside file_header old new
       result
 
   at_outside : old.to_outside.written ≡ 0 → (result : Result Totals Fault) → Runs result → (¬ IsOfRun result) →
       IsAtOutside result
-  at_outside none (Ok totals) p not_run = at_end rules Outside oc of outside_flushed inside outside
+  at_outside none (Ok totals) p not_run = at_end rules Outside inside outside
       old.to_outside new.to_outside totals p.inputs refl p.all p.wrote.to_outside p.wrote.settled.0
-  at_outside none (Err (Capture side fault)) p not_run = at_fault rules Outside oc of outside_flushed inside outside
+  at_outside none (Err (Capture side fault)) p not_run = at_fault rules Outside inside outside
       old.to_outside new.to_outside side fault p.inputs refl p.taken p.wrote.to_outside p.wrote.settled.0
   at_outside none (Err (Write Outside fault)) p not_run = record {
-    gets = has_front rules Outside oc of outside_flushed inside outside old.to_outside new.to_outside p.inputs fault
+    gets = has_front rules Outside inside outside old.to_outside new.to_outside p.inputs fault
         none p.front_of_all p.broke;
-    counted = one_counted oc of _ _ _ fault p.broke;
+    counted = one_counted _ _ _ fault p.broke;
     settled = λ settled. absurd settled;
   }
   at_outside none (Err (Write Inside fault)) p not_run = record {
-    gets = has_text rules Outside oc of outside_flushed inside outside old.to_outside new.to_outside p.inputs
+    gets = has_text rules Outside inside outside old.to_outside new.to_outside p.inputs
         p.front_of_all p.wrote;
-    counted = none_counted oc of _ _ _ p.wrote;
+    counted = none_counted _ _ _ p.wrote;
     settled = λ settled. absurd settled;
   }
   at_outside none (Err (Write Report fault)) p not_run = absurd p
   at_outside none (Err (Run fault)) p not_run = absurd (not_run tt)
 
   -- where the output to the outside failed, the one to the inside may not be begun
-  kept : (fault : WriteFault) (p : FailsOutside open_gate rules oc of outside_flushed ic if inside_flushed inside
+  kept : (fault : WriteFault) (p : FailsOutside open_gate rules inside
       outside file_header old new fault) →
-      Grows ic if old.to_inside (text_behind file_header rules sides.Inside p.before) new.to_inside
+      Grows old.to_inside (text_behind file_header rules sides.Inside p.before) new.to_inside
       ⊎ ((fault.written ≤ length file_header) × (new.to_inside ≡ old.to_inside)) →
       IsAtInside (Err (Write Outside fault))
   kept fault p (inl grown) = record {
-    gets = IfHeld-map inside outside (λ both text. inl text) (has_text rules Inside ic if inside_flushed inside outside
-        old.to_inside new.to_inside p.before p.front_before grown);
-    counted = none_counted ic if _ _ _ grown;
+    gets = IfHeld-map (λ all. HasText rules Inside all (T.contents old.to_inside.device.now)
+        (T.contents new.to_inside.device.now))
+        (λ all. HasWritten rules Inside Outside fault.written all (T.contents old.to_inside.device.now)
+        (T.contents new.to_inside.device.now)) inside outside (λ all text. inl text)
+        (has_text rules Inside inside outside old.to_inside new.to_inside p.before p.front_before
+        grown);
+    counted = none_counted _ _ _ grown;
     settled = λ settled. absurd settled;
   }
   kept fault p (inr (short, same)) = record {
-    gets = IfHeld-all inside outside (λ both. inr (short, ap (λ (o : Output V h). ic o.device.now) same));
+    gets = IfHeld-all (λ all. HasWritten rules Inside Outside fault.written all (T.contents old.to_inside.device.now)
+        (T.contents new.to_inside.device.now)) inside outside
+        (λ all. inr (short, ap (λ (o : Output V T). T.contents o.device.now) same));
     counted = record {
-      same = ap (λ (o : Output V h). o.device.ghost_name) same;
-      count = ap (λ (o : Output V h). if o.device.now) same ∙ sym (add-zero (if old.to_inside.device.now));
+      same = ap (λ (o : Output V T). o.device.ghost_name) same;
+      count = ap (λ (o : Output V T). T.failed o.device.now) same ∙ sym (add-zero (T.failed old.to_inside.device.now));
     };
     settled = λ settled. absurd settled;
   }
 
   at_inside : old.to_inside.written ≡ 0 → (result : Result Totals Fault) → Runs result → (¬ IsOfRun result) →
       IsAtInside result
-  at_inside none (Ok totals) p not_run = at_end rules Inside ic if inside_flushed inside outside
+  at_inside none (Ok totals) p not_run = at_end rules Inside inside outside
       old.to_inside new.to_inside totals p.inputs refl p.all p.wrote.to_inside p.wrote.settled.1
-  at_inside none (Err (Capture side fault)) p not_run = at_fault rules Inside ic if inside_flushed inside outside
+  at_inside none (Err (Capture side fault)) p not_run = at_fault rules Inside inside outside
       old.to_inside new.to_inside side fault p.inputs refl p.taken p.wrote.to_inside p.wrote.settled.1
   at_inside none (Err (Write Outside fault)) p not_run = kept fault p p.kept
   at_inside none (Err (Write Inside fault)) p not_run = record {
-    gets = has_front rules Inside ic if inside_flushed inside outside old.to_inside new.to_inside p.inputs fault
+    gets = has_front rules Inside inside outside old.to_inside new.to_inside p.inputs fault
         none p.front_of_all p.broke;
-    counted = one_counted ic if _ _ _ fault p.broke;
+    counted = one_counted _ _ _ fault p.broke;
     settled = λ settled. absurd settled;
   }
   at_inside none (Err (Write Report fault)) p not_run = absurd p
@@ -262,27 +267,27 @@ settled_not_run (Err (Capture side fault)) settled = λ r. r
 settled_not_run (Err (Write which fault)) settled = λ r. r
 settled_not_run (Err (Run fault)) settled = absurd settled
 
-run_gets : (rules : Rules) (which : Which) (result : Result Totals Fault) (inside : Option (List ℕ))
-    (outside : Option (Option (List ℕ))) (old new : Option (List ℕ)) → IsOfRun result →
+run_gets : (rules : Rules) (which : Which) (result : Result Totals Fault) (inside outside : Option (List ℕ))
+    (old new : Option (List ℕ)) → IsOfRun result →
     Streams rules which (ended result) inside outside old new
 run_gets rules which (Ok totals) inside outside old new run = absurd run
 run_gets rules which (Err (Capture side fault)) inside outside old new run = absurd run
 run_gets rules which (Err (Write other fault)) inside outside old new run = absurd run
-run_gets rules which (Err (Run fault)) inside outside old new run = IfHeld-all inside outside (λ both. tt)
+run_gets rules which (Err (Run fault)) inside outside old new run =
+    IfHeld-all (λ all. Unit {0}) inside outside (λ all. tt)
 
 -- the device of an output, which is left as the output leaves it
-done : {D : Type 0} {g : _} (rules : Rules) (which : Which) (contents : D → Option (List ℕ)) (failed : D → ℕ)
-    (flushed : D → Type 0) (inside : Option (List ℕ)) (outside : Option (Option (List ℕ)))
-    (result : Result Totals Fault) (old new : Output D g) →
-    ((¬ IsOfRun result) → At rules which contents failed flushed inside outside result old new) → (start last : D) →
+done : {D : Type 0} {S : Ghosts D} (rules : Rules) (which : Which) (inside outside : Option (List ℕ))
+    (result : Result Totals Fault) (old new : Output D S) →
+    ((¬ IsOfRun result) → At rules which inside outside result old new) → (start last : D) →
     old.device.now ≡ start →
     ((¬ IsOfRun result) → new.device.ghost_name ≡ old.device.ghost_name → last ≡ new.device.now) →
-    DeviceGets rules which contents failed flushed inside outside result start last
-done rules which contents failed flushed inside outside result old new is start last from at =
+    DeviceGets S rules which inside outside result start last
+done {D} {S} rules which inside outside result old new is start last from at =
     let left : (¬ IsOfRun result) → last ≡ new.device.now = λ not_run. at not_run (is not_run).counted.same in
     record {
       gets = elim (run_or_not result) [
-        | inl run ↦ run_gets rules which result inside outside (contents start) (contents last) run
+        | inl run ↦ run_gets rules which result inside outside (S.contents start) (S.contents last) run
         | inr not_run ↦ rw (left not_run, sym from) (is not_run).gets
       ];
       count = λ not_run. rw (left not_run, sym from) (is not_run).counted.count;
@@ -290,23 +295,21 @@ done rules which contents failed flushed inside outside result old new is start 
           rw (left not_run) ((is not_run).settled settled);
     }
 
-module _ {W V : Type 0} {g h : _} (open_gate : Bool) (rules : Rules)
-    (oc : W → Option (List ℕ)) (of : W → ℕ) (outside_flushed : W → Type 0)
-    (ic : V → Option (List ℕ)) (if : V → ℕ) (inside_flushed : V → Type 0)
-    (inside : Option (List ℕ)) (outside : Option (Option (List ℕ)))
-    (old new : Leaving W V g h) (result : Result Totals Fault)
-    (runs : RunsTo open_gate rules oc of outside_flushed ic if inside_flushed inside outside file_header old new
+module _ {W V : Type 0} {S : Ghosts W} {T : Ghosts V} (open_gate : Bool) (rules : Rules)
+    (inside outside : Option (List ℕ))
+    (old new : Leaving W V S T) (result : Result Totals Fault)
+    (runs : RunsTo open_gate rules inside outside file_header old new
     result) where
   pub outside_gets : old.to_outside.written ≡ 0 → (start last : W) → old.to_outside.device.now ≡ start →
       ((¬ IsOfRun result) → new.to_outside.device.ghost_name ≡ old.to_outside.device.ghost_name →
       last ≡ new.to_outside.device.now) →
-      DeviceGets rules Outside oc of outside_flushed inside outside result start last
-  outside_gets none = done rules Outside oc of outside_flushed inside outside result old.to_outside new.to_outside
-      (at_outside open_gate rules oc of outside_flushed ic if inside_flushed inside outside old new none result runs)
+      DeviceGets S rules Outside inside outside result start last
+  outside_gets none = done rules Outside inside outside result old.to_outside new.to_outside
+      (at_outside open_gate rules inside outside old new none result runs)
 
   pub inside_gets : old.to_inside.written ≡ 0 → (start last : V) → old.to_inside.device.now ≡ start →
       ((¬ IsOfRun result) → new.to_inside.device.ghost_name ≡ old.to_inside.device.ghost_name →
       last ≡ new.to_inside.device.now) →
-      DeviceGets rules Inside ic if inside_flushed inside outside result start last
-  inside_gets none = done rules Inside ic if inside_flushed inside outside result old.to_inside new.to_inside
-      (at_inside open_gate rules oc of outside_flushed ic if inside_flushed inside outside old new none result runs)
+      DeviceGets T rules Inside inside outside result start last
+  inside_gets none = done rules Inside inside outside result old.to_inside new.to_inside
+      (at_inside open_gate rules inside outside old new none result runs)

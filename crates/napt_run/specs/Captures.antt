@@ -1,11 +1,12 @@
--- What a run over captures leaves on its devices. Nothing is claimed of the bytes of a reader or a writer that are not
--- known.
-use Rattle.std.specs.Prelude.{◌≡◌, ℕ, ◌+◌, ◌≤◌, ◌^◌, List, [], length, map, take, false, IfSome, string_bytes, Option, Some, None, Result, Ok, Err}
+-- What a run over captures writes: texts, from texts. Nothing is claimed of the bytes of a reader or a writer that are
+-- not known.
+use Rattle.std.specs.Prelude.{◌≡◌, ⊤, ℕ, ◌+◌, ◌≤◌, ◌^◌, nat_le, if◌then◌else◌, List, length, map, take, IfSome, IsOk, IsOkAnd, string_bytes, Option, Result, Ok, Err}
 use Rattle.std.specs.Io.KnownBytes.{Appends}
 use Rattle.napt_wire.specs.declared.Side.{Side}
 use Rattle.napt_wire.specs.declared.Side.TheVariants as sides
 use Rattle.napt_capture.specs.Contents.{Contents}
-use Rattle.napt_capture.specs.Capture.{IsCapture, Answers, failed_reads}
+use Rattle.napt_capture.specs.Capture.{failed_reads, read_whole}
+use Rattle.napt_capture.specs.Reading.{IsForRecords, StopsBy}
 use Rattle.napt_capture.specs.Text.{text}
 use Rattle.napt_capture.specs.declared.fault.CaptureFault.{CaptureFault}
 use Rattle.napt_config.specs.Rules.{Rules}
@@ -17,43 +18,59 @@ use Rattle.napt_records.specs.declared.Which.TheVariants.{Outside, Inside, Repor
 use Rattle.napt_run.specs.declared.captures.Captures.{Captures}
 use Rattle.napt_run.specs.declared.captures.Outputs.{Outputs}
 use Rattle.napt_rules.specs.Prelude.{Arrival, ran}
-use Rattle.napt_records.specs.Merge.{IsMerged}
 use Rattle.napt_records.specs.Output.{records_to}
 use Rattle.napt_records.specs.Report.{report_text}
+use Rattle.napt_records.specs.Taking.{merged}
 
--- WHAT IS READ
+-- WHAT IS READ: the inside capture first
 
--- if the bytes of the inside capture are known, and those of the outside one, if there is one
-abbrev pub IfKnown : Option (List ℕ) → Option (Option (List ℕ)) → (List ℕ → Option (List ℕ) → Type 0) → Type 0
-IfKnown inside outside Holds = IfSome inside (λ bytes. IfSome outside (λ others. Holds bytes others))
+abbrev pub both_by : Result Contents CaptureFault → Result Contents CaptureFault → Result Captures Fault
+both_by (Ok inside) (Ok outside) = Ok (record { inside = inside; outside = outside })
+both_by (Ok inside) (Err fault) = Err (Capture sides.Outside fault)
+both_by (Err fault) other = Err (Capture sides.Inside fault)
 
--- a missing outside capture counts as one without records
-abbrev pub no_contents : Contents
-no_contents = record { records = []; cut = false }
+abbrev pub read_both : List ℕ → List ℕ → Result Captures Fault
+read_both inside outside = both_by (read_whole inside) (read_whole outside)
 
-abbrev pub IsOutsideCapture : Option (List ℕ) → Contents → Type 0
-IsOutsideCapture None contents = contents ≡ no_contents
-IsOutsideCapture (Some bytes) contents = IsCapture bytes (Ok contents)
+-- FROM BYTES TO BYTES
 
--- these contents were read from a capture, if its bytes are known
-abbrev pub IsReadFrom : Option (List ℕ) → Contents → Type 0
-IsReadFrom inside contents = IfSome inside (λ bytes. IsCapture bytes (Ok contents))
+-- what a run writes: the captures to both sides, and the report
+pub record Texts : Type 0 where
+  pub outside : List ℕ
+  pub inside : List ℕ
+  pub report : List ℕ
 
-abbrev pub IsReadAsOutside : Option (Option (List ℕ)) → Contents → Type 0
-IsReadAsOutside outside contents = IfSome outside (λ others. IsOutsideCapture others contents)
+abbrev pub arrivals_of : Captures → List Arrival
+arrivals_of captures = merged captures.inside.records captures.outside.records
 
--- what was read from the bytes of both captures
-pub record AreRead (inside : List ℕ) (outside : Option (List ℕ)) (captures : Captures) : Type 0 where
-  pub inside_capture : IsCapture inside (Ok captures.inside)
-  pub outside_capture : IsOutsideCapture outside captures.outside
+abbrev pub texts_made : Rules → Captures → Texts
+texts_made rules captures =
+    let arrivals : List Arrival = arrivals_of captures in
+    record {
+      outside = text (records_to sides.Outside arrivals (ran rules arrivals).outcomes);
+      inside = text (records_to sides.Inside arrivals (ran rules arrivals).outcomes);
+      report = report_text captures.inside.cut captures.outside.cut (ran rules arrivals);
+    }
 
--- WHAT IS WRITTEN
+-- more than a run can count
+abbrev pub AreTooMany : Captures → Type 0
+AreTooMany captures = 2 ^ 32 ≤ length captures.inside.records + length captures.outside.records
 
--- the whole text of an output
-abbrev pub text_of : Rules → Which → Captures → List Arrival → List ℕ
-text_of rules Outside captures arrivals = text (records_to sides.Outside arrivals (ran rules arrivals).outcomes)
-text_of rules Inside captures arrivals = text (records_to sides.Inside arrivals (ran rules arrivals).outcomes)
-text_of rules Report captures arrivals = report_text captures.inside.cut captures.outside.cut (ran rules arrivals)
+abbrev pub texts_by : Rules → Result Captures Fault → Result Texts Fault
+texts_by rules (Err fault) = Err fault
+texts_by rules (Ok captures) =
+    if nat_le (2 ^ 32) (length captures.inside.records + length captures.outside.records) then Err (Run TooMany)
+    else Ok (texts_made rules captures)
+
+abbrev pub texts : Rules → List ℕ → List ℕ → Result Texts Fault
+texts rules inside outside = texts_by rules (read_both inside outside)
+
+-- WHAT A DEVICE GETS
+
+abbrev pub text_to : Which → Texts → List ℕ
+text_to Outside all = all.outside
+text_to Inside all = all.inside
+text_to Report all = all.report
 
 -- how much of its text an output gets
 pub data Share : Type 0 where
@@ -80,62 +97,48 @@ Receives whole text old new = Appends old new text
 Receives (front written) text old new = (written ≤ length text) × Appends old new (take written text)
 Receives nothing text old new = new ≡ old
 
--- a writer got this share of the output of captures
-abbrev pub GetsOf : Rules → Captures → Which → Share → Option (List ℕ) → Option (List ℕ) → Type 0
-GetsOf rules captures which nothing old new = new ≡ old
-GetsOf rules captures which share old new =
-    (arrivals : List Arrival) × IsMerged captures.inside.records captures.outside.records arrivals
-    × Receives share (text_of rules which captures arrivals) old new
+-- if the bytes of both captures are known
+abbrev pub IfKnown : Option (List ℕ) → Option (List ℕ) → (List ℕ → List ℕ → Type 0) → Type 0
+IfKnown inside outside Holds = IfSome inside (λ bytes. IfSome outside (λ others. Holds bytes others))
 
--- the same, by the captures' bytes
-abbrev pub Gets : Rules → Which → Share → Option (List ℕ) → Option (Option (List ℕ)) → Option (List ℕ) →
-    Option (List ℕ) → Type 0
+-- it got this share of its text
+abbrev pub Gets : Rules → Which → Share → Option (List ℕ) → Option (List ℕ) → Option (List ℕ) → Option (List ℕ) →
+    Type 0
 Gets rules which nothing inside outside old new = new ≡ old
-Gets rules which share inside outside old new =
-    IfKnown inside outside (λ bytes others. (captures : Captures) × AreRead bytes others captures
-    × GetsOf rules captures which share old new)
+Gets rules which share inside outside old new = IfKnown inside outside (λ bytes others.
+    IsOkAnd (texts rules bytes others) (λ all. Receives share (text_to which all) old new))
 
--- THE FAULT
+-- THE RESULT
 
-abbrev pub IsOutsideFault : Option (List ℕ) → CaptureFault → Type 0
-IsOutsideFault None fault = ⊥
-IsOutsideFault (Some bytes) fault = let answer : Result Contents CaptureFault = Err fault in Answers bytes answer
+abbrev pub IsPastInside : Result Texts Fault → Type 0
+IsPastInside (Err (Capture sides.Inside fault)) = ⊥
+IsPastInside other = ⊤
 
--- the captures have too many records for a run
-abbrev pub AreTooMany : Captures → Type 0
-AreTooMany captures = 2 ^ 32 ≤ length captures.inside.records + length captures.outside.records
+-- the result is that of the texts, unless a device, memory or a worker failed
+abbrev pub Answers : Result Texts Fault → Result (Unit {0}) Fault → Type 0
+Answers all (Ok done) = IsOk all
+Answers all (Err (Capture sides.Inside fault)) = StopsBy fault (all ≡ Err (Capture sides.Inside fault))
+Answers all (Err (Capture sides.Outside fault)) =
+    IsPastInside all × StopsBy fault (all ≡ Err (Capture sides.Outside fault))
+Answers all (Err (Run TooMany)) = all ≡ Err (Run TooMany)
+Answers all (Err (Run Memory)) = IsOk all
+Answers all (Err (Run (Pool fault))) = IsOk all
+Answers all (Err (Write which fault)) = IsOk all
 
--- a capture was read, and both were
-abbrev pub WasRead : Option (List ℕ) → Type 0
-WasRead inside = (contents : Contents) × IsReadFrom inside contents
+-- and what a fault says of each capture alone, if only its bytes are known: the inside one is read first, and the run
+-- starts once both are read
+abbrev pub IsReadable : Option (List ℕ) → Type 0
+IsReadable known = IfSome known (λ bytes. IsOk (read_whole bytes))
 
-abbrev pub WereRead : Option (List ℕ) → Option (Option (List ℕ)) → Type 0
-WereRead inside outside = WasRead inside × ((contents : Contents) × IsReadAsOutside outside contents)
+-- it reads as its fault, unless the device failed, or memory, which is taken for records alone
+abbrev pub IsFaultIn : Option (List ℕ) → CaptureFault → Type 0
+IsFaultIn known fault = StopsBy fault (IfSome known (λ bytes. read_whole bytes ≡ Err fault)) × IsForRecords known fault
 
--- what a fault says of the captures' bytes: the inside one is read first, and the run starts once both are read
-abbrev pub Explains : Option (List ℕ) → Option (Option (List ℕ)) → Fault → Type 0
-Explains inside outside (Capture sides.Inside fault) =
-    IfSome inside (λ bytes. let answer : Result Contents CaptureFault = Err fault in Answers bytes answer)
-Explains inside outside (Capture sides.Outside fault) = WasRead inside × IfSome outside (λ others.
-    IsOutsideFault others fault)
-Explains inside outside (Run TooMany) =
-    WereRead inside outside × IfKnown inside outside (λ bytes others. (captures : Captures)
-    × AreRead bytes others captures × AreTooMany captures)
-Explains inside outside (Run Memory) = WereRead inside outside
-Explains inside outside (Run (Pool fault)) = WereRead inside outside
-Explains inside outside (Write which fault) = WereRead inside outside
-
--- the result is a refused capture, or too many records
-abbrev pub TellsTooMany : Result (Unit {0}) Fault → Type 0
-TellsTooMany (Err (Capture side fault)) = Unit {0}
-TellsTooMany (Err (Run TooMany)) = Unit {0}
-TellsTooMany other = ⊥
-
--- once both captures are read, too many records are reported before anything else
-abbrev pub TooManyAreTold : Option (List ℕ) → Option (Option (List ℕ)) → Result (Unit {0}) Fault → Type 0
-TooManyAreTold inside outside result =
-    IfKnown inside outside (λ bytes others. (captures : Captures) → AreRead bytes others captures →
-    AreTooMany captures → TellsTooMany result)
+abbrev pub Explains : Option (List ℕ) → Option (List ℕ) → Fault → Type 0
+Explains inside outside (Capture sides.Inside fault) = IsFaultIn inside fault
+Explains inside outside (Capture sides.Outside fault) = IsReadable inside × IsFaultIn outside fault
+Explains inside outside (Run fault) = IsReadable inside × IsReadable outside
+Explains inside outside (Write which fault) = IsReadable inside × IsReadable outside
 
 -- how many reads of a side's capture failed, and how many writes of an output
 abbrev pub failed_readings : {T : Type 0} → Side → Result T Fault → ℕ
@@ -155,21 +158,21 @@ failed_writings which other = 0
 
 -- BETWEEN READING AND WRITING
 
+-- these contents were read from a capture, if its bytes are known
+abbrev pub IsReadFrom : Option (List ℕ) → Contents → Type 0
+IsReadFrom known contents = IfSome known (λ bytes. read_whole bytes ≡ Ok contents)
+
 -- the capture of a side was not read
 abbrev pub IsUnread : Side → Option (List ℕ) → Fault → Type 0
-IsUnread sides.Inside known (Capture sides.Inside fault) =
-    IfSome known (λ bytes. let answer : Result Contents CaptureFault = Err fault in Answers bytes answer)
-IsUnread sides.Outside known (Capture sides.Outside fault) =
-    IfSome known (λ bytes. let answer : Result Contents CaptureFault = Err fault in Answers bytes answer)
+IsUnread sides.Inside known (Capture sides.Inside fault) = IsFaultIn known fault
+IsUnread sides.Outside known (Capture sides.Outside fault) = IsFaultIn known fault
 IsUnread side known other = ⊥
 
 -- the outputs made for these captures
 pub record AreOutputs (rules : Rules) (captures : Captures) (outputs : Outputs) : Type 0 where
-  pub arrivals : List Arrival
-  pub merged : IsMerged captures.inside.records captures.outside.records arrivals
-  pub times : outputs.times.items ≡ map (λ input. input.time) arrivals
-  pub outcomes : outputs.outcomes.items ≡ (ran rules arrivals).outcomes
-  pub report : string_bytes outputs.report ≡ report_text captures.inside.cut captures.outside.cut (ran rules arrivals)
+  pub times : outputs.times.items ≡ map (λ input. input.time) (arrivals_of captures)
+  pub outcomes : outputs.outcomes.items ≡ (ran rules (arrivals_of captures)).outcomes
+  pub report : string_bytes outputs.report ≡ (texts_made rules captures).report
 
 -- the output that goes to a side
 abbrev pub output_to : Side → Which

@@ -9,6 +9,7 @@ use Rattle.std.proofs.lemmas.Grind.{flat_map-append}
 use Rattle.std.proofs.lemmas.List.Elements.{filter_map-append, All-head, All-tail, All-nil, All-cons}
 use Rattle.napt_wire.specs.declared.Side.{Side}
 use Rattle.napt_wire.specs.declared.Side.TheVariants as sides
+use Rattle.napt_capture.specs.declared.device.Sink.{Ghosts}
 use Rattle.napt_capture.specs.Contents.{Entry}
 use Rattle.napt_capture.specs.Text.{record_text}
 use Rattle.napt_rules.specs.declared.Outcome.{Outcome}
@@ -16,15 +17,15 @@ use Rattle.napt_records.specs.Output.{packet_to, record_at}
 use Rattle.napt_records.specs.Counts.{AreCountsOf}
 use Rattle.napt_records.specs.Output.{IsTime}
 use Rattle.napt_run.specs.Outputs.{Grows}
-use Rattle.napt_run.specs.Leaving.{Timed, texts, AreTimes, Takes}
+use Rattle.napt_run.specs.Leaving.{Timed, records_text, AreTimes, Takes}
 use Rattle.napt_run.specs.declared.output.Output.{Output}
 use Rattle.napt_run.specs.declared.leaving.Leaving.{Leaving}
 
 -- TEXTS AND TIMES
 
-pub texts-append : (side : Side) (first second : List Timed) → texts side (first ++ second)
-    ≡ texts side first ++ texts side second
-texts-append side first second =
+pub records_text-append : (side : Side) (first second : List Timed) → records_text side (first ++ second)
+    ≡ records_text side first ++ records_text side second
+records_text-append side first second =
     let record_of : Timed → Option Entry = λ timed. record_at timed.0 (packet_to side timed.1) in
     ap (λ (l : List Entry). flat_map record_text l) (filter_map-append record_of first second)
     ∙ flat_map-append record_text (filter_map record_of first) (filter_map record_of second)
@@ -46,18 +47,18 @@ appends_none (Some xs) = sym (append-nil xs)
 
 -- ONE OUTPUT
 
-module _ {W : Type 0} (contents : W → Option (List ℕ)) (failed : W → ℕ) {g : _} where
-  pub grows_none : (x : Output W g) → Grows contents failed x [] x
+module _ {W : Type 0} {S : Ghosts W} where
+  pub grows_none : (x : Output W S) → Grows x [] x
   grows_none x = record {
     same = refl;
     sound = λ sound. sound;
     counted = λ a is. is ∙ ap (λ (n : ℕ). min n (2 ^ 64 - 1)) (sym (add-zero a));
-    appended = appends_none (contents x.device.now);
+    appended = appends_none (S.contents x.device.now);
     kept = refl;
   }
 
-  pub grows_more : (x y z : Output W g) (first second : List ℕ) → Grows contents failed x first y →
-      Grows contents failed y second z → Grows contents failed x (first ++ second) z
+  pub grows_more : (x y z : Output W S) (first second : List ℕ) → Grows x first y →
+      Grows y second z → Grows x (first ++ second) z
   grows_more x y z first second one two = record {
     same = two.same ∙ one.same;
     sound = λ sound. two.sound (one.sound sound);
@@ -73,24 +74,24 @@ module _ {W : Type 0} (contents : W → Option (List ℕ)) (failed : W → ℕ) 
 outcome_of : Timed → Outcome
 outcome_of timed = timed.1
 
-module _ {W V : Type 0} (oc : W → Option (List ℕ)) (of : W → ℕ) (ic : V → Option (List ℕ)) (if : V → ℕ) {g h : _} where
-  pub takes_none : (x : Leaving W V g h) → Takes oc of ic if x [] x
+module _ {W V : Type 0} {S : Ghosts W} {T : Ghosts V} where
+  pub takes_none : (x : Leaving W V S T) → Takes x [] x
   takes_none x = record {
-    to_outside = λ times. grows_none oc of x.to_outside;
-    to_inside = λ times. grows_none ic if x.to_inside;
+    to_outside = λ times. grows_none x.to_outside;
+    to_inside = λ times. grows_none x.to_inside;
     counts = λ outcomes few are. subst (λ (l : List Outcome). AreCountsOf l x.counts) (sym (append-nil outcomes)) are;
   }
 
-  pub takes_more : (x y z : Leaving W V g h) (first second : List Timed) → Takes oc of ic if x first y →
-      Takes oc of ic if y second z → Takes oc of ic if x (first ++ second) z
+  pub takes_more : (x y z : Leaving W V S T) (first second : List Timed) → Takes x first y →
+      Takes y second z → Takes x (first ++ second) z
   takes_more x y z first second one two = record {
-    to_outside = λ times. subst (λ (l : List ℕ). Grows oc of x.to_outside l z.to_outside)
-        (sym (texts-append sides.Outside first second))
-        (grows_more oc of x.to_outside y.to_outside z.to_outside _ _ (one.to_outside (times_first first second times))
+    to_outside = λ times. subst (λ (l : List ℕ). Grows x.to_outside l z.to_outside)
+        (sym (records_text-append sides.Outside first second))
+        (grows_more x.to_outside y.to_outside z.to_outside _ _ (one.to_outside (times_first first second times))
         (two.to_outside (times_second first second times)));
-    to_inside = λ times. subst (λ (l : List ℕ). Grows ic if x.to_inside l z.to_inside)
-        (sym (texts-append sides.Inside first second))
-        (grows_more ic if x.to_inside y.to_inside z.to_inside _ _ (one.to_inside (times_first first second times))
+    to_inside = λ times. subst (λ (l : List ℕ). Grows x.to_inside l z.to_inside)
+        (sym (records_text-append sides.Inside first second))
+        (grows_more x.to_inside y.to_inside z.to_inside _ _ (one.to_inside (times_first first second times))
         (two.to_inside (times_second first second times)));
     counts = λ outcomes few are.
         let mid : List Outcome = outcomes ++ map (λ timed. timed.1) first in

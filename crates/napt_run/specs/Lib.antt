@@ -6,12 +6,11 @@ pub use Rattle.napt_laws.specs.Places
 pub use Rattle.napt_dispatch.specs.Dispatch
 pub use Rattle.napt_records.specs.Merge
 pub use Rattle.napt_records.specs.MergeLaws
+pub use Rattle.napt_records.specs.Taking
 pub use Rattle.napt_records.specs.Output
 pub use Rattle.napt_records.specs.Report
-pub mod Devices
 pub mod Captures
-pub mod Replay
-pub mod Absent
+pub mod Files
 pub mod Outputs
 pub mod Leaving
 pub mod LeavingLaws

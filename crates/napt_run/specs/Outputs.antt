@@ -1,26 +1,24 @@
 -- What a call of an output does.
-use Rattle.std.specs.Prelude.{◌≡◌, ℕ, ◌+◌, ◌-◌, ◌^◌, ◌≤◌, min, List, length, take, false, Option}
+use Rattle.std.specs.Prelude.{◌≡◌, ℕ, ◌+◌, ◌-◌, ◌^◌, ◌≤◌, min, List, length, take, false}
 use Rattle.std.specs.Io.KnownBytes.{Appends}
+use Rattle.napt_capture.specs.declared.device.Sink.{Ghosts}
 use Rattle.napt_capture.specs.declared.fault.WriteFault.{WriteFault}
 use Rattle.napt_run.specs.declared.output.Output.{Output}
 
 -- this text was written, and no call failed
-pub record Grows {W : Type 0} (contents : W → Option (List ℕ)) (failed : W → ℕ) {g : _} (old : Output W g)
-    (text : List ℕ)
-    (new : Output W g) : Type 0 where
+pub record Grows {W : Type 0} {S : Ghosts W} (old : Output W S) (text : List ℕ) (new : Output W S) : Type 0 where
   pub same : new.device.ghost_name ≡ old.device.ghost_name
   pub sound : old.is_broken ≡ false → new.is_broken ≡ false
   pub counted : (a : ℕ) → old.written ≡ min a (2 ^ 64 - 1) → new.written ≡ min (a + length text) (2 ^ 64 - 1)
-  pub appended : Appends (contents old.device.now) (contents new.device.now) text
-  pub kept : failed new.device.now ≡ failed old.device.now
+  pub appended : Appends (S.contents old.device.now) (S.contents new.device.now) text
+  pub kept : S.failed new.device.now ≡ S.failed old.device.now
 
 -- a front of it was written, and a call failed
-pub record Breaks {W : Type 0} (contents : W → Option (List ℕ)) (failed : W → ℕ) {g : _} (old : Output W g)
-    (text : List ℕ)
-    (fault : WriteFault) (new : Output W g) : Type 0 where
+pub record Breaks {W : Type 0} {S : Ghosts W} (old : Output W S) (text : List ℕ) (fault : WriteFault)
+    (new : Output W S) : Type 0 where
   pub same : new.device.ghost_name ≡ old.device.ghost_name
   pub count : ℕ
   pub within : count ≤ length text
   pub counted : (a : ℕ) → old.written ≡ min a (2 ^ 64 - 1) → fault.written ≡ min (a + count) (2 ^ 64 - 1)
-  pub appended : Appends (contents old.device.now) (contents new.device.now) (take count text)
-  pub failed_once : failed new.device.now ≡ failed old.device.now + 1
+  pub appended : Appends (S.contents old.device.now) (S.contents new.device.now) (take count text)
+  pub failed_once : S.failed new.device.now ≡ S.failed old.device.now + 1

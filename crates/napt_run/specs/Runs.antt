@@ -2,29 +2,31 @@
 use Rattle.std.specs.Prelude.{◌≡◌, ◌⊎◌, ℕ, ◌+◌, ◌≤◌, Bool, List, ◌++◌, length, Option, Result, Ok, Err, IfErr, IfOk}
 use Rattle.napt_wire.specs.declared.Side.{Side}
 use Rattle.napt_wire.specs.declared.Side.TheVariants as sides
+use Rattle.napt_capture.specs.declared.device.Sink.{Ghosts}
 use Rattle.napt_capture.specs.declared.fault.CaptureFault.{CaptureFault}
 use Rattle.napt_capture.specs.declared.fault.WriteFault.{WriteFault}
 use Rattle.napt_config.specs.Rules.{Rules}
 use Rattle.napt_dispatch.specs.Dispatch.{IsFaultUnder}
 use Rattle.napt_dispatch.specs.Passing.{timed}
 use Rattle.napt_records.specs.Counts.{AreCountsOf}
-use Rattle.napt_records.specs.UntilFault.{AreAll, AreFront, AreHeld, AreTaken, Both}
+use Rattle.napt_laws.specs.Dispatching.{IsFront}
+use Rattle.napt_records.specs.Taking.{Inputs}
 use Rattle.napt_records.specs.declared.Fault.{Fault}
 use Rattle.napt_records.specs.declared.Fault.TheVariants.{Capture, Run, Write}
 use Rattle.napt_records.specs.declared.Which.{Which}
 use Rattle.napt_records.specs.declared.Which.TheVariants.{Outside, Inside, Report}
 use Rattle.napt_run.specs.Captures.{IfKnown, failed_writings}
 use Rattle.napt_rules.specs.Prelude.{Arrival, ran}
-use Rattle.napt_run.specs.Leaving.{IsSettled, Timed, texts}
+use Rattle.napt_run.specs.Leaving.{IsSettled, Timed, records_text}
 use Rattle.napt_run.specs.Outputs.{Breaks, Grows}
-use Rattle.napt_run.specs.Streams.{Explains, IsFaultOf, IsOfRun, IsSettledBy, IsStopFault, Streams, ended}
+use Rattle.napt_run.specs.Files.{files_until}
+use Rattle.napt_run.specs.Streams.{AreTaken, Explains, IsFaultOf, IsOfRun, IsSettledBy, IsStopFault, Streams, ended}
 use Rattle.napt_run.specs.declared.leaving.Leaving.{Leaving}
 use Rattle.napt_run.specs.declared.passing.Totals.{Totals}
 
--- this holds of what the captures hold, if their bytes are known
-abbrev pub IfHeld : Option (List ℕ) → Option (Option (List ℕ)) → (Both → Type 0) → Type 0
-IfHeld inside outside Holds =
-    IfKnown inside outside (λ bytes others. (both : Both) → AreHeld bytes others both → Holds both)
+-- this holds of what the captures give, if their bytes are known
+abbrev pub IfHeld : Option (List ℕ) → Option (List ℕ) → (Inputs → Type 0) → Type 0
+IfHeld inside outside Holds = IfKnown inside outside (λ bytes others. Holds (files_until bytes others))
 
 -- what leaves of these inputs
 abbrev pub left_of : Rules → List Arrival → List Timed
@@ -32,24 +34,21 @@ left_of rules inputs = timed inputs (ran rules inputs).outcomes
 
 -- the text of it, to a side
 abbrev pub text_behind : List ℕ → Rules → Side → List Arrival → List ℕ
-text_behind front rules side inputs = front ++ texts side (left_of rules inputs)
+text_behind front rules side inputs = front ++ records_text side (left_of rules inputs)
 
-module _ {W V : Type 0} {g h : _} (open_gate : Bool) (rules : Rules)
-    (oc : W → Option (List ℕ)) (of : W → ℕ) (outside_flushed : W → Type 0)
-    (ic : V → Option (List ℕ)) (if : V → ℕ) (inside_flushed : V → Type 0)
-    (inside : Option (List ℕ)) (outside : Option (Option (List ℕ))) (front : List ℕ)
-    (old new : Leaving W V g h) where
+module _ {W V : Type 0} {S : Ghosts W} {T : Ghosts V} (open_gate : Bool) (rules : Rules)
+    (inside outside : Option (List ℕ)) (front : List ℕ) (old new : Leaving W V S T) where
   -- both outputs have all that left of these inputs, and it is flushed
   pub record Writes (inputs : List Arrival) : Type 0 where
-    pub to_outside : Grows oc of old.to_outside (text_behind front rules sides.Outside inputs) new.to_outside
-    pub to_inside : Grows ic if old.to_inside (text_behind front rules sides.Inside inputs) new.to_inside
-    pub settled : IsSettled outside_flushed inside_flushed new
+    pub to_outside : Grows old.to_outside (text_behind front rules sides.Outside inputs) new.to_outside
+    pub to_inside : Grows old.to_inside (text_behind front rules sides.Inside inputs) new.to_inside
+    pub settled : IsSettled new
 
   -- the run reached its end
   pub record RunsWell (totals : Totals) : Type 0 where
     pub inputs : List Arrival
     pub wrote : Writes inputs
-    pub all : IfHeld inside outside (λ both. AreAll both totals.cuts.inside totals.cuts.outside inputs)
+    pub all : IfHeld inside outside (λ all. all ≡ record { arrivals = inputs; end = Ok totals.cuts })
     pub counts : AreCountsOf (ran rules inputs).outcomes totals.counts
     pub bindings : totals.passed.bindings.items ≡ (ran rules inputs).bindings
 
@@ -57,25 +56,25 @@ module _ {W V : Type 0} {g h : _} (open_gate : Bool) (rules : Rules)
   pub record RunsToFault (side : Side) (fault : CaptureFault) : Type 0 where
     pub inputs : List Arrival
     pub wrote : Writes inputs
-    pub taken : IfHeld inside outside (λ both. AreTaken side fault both inputs)
+    pub taken : IfHeld inside outside (λ all. AreTaken side fault all inputs)
     pub is_fault : IfHeld inside outside (IsFaultOf side fault)
 
   -- the output to the outside failed, and the one to the inside has the text of a front; or it was not begun
   pub record FailsOutside (fault : WriteFault) : Type 0 where
     pub inputs : List Arrival
-    pub front_of_all : IfHeld inside outside (λ both. AreFront both inputs)
-    pub broke : Breaks oc of old.to_outside (text_behind front rules sides.Outside inputs) fault new.to_outside
+    pub front_of_all : IfHeld inside outside (λ all. IsFront inputs all.arrivals)
+    pub broke : Breaks old.to_outside (text_behind front rules sides.Outside inputs) fault new.to_outside
     pub before : List Arrival
-    pub front_before : IfHeld inside outside (λ both. AreFront both before)
-    pub kept : Grows ic if old.to_inside (text_behind front rules sides.Inside before) new.to_inside
+    pub front_before : IfHeld inside outside (λ all. IsFront before all.arrivals)
+    pub kept : Grows old.to_inside (text_behind front rules sides.Inside before) new.to_inside
         ⊎ ((fault.written ≤ length front) × (new.to_inside ≡ old.to_inside))
 
   -- the output to the inside failed
   pub record FailsInside (fault : WriteFault) : Type 0 where
     pub inputs : List Arrival
-    pub front_of_all : IfHeld inside outside (λ both. AreFront both inputs)
-    pub wrote : Grows oc of old.to_outside (text_behind front rules sides.Outside inputs) new.to_outside
-    pub broke : Breaks ic if old.to_inside (text_behind front rules sides.Inside inputs) fault new.to_inside
+    pub front_of_all : IfHeld inside outside (λ all. IsFront inputs all.arrivals)
+    pub wrote : Grows old.to_outside (text_behind front rules sides.Outside inputs) new.to_outside
+    pub broke : Breaks old.to_inside (text_behind front rules sides.Inside inputs) fault new.to_inside
 
   abbrev pub RunsTo : Result Totals Fault → Type 0
   RunsTo (Ok totals) = RunsWell totals
@@ -86,24 +85,22 @@ module _ {W V : Type 0} {g h : _} (open_gate : Bool) (rules : Rules)
   RunsTo (Err (Run fault)) = IsFaultUnder open_gate fault
 
 -- what the report says of all inputs
-pub record IsToldOf (rules : Rules) (inside : Option (List ℕ)) (outside : Option (Option (List ℕ))) (totals : Totals) :
-    Type 0 where
+pub record IsToldOf (rules : Rules) (inside outside : Option (List ℕ)) (totals : Totals) : Type 0 where
   pub inputs : List Arrival
-  pub all : IfHeld inside outside (λ both. AreAll both totals.cuts.inside totals.cuts.outside inputs)
+  pub all : IfHeld inside outside (λ all. all ≡ record { arrivals = inputs; end = Ok totals.cuts })
   pub counts : AreCountsOf (ran rules inputs).outcomes totals.counts
   pub bindings : totals.passed.bindings.items ≡ (ran rules inputs).bindings
 
 -- what a run leaves on the device of an output
-pub record DeviceGets {D : Type 0} (rules : Rules) (which : Which) (contents : D → Option (List ℕ)) (failed : D → ℕ)
-    (flushed : D → Type 0) (inside : Option (List ℕ)) (outside : Option (Option (List ℕ)))
+pub record DeviceGets {D : Type 0} (S : Ghosts D) (rules : Rules) (which : Which) (inside outside : Option (List ℕ))
     (result : Result Totals Fault) (old new : D) : Type 0 where
-  pub gets : Streams rules which (ended result) inside outside (contents old) (contents new)
-  pub count : (¬ IsOfRun result) → failed new ≡ failed old + failed_writings which (ended result)
-  pub settled : IsSettledBy (ended result) → flushed new
+  pub gets : Streams rules which (ended result) inside outside (S.contents old) (S.contents new)
+  pub count : (¬ IsOfRun result) → S.failed new ≡ S.failed old + failed_writings which (ended result)
+  pub settled : IsSettledBy (ended result) → S.is_flushed new
 
 -- what the result of a run says of the captures, under a gate that promises yes or one that does not
-pub record ResultSays (open_gate : Bool) (rules : Rules) (inside : Option (List ℕ))
-    (outside : Option (Option (List ℕ))) (result : Result Totals Fault) : Type 0 where
+pub record ResultSays (open_gate : Bool) (rules : Rules) (inside outside : Option (List ℕ))
+    (result : Result Totals Fault) : Type 0 where
   pub told : IfOk result (IsToldOf rules inside outside)
   pub fault : IfErr result (Explains inside outside)
   pub stop : IfErr result (IsStopFault open_gate)

@@ -7,7 +7,7 @@ use Rattle.napt_run.specs.Streams.{Streams, Reports}
 
 -- what `run_captures` promises of an output, and what `run_streams` does, over the same bytes
 abbrev pub OutputsAreTheSame : Type 0
-OutputsAreTheSame = (rules : Rules) (inside : List ℕ) (outside : Option (List ℕ)) (done : Unit {0}) (old : List ℕ)
+OutputsAreTheSame = (rules : Rules) (inside outside : List ℕ) (done : Unit {0}) (old : List ℕ)
     (new other : Option (List ℕ)) →
     (Gets rules Outside whole (Some inside) (Some outside) (Some old) new →
     Streams rules Outside (Ok done) (Some inside) (Some outside) (Some old) other → other ≡ new)
@@ -16,7 +16,7 @@ OutputsAreTheSame = (rules : Rules) (inside : List ℕ) (outside : Option (List 
 
 -- and of the report
 abbrev pub ReportsAreTheSame : Type 0
-ReportsAreTheSame = (rules : Rules) (inside : List ℕ) (outside : Option (List ℕ)) (done : Unit {0}) (old : List ℕ)
+ReportsAreTheSame = (rules : Rules) (inside outside : List ℕ) (done : Unit {0}) (old : List ℕ)
     (new other : Option (List ℕ)) →
     Gets rules Report whole (Some inside) (Some outside) (Some old) new →
     Reports rules (Ok done) (Some inside) (Some outside) (Some old) other → other ≡ new

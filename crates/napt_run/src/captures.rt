@@ -1,13 +1,12 @@
 //! A run over captures: reads both, runs in memory, and only then writes.
-ghost use Rattle.std.specs.Prelude.{◌≡◌, ◌↔◌, ◌+◌, ◌-◌, ◌^◌, ◌<◌, length, All, OnOk, IfOk, IfErr, IfSome, Err, true, false};
+ghost use Rattle.std.specs.Prelude.{◌≡◌, ◌↔◌, ◌+◌, ◌-◌, ◌^◌, ◌<◌, length, All, OnOk, IfOk, IfErr, Err, true, false};
 ghost use Rattle.napt_capture.specs.Text.{IsWritable, text};
 ghost use Rattle.napt_records.specs.Output.{IsTime, records_at};
-ghost use Rattle.napt_run.specs.Devices.{IfGiven, GrowsBy, bytes_in};
-ghost use Rattle.napt_run.specs.Captures.{AreOutputs, AreTooMany, Explains, Gets, IsReadAsOutside, IsReadFrom, IsUnread, IsWriteFaultOf, Receives, TooManyAreTold, failed_readings, failed_writings, no_contents, output_to, share_of};
+ghost use Rattle.napt_run.specs.Captures.{Answers, AreOutputs, AreTooMany, Explains, Gets, IfKnown, IsReadFrom, IsUnread, IsWriteFaultOf, Receives, failed_readings, failed_writings, output_to, share_of, texts};
 ghost use Rattle.napt_sequential.specs.Faults.{is_gate_fault};
 ghost use Rattle.napt_records.specs.Faults.{tells_shut_gate};
 
-use napt_capture::{Capture, Sink, Source, one_answer, read_capture, write_text};
+use napt_capture::{Capture, Sink, Source, read_capture, write_text};
 use napt_config::Config;
 use napt_dispatch::{TimedRun, run_on_pool};
 use napt_pool::Gate;
@@ -33,16 +32,6 @@ struct Outputs {
     /// The outcome of each input.
     outcomes: Vec<Outcome>,
     report: String,
-}
-
-/// A capture without records.
-fn no_capture(alloc: Global) -> Capture
-    ensures { result ≡ no_contents }
-{
-    Capture {
-        records: Vec::new(alloc),
-        cut: false,
-    }
 }
 
 /// Reads the capture of a side.
@@ -153,12 +142,13 @@ fn write_report<W: Sink>(output: &mut W, report: &str) -> Result<(), Fault>
     }
 }
 
-/// Translates the inside capture and, if there is one, the outside capture, and writes what leaves to each side, and a
-/// report: exactly what the run on one thread gives, whatever the gate, the ring size or the schedule.
+/// Translates both captures, and writes what leaves to each side, and a report: exactly what the run on one thread gives,
+/// whatever the gate, the ring size or the schedule. `NoPackets` stands for a capture that there is not, `Nowhere` for an
+/// output that nobody wants.
 ///
 /// Reads everything first. Then runs in memory, with one worker thread for each external address; each worker asks the gate
 /// before each leg, and the gate only decides when it goes on. The workers are closed and joined before a fault of the run
-/// is returned. Finally writes the outputs that were requested: to the outside, to the inside, the report.
+/// is returned. Finally writes the outputs: to the outside, to the inside, the report.
 ///
 /// Fails with `Fault::Capture` if that side's capture is refused or cannot be read, the inside first; with `Fault::Run`:
 /// `TooMany` if and only if the captures have more than 4,294,967,295 records, `Memory` if memory is refused, `Pool` if a
@@ -178,63 +168,51 @@ pub fn run_captures<
     alloc: Global,
     config: &Config,
     inside: &mut R,
-    outside: Option<&mut Q>,
+    outside: &mut Q,
     to_outside: &mut W,
-    to_inside: Option<&mut V>,
-    report: Option<&mut U>,
+    to_inside: &mut V,
+    report: &mut U,
     gate: Arc<G>,
 ) -> Result<(), Fault>
     requires inside { R.failed inside.old < 2 ^ 64 - 1 }
-    requires outside { IfSome outside (λ r. Q.failed r.now < 2 ^ 64 - 1) }
+    requires outside { Q.failed outside.old < 2 ^ 64 - 1 }
     requires to_outside { W.failed to_outside.old < 2 ^ 64 - 1 }
-    requires to_inside { IfSome to_inside (λ w. V.failed w.now < 2 ^ 64 - 1) }
-    requires report { IfSome report (λ w. U.failed w.now < 2 ^ 64 - 1) }
+    requires to_inside { V.failed to_inside.old < 2 ^ 64 - 1 }
+    requires report { U.failed report.old < 2 ^ 64 - 1 }
     ensures to_outside { Gets config.now Which.Outside (share_of Which.Outside result)
-        (R.remaining inside.old) (bytes_in Q.remaining outside.entry)
+        (R.remaining inside.old) (Q.remaining outside.old)
         (W.contents to_outside.old) (W.contents to_outside.new) }
-    ensures to_inside { IfGiven to_inside.entry to_inside.exit (λ old new.
-        Gets config.now Which.Inside (share_of Which.Inside result)
-        (R.remaining inside.old) (bytes_in Q.remaining outside.entry)
-        (V.contents old) (V.contents new)) }
-    ensures report { IfGiven report.entry report.exit (λ old new.
-        Gets config.now Which.Report (share_of Which.Report result)
-        (R.remaining inside.old) (bytes_in Q.remaining outside.entry)
-        (U.contents old) (U.contents new)) }
+    ensures to_inside { Gets config.now Which.Inside (share_of Which.Inside result)
+        (R.remaining inside.old) (Q.remaining outside.old)
+        (V.contents to_inside.old) (V.contents to_inside.new) }
+    ensures report { Gets config.now Which.Report (share_of Which.Report result)
+        (R.remaining inside.old) (Q.remaining outside.old)
+        (U.contents report.old) (U.contents report.new) }
+    ensures answer { IfKnown (R.remaining inside.old) (Q.remaining outside.old)
+        (λ bytes others. Answers (texts config.now bytes others) result) }
     ensures fault { IfErr result
-        (Explains (R.remaining inside.old) (bytes_in Q.remaining outside.entry)) }
-    ensures too_many { TooManyAreTold
-        (R.remaining inside.old) (bytes_in Q.remaining outside.entry) result }
+        (Explains (R.remaining inside.old) (Q.remaining outside.old)) }
     ensures gate { G.is_open ≡ true → IfErr result (λ fault. tells_shut_gate fault ≡ false) }
     ensures inside_readings { R.failed inside.new
         ≡ R.failed inside.old + failed_readings Side.Inside result }
-    ensures outside_readings { GrowsBy Q.failed outside.entry outside.exit
-        (failed_readings Side.Outside result) }
+    ensures outside_readings { Q.failed outside.new
+        ≡ Q.failed outside.old + failed_readings Side.Outside result }
     ensures outside_writings { W.failed to_outside.new
         ≡ W.failed to_outside.old + failed_writings Which.Outside result }
-    ensures inside_writings { GrowsBy V.failed to_inside.entry to_inside.exit
-        (failed_writings Which.Inside result) }
-    ensures report_writings { GrowsBy U.failed report.entry report.exit
-        (failed_writings Which.Report result) }
+    ensures inside_writings { V.failed to_inside.new
+        ≡ V.failed to_inside.old + failed_writings Which.Inside result }
+    ensures report_writings { U.failed report.new
+        ≡ U.failed report.old + failed_writings Which.Report result }
     ensures outside_flushed { OnOk result (W.is_flushed to_outside.new) }
-    ensures inside_flushed { OnOk result
-        (IfGiven to_inside.entry to_inside.exit (λ _ new. V.is_flushed new)) }
-    ensures report_flushed { OnOk result
-        (IfGiven report.entry report.exit (λ _ new. U.is_flushed new)) }
+    ensures inside_flushed { OnOk result (V.is_flushed to_inside.new) }
+    ensures report_flushed { OnOk result (U.is_flushed report.new) }
 {
-    one_answer();
     let inside = read_side(alloc, Side::Inside, inside)?;
-    let outside = match outside {
-        Some(outside) => read_side(alloc, Side::Outside, outside)?,
-        None => no_capture(alloc),
-    };
+    let outside = read_side(alloc, Side::Outside, outside)?;
     let captures = Captures { inside, outside };
     let outputs = make_outputs(rt, alloc, config, captures, gate)?;
     outputs.write_side(Side::Outside, to_outside)?;
-    if let Some(to_inside) = to_inside {
-        outputs.write_side(Side::Inside, to_inside)?;
-    }
-    if let Some(report) = report {
-        write_report(report, &outputs.report)?;
-    }
+    outputs.write_side(Side::Inside, to_inside)?;
+    write_report(report, &outputs.report)?;
     Ok(())
 }

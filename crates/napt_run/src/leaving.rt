@@ -71,12 +71,10 @@ impl<'a, 'b, W: Sink, V: Sink> Leaving<'a, 'b, W, V> {
 
     /// Writes and flushes the headers, so that a reader finds captures without packets.
     pub(crate) fn begin(&mut self) -> Result<(), Fault>
-        ensures ok { OnOk result
-            (Begins W.contents W.failed V.contents V.failed self.old self.new) }
-        ensures settled { OnOk result (IsSettled W.is_flushed V.is_flushed self.new) }
+        ensures ok { OnOk result (Begins self.old self.new) }
+        ensures settled { OnOk result (IsSettled self.new) }
         ensures err { AreSound self.old →
-            IfErr result (λ fault. FailsToBegin W.contents W.failed V.contents V.failed
-            self.old fault self.new) }
+            IfErr result (λ fault. FailsToBegin self.old fault self.new) }
     {
         if let Err(fault) = self.to_outside.start() {
             return Err(Fault::Write(Which::Outside, fault));
@@ -90,10 +88,8 @@ impl<'a, 'b, W: Sink, V: Sink> Leaving<'a, 'b, W, V> {
     /// Counts the outcome of an input, and writes the record of its packet, if any, with the arrival time in ns.
     fn write(&mut self, time: u64, outcome: &Outcome) -> Result<(), OutputFault>
         ensures { MatchResult result
-            (λ _. Takes W.contents W.failed V.contents V.failed
-            self.old ((time, outcome.now) ∷ []) self.new)
-            (λ fault. Fails W.contents W.failed V.contents V.failed
-            self.old ((time, outcome.now) ∷ []) fault self.new) }
+            (λ _. Takes self.old ((time, outcome.now) ∷ []) self.new)
+            (λ fault. Fails self.old ((time, outcome.now) ∷ []) fault self.new) }
     {
         self.counts.count(outcome);
         match outcome {
@@ -114,11 +110,11 @@ impl<W: Sink, V: Sink> Departures for Leaving<'_, '_, W, V> {
 
     type Fault = OutputFault;
 
-    ghost takes = { λ x all y. Takes W.contents W.failed V.contents V.failed x all y };
+    ghost takes = { λ x all y. Takes x all y };
 
-    ghost fails = { λ x all fault y. Fails W.contents W.failed V.contents V.failed x all fault y };
+    ghost fails = { λ x all fault y. Fails x all fault y };
 
-    ghost is_settled = { λ x. IsSettled W.is_flushed V.is_flushed x };
+    ghost is_settled = { λ x. IsSettled x };
 
     fn leave(&mut self, time: u64, outcome: Outcome) -> Result<Option<Vec<u8>>, OutputFault> {
         match self.write(time, &outcome) {
@@ -137,8 +133,7 @@ impl<W: Sink, V: Sink> Departures for Leaving<'_, '_, W, V> {
         }
     }
 
-    ghost takes_none = { λ x. takes_none W.contents W.failed V.contents V.failed x };
+    ghost takes_none = { λ x. takes_none x };
 
-    ghost takes_more = { λ x y z first second taken then.
-        takes_more W.contents W.failed V.contents V.failed x y z first second taken then };
+    ghost takes_more = { λ x y z first second taken then. takes_more x y z first second taken then };
 }

@@ -7,7 +7,6 @@
 //! and both return the same run.
 #![tactic(auto)]
 
-mod absent;
 mod captures;
 mod laws;
 mod leaving;
@@ -19,10 +18,10 @@ mod streaming;
 mod streams;
 
 pub use captures::run_captures;
-pub use laws::{outputs_are_one, streams_write_the_same};
+pub use laws::streams_write_the_same;
 pub use napt_dispatch::{Worker, dispatch, run_workers};
 pub use napt_records::{
-    EndpointText, Fault, Which, cause_name, merge, merge_is_one, protocol_name, report_text,
+    EndpointText, Fault, Which, cause_name, merge, merge_is_in_order, protocol_name, report_text,
 };
 pub use napt_sequential::{
     Input, Outcome, Run, RunFault, legs_are_local, places_stand_for_legs, right_answers, run_plain,

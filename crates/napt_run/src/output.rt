@@ -40,9 +40,9 @@ impl<'a, W: Sink> Output<'a, W> {
 
     /// Writes the header of the capture.
     fn begin(&mut self) -> Result<(), WriteFault>
-        ensures ok { OnOk result (Grows W.contents W.failed self.old file_header self.new) }
+        ensures ok { OnOk result (Grows self.old file_header self.new) }
         ensures err { IfErr result (λ fault. self.old.is_broken ≡ false →
-            Breaks W.contents W.failed self.old file_header fault self.new) }
+            Breaks self.old file_header fault self.new) }
     {
         let before = self.written;
         if self.is_broken {
@@ -62,10 +62,10 @@ impl<'a, W: Sink> Output<'a, W> {
 
     /// Writes the header, and flushes it.
     pub(crate) fn start(&mut self) -> Result<(), WriteFault>
-        ensures ok { OnOk result (Grows W.contents W.failed self.old file_header self.new) }
+        ensures ok { OnOk result (Grows self.old file_header self.new) }
         ensures flushed { OnOk result (W.is_flushed self.new.device.now) }
         ensures err { IfErr result (λ fault. self.old.is_broken ≡ false →
-            Breaks W.contents W.failed self.old file_header fault self.new) }
+            Breaks self.old file_header fault self.new) }
     {
         self.begin()?;
         self.flush()
@@ -74,10 +74,10 @@ impl<'a, W: Sink> Output<'a, W> {
     /// Writes the record of a packet, with its arrival time in ns.
     pub(crate) fn put(&mut self, time: u64, bytes: &[u8]) -> Result<(), WriteFault>
         requires { length bytes.now < 2 ^ 16 }
-        ensures ok { IsTime time → OnOk result (Grows W.contents W.failed self.old
+        ensures ok { IsTime time → OnOk result (Grows self.old
             (record_text (entry_of_packet time bytes.now)) self.new) }
         ensures err { IsTime time → IfErr result (λ fault. self.old.is_broken ≡ false →
-            Breaks W.contents W.failed self.old (record_text (entry_of_packet time bytes.now))
+            Breaks self.old (record_text (entry_of_packet time bytes.now))
             fault self.new) }
     {
         let before = self.written;
@@ -98,10 +98,10 @@ impl<'a, W: Sink> Output<'a, W> {
 
     /// Flushes what was written.
     pub(crate) fn flush(&mut self) -> Result<(), WriteFault>
-        ensures ok { OnOk result (Grows W.contents W.failed self.old [] self.new) }
+        ensures ok { OnOk result (Grows self.old [] self.new) }
         ensures flushed { OnOk result (W.is_flushed self.new.device.now) }
         ensures err { IfErr result (λ fault. self.old.is_broken ≡ false →
-            Breaks W.contents W.failed self.old [] fault self.new) }
+            Breaks self.old [] fault self.new) }
     {
         let written = self.written;
         if self.is_broken {

@@ -39,9 +39,8 @@ impl<T: Threads + Wait + Copy + Send + 'static, G: Gate + Send + Sync + Drop + '
         inputs: &mut MergedStreams<'_, '_, R, Q>,
         leaving: &mut Leaving<'_, '_, W, V>,
     ) -> Result<Totals, Fault>
-        ensures { PassesOr G.is_open self.entry.config.now R.remaining Q.remaining R.failed Q.failed
-            W.contents W.failed W.is_flushed V.contents V.failed V.is_flushed
-            inputs.old leaving.old inputs.new leaving.new result }
+        ensures { PassesOr G.is_open self.entry.config.now inputs.old leaving.old
+            inputs.new leaving.new result }
     {
         let Setting {
             rt,

@@ -2,10 +2,9 @@
 ghost use Rattle.std.specs.Prelude.{◌≡◌, ◌-◌, ◌^◌, ◌<◌, []};
 ghost use Rattle.napt_capture.specs.Text.{file_header};
 ghost use Rattle.napt_records.specs.Counts.{AreCountsOf};
-ghost use Rattle.napt_run.specs.Devices.{bytes_if};
 ghost use Rattle.napt_run.specs.Leaving.{AreSound};
 ghost use Rattle.napt_run.specs.Runs.{DeviceGets, ResultSays, RunsTo};
-ghost use Rattle.napt_run.specs.Streams.{HasReadIf, IsOfRun};
+ghost use Rattle.napt_run.specs.Streams.{HasRead, IsOfRun};
 
 use crate::leaving::Leaving;
 use crate::output::Output;
@@ -21,12 +20,11 @@ impl<T: Threads + Wait + Copy + Send + 'static, G: Gate + Send + Sync + Drop + '
     T,
     G,
 > {
-    /// Runs over the captures into both outputs. If there is no outside capture, its device is not read.
+    /// Runs over the captures into both outputs.
     pub(crate) fn stream<R: Source, Q: Source, W: Sink, V: Sink>(
         self,
         inside: &mut R,
         outside: &mut Q,
-        has_outside: bool,
         to_outside: &mut W,
         to_inside: &mut V,
     ) -> Result<Totals, Fault>
@@ -34,21 +32,20 @@ impl<T: Threads + Wait + Copy + Send + 'static, G: Gate + Send + Sync + Drop + '
         requires outside { Q.failed outside.old < 2 ^ 64 - 1 }
         requires to_outside { W.failed to_outside.old < 2 ^ 64 - 1 }
         requires to_inside { V.failed to_inside.old < 2 ^ 64 - 1 }
-        ensures to_outside { DeviceGets self.entry.config.now Which.Outside
-            W.contents W.failed W.is_flushed (R.remaining inside.old)
-            (bytes_if has_outside (Q.remaining outside.old)) result to_outside.old to_outside.new }
-        ensures to_inside { DeviceGets self.entry.config.now Which.Inside
-            V.contents V.failed V.is_flushed (R.remaining inside.old)
-            (bytes_if has_outside (Q.remaining outside.old)) result to_inside.old to_inside.new }
+        ensures to_outside { DeviceGets W.Sink self.entry.config.now Which.Outside
+            (R.remaining inside.old)
+            (Q.remaining outside.old) result to_outside.old to_outside.new }
+        ensures to_inside { DeviceGets V.Sink self.entry.config.now Which.Inside
+            (R.remaining inside.old) (Q.remaining outside.old) result to_inside.old to_inside.new }
         ensures says { ResultSays G.is_open self.entry.config.now (R.remaining inside.old)
-            (bytes_if has_outside (Q.remaining outside.old)) result }
-        ensures readings { (¬ IsOfRun result) → HasReadIf has_outside R.failed Q.failed
+            (Q.remaining outside.old) result }
+        ensures readings { (¬ IsOfRun result) → HasRead R.failed Q.failed
             inside.old inside.new outside.old outside.new result }
     {
         let ours = Output::over(to_outside);
         let theirs = Output::over(to_inside);
         let mut leaving = Leaving::into(ours, theirs);
-        let told = self.begin_and_run(inside, outside, has_outside, &mut leaving);
+        let told = self.begin_and_run(inside, outside, &mut leaving);
         let Leaving {
             to_outside: ours,
             to_inside: theirs,
@@ -64,7 +61,6 @@ impl<T: Threads + Wait + Copy + Send + 'static, G: Gate + Send + Sync + Drop + '
         self,
         inside: &mut R,
         outside: &mut Q,
-        has_outside: bool,
         leaving: &mut Leaving<'_, '_, W, V>,
     ) -> Result<Totals, Fault>
         requires inside { R.failed inside.old < 2 ^ 64 - 1 }
@@ -72,14 +68,12 @@ impl<T: Threads + Wait + Copy + Send + 'static, G: Gate + Send + Sync + Drop + '
         requires sound { AreSound leaving.old }
         requires written { leaving.old.to_outside.written ≡ 0 }
         requires counts { AreCountsOf [] leaving.old.counts }
-        ensures runs { RunsTo G.is_open self.entry.config.now W.contents W.failed W.is_flushed
-            V.contents V.failed V.is_flushed (R.remaining inside.old)
-            (bytes_if has_outside (Q.remaining outside.old)) file_header
-            leaving.old leaving.new result }
-        ensures readings { (¬ IsOfRun result) → HasReadIf has_outside R.failed Q.failed
+        ensures runs { RunsTo G.is_open self.entry.config.now (R.remaining inside.old)
+            (Q.remaining outside.old) file_header leaving.old leaving.new result }
+        ensures readings { (¬ IsOfRun result) → HasRead R.failed Q.failed
             inside.old inside.new outside.old outside.new result }
     {
         leaving.begin()?;
-        self.run_over(inside, outside, has_outside, leaving)
+        self.run_over(inside, outside, leaving)
     }
 }

@@ -1,11 +1,9 @@
 //! A run over captures as they arrive.
-ghost use Rattle.std.specs.Prelude.{◌≡◌, ◌+◌, ◌-◌, ◌^◌, ◌<◌, IfErr, IfSome, OnOk, true, false};
+ghost use Rattle.std.specs.Prelude.{◌≡◌, ◌+◌, ◌-◌, ◌^◌, ◌<◌, IfErr, OnOk, true, false};
 ghost use Rattle.napt_records.specs.Faults.{tells_shut_gate};
 ghost use Rattle.napt_run.specs.Captures.{failed_writings};
-ghost use Rattle.napt_run.specs.Devices.{GrowsBy, IfGiven, bytes_in};
 ghost use Rattle.napt_run.specs.Streams.{Explains, HasRead, IsOfRun, IsSettledBy, Reports, Streams};
 
-use crate::absent::{NoCapture, Nowhere};
 use crate::passing::Setting;
 use crate::reporting::reported;
 use napt_capture::{Sink, Source};
@@ -16,10 +14,10 @@ use std::alloc::Global;
 use std::sync::{Arc, Wait};
 use std::thread::Threads;
 
-/// Translates the inside capture and, if there is one, the outside capture, and writes what leaves to each side, and a
-/// report, as `run_captures` does, but as the packets arrive: each is read, translated and written before the next one is
-/// asked for, and memory is bounded by the live bindings and the 131,072 packets that may be in flight. If it succeeds, each
-/// output holds exactly what `run_captures` writes. Captures may be of any length.
+/// Translates both captures, and writes what leaves to each side, and a report, as `run_captures` does, but as the packets
+/// arrive: each is read, translated and written before a device is asked for more. Memory is bounded by the bindings (an expired one stays until a new one is made at its address), the 131,072
+/// packets that may be in flight, and 16,384 buffers that are kept. If it succeeds, each output holds exactly what
+/// `run_captures` writes. Captures may be of any length.
 ///
 /// The header of each output is written before anything is read. Before a device is asked for more bytes, every packet read
 /// so far has been answered, written and flushed. Merging needs the next record of both sides; an empty record lets time
@@ -45,45 +43,41 @@ pub fn run_streams<
     alloc: Global,
     config: &Config,
     inside: &mut R,
-    outside: Option<&mut Q>,
+    outside: &mut Q,
     to_outside: &mut W,
-    to_inside: Option<&mut V>,
-    report: Option<&mut U>,
+    to_inside: &mut V,
+    report: &mut U,
     gate: Arc<G>,
 ) -> Result<(), Fault>
     requires inside { R.failed inside.old < 2 ^ 64 - 1 }
-    requires outside { IfSome outside (λ r. Q.failed r.now < 2 ^ 64 - 1) }
+    requires outside { Q.failed outside.old < 2 ^ 64 - 1 }
     requires to_outside { W.failed to_outside.old < 2 ^ 64 - 1 }
-    requires to_inside { IfSome to_inside (λ w. V.failed w.now < 2 ^ 64 - 1) }
-    requires report { IfSome report (λ w. U.failed w.now < 2 ^ 64 - 1) }
+    requires to_inside { V.failed to_inside.old < 2 ^ 64 - 1 }
+    requires report { U.failed report.old < 2 ^ 64 - 1 }
     ensures to_outside { Streams config.now Which.Outside result
-        (R.remaining inside.old) (bytes_in Q.remaining outside.entry)
+        (R.remaining inside.old) (Q.remaining outside.old)
         (W.contents to_outside.old) (W.contents to_outside.new) }
-    ensures to_inside { IfGiven to_inside.entry to_inside.exit (λ old new.
-        Streams config.now Which.Inside result
-        (R.remaining inside.old) (bytes_in Q.remaining outside.entry)
-        (V.contents old) (V.contents new)) }
-    ensures report { IfGiven report.entry report.exit (λ old new.
-        Reports config.now result
-        (R.remaining inside.old) (bytes_in Q.remaining outside.entry)
-        (U.contents old) (U.contents new)) }
+    ensures to_inside { Streams config.now Which.Inside result
+        (R.remaining inside.old) (Q.remaining outside.old)
+        (V.contents to_inside.old) (V.contents to_inside.new) }
+    ensures report { Reports config.now result
+        (R.remaining inside.old) (Q.remaining outside.old)
+        (U.contents report.old) (U.contents report.new) }
     ensures fault { IfErr result
-        (Explains (R.remaining inside.old) (bytes_in Q.remaining outside.entry)) }
+        (Explains (R.remaining inside.old) (Q.remaining outside.old)) }
     ensures gate { G.is_open ≡ true → IfErr result (λ fault. tells_shut_gate fault ≡ false) }
     // Unless the run itself failed, the failed call is the reported one; a failed write may hide a failed read.
     ensures readings { (¬ IsOfRun result) → HasRead R.failed Q.failed
-        inside.old inside.new outside.entry outside.exit result }
+        inside.old inside.new outside.old outside.new result }
     ensures outside_writings { (¬ IsOfRun result) → W.failed to_outside.new
         ≡ W.failed to_outside.old + failed_writings Which.Outside result }
-    ensures inside_writings { (¬ IsOfRun result) →
-        GrowsBy V.failed to_inside.entry to_inside.exit (failed_writings Which.Inside result) }
-    ensures report_writings { GrowsBy U.failed report.entry report.exit
-        (failed_writings Which.Report result) }
+    ensures inside_writings { (¬ IsOfRun result) → V.failed to_inside.new
+        ≡ V.failed to_inside.old + failed_writings Which.Inside result }
+    ensures report_writings { U.failed report.new
+        ≡ U.failed report.old + failed_writings Which.Report result }
     ensures outside_flushed { IsSettledBy result → W.is_flushed to_outside.new }
-    ensures inside_flushed { IsSettledBy result →
-        IfGiven to_inside.entry to_inside.exit (λ _ new. V.is_flushed new) }
-    ensures report_flushed { OnOk result
-        (IfGiven report.entry report.exit (λ _ new. U.is_flushed new)) }
+    ensures inside_flushed { IsSettledBy result → V.is_flushed to_inside.new }
+    ensures report_flushed { OnOk result (U.is_flushed report.new) }
 {
     let setting = Setting {
         rt,
@@ -91,25 +85,7 @@ pub fn run_streams<
         config,
         gate,
     };
-    let told = match outside {
-        Some(source) => match to_inside {
-            Some(device) => setting.stream(inside, source, true, to_outside, device),
-            None => setting.stream(inside, source, true, to_outside, &mut Nowhere::new()),
-        },
-        None => match to_inside {
-            Some(device) => setting.stream(inside, &mut NoCapture, false, to_outside, device),
-            None => setting.stream(
-                inside,
-                &mut NoCapture,
-                false,
-                to_outside,
-                &mut Nowhere::new(),
-            ),
-        },
-    };
-    let written = match report {
-        Some(report) => reported(alloc, &told, report),
-        None => Ok(()),
-    };
+    let told = setting.stream(inside, outside, to_outside, to_inside);
+    let written = reported(alloc, &told, report);
     told.and(written)
 }

@@ -8,7 +8,7 @@ use crate::packets::udp;
 use crate::sample_inputs::{THREE_ADDRESSES, thousand_inputs};
 use napt_capture::{Faulty, Plan, Trouble, Watched};
 use napt_config::Config;
-use napt_run::{Fault, run_captures};
+use napt_run::{Fault, run_captures, run_streams};
 use napt_samples::hosts::{RESOLVER, external};
 use std::alloc::{AllocError, Global};
 use std::sync::{Arc, Wait};
@@ -61,10 +61,18 @@ pub(crate) const ALL_GOOD: Devices = Devices {
     report: GOOD,
 };
 
-/// What a run is given: both captures, and the devices that they and what it writes are on. Without settings it is in the built-in
+/// The call that a program makes: `napt` runs over whole captures, `stream` over captures as they come.
+#[derive(Clone, Copy, Debug, PartialEq, Eq)]
+pub(crate) enum Call {
+    Captures,
+    Streams,
+}
+
+/// What a run is given: the call, both captures, and the devices that they and what it writes are on. Without settings it is in the built-in
 /// configuration.
 #[derive(Clone, Copy)]
 pub(crate) struct Given<'a> {
+    pub(crate) call: Call,
     pub(crate) settings: Option<&'a str>,
     pub(crate) inside: &'a [u8],
     pub(crate) outside: &'a [u8],
@@ -96,20 +104,35 @@ pub(crate) fn captured<T: Threads + Wait + AllocGlobal + Copy + Send + 'static>(
     let alloc = rt.alloc();
     let config = config_of(alloc, given.settings)?;
     let devices = given.devices;
+    let mut inside = Faulty::new(Watched::new(given.inside), devices.inside.plan());
+    let mut outside = Faulty::new(Watched::new(given.outside), devices.outside.plan());
     let mut to_outside = Faulty::new(Watched::new(Vec::new(alloc)), devices.to_outside.plan());
     let mut to_inside = Faulty::new(Watched::new(Vec::new(alloc)), devices.to_inside.plan());
     let mut report = Faulty::new(Watched::new(Vec::new(alloc)), devices.report.plan());
-    let answer = run_captures(
-        rt,
-        alloc,
-        &config,
-        &mut Faulty::new(Watched::new(given.inside), devices.inside.plan()),
-        Some(&mut Faulty::new(Watched::new(given.outside), devices.outside.plan())),
-        &mut to_outside,
-        Some(&mut to_inside),
-        Some(&mut report),
-        gate,
-    );
+    let answer = match given.call {
+        Call::Captures => run_captures(
+            rt,
+            alloc,
+            &config,
+            &mut inside,
+            &mut outside,
+            &mut to_outside,
+            &mut to_inside,
+            &mut report,
+            gate,
+        ),
+        Call::Streams => run_streams(
+            rt,
+            alloc,
+            &config,
+            &mut inside,
+            &mut outside,
+            &mut to_outside,
+            &mut to_inside,
+            &mut report,
+            gate,
+        ),
+    };
     Ok(Written {
         answer,
         to_outside: to_outside.into_inner().into_inner(),
@@ -119,12 +142,16 @@ pub(crate) fn captured<T: Threads + Wait + AllocGlobal + Copy + Send + 'static>(
 }
 
 /// The header of a capture in microseconds, little-endian.
-const HEADER: [u8; 24] = [
+pub(crate) const HEADER: [u8; 24] = [
     0xd4, 0xc3, 0xb2, 0xa1, 2, 0, 4, 0, 0, 0, 0, 0, 0, 0, 0, 0, 0xff, 0xff, 0, 0, 0x65, 0, 0, 0,
 ];
 
 /// A packet in the first second, at so many microseconds.
-fn push_packet(text: &mut Vec<u8>, microseconds: u32, bytes: &[u8]) -> Result<(), AllocError> {
+pub(crate) fn push_packet(
+    text: &mut Vec<u8>,
+    microseconds: u32,
+    bytes: &[u8],
+) -> Result<(), AllocError> {
     let length = (bytes.len() & 0xffff) as u32;
     for word in [0, microseconds, length, length] {
         text.extend_from_slice(&word.to_le_bytes())?;
@@ -133,7 +160,7 @@ fn push_packet(text: &mut Vec<u8>, microseconds: u32, bytes: &[u8]) -> Result<()
 }
 
 /// The thousand inputs as a capture of the inside.
-fn thousand_sent(alloc: Global) -> Result<Vec<u8>, AllocError> {
+pub(crate) fn thousand_sent(alloc: Global) -> Result<Vec<u8>, AllocError> {
     let mut text = Vec::from_slice(alloc, &HEADER)?;
     for input in &thousand_inputs(alloc)? {
         let microseconds = (input.time / 1000 & 0xf_ffff) as u32;
@@ -163,6 +190,7 @@ fn large_run<T: Threads + Wait + AllocGlobal + Copy + Send + 'static>(
     let settings = format!(in alloc; "{THREE_ADDRESSES}ring = {ring}\n")?;
     let (inside, outside) = (thousand_sent(alloc)?, hundred_replies(alloc)?);
     let given = Given {
+        call: Call::Captures,
         settings: Some(&settings),
         inside: &inside,
         outside: &outside,

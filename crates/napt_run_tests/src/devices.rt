@@ -1,7 +1,7 @@
 //! Devices that move a byte at a time, and go wrong at each of their calls in turn.
 ghost use Rattle.std.specs.Prelude.{◌<◌};
 
-use crate::captures::{ALL_GOOD, Device, Devices, GOOD, Given, captured};
+use crate::captures::{ALL_GOOD, Call, Device, Devices, GOOD, Given, captured};
 use crate::gates::{Hold, Way};
 use napt_capture::{
     Capture, CaptureFault, Faulty, Plan, Trouble, Watched, WriteFault, read_capture, write_text,
@@ -90,6 +90,7 @@ fn assert_ends<R: Threads + Wait + Abort + AllocGlobal + Copy + Send + 'static>(
     end: End,
 ) -> Result<(), Fail> {
     let given = Given {
+        call: Call::Captures,
         settings: None,
         inside: &ONE_PACKET,
         outside: &ONE_PACKET[..24],

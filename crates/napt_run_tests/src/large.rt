@@ -74,7 +74,7 @@ fn assert_large<R: Threads + Wait + Abort + AllocGlobal + Copy + Send + 'static>
     let alloc = rt.alloc();
     let plain = plain_run(alloc, settings, inputs)?;
     assert_numbers(rt, &plain, wanted);
-    for ring in ["1", "4096"] {
+    for ring in ["1", "2", "3", "64", "4096"] {
         let run = workers_run(rt, settings, ring, inputs, Hold::new(alloc, Way::Open)?)??;
         assert_numbers(rt, &run, wanted);
         assert_same(rt, &run.outcomes, &plain.outcomes);

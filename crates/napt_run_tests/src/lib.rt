@@ -4,6 +4,8 @@
 #![tactic(auto)]
 
 #[cfg(test)]
+mod called;
+#[cfg(test)]
 mod calls;
 #[cfg(test)]
 mod captures;
@@ -11,6 +13,8 @@ mod captures;
 mod devices;
 #[cfg(test)]
 mod dispatching;
+#[cfg(test)]
+mod flushes;
 #[cfg(test)]
 mod following;
 #[cfg(test)]

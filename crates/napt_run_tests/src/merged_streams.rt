@@ -1,7 +1,7 @@
 //! Two captures that are read as they come, merged: what is handed out, and how it ends.
-ghost use Rattle.std.specs.Prelude.{◌≡◌, ◌<◌, ◌^◌, ◌-◌, IfOk, IfSome};
+ghost use Rattle.std.specs.Prelude.{◌≡◌, ◌<◌, ◌^◌, ◌-◌, IfOk};
 
-use napt_capture::{CaptureFault, Records, Source, Watched};
+use napt_capture::{CaptureFault, NoPackets, Records, Source, Watched};
 use napt_records::{Cuts, MergedStreams, SideFault, Stream};
 use napt_samples::captures::ONE_PACKET;
 use napt_sequential::Arrivals;
@@ -111,19 +111,6 @@ fn opened<'a, R: Source>(alloc: Global, source: &'a mut R) -> Result<Stream<'a, 
     Ok(Stream::new(source, records))
 }
 
-/// The same, where there is a capture.
-fn opened_if<'a, R: Source>(
-    alloc: Global,
-    source: Option<&'a mut R>,
-) -> Result<Option<Stream<'a, R>>, CaptureFault>
-    requires { IfSome source (λ r. R.failed r.now < 2 ^ 64 - 1) }
-{
-    match source {
-        None => Ok(None),
-        Some(source) => Ok(Some(opened(alloc, source)?)),
-    }
-}
-
 /// Merges, and compares.
 fn check_streams<R: Source, Q: Source>(
     rt: &(impl Abort + AllocGlobal),
@@ -139,15 +126,15 @@ fn check_streams<R: Source, Q: Source>(
 fn check_sources<R: Source, Q: Source>(
     rt: &(impl Abort + AllocGlobal),
     inside: &mut R,
-    outside: Option<&mut Q>,
+    outside: &mut Q,
     wanted: Wanted<'_>,
 ) -> Result<(), Fail>
     requires inside { R.failed inside.old < 2 ^ 64 - 1 }
-    requires outside { IfSome outside (λ r. Q.failed r.now < 2 ^ 64 - 1) }
+    requires outside { Q.failed outside.old < 2 ^ 64 - 1 }
 {
     let alloc = rt.alloc();
     let first = opened(alloc, inside)?;
-    let second = opened_if(alloc, outside)?;
+    let second = opened(alloc, outside)?;
     check_streams(rt, MergedStreams::new(alloc, first, second), wanted)
 }
 
@@ -162,7 +149,7 @@ fn check_held(
     let outside = outside.bytes(rt.alloc())?;
     let mut first = Watched::new(inside.as_slice());
     let mut second = Watched::new(outside.as_slice());
-    check_sources(rt, &mut first, Some(&mut second), wanted)
+    check_sources(rt, &mut first, &mut second, wanted)
 }
 
 const UNCUT: Cuts = Cuts {
@@ -219,8 +206,7 @@ fn one_stream_alone_is_handed_out(rt: HostRuntime) -> Result<(), Fail> {
         }),
     };
     let mut source = Watched::new(bytes.as_slice());
-    let none: Option<&mut Watched<&[u8]>> = None;
-    check_sources(&rt, &mut source, none, wanted)
+    check_sources(&rt, &mut source, &mut NoPackets::new(), wanted)
 }
 
 /// The fault of the record of a side.
@@ -287,7 +273,7 @@ fn a_failed_read_of_a_stream_is_told(rt: HostRuntime) -> Result<(), Fail> {
             fault: CaptureFault::Read,
         }),
     };
-    check_sources(&rt, &mut first, Some(&mut second), wanted)
+    check_sources(&rt, &mut first, &mut second, wanted)
 }
 
 const TWO_RECORDS: Held = Held {
@@ -327,7 +313,7 @@ fn streams_tell_whether_a_device_is_asked(rt: HostRuntime) -> Result<(), Fail> {
     let mut outside = Watched::new(bytes.as_slice());
     let first = opened(alloc, &mut inside)?;
     let second = opened(alloc, &mut outside)?;
-    check_asks_of(&rt, MergedStreams::new(alloc, first, Some(second)))
+    check_asks_of(&rt, MergedStreams::new(alloc, first, second))
 }
 
 /// The source of the inside again.
@@ -344,9 +330,10 @@ fn streams_give_their_sources_back(rt: HostRuntime) -> Result<(), Fail> {
     let alloc = rt.alloc();
     let bytes = TWO_RECORDS.bytes(alloc)?;
     let mut source = Watched::new(bytes.as_slice());
+    let mut none = NoPackets::new();
     let first = opened(alloc, &mut source)?;
-    let none: Option<Stream<'_, Watched<&[u8]>>> = None;
-    let source = source_of(MergedStreams::new(alloc, first, none));
+    let second = opened(alloc, &mut none)?;
+    let source = source_of(MergedStreams::new(alloc, first, second));
     let mut buffer = [0; 4];
     let count = source.read(&mut buffer)?;
     assert_eq!(rt; (count, buffer), (4, [1, 0, 0, 0]));

@@ -20,10 +20,14 @@ use std::test::Fail;
 use std::thread;
 use std::thread::Threads;
 
-/// The input before which the first worker has answered all others but one. After it that worker is looked at.
-const LOOKED_AFTER: u64 = 32;
+/// The input before which the first worker has answered the legs of two messages. After it that worker is looked at.
+const LOOKED_AFTER: u64 = 48;
 
-/// A gate that shows how far the first worker is: it asks for a turn once the answers of all turns before are in the ring.
+/// The number of legs in these two messages: the first input's, and those of the sixteen after it.
+const ANSWERED: u64 = 17;
+
+/// A gate that shows how far the first worker is: it asks for the first turn of a message once the answers to all messages before
+/// are in the ring.
 #[derive(Drop)]
 struct Turns {
     first: AtomicU64,
@@ -82,7 +86,7 @@ impl Arrivals for Packets {
     fn next(&mut self, _spare: Vec<u8>) -> Result<Option<Input>, AllocError> {
         let number = self.number;
         if number == LOOKED_AFTER {
-            self.turns.wait_for(LOOKED_AFTER - 1);
+            self.turns.wait_for(ANSWERED);
         }
         if number > LOOKED_AFTER {
             self.left_then = self.left.load(Ordering::SeqCst);
@@ -132,8 +136,9 @@ fn whole(told: Result<Passed, Stopped<AllocError, AllocError>>) -> Result<Passed
     }
 }
 
-/// The dispatcher looks at a worker after every sixteenth input, and takes all the answers that are there: so they have left before
-/// the next input is asked for. One that takes a single answer, or looks at no worker, holds them back.
+/// Through rings of 64 the dispatcher sends a worker sixteen legs in a message, looks at it whenever it does, and takes all the answers
+/// that are there: so they have left before the next input is asked for. One that takes a single answer, or looks at no worker, holds
+/// them back.
 #[test]
 fn answers_are_taken_while_inputs_are_read(rt: HostRuntime) -> Result<(), Fail> {
     let alloc = rt.alloc();
@@ -152,7 +157,7 @@ fn answers_are_taken_while_inputs_are_read(rt: HostRuntime) -> Result<(), Fail> 
     let passed = whole(run_through(&rt, alloc, &config, &mut packets, &mut count, turns))?;
     assert_eq!(rt; passed.legs.as_slice(), [LOOKED_AFTER + 1, 0].as_slice());
     assert!(rt;
-        packets.left_then >= LOOKED_AFTER - 1,
+        packets.left_then >= ANSWERED,
         "{} have left",
         packets.left_then
     );

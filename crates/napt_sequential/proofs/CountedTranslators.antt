@@ -1,17 +1,20 @@
 -- The translators after a leg, at its address and at the others.
-use Rattle.std.proofs.Common.{◌≡◌, ◌≢◌, ℕ, suc, ◌+◌, ◌≤◌, true, false, List, [], ◌∷◌, ◌++◌, map, length, cond, Some, refl, sym, ◌∙◌, ap, subst, arith, eqb, eq-eqb, append-nil, get_or, set}
+use Rattle.std.proofs.Common.{◌≡◌, ◌≢◌, ℕ, suc, ◌+◌, ◌≤◌, true, false, List, [], ◌∷◌, ◌++◌, map, length, cond, Option, Some, refl, sym, ◌∙◌, ap, subst, arith, eqb, eq-eqb, append-nil, get_or, set}
 use Rattle.std.specs.List.{slice_get}
 use Rattle.std.proofs.lemmas.Bool.{ne_eqb, eqb-true, eqb-false}
 use Rattle.std.proofs.lemmas.List.Elements.{filter-append}
-use Rattle.std.proofs.lemmas.Option.{slice_get_within, get_or_from_slice_get, same_Some}
-use Rattle.napt_config.specs.Rules.{Rules, KeepsRules}
+use Rattle.std.proofs.lemmas.Option.{slice_get_within, slice_get-get_or, get_or_from_slice_get, same_Some}
+use Rattle.napt_config.specs.Rules.{Rules, KeepsRules, AreTimers}
 use Rattle.napt_rules.specs.declared.Leg.{Leg}
-use Rattle.napt_rules.specs.Prelude.{act, Act, acts_at, legs_at, kept_act, kept_after}
+use Rattle.napt_rules.specs.declared.End.{End}
+use Rattle.napt_rules.specs.Prelude.{Through, Acted, act, Act, acts_at, legs_at, kept_act, kept_after}
 use Rattle.napt_translate.specs.Translators.{TranslatorState, begun, with_kept, left_by}
 use Rattle.napt_sequential.specs.declared.counted_translator.CountedTranslator.{CountedTranslator}
-use Rattle.napt_sequential.specs.CountedTranslators.{RunState, IsCountedTranslator, AreCountedTranslators, state_after, end_at, counted_after}
+use Rattle.napt_sequential.specs.CountedTranslators.{RunState, IsCountedTranslator, AreCountedTranslators, act_of, passed_of, state_after, passed_at, counted_after}
 use Rattle.napt_sequential.proofs.Lists.{get_set, get_set_other, long_set}
-use Rattle.napt_laws.proofs.RunsLocal.{StaysAtOnce, leg_at_once, other_at_once}
+use Rattle.napt_sequential.specs.declared.passage.Passed.{Passed}
+use Rattle.napt_laws.proofs.LegsLocal.{ActsAlike, alike}
+use Rattle.napt_laws.proofs.RunsLocal.{ActsOnTime, on_time, leg_at_once, other_at_once}
 
 -- one leg more, at its address and at another
 legs_more : (address : ℕ) (acts : List Act) (a : Act) → a.address ≡ address → length (legs_at address (acts ++ a ∷ []))
@@ -49,14 +52,22 @@ legs_other address acts a differ =
 module _ (rules : Rules) (place address : ℕ) (at : get_or rules.pool place 0 ≡ address) (state : RunState)
     (counted : CountedTranslator) (is : IsCountedTranslator rules place address state counted) (leg : Leg)
     (later : state.clock ≤ leg.now) where
-  own_stays : StaysAtOnce rules address leg is.own state.list
-  own_stays = leg_at_once rules address state.clock is.own state.list is.at_once leg later
-
   -- the translator of the address
-  pub own_end : end_at leg counted ≡ (act rules address leg state.list).end
-  own_end =
-      ap (λ (t : TranslatorState). end_at leg (record { translator = t; legs = 0 })) is.translator
-      ∙ (ap (λ (a : ℕ). (kept_act rules a leg is.own).end) at ∙ own_stays.end)
+  pub own_passed : passed_at leg counted
+      ≡ passed_of rules.timers (act_of address leg (act rules address leg state.list))
+  own_passed =
+      let past : is.own.at ≤ leg.now = omega (arith, is.at_once.past) in
+      let timely : ActsOnTime rules address leg is.own = on_time rules address leg is.own past in
+      let same : ActsAlike rules address leg.now (act rules address leg is.own.list)
+      (act rules address leg state.list) =
+      alike rules address state.clock is.own.list state.list is.at_once.agrees leg later in
+      let by : End → Option Through → Passed = λ end through. passed_of rules.timers
+      (record { address = address; leg = leg; end = end; through = through }) in
+      ap (λ (t : TranslatorState). passed_at leg (record { translator = t; legs = 0 })) is.translator
+      ∙ (ap (λ (a : ℕ). passed_of rules.timers (act_of a leg (kept_act rules a leg is.own))) at
+      ∙ (ap (λ (acted : Acted). passed_of rules.timers (act_of address leg acted)) timely.is
+      ∙ (ap (λ (end : End). by end (act rules address leg is.own.list).through) same.end
+      ∙ ap (by (act rules address leg state.list).end) same.through)))
 
   pub own_counted : IsCountedTranslator rules place address (state_after rules address leg state)
       (counted_after leg counted)
@@ -64,20 +75,11 @@ module _ (rules : Rules) (place address : ℕ) (at : get_or rules.pool place 0 �
     own = kept_after rules address leg is.own;
     translator = ap (left_by leg) is.translator
         ∙ ap (λ (a : ℕ). with_kept (begun place rules) (kept_after rules a leg is.own)) at;
-    at_once = own_stays.left;
+    at_once = (leg_at_once rules address state.clock is.own state.list is.at_once leg later).left;
     legs =
-        let one : length (legs_at address (state.acts ++ record {
-          address = address;
-          leg = leg;
-          end =
-              (act rules address leg state.list).end;
-        } ∷ [])) ≡ length (legs_at address state.acts) + 1 =
-        legs_more address state.acts (record {
-          address = address;
-          leg = leg;
-          end =
-              (act rules address leg state.list).end;
-        }) refl in
+        let a : Act = act_of address leg (act rules address leg state.list) in
+        let one : length (legs_at address (state.acts ++ a ∷ [])) ≡ length (legs_at address state.acts) + 1 =
+        legs_more address state.acts a refl in
         ap (λ n. n + 1) is.legs ∙ sym one;
   }
 
@@ -89,13 +91,9 @@ other_counted rules place address state counted is at differ leg later = record 
   own = is.own;
   translator = is.translator;
   at_once = other_at_once rules address state.clock is.own state.list is.at_once at differ leg later;
-  legs = is.legs
-      ∙ ap length (sym (legs_other address state.acts (record {
-        address = at;
-        leg = leg;
-        end =
-            (act rules at leg state.list).end;
-      }) differ));
+  legs =
+      let a : Act = act_of at leg (act rules at leg state.list) in
+      is.legs ∙ ap length (sym (legs_other address state.acts a differ));
 }
 
 -- ALL TRANSLATORS
@@ -109,14 +107,28 @@ apart_places rules keeps i j a b at_i at_j ne = λ e.
 
 module _ (rules : Rules) (keeps : KeepsRules rules) (state : RunState) (translators : List CountedTranslator)
     (are : AreCountedTranslators rules state translators) (place address : ℕ)
-    (at : slice_get rules.pool place ≡ Some address) (counted : CountedTranslator)
-    (is_there : slice_get translators place ≡ Some counted) (leg : Leg) (later : state.clock ≤ leg.now) where
+    (at : slice_get rules.pool place ≡ Some address) (leg : Leg) (later : state.clock ≤ leg.now)
+    (default : CountedTranslator) where
+  -- the translator of the place
+  abbrev counted : CountedTranslator
+  counted = get_or translators place default
+
+  is_there : slice_get translators place ≡ Some counted
+  is_there =
+      let many = are.many in
+      let within = slice_get_within rules.pool place address at in
+      slice_get-get_or translators place default (omega (arith, within))
+
   own : IsCountedTranslator rules place address state counted
   own = are.each place address counted at is_there
 
-  pub end_same : end_at leg counted ≡ (act rules address leg state.list).end
-  end_same =
-      own_end rules place address (get_or_from_slice_get rules.pool place address 0 at) state counted own leg later
+  pub passed_same : passed_at leg counted
+      ≡ passed_of rules.timers (act_of address leg (act rules address leg state.list))
+  passed_same =
+      own_passed rules place address (get_or_from_slice_get rules.pool place address 0 at) state counted own leg later
+
+  pub its_timers : AreTimers counted.translator.rules.timers
+  its_timers = subst AreTimers (sym (ap (λ (t : TranslatorState). t.rules.timers) own.translator)) keeps.timers
 
   pub few_legs : counted.legs ≤ length state.acts
   few_legs = let few = legs_few address state.acts in let is : counted.legs ≡ length (legs_at address state.acts) =

@@ -13,7 +13,7 @@ use Rattle.napt_rules.specs.declared.Outcome.TheVariants.{Dropped}
 use Rattle.napt_sequential.specs.declared.counted_translator.CountedTranslator.{CountedTranslator}
 use Rattle.napt_sequential.specs.declared.input.Input.TheInside as fields
 use Rattle.napt_wire.specs.Reading.{reading}
-use Rattle.napt_sequential.specs.CountedTranslators.{RunState, IsCountedTranslator, AreCountedTranslators, state_after, Follows}
+use Rattle.napt_sequential.specs.CountedTranslators.{RunState, IsCountedTranslator, AreCountedTranslators, act_of, state_after, Follows}
 use Rattle.napt_laws.proofs.RunsLocal.{later_at_once}
 
 -- A FIRST LEG ALONE, OR TWO
@@ -48,12 +48,10 @@ follows_twice rules address leg state translators place packet is are outcome to
     let both : Course = ahead (record (once address leg first) { outcomes = [] }) (once to next second) in
     let e : admitted rules address leg state.list ≡ both =
     ap (follow_by rules address leg first) is in
-    let acts : (state.acts ++ record { address = address; leg = leg; end = first.end } ∷ []) ++ record {
-      address = to;
-      leg = next;
-      end = second.end;
-    } ∷ [] ≡ state.acts ++ (record { address = address; leg = leg; end = first.end }
-    ∷ record { address = to; leg = next; end = second.end } ∷ []) = append_assoc state.acts _ _ in
+    let one : Act = act_of address leg first in
+    let other : Act = act_of to next second in
+    let acts : (state.acts ++ one ∷ []) ++ other ∷ [] ≡ state.acts ++ (one ∷ other ∷ []) =
+    append_assoc state.acts (one ∷ []) (other ∷ []) in
     let held : Follows rules leg.now both state translators outcome = (
       ap (λ (o : Outcome). o ∷ []) (sym told),
       subst (λ (xs : List Act). AreCountedTranslators rules (record { clock = leg.now; acts = xs; list = second.list })

@@ -1,20 +1,29 @@
 -- The translators of a sequential run, one for each external address in the order of the pool, and the one list of
 -- bindings that they split between them.
-use Rattle.std.specs.Prelude.{◌≡◌, ℕ, ◌+◌, ◌<◌, ◌≤◌, ◌^◌, max, length, List, [], ◌∷◌, ◌++◌, Some}
+use Rattle.std.specs.Prelude.{◌≡◌, ℕ, ◌+◌, ◌<◌, ◌≤◌, ◌^◌, max, length, List, [], ◌∷◌, ◌++◌, Option, Some, None}
+use Rattle.std.specs.Option.{option_map}
 use Rattle.std.specs.List.{slice_get}
+use Rattle.napt_wire.specs.declared.Protocol.{Protocol}
+use Rattle.napt_wire.specs.Fields.{source, destination, kind}
+use Rattle.napt_config.specs.declared.settings.Timers.{Timers}
 use Rattle.napt_config.specs.Rules.{Rules}
-use Rattle.napt_rules.specs.Prelude.{Binding, opening, Acted, act, Arrival, rows, Act, Course, run, last_clock, legs_at, Kept, kept_answer}
+use Rattle.napt_rules.specs.Prelude.{Binding, by_inside, by_number, opening, Acted, act, Arrival, rows, Act, Course, run, last_clock, legs_at, Kept, kept_act}
 use Rattle.napt_rules.specs.declared.Row.{Row}
 use Rattle.napt_rules.specs.declared.Leg.{Leg}
 use Rattle.napt_rules.specs.declared.End.{End}
+use Rattle.napt_rules.specs.declared.End.TheVariants as ends
+use Rattle.napt_table.specs.declared.TimedRow.{TimedRow}
+use Rattle.napt_table.specs.TimedRows.{timed}
+use Rattle.napt_translate.specs.Carried.{carried_by}
 use Rattle.napt_translate.specs.Translators.{begun, kept_of, with_kept, left_by}
 use Rattle.napt_rules.specs.declared.Outcome.{Outcome}
 use Rattle.napt_sequential.specs.declared.counted_translator.CountedTranslator.{CountedTranslator}
 use Rattle.napt_sequential.specs.declared.passage.Passage.{Passage}
+use Rattle.napt_sequential.specs.declared.passage.Passage.TheVariants.{Nothing, Out, In, Dropped}
+use Rattle.napt_sequential.specs.declared.passage.Passed.{Passed}
 use Rattle.napt_sequential.specs.declared.passage.Seen.{Seen}
-use Rattle.napt_sequential.specs.declared.passage.Went.{Went}
 use Rattle.napt_sequential.specs.declared.outcome.Stepped.{Stepped}
-use Rattle.napt_sequential.specs.Traces.{passage_at, trace_of}
+use Rattle.napt_sequential.specs.Traces.{passage_of, trace_of}
 use Rattle.napt_laws.specs.Agreeing.{IsAtOnce}
 
 -- a run at some time: the time of the last leg, the legs that acted, and the bindings
@@ -37,24 +46,37 @@ pub record AreCountedTranslators (rules : Rules) (state : RunState)
   pub each : (place address : ℕ) (counted : CountedTranslator) → slice_get rules.pool place ≡ Some address →
       slice_get translators place ≡ Some counted → IsCountedTranslator rules place address state counted
 
--- after a leg at an address
+-- a leg at an address, as it acted there
+abbrev pub act_of : ℕ → Leg → Acted → Act
+act_of address leg acted = record { address = address; leg = leg; end = acted.end; through = acted.through }
+
+-- after it
 abbrev pub state_after : Rules → ℕ → Leg → RunState → RunState
 state_after rules address leg state =
     let acted : Acted = act rules address leg state.list in
-    record {
-      clock = leg.now;
-      acts = state.acts ++ record { address = address; leg = leg; end = acted.end } ∷ [];
-      list = acted.list;
-    }
+    record { clock = leg.now; acts = state.acts ++ act_of address leg acted ∷ []; list = acted.list }
+
+-- how it ended, and what it did
+abbrev pub passed_of : Timers → Act → Passed
+passed_of timers a = record { end = a.end; passage = passage_of timers a }
 
 -- after an input at a time
 abbrev pub state_then : ℕ → Course → RunState → RunState
 state_then now course state = record { clock = now; acts = state.acts ++ course.acts; list = course.list }
 
--- how a leg ends at a counted translator, and the translator after it
-abbrev pub end_at : Leg → CountedTranslator → End
-end_at leg counted =
-    (kept_answer counted.translator.rules counted.translator.table.address leg (kept_of counted.translator.table)).end
+-- at a place of the pool it passed so, and took the translators of any state to those after it
+abbrev pub Takes : Rules → ℕ → Leg → List CountedTranslator → List CountedTranslator → Passed → Type 0
+Takes rules place leg before after passed = (state : RunState) (address : ℕ) →
+    AreCountedTranslators rules state before → state.clock ≤ leg.now → slice_get rules.pool place ≡ Some address →
+    (passed ≡ passed_of rules.timers (act_of address leg (act rules address leg state.list)))
+    × AreCountedTranslators rules (state_after rules address leg state) after
+
+-- how it passes at a counted translator, and the translator after it
+abbrev pub passed_at : Leg → CountedTranslator → Passed
+passed_at leg counted =
+    let address : ℕ = counted.translator.table.address in
+    passed_of counted.translator.rules.timers (act_of address leg
+    (kept_act counted.translator.rules address leg (kept_of counted.translator.table)))
 
 abbrev pub counted_after : Leg → CountedTranslator → CountedTranslator
 counted_after leg counted = record { translator = left_by leg counted.translator; legs = counted.legs + 1 }
@@ -64,10 +86,37 @@ abbrev pub rows_at : ℕ → CountedTranslator → List Row
 rows_at now counted = rows counted.translator.rules.timers (max now counted.translator.table.at)
     counted.translator.table.list
 
--- what a leg did there, as of a time
-abbrev pub passage_seen : ℕ → Seen → Went → CountedTranslator → Passage
-passage_seen now seen went counted = passage_at counted.translator.rules.timers (max now counted.translator.table.at)
-    counted.translator.table.list counted.translator.table.address seen went
+-- LOOK-UPS after a leg, by its packet before it and by how it ended
+
+abbrev pub seen_of : List ℕ → Seen
+seen_of packet =
+    record { protocol = carried_by (kind packet); source = source packet; destination = destination packet }
+
+abbrev pub out_through : Option TimedRow → Passage
+out_through None = Nothing
+out_through (Some row) = Out row
+
+abbrev pub in_through : Option TimedRow → Passage
+in_through None = Nothing
+in_through (Some row) = In row
+
+abbrev pub found_by : Timers → ℕ → List Binding → ℕ → Seen → Option Protocol → End → Passage
+found_by timers now list address seen None end = Nothing
+found_by timers now list address seen (Some protocol) (ends.ToOutside packet) =
+    out_through (option_map (timed timers) (by_inside timers address now protocol seen.source list))
+found_by timers now list address seen (Some protocol) (ends.Onward place packet) =
+    out_through (option_map (timed timers) (by_inside timers address now protocol seen.source list))
+found_by timers now list address seen (Some protocol) (ends.ToInside packet) =
+    in_through (option_map (timed timers) (by_number timers address now protocol seen.destination.number list))
+found_by timers now list address seen (Some protocol) (ends.Dropped cause) =
+    Dropped (record { protocol = protocol; host = seen.source.address; cause = cause })
+
+abbrev pub passage_seen : ℕ → Seen → End → CountedTranslator → Passage
+passage_seen now seen end counted =
+    found_by counted.translator.rules.timers (max now counted.translator.table.at) counted.translator.table.list
+    counted.translator.table.address seen seen.protocol end
+
+-- TIMES AND STEPS
 
 -- it is a later time
 abbrev pub at_time : ℕ → RunState → RunState

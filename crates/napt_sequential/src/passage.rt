@@ -1,7 +1,7 @@
 //! What a leg did to the bindings.
 
 ghost use Rattle.std.specs.Prelude.{◌≡◌};
-ghost use Rattle.napt_sequential.specs.Traces as traces;
+ghost use Rattle.napt_sequential.specs.CountedTranslators as lookups;
 
 use napt_table::TimedRow;
 use napt_translate::End;
@@ -29,7 +29,7 @@ pub struct Loss {
     pub cause: Cause,
 }
 
-/// What the legs of one input did. The end of each binding is as of after both legs.
+/// What the legs of one input did. The end of a binding is that which the leg left it.
 #[derive(Clone, Copy, Debug, PartialEq, Eq)]
 pub struct Trace {
     /// The time of the legs, in ns.
@@ -48,30 +48,15 @@ pub(crate) struct Seen {
     pub(crate) destination: Endpoint,
 }
 
-/// How a leg went.
-#[derive(Clone, Copy)]
-pub(crate) enum Went {
-    Out,
-    In,
-    Dropped(Cause),
-}
-
-impl Went {
-    ghost use Rattle.napt_sequential.specs.Traces.{went_by};
-
-    pub(crate) fn by(end: &End) -> Went
-        ensures { result ≡ went_by end.now }
-    {
-        match end {
-            End::ToOutside(_) | End::Onward(_, _) => Went::Out,
-            End::ToInside(_) => Went::In,
-            End::Dropped(cause) => Went::Dropped(*cause),
-        }
-    }
+/// How a leg ended, and what it did.
+#[derive(Drop)]
+pub(crate) struct Passed {
+    pub(crate) end: End,
+    pub(crate) passage: Passage,
 }
 
 impl Seen {
-    ghost use Rattle.napt_sequential.specs.Traces.{seen_of};
+    ghost use Rattle.napt_sequential.specs.CountedTranslators.{seen_of};
 
     pub(crate) fn of(packet: &Packet) -> Seen
         ensures { result ≡ seen_of packet.now }
@@ -92,7 +77,7 @@ impl Seen {
 
 /// Out through the binding that was found.
 pub(crate) fn out_through(found: Option<TimedRow>) -> Passage
-    ensures { result ≡ traces.out_through found }
+    ensures { result ≡ lookups.out_through found }
 {
     match found {
         Some(row) => Passage::Out(row),
@@ -102,7 +87,7 @@ pub(crate) fn out_through(found: Option<TimedRow>) -> Passage
 
 /// In through the binding that was found.
 pub(crate) fn in_through(found: Option<TimedRow>) -> Passage
-    ensures { result ≡ traces.in_through found }
+    ensures { result ≡ lookups.in_through found }
 {
     match found {
         Some(row) => Passage::In(row),

@@ -105,3 +105,12 @@ inside_same p q e f s t =
     sym (ap (λ (x : Protocol). inside_eq (inside_key p e) (inside_key x e)) s
     ∙ ap (λ (x : Endpoint). inside_eq (inside_key p e) (inside_key q x)) t)
     ∙ inside_itself p e
+
+-- what holds at the inside endpoint, and at each other one
+pub by_inside : (p q : Protocol) (e f : Endpoint) (P : Protocol → Endpoint → Type 0) → P p e →
+    (inside_eq (inside_key p e) (inside_key q f) ≡ false → P q f) → P q f
+by_inside p q e f P here rest = elim (inside_eq (inside_key p e) (inside_key q f)) as (λ v.
+    inside_eq (inside_key p e) (inside_key q f) ≡ v → P q f) [
+      | true ↦ λ t. let s = inside_ends p q e f t in subst (P q) s.1 (subst (λ (x : Protocol). P x e) s.0 here)
+      | false ↦ rest
+    ] refl

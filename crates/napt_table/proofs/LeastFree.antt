@@ -1,5 +1,5 @@
 -- The least free number, by the first free places.
-use Rattle.std.proofs.Common.{◌≡◌, ℕ, ◌<◌, ◌≤◌, Bool, List, Option, Some, None, ◌⊎◌, inl, inr, sym, ◌∙◌, arith}
+use Rattle.std.proofs.Common.{◌≡◌, ℕ, ◌<◌, Bool, List, Option, Some, None, ◌⊎◌, inl, inr, sym, ◌∙◌, arith}
 use Rattle.napt_collections.specs.Sets.{has, IsFirstAbsent}
 use Rattle.napt_wire.specs.declared.Protocol.{Protocol}
 use Rattle.napt_wire.specs.declared.Protocol.TheVariants.{Icmp, Tcp, Udp}

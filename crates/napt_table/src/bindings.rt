@@ -13,7 +13,6 @@ ghost use Rattle.napt_table.specs.Bindings.{AreDue, AreDueBut, come_up};
 use crate::TimedRow;
 use crate::bindings::held::Held;
 use crate::bindings::keys::ExternalKey;
-use crate::rows::row_of;
 use napt_binding::{IdleTimers, end_of, is_live, until};
 use napt_collections::Due;
 use napt_rules::{Inbound, Received, Row};
@@ -159,7 +158,7 @@ impl Bindings {
         self.timers.keep_limits();
         match self.held.get(ExternalKey { number, protocol }) {
             Some(binding) if is_live(binding, self.timers, now) => Some(TimedRow {
-                row: row_of(binding),
+                row: binding.row.row(),
                 end: end_of(binding, self.timers),
             }),
             _ => None,

@@ -1,14 +1,12 @@
 -- What a packet that reads has: numbers that its kind can carry, and no more bytes than its length field can say.
-use Rattle.std.proofs.Common.{◌≡◌, ℕ, ◌^◌, ◌<◌, ◌≤◌, false, not, List, [], ◌∷◌, length, take, drop, None, Ok, arith, refl, sym, ap, subst, slice_index}
+use Rattle.std.proofs.Common.{◌≡◌, ℕ, ◌^◌, ◌<◌, ◌≤◌, false, List, length, take, Ok, arith, refl, sym, ap, subst, slice_index}
 use Rattle.std.proofs.lemmas.Bool.Decides.{nat_tests}
 use Rattle.std.proofs.lemmas.Grind.{common_steps}
-use Rattle.napt_wire.specs.Bytes.{byte_at}
 use Rattle.napt_wire.specs.Fields.{total_length, transport, form_at, source, kind, kind_of, number_at, number_place, is_error, CanCarry}
-use Rattle.napt_wire.specs.Reading.{refusal, reading, message_checks, has_bad_transport, has_zero_port, is_translated}
+use Rattle.napt_wire.specs.Reading.{reading, message_checks, has_zero_port}
 use Rattle.napt_wire.specs.Packet.{IsPacket}
-use Rattle.napt_wire.proofs.Readings.{passes_of_read, first_passed, others_passed}
+use Rattle.napt_wire.proofs.Readings.{AllPass, passes_of_read}
 use Rattle.napt_wire.specs.declared.Side.{Side}
-use Rattle.napt_wire.specs.declared.Cause.TheVariants.{BadHeader, BadPort, Unsupported}
 use Rattle.napt_wire.specs.declared.form.Form.{Form}
 use Rattle.napt_wire.specs.declared.form.Form.TheVariants.{Udp, Tcp, Request, Reply, Error}
 use Rattle.napt_wire.specs.declared.form.End.TheVariants.{Source}
@@ -18,17 +16,11 @@ module _ (side : Side) (bytes : List ℕ) where
       form ≡ form_at 0 bytes → has_zero_port form (transport 0 bytes) bytes ≡ false
   no_zero_port form h e = subst (λ (f : Form). has_zero_port f (transport 0 bytes) bytes ≡ false) (sym e) h
 
-  carried_by : (form : Form) → refusal (message_checks form side bytes) ≡ None → form ≡ form_at 0 bytes →
+  carried_by : (form : Form) → AllPass (message_checks form side bytes) → form ≡ form_at 0 bytes →
       is_error (kind_of form bytes) ≡ false →
       CanCarry (kind_of form bytes) (number_at (transport 0 bytes) (number_place form Source) bytes)
-  carried_by Udp h e plain =
-      let passed = first_passed (has_zero_port (form_at 0 bytes) (transport 0 bytes) bytes) BadPort [] h in
-      let ports = no_zero_port Udp passed e in
-      grind (arith, nat_tests, ports)
-  carried_by Tcp h e plain =
-      let passed = first_passed (has_zero_port (form_at 0 bytes) (transport 0 bytes) bytes) BadPort [] h in
-      let ports = no_zero_port Tcp passed e in
-      grind (arith, nat_tests, ports)
+  carried_by Udp h e plain = let ports = no_zero_port Udp h.0 e in grind (arith, nat_tests, ports)
+  carried_by Tcp h e plain = let ports = no_zero_port Tcp h.0 e in grind (arith, nat_tests, ports)
   carried_by Request h e plain = tt
   carried_by Reply h e plain = tt
   carried_by Error h e plain = cc
@@ -37,13 +29,7 @@ module _ (side : Side) (bytes : List ℕ) where
   pub source-carried : reading side bytes ≡ Ok bytes → is_error (kind bytes) ≡ false →
       CanCarry (kind bytes) (source bytes).number
   unfolding kind source
-  source-carried h plain =
-      let passes = passes_of_read side bytes bytes h in
-      let messages = message_checks (form_at 0 bytes) side bytes in
-      let translated = not (is_translated side (form_at 0 bytes) (byte_at (transport 0 bytes) bytes)) in
-      let transports = has_bad_transport (form_at 0 bytes) (drop (transport 0 bytes) bytes) in
-      carried_by (form_at 0 bytes) (others_passed translated Unsupported messages
-      (others_passed transports BadHeader ((translated, Unsupported) ∷ messages) passes.bodies)) refl plain
+  source-carried h plain = carried_by (form_at 0 bytes) (passes_of_read side bytes bytes h).bodies.1.1 refl plain
 
   pub length-total : reading side bytes ≡ Ok bytes → length bytes ≤ total_length 0 bytes
   length-total h = let passes = passes_of_read side bytes bytes h in

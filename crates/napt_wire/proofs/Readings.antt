@@ -1,16 +1,14 @@
 -- What a packet that reads is, check by check.
-use Rattle.std.proofs.Common.{◌≡◌, ℕ, ◌<◌, ◌≤◌, ◌||◌, ◌==◌, Bool, true, false, not, List, [], ◌∷◌, ◌++◌, length, take, drop, Option, Some, None, Ok, Err, arith, refl, sym, ◌∙◌, ap, nat_lt, slice_index, length-drop}
+use Rattle.std.proofs.Common.{◌≡◌, ℕ, ◌<◌, ◌≤◌, Bool, true, false, List, [], ◌∷◌, ◌++◌, length, take, drop, Option, Some, None, Ok, Err, arith, refl, sym, ◌∙◌, ap, slice_index, length-drop}
 use Rattle.std.proofs.lemmas.Bool.Decides.{nat_tests}
 use Rattle.std.proofs.lemmas.Grind.{common_steps}
-use Rattle.napt_wire.specs.Bytes.{byte_at}
 use Rattle.napt_wire.specs.Fields.{version, header_length, total_length, transport, form_at}
-use Rattle.napt_wire.specs.Reading.{refusal, reading, read_unless, datagram, length_checks, header_checks, body_checks, message_checks, has_bad_transport, is_translated}
+use Rattle.napt_wire.specs.Reading.{refusal, reading, read_unless, datagram, length_checks, header_checks, body_checks, has_bad_transport}
 use Rattle.napt_wire.specs.Packet.{IsPacket}
 use Rattle.napt_wire.specs.Room.{HasHeaders}
 use Rattle.std.proofs.lemmas.List.{length-take-le}
 use Rattle.std.proofs.Math.Seq.{take-length}
 use Rattle.napt_wire.specs.declared.Cause.{Cause}
-use Rattle.napt_wire.specs.declared.Cause.TheVariants.{Truncated, NotIpv4, BadHeader, Unsupported}
 use Rattle.napt_wire.specs.declared.Side.{Side}
 use Rattle.napt_wire.specs.declared.form.Form.{Form}
 use Rattle.napt_wire.specs.declared.form.Form.TheVariants.{Udp, Tcp, Request, Reply, Error}
@@ -32,32 +30,19 @@ refusal-prefix_none [] ys h = refl
 refusal-prefix_none ((true, c) ∷ xs) ys h = h
 refusal-prefix_none ((false, c) ∷ xs) ys h = refusal-prefix_none xs ys h
 
--- a check that did not refuse, and the checks behind it
-pub first_passed : (b : Bool) (cause : Cause) (checks : List (Bool × Cause)) → refusal ((b, cause) ∷ checks) ≡ None →
-    b ≡ false
-first_passed true cause checks h = cc
-first_passed false cause checks h = refl
+-- each of these checks passed
+abbrev pub AllPass : List (Bool × Cause) → Type 0
+AllPass [] = Unit {0}
+AllPass (check ∷ checks) = (check.0 ≡ false) × AllPass checks
 
-pub others_passed : (b : Bool) (cause : Cause) (checks : List (Bool × Cause)) → refusal ((b, cause) ∷ checks) ≡ None →
-    refusal checks ≡ None
-others_passed true cause checks h = cc
-others_passed false cause checks h = h
+pub all_pass : (checks : List (Bool × Cause)) → refusal checks ≡ None → AllPass checks
+all_pass [] h = tt
+all_pass ((true, cause) ∷ checks) h = cc
+all_pass ((false, cause) ∷ checks) h = (refl, all_pass checks h)
 
--- what passed, check by check
-pub four_passed : (a b c d : Bool) (w x y z : Cause) → refusal ((a, w) ∷ (b, x) ∷ (c, y) ∷ (d, z) ∷ []) ≡ None →
-    (a ≡ false) × (b ≡ false) × (c ≡ false) × (d ≡ false)
-four_passed true b c d w x y z h = cc
-four_passed false true c d w x y z h = cc
-four_passed false false true d w x y z h = cc
-four_passed false false false true w x y z h = cc
-four_passed false false false false w x y z h = (refl, refl, refl, refl)
-
-pub three_passed : (a b c : Bool) (x y z : Cause) → refusal ((a, x) ∷ (b, y) ∷ (c, z) ∷ []) ≡ None →
-    (a ≡ false) × (b ≡ false) × (c ≡ false)
-three_passed true b c x y z h = cc
-three_passed false true c x y z h = cc
-three_passed false false true x y z h = cc
-three_passed false false false x y z h = (refl, refl, refl)
+pub none_refuses : (checks : List (Bool × Cause)) → AllPass checks → refusal checks ≡ None
+none_refuses [] h = refl
+none_refuses ((b, cause) ∷ checks) h = rw h.0 (none_refuses checks h.1)
 
 pub reading_err : (side : Side) (bytes : List ℕ) (cause : Cause) →
     refusal (length_checks bytes ++ header_checks (datagram bytes) ++ body_checks side (datagram bytes)) ≡ Some cause →
@@ -121,28 +106,26 @@ pub record HasLengths (bytes : List ℕ) : Type 0 where
 
 pub lengths_of : (bytes : List ℕ) → refusal (length_checks bytes) ≡ None → HasLengths bytes
 lengths_of bytes h =
-    let passed = four_passed (nat_lt (length bytes) 20) (not (version 0 bytes == 4)) (nat_lt (header_length 0 bytes) 20
-    || nat_lt (total_length 0 bytes) (header_length 0 bytes)) (nat_lt (length bytes) (total_length 0 bytes))
-    Truncated NotIpv4 BadHeader Truncated h in
+    let passed = all_pass (length_checks bytes) h in
     record {
       long = grind (arith, nat_tests, passed.0);
-      version_is = grind (arith, nat_tests, passed.1);
-      header_long = grind (arith, nat_tests, passed.2);
-      header_fits = grind (arith, nat_tests, passed.2);
-      total_fits = grind (arith, nat_tests, passed.3);
+      version_is = grind (arith, nat_tests, passed.1.0);
+      header_long = grind (arith, nat_tests, passed.1.1.0);
+      header_fits = grind (arith, nat_tests, passed.1.1.0);
+      total_fits = grind (arith, nat_tests, passed.1.1.1.0);
     }
 
-pub four_pass : (a b c d : Bool) (w x y z : Cause) → a ≡ false → b ≡ false → c ≡ false → d ≡ false →
-    refusal ((a, w) ∷ (b, x) ∷ (c, y) ∷ (d, z) ∷ []) ≡ None
-four_pass a b c d w x y z ha hb hc hd = rw (ha, hb, hc, hd) refl
-
 pub lengths_pass : (bytes : List ℕ) → HasLengths bytes → refusal (length_checks bytes) ≡ None
-lengths_pass bytes has =
-    four_pass (nat_lt (length bytes) 20) (not (version 0 bytes == 4)) (nat_lt (header_length 0 bytes) 20
-    || nat_lt (total_length 0 bytes) (header_length 0 bytes)) (nat_lt (length bytes) (total_length 0 bytes))
-    Truncated NotIpv4 BadHeader Truncated
-    (grind (arith, nat_tests, has.long)) (grind (arith, nat_tests, has.version_is))
-    (grind (arith, nat_tests, has.header_long, has.header_fits)) (grind (arith, nat_tests, has.total_fits))
+lengths_pass bytes has = none_refuses (length_checks bytes) (
+  grind (arith, nat_tests, has.long),
+  (
+    grind (arith, nat_tests, has.version_is),
+    (
+      grind (arith, nat_tests, has.header_long, has.header_fits),
+      (grind (arith, nat_tests, has.total_fits), tt),
+    ),
+  ),
+)
 
 -- the front of some bytes reads as they do
 pub slice_index_take : (bytes : List ℕ) (n i : ℕ) → i < n → slice_index (take n bytes) i ≡ slice_index bytes i
@@ -182,8 +165,8 @@ datagram_again bytes packet e has =
 pub record Passes (side : Side) (bytes : List ℕ) : Type 0 where
   pub whole : datagram bytes ≡ bytes
   pub lengths : HasLengths bytes
-  pub headers : refusal (header_checks bytes) ≡ None
-  pub bodies : refusal (body_checks side bytes) ≡ None
+  pub headers : AllPass (header_checks bytes)
+  pub bodies : AllPass (body_checks side bytes)
 
 pub refusal-suffix_none : (xs ys : List (Bool × Cause)) → refusal (xs ++ ys) ≡ None → refusal ys ≡ None
 refusal-suffix_none xs ys h = sym (refusal-append_none xs ys (refusal-prefix_none xs ys h)) ∙ h
@@ -204,14 +187,18 @@ passes_of_read side bytes packet h =
     record {
       whole = again.1;
       lengths = again.0;
-      headers = rw (← gives.1) (refusal-suffix_none (length_checks bytes) (header_checks (datagram bytes)) front);
-      bodies = rw (← gives.1) (refusal-suffix_none (length_checks bytes ++ header_checks (datagram bytes))
-          (body_checks side (datagram bytes)) gives.0);
+      headers = rw (← gives.1) (all_pass (header_checks (datagram bytes))
+          (refusal-suffix_none (length_checks bytes) (header_checks (datagram bytes)) front));
+      bodies = rw (← gives.1) (all_pass (body_checks side (datagram bytes))
+          (refusal-suffix_none (length_checks bytes ++ header_checks (datagram bytes))
+          (body_checks side (datagram bytes)) gives.0));
     }
 
 pub reads_of_passes : (side : Side) (bytes : List ℕ) → Passes side bytes → reading side bytes ≡ Ok bytes
 reads_of_passes side bytes p =
-    reading_ok_all side bytes (lengths_pass bytes p.lengths) (rw p.whole p.headers) (rw p.whole p.bodies)
+    reading_ok_all side bytes (lengths_pass bytes p.lengths)
+    (rw p.whole (none_refuses (header_checks bytes) p.headers))
+    (rw p.whole (none_refuses (body_checks side bytes) p.bodies))
     ∙ ap Ok p.whole
 
 -- what a packet reads as reads as itself
@@ -229,10 +216,7 @@ long_transport Error payload h = grind (arith, nat_tests, h)
 
 pub room_of : (side : Side) (bytes : List ℕ) → Passes side bytes → HasHeaders 0 bytes
 room_of side bytes p =
-    let good = first_passed (has_bad_transport (form_at 0 bytes) (drop (transport 0 bytes) bytes)) BadHeader
-    ((not (is_translated side (form_at 0 bytes) (byte_at (transport 0 bytes) bytes)), Unsupported)
-    ∷ message_checks (form_at 0 bytes) side bytes) p.bodies in
-    let long = long_transport (form_at 0 bytes) (drop (transport 0 bytes) bytes) good in
+    let long = long_transport (form_at 0 bytes) (drop (transport 0 bytes) bytes) p.bodies.0 in
     record {
       header = omega (arith, p.lengths.header_long);
       transport_start = omega (arith, long, length-drop (transport 0 bytes) bytes);

@@ -1,11 +1,12 @@
 -- A transport checksum is right after a rewrite exactly where it was right before.
 use Rattle.std.proofs.Common.{◌≡◌, ℕ, ◌+◌, ◌*◌, ◌/◌, ◌%◌, ◌<◌, ◌≤◌, ◌⊎◌, ◌==◌, ◌||◌, inl, inr, Bool, true, false, List, [], ◌∷◌, ◌++◌, length, Option, Some, None, sum, slice_index, arith, refl, sym, ◌∙◌, ap, nat_le, nat_lt, if◌then◌else◌, option_map}
+use Rattle.std.proofs.lemmas.Bool.{or_parts}
 use Rattle.std.proofs.lemmas.Bool.Decides.{nat_tests}
 use Rattle.napt_wire.proofs.Changes.{AreWithin, part, changed-append, length-changed, word_at-changed, word_at-put_word_other, word_at-put_word, length-put_word, part-changed_other, sum-part-changed}
 use Rattle.napt_wire.proofs.Checksums.{sum-append}
 use Rattle.napt_wire.proofs.Ends.{address-within, number-there}
 use Rattle.napt_wire.proofs.WithEnd.{Carries, KeepsHeader, end_keeps_header, end_keeps_body, form_kept}
-use Rattle.napt_wire.proofs.WithInner.{or_left, or_right, header_beyond, address_read, source_stays, destination_stays, long_other, first_byte, PassesError, error_kept, inner_room, inner_first, outer_within}
+use Rattle.napt_wire.proofs.WithInner.{header_beyond, address_read, source_stays, destination_stays, long_other, first_byte, PassesError, error_kept, inner_room, inner_first, outer_within}
 use Rattle.napt_wire.proofs.Readings.{room_of}
 use Rattle.napt_wire.specs.declared.Side.{Side}
 use Rattle.napt_wire.specs.declared.Way.{Way}
@@ -174,13 +175,12 @@ udp_right at k old new bytes after small start long number pseudo field check pa
     ++ words (part begin size after))
     (rw (check, canon_udp_zero (word_at (begin + 6) bytes) (end_words old) (end_words new)) refl)
     (λ there.
-    let lengths = or_left (word_at (begin + 6) bytes == 0 || nat_lt size 8) (nat_lt (length bytes) (begin + size))
+    let lengths = or_parts (word_at (begin + 6) bytes == 0 || nat_lt size 8) (nat_lt (length bytes) (begin + size))
     there in
-    let present : (word_at (begin + 6) bytes == 0) ≡ false = or_left (word_at (begin + 6) bytes == 0)
-    (nat_lt size 8) lengths in
-    let eight : 8 ≤ size = at_least size 8 (or_right (word_at (begin + 6) bytes == 0) (nat_lt size 8) lengths) in
-    let whole : begin + size ≤ length bytes = at_least (length bytes) (begin + size)
-    (or_right (word_at (begin + 6) bytes == 0 || nat_lt size 8) (nat_lt (length bytes) (begin + size)) there) in
+    let both = or_parts (word_at (begin + 6) bytes == 0) (nat_lt size 8) lengths.0 in
+    let present : (word_at (begin + 6) bytes == 0) ≡ false = both.0 in
+    let eight : 8 ≤ size = at_least size 8 both.1 in
+    let whole : begin + size ≤ length bytes = at_least (length bytes) (begin + size) lengths.1 in
     joined (pseudo_words at size bytes) (words (part begin size bytes)) (pseudo_words at size after)
     (words (part begin size after))
     (udp_total (sum (words (part begin size bytes))) (sum (words (part begin size after)))
@@ -210,9 +210,9 @@ tcp_right at k old new bytes after small start length_is long number pseudo part
     (pseudo_words at size bytes ++ words (part begin size bytes)) (pseudo_words at size after
     ++ words (part begin size after)) refl
     (λ there.
-    let enough : 18 ≤ size = at_least size 18 (or_left (nat_lt size 18) (nat_lt (length bytes) (begin + size)) there) in
-    let whole : begin + size ≤ length bytes = at_least (length bytes) (begin + size)
-    (or_right (nat_lt size 18) (nat_lt (length bytes) (begin + size)) there) in
+    let both = or_parts (nat_lt size 18) (nat_lt (length bytes) (begin + size)) there in
+    let enough : 18 ≤ size = at_least size 18 both.0 in
+    let whole : begin + size ≤ length bytes = at_least (length bytes) (begin + size) both.1 in
     joined (pseudo_words at size bytes) (words (part begin size bytes)) (pseudo_words at size after)
     (words (part begin size after))
     (tcp_total (sum (words (part begin size bytes))) (sum (words (part begin size after)))
@@ -235,9 +235,9 @@ echo_right begin size old number bytes after is parts =
     same_right (nat_lt size 6 || nat_lt (length bytes) (begin + size)) (nat_lt size 6 || nat_lt (length bytes)
     (begin + size)) (words (part begin size bytes)) (words (part begin size after)) refl
     (λ there.
-    let enough : 6 ≤ size = at_least size 6 (or_left (nat_lt size 6) (nat_lt (length bytes) (begin + size)) there) in
-    let whole : begin + size ≤ length bytes = at_least (length bytes) (begin + size)
-    (or_right (nat_lt size 6) (nat_lt (length bytes) (begin + size)) there) in
+    let both = or_parts (nat_lt size 6) (nat_lt (length bytes) (begin + size)) there in
+    let enough : 6 ≤ size = at_least size 6 both.0 in
+    let whole : begin + size ≤ length bytes = at_least (length bytes) (begin + size) both.1 in
     echo_residue (sum (words (part begin size bytes))) (sum (words (part begin size after)))
     (word_at (begin + 2) bytes) old number
     (rw parts (two_changed begin size 2 1 old number (canon (word_at (begin + 2) bytes) (old ∷ []) (number ∷ [])) bytes

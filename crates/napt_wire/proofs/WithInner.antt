@@ -1,18 +1,18 @@
 -- An ICMP error whose quoted datagram gets an end back is an ICMP error.
-use Rattle.std.proofs.Common.{◌≡◌, ℕ, ◌+◌, ◌-◌, ◌*◌, ◌/◌, ◌%◌, ◌≤◌, ◌⊎◌, ◌==◌, ◌||◌, inl, inr, Bool, true, false, not, List, [], ◌∷◌, ◌++◌, length, drop, None, Ok, sum, slice_index, arith, refl, sym, ◌∙◌, ap, nat_le, nat_lt, length-drop, if◌then◌else◌, bit_and, map}
+use Rattle.std.proofs.Common.{◌≡◌, ℕ, ◌+◌, ◌-◌, ◌*◌, ◌/◌, ◌%◌, ◌≤◌, ◌⊎◌, ◌==◌, inl, inr, Bool, true, false, not, List, [], ◌∷◌, ◌++◌, length, drop, Ok, sum, slice_index, arith, refl, sym, ◌∙◌, ap, subst, nat_le, nat_lt, length-drop, if◌then◌else◌, bit_and, map}
+use Rattle.std.proofs.lemmas.Bool.{or_parts}
 use Rattle.std.proofs.lemmas.Bool.Decides.{nat_tests}
 use Rattle.std.proofs.lemmas.List.{map-append}
 use Rattle.std.proofs.Math.Seq.{take-length}
 use Rattle.napt_wire.proofs.Changes.{AreWithin, AreOf, AreApart, IsApart, AreWords, part, changed-append, length-changed, slice_index-changed, word_at-changed, word_at-put_word_other, word_at-put_word, length-put_word, part-changed_other, sum-part-changed}
 use Rattle.napt_wire.proofs.Checksums.{sum-append, sum-cons}
 use Rattle.napt_wire.proofs.Ends.{address-within, address-of, address-apart, number-there, within-append, within-wider, there-of_within}
-use Rattle.napt_wire.proofs.Readings.{Passes, three_passed, room_of, passes_of_read}
-use Rattle.napt_wire.proofs.WithEnd.{Carries, KeepsBody, KeepsHeader, keeps_before, header_keeps, end_keeps_header, end_keeps_body, form_kept, message_passes, passes_kept, residue_zero, zero_residue}
+use Rattle.napt_wire.proofs.Readings.{AllPass, Passes, room_of, passes_of_read}
+use Rattle.napt_wire.proofs.WithEnd.{Carries, KeepsBody, KeepsHeader, keeps_before, header_keeps, end_keeps_header, end_keeps_body, form_kept, passes_kept, residue_zero, zero_residue}
 use Rattle.napt_wire.specs.Bytes.{byte_at, word_at, long_at, put_word, words}
 use Rattle.napt_wire.specs.Checksum.{canon, is_right}
 use Rattle.napt_wire.specs.Fields.{address, header_length, fragment_offset, protocol_number, version, transport, form_at, inner_at, number_place, end_at, inner, kind, kind_of, is_error, CanCarry, CanQuote, protocol_of}
-use Rattle.napt_wire.specs.Reading.{reading, refusal, message_checks, error_checks, has_bad_inner, header, is_known, is_quoted, has_zero_port}
-use Rattle.napt_wire.specs.declared.Cause.TheVariants.{BadChecksum, BadInner, BadPort}
+use Rattle.napt_wire.specs.Reading.{reading, message_checks, error_checks, has_bad_inner, header, is_known, is_quoted, has_zero_port}
 use Rattle.napt_wire.specs.Rewriting.{change, changed, olds, news, address_words, address_changes, number_changes, end_changes, reverted_changes, inner_end, outer_end}
 use Rattle.napt_wire.specs.Packet.{IsFound, body_of, quoted_of}
 use Rattle.napt_wire.specs.Room.{HasHeaders, AreThere}
@@ -29,17 +29,6 @@ use Rattle.napt_wire.specs.declared.form.Form.TheVariants.{Udp, Tcp, Request, Re
 use Rattle.napt_wire.specs.declared.form.End.{End}
 use Rattle.napt_wire.specs.declared.form.End.TheVariants.{Source, Destination}
 
-pub or_left : (a b : Bool) → (a || b) ≡ false → a ≡ false
-or_left true b h = cc
-or_left false b h = refl
-
-pub or_right : (a b : Bool) → (a || b) ≡ false → b ≡ false
-or_right true b h = cc
-or_right false b h = h
-
-or_false : (a b : Bool) → a ≡ false → b ≡ false → (a || b) ≡ false
-or_false a b ha hb = rw (ha, hb) refl
-
 -- the datagram at a place may be quoted, part by part
 pub record GoodInner (side : Side) (at : ℕ) (bytes : List ℕ) : Type 0 where
   pub there : nat_lt (length bytes) (at + 20) ≡ false
@@ -52,46 +41,27 @@ pub record GoodInner (side : Side) (at : ℕ) (bytes : List ℕ) : Type 0 where
   pub quoted : not (is_quoted side (form_at at bytes)) ≡ false
   pub ours : not (address at Source bytes == address 0 Destination bytes) ≡ false
 
-nine_passed : (a b c d e f g h i : Bool) → (a || b || c || d || e || f || g || h || i) ≡ false →
-    (a ≡ false) × (b ≡ false) × (c ≡ false) × (d ≡ false) × (e ≡ false) × (f ≡ false) × (g ≡ false) × (h ≡ false)
-    × (i ≡ false)
-nine_passed a b c d e f g h i p =
-    let p8 = or_left (a || b || c || d || e || f || g || h) i p in
-    let p7 = or_left (a || b || c || d || e || f || g) h p8 in
-    let p6 = or_left (a || b || c || d || e || f) g p7 in
-    let p5 = or_left (a || b || c || d || e) f p6 in
-    let p4 = or_left (a || b || c || d) e p5 in
-    let p3 = or_left (a || b || c) d p4 in
-    let p2 = or_left (a || b) c p3 in (
-      or_left a b p2,
-      or_right a b p2,
-      or_right (a || b) c p3,
-      or_right (a || b || c) d p4,
-      or_right (a || b || c || d) e p5,
-      or_right (a || b || c || d || e) f p6,
-      or_right (a || b || c || d || e || f) g p7,
-      or_right (a || b || c || d || e || f || g) h p8,
-      or_right (a || b || c || d || e || f || g || h) i p,
-    )
-
 pub good_inner : (side : Side) (at : ℕ) (bytes : List ℕ) → has_bad_inner side at bytes ≡ false → GoodInner side at bytes
 unfolding has_bad_inner
 good_inner side at bytes h =
-    let p = nine_passed (nat_lt (length bytes) (at + 20)) (not (version at bytes == 4))
-    (nat_lt (header_length at bytes) 20) (nat_lt (length bytes) (transport at bytes + 8))
-    (not (is_right (words (header at bytes)))) (not (fragment_offset at bytes == 0))
-    (not (is_known (protocol_number at bytes))) (not (is_quoted side (form_at at bytes)))
-    (not (address at Source bytes == address 0 Destination bytes)) h in
+    let eight = or_parts _ _ h in
+    let seven = or_parts _ _ eight.0 in
+    let six = or_parts _ _ seven.0 in
+    let five = or_parts _ _ six.0 in
+    let four = or_parts _ _ five.0 in
+    let three = or_parts _ _ four.0 in
+    let two = or_parts _ _ three.0 in
+    let one = or_parts _ _ two.0 in
     record {
-      there = p.0;
-      version_is = p.1;
-      long = p.2;
-      room = p.3;
-      right = p.4;
-      whole = p.5;
-      known = p.6;
-      quoted = p.7;
-      ours = p.8;
+      there = one.0;
+      version_is = one.1;
+      long = two.1;
+      room = three.1;
+      right = four.1;
+      whole = five.1;
+      known = six.1;
+      quoted = seven.1;
+      ours = eight.1;
     }
 
 pub inner_good : (side : Side) (at : ℕ) (bytes : List ℕ) → GoodInner side at bytes → has_bad_inner side at bytes ≡ false
@@ -415,35 +385,16 @@ pub record PassesError (side : Side) (bytes : List ℕ) : Type 0 where
   pub inner_good : GoodInner side (inner_at bytes) bytes
   pub ports : has_zero_port (form_at (inner_at bytes) bytes) (transport (inner_at bytes) bytes) bytes ≡ false
 
-error_parts : (side : Side) (form : Form) (bytes : List ℕ) → form ≡ Error → refusal (message_checks form side bytes)
-    ≡ None → refusal (error_checks side bytes) ≡ None
-error_parts side Udp bytes e h = cc
-error_parts side Tcp bytes e h = cc
-error_parts side Request bytes e h = cc
-error_parts side Reply bytes e h = cc
-error_parts side Error bytes e h = h
-
 pub passes_error : (side : Side) (bytes : List ℕ) → Passes side bytes → form_at 0 bytes ≡ Error → PassesError side bytes
 passes_error side bytes p form_is =
-    let passed = three_passed (not (is_right (words (drop (transport 0 bytes) bytes))))
-    (has_bad_inner side (inner_at bytes) bytes) (has_zero_port (form_at (inner_at bytes) bytes)
-    (transport (inner_at bytes) bytes) bytes) BadChecksum BadInner BadPort
-    (error_parts side (form_at 0 bytes) bytes form_is (message_passes side bytes p)) in
+    let passed = subst (λ (f : Form). AllPass (message_checks f side bytes)) form_is p.bodies.1.1 in
     record {
       passes = p;
       form_is = form_is;
       right = residue_zero (sum (words (drop (transport 0 bytes) bytes))) passed.0;
-      inner_good = good_inner side (inner_at bytes) bytes passed.1;
-      ports = passed.2;
+      inner_good = good_inner side (inner_at bytes) bytes passed.1.0;
+      ports = passed.1.1.0;
     }
-
-three_pass : (a b c : Bool) → a ≡ false → b ≡ false → c ≡ false →
-    refusal ((a, BadChecksum) ∷ (b, BadInner) ∷ (c, BadPort) ∷ []) ≡ None
-three_pass a b c ha hb hc = rw (ha, hb, hc) refl
-
-message_of_error : (side : Side) (form : Form) (bytes : List ℕ) → form ≡ Error → refusal (error_checks side bytes)
-    ≡ None → refusal (message_checks form side bytes) ≡ None
-message_of_error side form bytes e h = rw e h
 
 zero_port_kept : (form : Form) (start : ℕ) (old new : List ℕ) → KeepsBody form start old new →
     has_zero_port form start new ≡ false
@@ -633,16 +584,16 @@ error_kept side way new bytes p carries =
           (ours_kept side way new c bytes room inner_room (omega arith) (omega arith)
           (same_number (address at Source bytes) (address 0 Destination bytes) p.inner_good.ours));
     } in
-    let errors : refusal (error_checks side after) ≡ None =
-    rw same_start
-    (three_pass (not (is_right (words (drop start after)))) (has_bad_inner side at after)
-    (has_zero_port (form_at at after) (transport at after) after)
-    (zero_residue (sum (words (drop start after))) message_right)
-    (inner_good side at after good)
-    (rw (inner_form, inner_start) (zero_port_kept (form_at at bytes) (transport at bytes) bytes after inner_body))) in
+    let ports : has_zero_port (form_at at bytes) (transport at bytes) after ≡ false =
+    zero_port_kept (form_at at bytes) (transport at bytes) bytes after inner_body in
+    let errors : AllPass (error_checks side after) =
+    rw same_start (
+      zero_residue (sum (words (drop start after))) message_right,
+      (inner_good side at after good, (rw (inner_form, inner_start) ports, tt)),
+    ) in
     record {
       passes = passes_kept side bytes after p.passes header body
-          (message_of_error side (form_at 0 bytes) after p.form_is errors);
+          (subst (λ (f : Form). AllPass (message_checks f side after)) (sym p.form_is) errors);
       same_form = same_form;
       same_start = same_start;
       inner_form = inner_form;

@@ -11,25 +11,29 @@ ghost use Rattle.std.specs.Prelude.{◌≡◌};
 ghost use Rattle.std.specs.Process.{exit_status};
 ghost use Rattle.napt_program.specs.Stop.{status_at_end};
 
-use napt_program::{Stop, Streams, status_at_end};
-use std::io::IsTerminal;
+use napt_program::{Call, Stop, Streams, status_at_end};
 use std::process::ExitCode;
 
 fn main(rt: HostRuntime) -> ExitCode {
     let streams = Streams::open_now(&rt);
-    let is_told = streams.error && rt.stderr().is_terminal();
-    let answer = program::serve(&rt, streams, is_told);
-    ended(&rt, streams, &answer)
+    let call = Call::of(&rt, streams, manual::OWN.name);
+    match call.as_called(&rt, manual::INSTALLED.name) {
+        Ok(call) => ended(&rt, streams, call, &program::serve(&rt, streams, call)),
+        Err(stop) => ended(&rt, streams, call, &Err(stop)),
+    }
 }
 
-/// Writes the fault line, if there is one and standard error is open, and returns the exit status.
-fn ended(rt: &impl Eprint, streams: Streams, answer: &Result<(), Stop>) -> ExitCode
+/// Writes the fault line, if there is one and standard error is open, tells people at a terminal what to do about it, and
+/// returns the exit status.
+fn ended(rt: &impl Eprint, streams: Streams, call: Call, answer: &Result<(), Stop>) -> ExitCode
     ensures { exit_status result ≡ status_at_end answer.now }
 {
     if let Err(stop) = answer {
         if streams.error {
-            let _ = eprintln!(rt; "stream: {stop}");
+            let name = call.name;
+            let _ = eprintln!(rt; "{name}: {stop}");
         }
+        call.tell_advice(rt, *stop);
     }
     ExitCode::from(status_at_end(answer))
 }

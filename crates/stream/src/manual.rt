@@ -2,20 +2,22 @@
 
 use napt_program::Manual;
 
-/// The help of the program.
-pub const MANUAL: Manual = Manual {
-    name: "stream",
-    about: ABOUT,
-    notes: NOTES,
-};
-
 const ABOUT: &str = "Network address and port translation for IPv4 while the packets come: reads \
 captures of the packets that inside hosts and the outside send, from files or pipes, and writes the \
 captures of what leaves for the other side at once, in bounded memory.";
 
-const NOTES: &str = "Examples:
-  stream < inside.pcap > to-outside.pcap
-  zstdcat inside.pcap.zst | stream --config napt.toml --report report.txt > to-outside.pcap
+/// The help of the program under a name.
+macro_rules! manual {
+    ($name:literal) => {
+        Manual {
+            name: $name,
+            about: ABOUT,
+            notes: concat!(
+                "FILE may be -, standard input or standard output; a file of that name is ./-
+
+Examples:
+  ", $name, " < inside.pcap > to-outside.pcap
+  zstdcat inside.pcap.zst | ", $name, " --config napt.toml --report report.txt > to-outside.pcap
 
 Where it ends well, each output holds the bytes that napt writes. What differs:
   A packet that came is answered, written and flushed before more is asked for.
@@ -29,13 +31,21 @@ Where it ends well, each output holds the bytes that napt writes. What differs:
   the packets read, how many a second, and the bindings held.
 
 Exit status, and the line on standard error that says why: as of napt, with
-stream: in place of napt: at its beginning. too-large and too-many never come.
+", $name, ": in place of napt: at its beginning. too-large and too-many never come.
   0  done, without a line
-  2  stream: usage
-  3  stream: config WORD
-  4  stream: capture SIDE WORD
-  5  stream: run WORD
-  6  stream: file OPTION
-     stream: write OPTION
+  2  ", $name, ": usage
+  3  ", $name, ": config WORD
+  4  ", $name, ": capture SIDE WORD
+  5  ", $name, ": run WORD
+  6  ", $name, ": file OPTION
+     ", $name, ": write OPTION"
+            ),
+        }
+    };
+}
 
-stream 1.0, its sources proved with Rattle's logic dac8208d650f15bf";
+/// The help of the program by its own name.
+pub const OWN: Manual = manual!("stream");
+
+/// The same by the name under which it is installed.
+pub const INSTALLED: Manual = manual!("napt-stream");

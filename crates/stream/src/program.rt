@@ -6,13 +6,15 @@ ghost use Rattle.napt_program.specs.CommandLine.{files_of, line_of_words};
 ghost use Rattle.napt_program.specs.Command.{IsLineStop, IsRunStop, IsTaken, IsUnderOpenGate};
 
 use crate::counted::Counted;
-use crate::manual::MANUAL;
+use crate::manual::{INSTALLED, OWN};
 use crate::progress::Progress;
 use crate::watched::Watched;
 use napt_program::{
-    Devices, LineFault, MEMORY, Opened, Options, Stop, Streams, open, parse_words_of, words,
+    Call, Devices, LineFault, MEMORY, Opened, Options, Stop, Streams, open, parse_words_of,
+    stop_of_run, words,
 };
-use napt_run::run_streams;
+use napt_run::{Fault, run_streams};
+use std::alloc::Global;
 use std::env::Env;
 use std::rt::Files;
 use std::sync::{Arc, Wait};
@@ -20,7 +22,7 @@ use std::thread::Threads;
 use std::time::Clock;
 
 /// Does what the command line asks for: runs over the files that it names, with a worker thread for each external address,
-/// or writes help to standard output. If `is_told`, it reports its progress on standard error.
+/// or writes help or the version to standard output. At a terminal it reports its progress, and which captures are cut.
 ///
 /// Fails, before any capture is opened, if the arguments are not understood, if memory runs out for them, if a standard
 /// stream that stands for a file is closed, or if the configuration is refused; after that, if a file cannot be opened or
@@ -38,10 +40,10 @@ pub fn serve<
         + Copy
         + Send
         + 'static,
->(rt: &R, streams: Streams, is_told: bool) -> Result<(), Stop>
+>(rt: &R, streams: Streams, call: Call) -> Result<(), Stop>
     ensures { IfErr result IsUnderOpenGate }
 {
-    serve_words(rt, streams, words(rt)?, is_told)
+    serve_words(rt, streams, call, words(rt)?)
 }
 
 /// The same for these arguments, the program's name first: if it succeeds, they were understood, and it fails only by
@@ -58,20 +60,21 @@ pub fn serve_words<
         + Copy
         + Send
         + 'static,
->(rt: &R, streams: Streams, words: Vec<String>, is_told: bool) -> Result<(), Stop>
+>(rt: &R, streams: Streams, call: Call, words: Vec<String>) -> Result<(), Stop>
     ensures taken { OnOk result (IsTaken (line_of_words (map string_bytes words.items))) }
     ensures stop { IfErr result
         (IsLineStop streams (line_of_words (map string_bytes words.items))) }
 {
-    match parse_words_of(rt.alloc(), MANUAL, words) {
-        Ok(options) => run(rt, streams, &options, is_told),
+    match parse_words_of(rt.alloc(), call.manual(OWN, INSTALLED), words) {
+        Ok(options) => run(rt, streams, call, &options),
         Err(LineFault::Help(text)) => rt.print(text).map_err(|_| Stop::Help),
+        Err(LineFault::Version(text)) => rt.print(text).map_err(|_| Stop::Help),
         Err(LineFault::Usage) => Err(Stop::Usage),
         Err(LineFault::Memory) => Err(Stop::LineMemory),
     }
 }
 
-/// Runs over all that the options name. If `is_told`, it reports its progress.
+/// Runs over all that the options name.
 fn run<
     R: Files
         + Input
@@ -84,7 +87,7 @@ fn run<
         + Copy
         + Send
         + 'static,
->(rt: &R, streams: Streams, options: &Options, is_told: bool) -> Result<(), Stop>
+>(rt: &R, streams: Streams, call: Call, options: &Options) -> Result<(), Stop>
     ensures { IfErr result (IsRunStop streams (files_of options.now)) }
 {
     let alloc = rt.alloc();
@@ -96,22 +99,50 @@ fn run<
         mut to_inside,
         mut report,
     } = devices;
-    let watched = Watched::new(alloc, config.pool().len()).map_err(|_| MEMORY)?;
-    let gate = Arc::new(alloc, watched).map_err(|_| MEMORY)?;
-    let progress = Progress::of(rt, gate.clone().map_err(|_| MEMORY)?, is_told);
+    let gate = gate(alloc, config.pool().len())?;
+    let progress = Progress::of(rt, again(&gate)?, call);
     let mut inside = Counted::over(inside, &progress);
-    let mut outside = Counted::over_given(outside, &progress);
+    let mut outside = Counted::over(outside, &progress);
     let answer = run_streams(
         rt,
         alloc,
         &config,
         &mut inside,
-        outside.as_mut(),
+        &mut outside,
         &mut to_outside,
-        to_inside.as_mut(),
-        report.as_mut(),
+        &mut to_inside,
+        &mut report,
         gate,
     );
     progress.tell_end();
-    answer.map_err(Stop::Run)
+    if answer.is_ok() {
+        call.tell_cuts(rt, inside.tallied(), outside.tallied());
+    }
+    ended(streams, options, answer)
+}
+
+/// How the program ends after a run.
+fn ended(_streams: Streams, options: &Options, answer: Result<(), Fault>) -> Result<(), Stop>
+    requires { IfErr answer (λ fault. IsUnderOpenGate (Stop.Run fault)) }
+    ensures { IfErr result (IsRunStop _streams (files_of options.now)) }
+{
+    match answer {
+        Ok(()) => Ok(()),
+        Err(fault) => Err(stop_of_run(options, fault)),
+    }
+}
+
+/// The gate of a run with this many workers, which watches them and always opens. Fails, as a run does, if memory runs out.
+fn gate(alloc: Global, workers: usize) -> Result<Arc<Watched>, Stop>
+    ensures { IfErr result (λ stop. stop ≡ MEMORY) }
+{
+    let watched = Watched::new(alloc, workers).map_err(|_| MEMORY)?;
+    Arc::new(alloc, watched).map_err(|_| MEMORY)
+}
+
+/// The same gate, for one more owner. Fails, as a run does, if memory runs out.
+fn again(gate: &Arc<Watched>) -> Result<Arc<Watched>, Stop>
+    ensures { IfErr result (λ stop. stop ≡ MEMORY) }
+{
+    gate.clone().map_err(|_| MEMORY)
 }

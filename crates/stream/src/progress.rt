@@ -1,6 +1,7 @@
 //! How far a run is, for people at a terminal.
 
 use crate::watched::Watched;
+use napt_program::Call;
 use std::cell::Cell;
 use std::sync::Arc;
 use std::time::{Clock, Instant};
@@ -37,6 +38,7 @@ impl Mark {
 #[derive(Drop)]
 pub struct Progress<'r, R> {
     rt: &'r R,
+    name: &'static str,
     gate: Arc<Watched>,
     /// When the run began; none if progress is not reported.
     began: Option<Instant>,
@@ -45,22 +47,29 @@ pub struct Progress<'r, R> {
     told: Cell<Mark>,
 }
 
+impl<'r, R> Progress<'r, R> {
+    /// Whether progress is reported.
+    pub fn is_told(&self) -> bool {
+        self.began.is_some()
+    }
+}
+
 impl<'r, R: Eprint + Clock> Progress<'r, R> {
-    /// Of a run that begins now. If not `is_told`, nothing is reported.
-    pub fn of(rt: &'r R, gate: Arc<Watched>, is_told: bool) -> Progress<'r, R> {
-        let began = if is_told { Instant::now(rt).ok() } else { None };
+    /// Of a run that begins now. If no terminal is there, nothing is reported.
+    pub fn of(rt: &'r R, gate: Arc<Watched>, call: Call) -> Progress<'r, R> {
+        let began = if call.at_terminal {
+            Instant::now(rt).ok()
+        } else {
+            None
+        };
         Progress {
             rt,
+            name: call.name,
             gate,
             began,
             packets: Cell::new(0),
             told: Cell::new(Mark::BEGIN),
         }
-    }
-
-    /// Whether progress is reported.
-    pub fn is_told(&self) -> bool {
-        self.began.is_some()
     }
 
     /// Counts packets that were read.
@@ -80,9 +89,9 @@ impl<'r, R: Eprint + Clock> Progress<'r, R> {
         }
         let Mark { packets, .. } = now;
         let rate = now.rate_since(told);
-        let bindings = self.gate.bindings();
+        let (name, bindings) = (self.name, self.gate.bindings());
         let _ = eprint!(self.rt;
-            "\rstream: {packets} packets, {rate} a second, {bindings} bindings    "
+            "\r{name}: {packets} packets, {rate} a second, {bindings} bindings    "
         );
         self.told.set(now);
     }
@@ -97,9 +106,9 @@ impl<'r, R: Eprint + Clock> Progress<'r, R> {
         };
         let Mark { packets, millis } = now;
         let (seconds, rate) = (millis / 1_000, now.rate_since(Mark::BEGIN));
-        let bindings = self.gate.bindings();
+        let (name, bindings) = (self.name, self.gate.bindings());
         let _ = eprintln!(self.rt;
-            "\rstream: {packets} packets in {seconds} s, {rate} a second, {bindings} bindings    "
+            "\r{name}: {packets} packets in {seconds} s, {rate} a second, {bindings} bindings    "
         );
     }
 

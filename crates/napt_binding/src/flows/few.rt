@@ -1,6 +1,6 @@
 //! Few flows, one after another.
 
-ghost use Rattle.std.specs.Prelude.{◌≡◌, ◌==◌, ◌≤◌, ℕ, Bool, true, false, length, position, filter, vec_len, vec_capacity, OnOk, OnErr};
+ghost use Rattle.std.specs.Prelude.{◌≡◌, ◌==◌, ◌≤◌, ◌<◌, ◌^◌, ℕ, Bool, true, false, length, position, filter, vec_len, vec_capacity, OnOk, OnErr};
 ghost use Rattle.std.specs.List.{list_any};
 ghost use Rattle.napt_rules.specs.Prelude.{change_first};
 ghost use Rattle.napt_rules.specs.Life as life;
@@ -19,11 +19,13 @@ use napt_rules::{Flow, Sent};
 use napt_wire::{Endpoint, Flags, Protocol, Way};
 use std::alloc::AllocError;
 
-/// The last moment at which one of these flows is live; one is live now.
+/// The last moment at which one of these flows is live, or the greatest time if that is earlier; one is live now.
 pub(super) fn last_moment_of(flows: &[Flow], timers: IdleTimers, now: u64) -> u64
     requires live { list_any (life.is_live_flow timers now) flows.now ≡ true }
     ensures later { now ≤ result }
     ensures lives { (t : ℕ) → t ≤ result → list_any (life.is_live_flow timers t) flows.now ≡ true }
+    ensures far { (t : ℕ) → t < 2 ^ 64 → list_any (life.is_live_flow timers t) flows.now ≡ true →
+        t ≤ result }
 {
     let mut last = now;
     for flow in flows {

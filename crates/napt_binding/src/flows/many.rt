@@ -1,6 +1,6 @@
 //! Many flows, found through maps; all are walked only to drop dead ones and to give up their slots.
 
-ghost use Rattle.std.specs.Prelude.{◌≡◌, ◌==◌, ◌≤◌, ◌<◌, ◌++◌, ℕ, Bool, true, false, None, Some, [], ◌∷◌, length, filter, slice_set, OnOk, OnErr, IfOk, IfSome};
+ghost use Rattle.std.specs.Prelude.{◌≡◌, ◌==◌, ◌≤◌, ◌<◌, ◌++◌, ◌^◌, ℕ, Bool, true, false, None, Some, [], ◌∷◌, length, filter, slice_set, OnOk, OnErr, IfOk, IfSome};
 ghost use Rattle.std.specs.List.{list_any};
 ghost use Rattle.napt_rules.specs.declared.Flow.{Flow};
 ghost use Rattle.napt_rules.specs.Life as life;
@@ -173,13 +173,15 @@ impl Many {
         self.slots.has_live(timers, now)
     }
 
-    /// The last moment at which one of these TCP flows is live; one is live now.
+    /// The last moment at which one of these TCP flows is live, or the greatest time if that is earlier; one is live now.
     pub(super) fn last_moment(&self, timers: IdleTimers, now: u64) -> u64
         requires live { list_any (life.is_live_flow timers now) (somes self.now.slots.slots)
             ≡ true }
         ensures later { now ≤ result }
         ensures lives { (t : ℕ) → t ≤ result → list_any (life.is_live_flow timers t)
             (somes self.now.slots.slots) ≡ true }
+        ensures far { (t : ℕ) → t < 2 ^ 64 → list_any (life.is_live_flow timers t)
+            (somes self.now.slots.slots) ≡ true → t ≤ result }
     {
         self.slots.last_moment(timers, now)
     }

@@ -86,13 +86,16 @@ fn outlived_place(times: &Times, now: u64, seconds: u64) -> Option<usize>
     }
 }
 
-/// The last moment at which one of the times is less than `seconds` ago, or `now`.
+/// The last moment at which one of the times is less than `seconds` ago, or the greatest time if that is earlier; at least
+/// `now`.
 fn last_moment_of(times: &Times, now: u64, seconds: u64) -> u64
     requires some { 0 < seconds }
     requires few { seconds ≤ 1_000_000_000 }
     ensures later { now ≤ result }
     ensures lives { (t : ℕ) → now < t → t ≤ result →
         list_any (is_recent_time t seconds) times.now.times ≡ true }
+    ensures far { (t : ℕ) → t < 2 ^ 64 → list_any (is_recent_time t seconds) times.now.times
+        ≡ true → t ≤ result }
 {
     match times.latest() {
         Some(time) => last_moment(time, seconds).max(now),
@@ -201,12 +204,15 @@ impl Slots {
             || is_some_recent(&self.others, now, timers.seconds.transitory)
     }
 
-    /// The last moment at which one of these TCP flows is live; one is live now. It takes two looks.
+    /// The last moment at which one of these TCP flows is live, or the greatest time if that is earlier; one is live now.
+    /// It takes two looks.
     pub(crate) fn last_moment(&self, timers: IdleTimers, now: u64) -> u64
         requires live { list_any (life.is_live_flow timers now) (somes self.now.slots) ≡ true }
         ensures later { now ≤ result }
         ensures lives { (t : ℕ) → t ≤ result → list_any (life.is_live_flow timers t)
             (somes self.now.slots) ≡ true }
+        ensures far { (t : ℕ) → t < 2 ^ 64 → list_any (life.is_live_flow timers t)
+            (somes self.now.slots) ≡ true → t ≤ result }
     {
         let established = last_moment_of(&self.established, now, timers.seconds.established);
         established.max(last_moment_of(&self.others, now, timers.seconds.transitory))

@@ -86,10 +86,10 @@ fn ran<R: Threads + Wait + Copy + Send + 'static>(
         alloc,
         config,
         &mut Watched::new(INSIDE.as_slice()),
-        Some(&mut Watched::new(OUTSIDE.as_slice())),
+        &mut Watched::new(OUTSIDE.as_slice()),
         &mut to_outside,
-        Some(&mut to_inside),
-        Some(&mut report),
+        &mut to_inside,
+        &mut report,
         gate,
     );
     let (to_outside, to_inside) = (to_outside.into_inner().len(), to_inside.into_inner().len());

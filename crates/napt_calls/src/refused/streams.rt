@@ -87,13 +87,13 @@ fn make_run<R: Threads + Wait + Copy + Send + 'static>(
             Watched::new(INSIDE.as_slice()),
             refusal.plan(Device::Inside),
         ),
-        Some(&mut Faulty::new(
+        &mut Faulty::new(
             Watched::new(OUTSIDE.as_slice()),
             refusal.plan(Device::Outside),
-        )),
+        ),
         &mut to_outside,
-        Some(&mut to_inside),
-        Some(&mut report),
+        &mut to_inside,
+        &mut report,
         gate,
     );
     Some(Streamed {

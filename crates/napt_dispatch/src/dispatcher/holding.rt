@@ -1,15 +1,31 @@
-//! The first leg or placeholder held for a worker, and the progress of the inputs.
+//! What is held for a worker and what it owes, and the progress of the inputs.
 
 ghost use Rattle.std.specs.Prelude.{◌≡◌, ◌↔◌, ◌^◌, ◌<◌, true, [], length, IfOk, IsOk, OnOk};
-ghost use Rattle.napt_dispatch.specs.Dispatch.{of_worker};
-ghost use Rattle.napt_dispatch.specs.Standing.{parts_of, Noted, IsFirst, first_waits, waits, IsDone};
+ghost use Rattle.napt_dispatch.specs.Standing.{Noted, IsFirst, waits_at, IsDone};
 
 use crate::dispatcher::Dispatcher;
-use crate::dispatcher::halted::ImpossibleAnswer;
-use crate::dispatcher::held::Held;
 use crate::dispatcher::progress::{Progress, Second};
+use crate::stopped::ImpossibleAnswer;
 use napt_translate::{Answer, Leg};
+use napt_wire::Way;
 use std::alloc::AllocError;
+
+/// A leg, or a placeholder for one, that was not offered to its worker yet.
+#[derive(Drop)]
+pub(crate) enum Held {
+    Ready(Leg),
+    /// A placeholder for the second leg of the input with this number (RFC 4787, REQ-9). The answer to the first leg decides
+    /// whether there is a second one.
+    Place(u64),
+}
+
+/// A leg that was offered to a worker and is not answered yet.
+#[derive(Clone, Copy)]
+pub(crate) struct Owed {
+    pub(crate) way: Way,
+    /// The time of the leg, in ns.
+    pub(crate) now: u64,
+}
 
 /// The first leg or placeholder held for a worker.
 #[derive(Drop)]
@@ -26,8 +42,7 @@ impl Dispatcher {
     pub(super) fn first(&mut self, w: u32) -> Result<First, AllocError>
         requires place { w < length self.old.queues }
         ensures many { length self.new.queues ≡ length self.old.queues }
-        ensures ring { self.new.ring ≡ self.old.ring }
-        ensures first { IfOk result (IsFirst w (parts_of self.old) (parts_of self.new)) }
+        ensures first { IfOk result (IsFirst w self.old self.new) }
     {
         match self.queues.release(w) {
             None => Ok(First::Waits),
@@ -44,10 +59,9 @@ impl Dispatcher {
     }
 
     /// Returns whether nothing held for worker `w` can be offered: nothing is held, or a placeholder that waits is first.
-    fn first_waits(&self, w: u32) -> bool
+    pub(super) fn first_waits(&self, w: u32) -> bool
         requires { w < length self.now.queues }
-        ensures { result ≡ first_waits (parts_of self.now).progress
-            (of_worker (parts_of self.now).held w) }
+        ensures { result ≡ waits_at self.now w }
     {
         match self.queues.first(w) {
             None => true,
@@ -56,20 +70,11 @@ impl Dispatcher {
         }
     }
 
-    /// Returns whether nothing can be offered to worker `w` now: its ring is full, nothing is held for it, or a placeholder
-    /// that waits is first.
-    pub(super) fn waits(&self, w: u32) -> bool
-        requires { w < length self.now.queues }
-        ensures { result ≡ waits self.now.ring (parts_of self.now) w }
-    {
-        self.ring <= self.queues.many_owed(w) || self.first_waits(w)
-    }
-
     /// Notes an answer taken from worker `w`.
     pub(super) fn note(&mut self, w: u32, answer: Answer) -> Result<(), ImpossibleAnswer>
         requires { w < length self.old.queues }
         ensures many { length self.new.queues ≡ length self.old.queues }
-        ensures noted { OnOk result (Noted w answer (parts_of self.old) (parts_of self.new)) }
+        ensures noted { OnOk result (Noted w answer self.old self.new) }
     {
         let Some(owed) = self.queues.note_answer(w) else {
             return Err(ImpossibleAnswer);
@@ -82,7 +87,7 @@ impl Dispatcher {
 
     /// Returns whether nothing is held, and every worker has answered every leg.
     pub(super) fn is_done(&self) -> bool
-        ensures { (result ≡ true) ↔ IsDone (parts_of self.now) }
+        ensures { (result ≡ true) ↔ IsDone self.now }
     {
         self.queues.none_held() && self.queues.none_owed()
     }

@@ -5,8 +5,8 @@ ghost use Rattle.napt_wire.specs.declared.Way.TheVariants.{Incoming};
 ghost use Rattle.napt_dispatch.specs.Standing.{ended, IsSecondOf, IsToldBy};
 ghost use Rattle.napt_dispatch.specs.Windows.{has_ended, outcome_in, is_unknown};
 
-use crate::dispatcher::halted::ImpossibleAnswer;
-use crate::dispatcher::held::Owed;
+use crate::dispatcher::holding::Owed;
+use crate::stopped::ImpossibleAnswer;
 use napt_sequential::Outcome;
 use napt_translate::{End, Leg};
 use napt_wire::{Packet, Way};

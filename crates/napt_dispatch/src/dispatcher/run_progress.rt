@@ -1,20 +1,22 @@
 //! The progress of the inputs that were read.
 
 ghost use Rattle.std.specs.Prelude.{◌≡◌, ◌↔◌, ◌⊎◌, ◌+◌, ◌^◌, ◌<◌, ◌≤◌, Bool, [], length, slice_get, true, IfOk, IfErr, OnOk, OnErr, MatchOption, MatchResult};
+ghost use Rattle.napt_sequential.specs.declared.fault.RunFault.TheVariants.{Memory};
 ghost use Rattle.napt_dispatch.specs.Dispatch.{IsDispatchFault};
 ghost use Rattle.napt_dispatch.specs.Windows.{progress_in, marks_in, expecting, is_unknown, FirstMayLeave, IsWritten, IsMarked, Leaves};
 ghost use Rattle.napt_dispatch.specs.Passing.{HandsOver, FailsOver};
 ghost use Rattle.napt_dispatch.specs.Standing.{IsSecond};
 
 use crate::departures::Departures;
-use crate::dispatcher::halted::ImpossibleAnswer;
 use crate::dispatcher::progress::{OpenInput, Progress, Second};
 use crate::dispatcher::spares::Spares;
+use crate::stopped::ImpossibleAnswer;
 use http_server::Log;
 use napt_sequential::{Outcome, RunFault};
 use std::alloc::Global;
 use std::collections::VecDeque;
 use std::marker::Model;
+use std::mem;
 
 /// The most inputs that were read and whose outcomes have not left. No input is read while there are this many.
 const WINDOW: usize = 131_072;
@@ -30,6 +32,8 @@ pub(crate) struct RunProgress {
     past: Log<u64, Outcome>,
     /// The buffers of packets that have left.
     spares: Spares,
+    /// Whether the progress of an input was set for whose second leg a placeholder is held.
+    is_freed: bool,
 }
 
 impl Model for RunProgress {
@@ -59,6 +63,7 @@ impl RunProgress {
             under_way: VecDeque::new(alloc),
             past: Log::new(),
             spares: Spares::new(alloc),
+            is_freed: false,
         }
     }
 
@@ -91,13 +96,16 @@ impl RunProgress {
         self.under_way.is_empty()
     }
 
-    /// Opens the next input, which arrived at a time in ns. Returns its number, which is below `u64::MAX`.
+    /// Opens the next input, which arrived at a time in ns. Returns its number, which is below `u64::MAX`. Fails where memory is
+    /// refused, or after 2^64 - 1 inputs.
     pub(crate) fn expect(&mut self, time: u64) -> Result<u64, RunFault>
         requires { length self.old.under_way < 131072 }
         ensures number { IfOk result (λ number. number ≡ length (progress_in self.old)) }
         ensures expecting { OnOk result (self.new ≡ expecting time self.old) }
         ensures unchanged { OnErr result (self.new ≡ self.old) }
         ensures fault { (open_gate : Bool) → IfErr result (IsDispatchFault open_gate) }
+        ensures last { IfErr result (λ fault. (fault ≡ Memory)
+            ⊎ (length self.old.left + length self.old.under_way + 1 ≡ 2 ^ 64)) }
     {
         let number = self.first + self.under_way.len() as u64;
         if number == u64::MAX {
@@ -143,8 +151,17 @@ impl RunProgress {
         let Some(place) = self.place_of(number) else {
             return Err(ImpossibleAnswer);
         };
+        self.is_freed = self.is_freed || self.under_way[place].has_place;
         self.under_way[place].progress = progress;
         Ok(())
+    }
+
+    /// Returns whether the progress of an input was set since the last call for whose second leg a placeholder is held, which may
+    /// then be offered.
+    pub(crate) fn take_freed(&mut self) -> bool
+        ensures { self.new ≡ self.old }
+    {
+        mem::replace(&mut self.is_freed, false)
     }
 
     /// Notes that a placeholder is held for the second leg of the input with this number.

@@ -1,16 +1,18 @@
 //! Taking the answers of the workers, and letting the outcomes leave.
 
-ghost use Rattle.std.specs.Prelude.{◌≡◌, ◌↔◌, ◌⊎◌, ◌^◌, ◌<◌, [], length, true, IfOk, IfSome, OnOk};
+ghost use Rattle.std.specs.Prelude.{◌≡◌, ◌↔◌, ◌+◌, ◌⊎◌, ◌^◌, ◌<◌, [], length, true, IfOk, IfSome, OnOk};
 ghost use Rattle.napt_pool.specs.Pools.{starts};
 ghost use Rattle.napt_dispatch.specs.Passing.{LetsGoUnlessFault};
-ghost use Rattle.napt_dispatch.specs.Standing.{parts_of, IsSizedFor, ContinuesUnlessFault, HasTaken, HasOfferedAll, HasRoom, HasReached, IsDone};
+ghost use Rattle.napt_dispatch.specs.QueueStates.{many_owed};
+ghost use Rattle.napt_dispatch.specs.Standing.{IsSizedFor, ContinuesUnlessFault, NotesAll, HasTaken, HasOffered, HasOfferedAll, HasRoom, HasReached, IsDone};
 
 use crate::Worker;
 use crate::departures::Departures;
 use crate::dispatcher::Dispatcher;
-use crate::dispatcher::halted::{Halted, ImpossibleAnswer};
-use napt_pool::{Backoff, Gate, Pool};
+use crate::stopped::{Halted, ImpossibleAnswer};
+use napt_pool::{Answered, Backoff, Gate, Pool, Taken};
 use napt_sequential::RunFault;
+use napt_translate::{Answer, Leg};
 use std::sync::Wait;
 
 /// The state up to which a dispatcher goes on without reading an input.
@@ -23,8 +25,42 @@ pub(super) enum Until {
 }
 
 impl Dispatcher {
-    /// Takes and notes the next answer of worker `w`, if it is there.
-    fn take_one<R: Wait, G: Gate>(
+    /// Notes answers of worker `w` in their order, and takes them out.
+    fn note_each(&mut self, w: u32, answers: &mut Vec<Answer>) -> Result<(), ImpossibleAnswer>
+        requires { w < length self.old.queues }
+        ensures many { OnOk result (length self.new.queues ≡ length self.old.queues) }
+        ensures noted { OnOk result (NotesAll w answers.old.items self.old self.new) }
+        ensures fewer { OnOk result (many_owed self.new.queues + length answers.old.items
+            ≡ many_owed self.old.queues) }
+    {
+        for answer in answers.drain(..) {
+            self.note(w, answer)?;
+        }
+        Ok(())
+    }
+
+    /// Notes the answers of a reply of worker `w`. Returns whether there were any.
+    fn note_all(
+        &mut self,
+        w: u32,
+        answered: Answered<Leg, Answer>,
+    ) -> Result<bool, ImpossibleAnswer>
+        requires { w < length self.old.queues }
+        ensures many { OnOk result (length self.new.queues ≡ length self.old.queues) }
+        ensures noted { OnOk result (NotesAll w answered.answers.items self.old self.new) }
+        ensures told { IfOk result (HasTaken self.old self.new) }
+    {
+        let mut answered = answered;
+        if answered.answers.is_empty() {
+            return Ok(false);
+        }
+        self.note_each(w, &mut answered.answers)?;
+        self.vectors.keep(answered);
+        Ok(true)
+    }
+
+    /// Takes and notes the next answers of worker `w`, if they are there.
+    fn take_reply<R: Wait, G: Gate>(
         &mut self,
         rt: &R,
         pool: &mut Pool<Worker, G>,
@@ -33,13 +69,16 @@ impl Dispatcher {
         requires place { w < length (starts pool.old) }
         requires sized { IsSizedFor pool.old self.old }
         ensures state { ContinuesUnlessFault G.is_open pool.old self.old pool.new self.new result }
-        ensures told { IfOk result (HasTaken (parts_of self.old) (parts_of self.new)) }
+        ensures told { IfOk result (HasTaken self.old self.new) }
     {
-        let Some(answer) = pool.take(rt, self.alloc, w)? else {
-            return Ok(false);
-        };
-        self.note(w, answer)?;
-        Ok(true)
+        match pool.take_all(rt, self.alloc, w)? {
+            None => Ok(false),
+            Some(Taken::One(answer)) => {
+                self.note(w, answer)?;
+                Ok(true)
+            }
+            Some(Taken::All(answered)) => Ok(self.note_all(w, answered)?),
+        }
     }
 
     /// Takes and notes the answers of worker `w` that are there. Returns whether there were any.
@@ -52,12 +91,12 @@ impl Dispatcher {
         requires place { w < length (starts pool.old) }
         requires sized { IsSizedFor pool.old self.old }
         ensures state { ContinuesUnlessFault G.is_open pool.old self.old pool.new self.new result }
-        ensures told { IfOk result (HasTaken (parts_of self.old) (parts_of self.new)) }
+        ensures told { IfOk result (HasTaken self.old self.new) }
     {
         let many = self.queues.many_owed(w);
         let mut any = false;
         for _ in 0..many {
-            if !self.take_one(rt, pool, w)? {
+            if !self.take_reply(rt, pool, w)? {
                 return Ok(any);
             }
             any = true;
@@ -73,7 +112,7 @@ impl Dispatcher {
     ) -> Result<bool, RunFault>
         requires sized { IsSizedFor pool.old self.old }
         ensures state { ContinuesUnlessFault G.is_open pool.old self.old pool.new self.new result }
-        ensures told { IfOk result (HasTaken (parts_of self.old) (parts_of self.new)) }
+        ensures told { IfOk result (HasTaken self.old self.new) }
     {
         let mut any = false;
         let workers = self.queues.count();
@@ -85,15 +124,17 @@ impl Dispatcher {
         Ok(any)
     }
 
-    /// Waits until there is an answer, and takes all that are there. Fails if no worker has an answer to give.
+    /// Waits until there is an answer, and takes all that are there. No leg that could be offered is held while it waits. Fails if
+    /// no worker has an answer to give.
     fn take_some<R: Wait, G: Gate>(
         &mut self,
         rt: &R,
         pool: &mut Pool<Worker, G>,
     ) -> Result<(), RunFault>
         requires sized { IsSizedFor pool.old self.old }
+        requires offered { HasOfferedAll pool.old self.old }
         ensures state { ContinuesUnlessFault G.is_open pool.old self.old pool.new self.new result }
-        ensures some { OnOk result (HasTaken (parts_of self.old) (parts_of self.new) true) }
+        ensures some { OnOk result (HasTaken self.old self.new true) }
     {
         if self.queues.none_owed() {
             return Err(RunFault::from(ImpossibleAnswer));
@@ -108,7 +149,8 @@ impl Dispatcher {
         unreachable!()
     }
 
-    /// Takes answers, waiting for one if there is none yet, and offers the legs that can then be offered.
+    /// Offers the legs that can be offered, takes answers, waiting for one if there is none yet, and offers those that can then
+    /// be offered.
     fn go_on<R: Wait, G: Gate>(
         &mut self,
         rt: &R,
@@ -118,9 +160,9 @@ impl Dispatcher {
         ensures state { ContinuesUnlessFault G.is_open pool.old self.old pool.new self.new result }
         ensures offered { OnOk result (HasOfferedAll pool.new self.new) }
     {
-        self.take_some(rt, pool)?;
         self.offer_all(pool)?;
-        Ok(())
+        self.take_some(rt, pool)?;
+        self.offer_all(pool)
     }
 
     /// Lets the outcomes of the first inputs leave, up to the first input that has not ended. Only the contract uses the pool.
@@ -189,7 +231,7 @@ impl Dispatcher {
         requires sized { IsSizedFor pool.old self.old }
         ensures state { LetsGoUnlessFault G.is_open D.takes D.fails
             pool.old self.old departures.old pool.new self.new departures.new result }
-        ensures done { OnOk result (IsDone (parts_of self.new)) }
+        ensures done { OnOk result (IsDone self.new) }
         ensures left { OnOk result (self.new.progress.under_way ≡ []) }
         ensures few { OnOk result (length self.new.progress.left < 2 ^ 64) }
         ensures room { OnOk result (HasRoom self.new) }
@@ -203,7 +245,8 @@ impl Dispatcher {
         }
     }
 
-    /// Takes the answers of worker `w` that are there. If there were any, offers the legs that can then be offered.
+    /// Takes the answers of worker `w` that are there, and offers it the legs that can then be offered. If a placeholder waited
+    /// for one of the answers, offers those of all workers.
     pub(super) fn look_at<R: Wait, G: Gate>(
         &mut self,
         rt: &R,
@@ -213,12 +256,12 @@ impl Dispatcher {
         requires place { w < length (starts pool.old) }
         requires sized { IsSizedFor pool.old self.old }
         ensures state { ContinuesUnlessFault G.is_open pool.old self.old pool.new self.new result }
-        ensures offered { OnOk result ((parts_of self.new ≡ parts_of self.old)
-            ⊎ HasOfferedAll pool.new self.new) }
+        ensures offered { OnOk result (HasOffered pool.new self.new w) }
     {
-        if self.take_there(rt, pool, w)? {
-            self.offer_all(pool)?;
+        self.take_there(rt, pool, w)?;
+        if self.progress.take_freed() {
+            return self.offer_all(pool);
         }
-        Ok(())
+        self.offer_held(pool, w)
     }
 }

@@ -2,11 +2,10 @@
 
 ghost use Rattle.std.specs.Prelude.{◌≡◌, ◌↔◌, ◌+◌, ◌∷◌, ◌++◌, ⊤, Bool, [], length, true, IfErr, OnOk, OnErr, MatchOption};
 ghost use Rattle.napt_dispatch.specs.Dispatch.{IsDispatchFault};
-ghost use Rattle.napt_dispatch.specs.Queues.{BeginsWith};
-ghost use Rattle.napt_dispatch.specs.QueueStates.{unused};
+ghost use Rattle.napt_dispatch.specs.QueueStates.{BeginsWith, unused, with_last, with_first, with_offer};
 
-use crate::dispatcher::halted::ImpossibleAnswer;
-use crate::dispatcher::held::{Held, Owed};
+use crate::dispatcher::holding::{Held, Owed};
+use crate::stopped::ImpossibleAnswer;
 use napt_sequential::RunFault;
 use std::alloc::{AllocError, Global};
 use std::collections::VecDeque;
@@ -56,8 +55,7 @@ impl WorkerQueue {
 
     /// Holds a leg or a placeholder behind everything held.
     pub(crate) fn hold(&mut self, held: Held) -> Result<(), AllocError>
-        ensures ok { OnOk result (self.new
-            ≡ record self.old { held = self.old.held ++ held ∷ [] }) }
+        ensures ok { OnOk result (self.new ≡ with_last held self.old) }
         ensures err { OnErr result (self.new ≡ self.old) }
     {
         self.held.push_back(held)?;
@@ -66,7 +64,7 @@ impl WorkerQueue {
 
     /// Holds a leg or a placeholder in front of everything held.
     pub(crate) fn put_back(&mut self, held: Held) -> Result<(), AllocError>
-        ensures ok { OnOk result (self.new ≡ record self.old { held = held ∷ self.old.held }) }
+        ensures ok { OnOk result (self.new ≡ with_first held self.old) }
         ensures err { OnErr result (self.new ≡ self.old) }
     {
         self.held.push_front(held)?;
@@ -91,13 +89,6 @@ impl WorkerQueue {
         self.held.front()
     }
 
-    /// Returns whether nothing is held.
-    pub(crate) fn holds_none(&self) -> bool
-        ensures { (result ≡ true) ↔ (self.now.held ≡ []) }
-    {
-        self.held.is_empty()
-    }
-
     /// Returns the number of legs and placeholders held.
     pub(crate) fn many_held(&self) -> usize
         ensures { result ≡ length self.now.held }
@@ -107,10 +98,7 @@ impl WorkerQueue {
 
     /// Counts an offer, and notes the leg as not answered yet. A count is at most `u64::MAX`.
     pub(crate) fn note_offer(&mut self, owed: Owed) -> Result<(), RunFault>
-        ensures ok { OnOk result (self.new ≡ record self.old {
-          offered = self.old.offered + 1;
-          owed = self.old.owed ++ owed ∷ [];
-        }) }
+        ensures ok { OnOk result (self.new ≡ with_offer owed self.old) }
         ensures held { self.new.held ≡ self.old.held }
         ensures fault { (open_gate : Bool) → IfErr result (IsDispatchFault open_gate) }
     {

@@ -1,11 +1,10 @@
 //! The queues of all workers.
 
 ghost use Rattle.std.specs.Prelude.{◌≡◌, ◌↔◌, ◌+◌, ◌<◌, ◌≤◌, ℕ, Bool, [], length, replicate, true, IfOk, IfErr, OnOk, IfSome, MatchOption};
-ghost use Rattle.napt_dispatch.specs.Dispatch.{of_worker, IsDispatchFault};
-ghost use Rattle.napt_dispatch.specs.Queues.{pushed, put_first, BeginsWith, many_in};
-ghost use Rattle.napt_dispatch.specs.QueueStates.{unused, counts_in, owed_in, held_in, Holds, Releases, Owes, Settles};
+ghost use Rattle.napt_dispatch.specs.Dispatch.{IsDispatchFault};
+ghost use Rattle.napt_dispatch.specs.QueueStates.{BeginsWith, unused, queue_of, counts_in, many_held, with_last, with_first, with_offer, with_oldest, with_queue};
 
-use crate::dispatcher::held::{Held, Owed};
+use crate::dispatcher::holding::{Held, Owed};
 use crate::dispatcher::worker_queue::WorkerQueue;
 use napt_sequential::RunFault;
 use std::alloc::{AllocError, Global};
@@ -57,7 +56,7 @@ impl WorkerQueues {
 
     /// Returns whether two more legs or placeholders may be held.
     pub(crate) fn has_room(&self) -> bool
-        ensures { (result ≡ true) ↔ (many_in (held_in self.now) + 2 ≤ 65536) }
+        ensures { (result ≡ true) ↔ (many_held self.now + 2 ≤ 65536) }
     {
         self.many + 2 <= MOST_HELD
     }
@@ -65,10 +64,9 @@ impl WorkerQueues {
     /// Holds a leg or a placeholder for worker `w`, behind everything held for it.
     pub(crate) fn hold(&mut self, w: u32, held: Held) -> Result<(), AllocError>
         requires place { w < length self.old }
-        requires room { many_in (held_in self.old) < 65536 }
+        requires room { many_held self.old < 65536 }
         ensures many { length self.new ≡ length self.old }
-        ensures holds { OnOk result
-            (Holds (pushed w held (held_in self.old)) self.old self.new) }
+        ensures holds { OnOk result (self.new ≡ with_queue w (with_last held) self.old) }
     {
         let queue = &mut self.queues[w as usize];
         queue.hold(held)?;
@@ -79,10 +77,9 @@ impl WorkerQueues {
     /// Holds a leg or a placeholder for worker `w`, in front of everything held for it.
     pub(crate) fn put_back(&mut self, w: u32, held: Held) -> Result<(), AllocError>
         requires place { w < length self.old }
-        requires room { many_in (held_in self.old) < 65536 }
+        requires room { many_held self.old < 65536 }
         ensures many { length self.new ≡ length self.old }
-        ensures holds { OnOk result
-            (Holds (put_first w held (held_in self.old)) self.old self.new) }
+        ensures holds { OnOk result (self.new ≡ with_queue w (with_first held) self.old) }
     {
         let queue = &mut self.queues[w as usize];
         queue.put_back(held)?;
@@ -95,9 +92,9 @@ impl WorkerQueues {
         requires { w < length self.old }
         ensures many { length self.new ≡ length self.old }
         ensures first { MatchOption result
-            ((self.new ≡ self.old) × (of_worker (held_in self.old) w ≡ []))
-            (λ held. Releases w held self.old self.new) }
-        ensures room { IfSome result (λ held. many_in (held_in self.new) < 65536) }
+            ((self.new ≡ self.old) × ((queue_of self.old w).held ≡ []))
+            (λ held. self.old ≡ with_queue w (with_first held) self.new) }
+        ensures room { IfSome result (λ held. many_held self.new < 65536) }
     {
         let queue = &mut self.queues[w as usize];
         let held = queue.release()?;
@@ -108,31 +105,23 @@ impl WorkerQueues {
     /// Returns the first leg or placeholder held for worker `w`, if there is one.
     pub(crate) fn first(&self, w: u32) -> Option<&Held>
         requires { w < length self.now }
-        ensures { MatchOption result (of_worker (held_in self.now) w ≡ []) (λ held.
-            BeginsWith held.now (of_worker (held_in self.now) w)) }
+        ensures { MatchOption result ((queue_of self.now w).held ≡ []) (λ held.
+            BeginsWith held.now (queue_of self.now w).held) }
     {
         self.queues[w as usize].first()
-    }
-
-    /// Returns whether nothing is held for worker `w`.
-    pub(crate) fn holds_none(&self, w: u32) -> bool
-        requires { w < length self.now }
-        ensures { (result ≡ true) ↔ (of_worker (held_in self.now) w ≡ []) }
-    {
-        self.queues[w as usize].holds_none()
     }
 
     /// Returns the number of legs and placeholders held for worker `w`.
     pub(crate) fn many_held(&self, w: u32) -> usize
         requires { w < length self.now }
-        ensures { result ≡ length (of_worker (held_in self.now) w) }
+        ensures { result ≡ length (queue_of self.now w).held }
     {
         self.queues[w as usize].many_held()
     }
 
     /// Returns whether nothing is held for any worker.
     pub(crate) fn none_held(&self) -> bool
-        ensures { (result ≡ true) ↔ ((w : ℕ) → of_worker (held_in self.now) w ≡ []) }
+        ensures { (result ≡ true) ↔ ((w : ℕ) → (queue_of self.now w).held ≡ []) }
     {
         self.many == 0
     }
@@ -141,7 +130,7 @@ impl WorkerQueues {
     pub(crate) fn note_offer(&mut self, w: u32, owed: Owed) -> Result<(), RunFault>
         requires { w < length self.old }
         ensures many { length self.new ≡ length self.old }
-        ensures owes { OnOk result (Owes w owed self.old self.new) }
+        ensures owes { OnOk result (self.new ≡ with_queue w (with_offer owed) self.old) }
         ensures fault { (open_gate : Bool) → IfErr result (IsDispatchFault open_gate) }
     {
         let queue = &mut self.queues[w as usize];
@@ -152,8 +141,8 @@ impl WorkerQueues {
     pub(crate) fn note_answer(&mut self, w: u32) -> Option<Owed>
         requires { w < length self.old }
         ensures many { length self.new ≡ length self.old }
-        ensures first { MatchOption result (of_worker (owed_in self.old) w ≡ [])
-            (λ owed. Settles w owed self.old self.new) }
+        ensures first { MatchOption result ((queue_of self.old w).owed ≡ [])
+            (λ owed. self.old ≡ with_queue w (with_oldest owed) self.new) }
     {
         let queue = &mut self.queues[w as usize];
         queue.note_answer()
@@ -162,14 +151,14 @@ impl WorkerQueues {
     /// Returns the number of legs that worker `w` has not answered yet.
     pub(crate) fn many_owed(&self, w: u32) -> usize
         requires { w < length self.now }
-        ensures { result ≡ length (of_worker (owed_in self.now) w) }
+        ensures { result ≡ length (queue_of self.now w).owed }
     {
         self.queues[w as usize].many_owed()
     }
 
     /// Returns whether every worker has answered every leg offered to it.
     pub(crate) fn none_owed(&self) -> bool
-        ensures { (result ≡ true) ↔ ((w : ℕ) → of_worker (owed_in self.now) w ≡ []) }
+        ensures { (result ≡ true) ↔ ((w : ℕ) → (queue_of self.now w).owed ≡ []) }
     {
         none_owed(&self.queues)
     }
@@ -184,7 +173,7 @@ impl WorkerQueues {
 
 /// Returns whether no queue has a leg that is not answered yet.
 fn none_owed(queues: &[WorkerQueue]) -> bool
-    ensures { (result ≡ true) ↔ ((w : ℕ) → of_worker (owed_in queues.now) w ≡ []) }
+    ensures { (result ≡ true) ↔ ((w : ℕ) → (queue_of queues.now w).owed ≡ []) }
 {
     for queue in queues {
         if queue.many_owed() > 0 {

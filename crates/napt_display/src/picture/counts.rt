@@ -2,7 +2,7 @@
 //! hairpins among them, and of drops for each cause.
 
 use crate::picture::frame::{
-    LANE_PAD, Lane, NAME_END, draw_axis, draw_lane, draw_lanes, draw_legend, draw_page,
+    LANE_PAD, Lane, NAME_END, draw_axis, draw_lane, draw_lanes, draw_legend, draw_level, draw_page,
 };
 use crate::picture::lives::{LiveBin, Lives, lives_of};
 use crate::picture::scene::Scene;
@@ -13,10 +13,13 @@ use std::alloc::{AllocError, Global};
 
 /// The words above the lanes, without the time of a bar, which follows.
 const LEGEND: &[&str] = &[
-    "Each address has how many of its bindings live, over time; below its name stands how many live at once at most. Below the",
-    "addresses are the packets, the hairpins among them, and those that were dropped for each cause: how many and, in brackets, how",
-    "many in the highest bar. Each lane is as high as its highest bar. A viewer tells of the bar that it points at.",
+    "Each address has how many of its bindings live, over time; below its name stands how many live at once at most, and what share that is of its",
+    "64,512 ports from 1024 on; a line is at half of that. Below are the packets, the hairpins, and those dropped for each cause: how many and, in",
+    "brackets, how many in the highest bar. Each lane is as high as its highest bar. A viewer tells of the bar that it points at.",
 ];
+
+/// The ports of an address from 1024 on, a class of RFC 4787, REQ-3 (a).
+const PORTS: u64 = 64_512;
 
 /// The line of the time of a bar.
 const TIME_LINE: u64 = 96;
@@ -161,10 +164,36 @@ fn draw_lives(
 ) -> Result<(), AllocError> {
     for (lives, lane) in lives.iter().zip(lanes.iter()) {
         open_words(text, "most", below_name(*lane))?;
-        writeln!(text, "at most {}</text>", lives.most)?;
+        let (most, tenths) = (lives.most, lives.most.saturating_mul(1_000) / PORTS);
+        let (percent, tenth) = (tenths / 10, tenths % 10);
+        writeln!(text, "at most {most} ({percent}.{tenth} %)</text>")?;
+        draw_scale(text, *lane, most)?;
         draw_live_bins(text, span, lives, *lane)?;
     }
     Ok(())
+}
+
+/// Lines through a lane at its highest bar, which is for `most`, and at half of that, with the number there.
+fn draw_scale(text: &mut String, lane: Lane, most: u64) -> Result<(), AllocError> {
+    let half = most / 2;
+    if half == 0 {
+        return Ok(());
+    }
+    draw_level(text, height_line(lane, most, most))?;
+    let line = height_line(lane, half, most);
+    draw_level(text, line)?;
+    let at = Point {
+        column: NAME_END,
+        line: line.saturating_add(5),
+    };
+    open_words(text, "scale", at)?;
+    writeln!(text, "{half}</text>")
+}
+
+/// The line of a bar's top for `number`, in a lane whose highest bar is for `most`.
+fn height_line(lane: Lane, number: u64, most: u64) -> u64 {
+    let run = Run { first: 0, many: 1 };
+    bar_of(lane, run, number, most).top
 }
 
 /// A bar for each run of bins with the same bindings, if any are live.

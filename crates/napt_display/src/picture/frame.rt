@@ -9,7 +9,7 @@ const STYLE: &str = "<style>
   .head { font-size: 14px; font-weight: bold }
   .name { stroke: #f3f5f7; stroke-width: 3; stroke-linejoin: round; paint-order: stroke }
   .side { font-weight: bold; text-anchor: end }
-  .most { text-anchor: end; fill: #555 }
+  .most, .scale { text-anchor: end; fill: #555 }
   .time { text-anchor: middle; fill: #555 }
   .unit { text-anchor: start }
   .page { fill: #fff }
@@ -166,6 +166,11 @@ fn draw_time(text: &mut String, at: Point, time: u64, apart: u64) -> Result<(), 
     } else {
         writeln!(text, "{seconds}.{:06}</text>", rest / MICROSECOND)
     }
+}
+
+/// A line through a lane.
+pub fn draw_level(text: &mut String, line: u64) -> Result<(), AllocError> {
+    writeln!(text, "<path class=\"grid\" d=\"M{LEFT} {line}H{RIGHT}\"/>")
 }
 
 /// A line through all lanes.

@@ -6,6 +6,17 @@ use crate::reasons::reason::{Reason, add};
 use napt_capture::CaptureFault;
 use std::alloc::{AllocError, Global};
 
+/// The call of split that makes of a capture what napt reads.
+#[derive(Clone, Copy)]
+pub struct Splitting<'a> {
+    /// What split is called: `./split`, or `napt-split` where it is installed.
+    pub command: &'a str,
+    /// The path of the capture; none if it has none.
+    pub capture: Option<&'a str>,
+    /// The prefixes of inside hosts, with spaces between them.
+    pub inside: &'a str,
+}
+
 /// What some bytes seem to be.
 #[derive(Clone, Copy)]
 enum Form {
@@ -67,7 +78,7 @@ fn pcap(bytes: &[u8], is_big: bool, is_nano: bool) -> Form {
     Form::Pcap(Spelling { is_big, is_nano }, link)
 }
 
-/// The name of a link type whose headers `./split` cuts.
+/// The name of a link type whose headers split cuts.
 fn link_name(link: u32) -> Option<&'static str> {
     match link {
         0 => Some("BSD loopback"),
@@ -85,46 +96,66 @@ fn link_name(link: u32) -> Option<&'static str> {
 }
 
 /// Why `read_capture` refuses some bytes with this fault: the fault in words, what the bytes seem to be, and what to do
-/// if that is known. There are at least two reasons. Fails only if memory runs out.
+/// if that is known, with this call of split. There are at least two reasons. Fails only if memory runs out.
 pub fn capture_reasons(
     alloc: Global,
     bytes: &[u8],
     fault: CaptureFault,
+    splitting: Splitting<'_>,
 ) -> Result<Vec<Reason>, AllocError>
     ensures { IfOk result (λ reasons. 2 ≤ vec_len reasons) }
 {
     let mut reasons = Vec::new(alloc);
     add(&mut reasons, "why", format!(in alloc; "{fault}"))?;
-    add_form(alloc, &mut reasons, form_of(bytes, fault))?;
+    add_form(alloc, &mut reasons, form_of(bytes, fault), splitting)?;
     Ok(reasons)
 }
 
 /// Adds what some bytes seem to be and, if known, the command that makes captures for napt from them.
-fn add_form(alloc: Global, reasons: &mut Vec<Reason>, form: Form) -> Result<(), AllocError>
+fn add_form(
+    alloc: Global,
+    reasons: &mut Vec<Reason>,
+    form: Form,
+    splitting: Splitting<'_>,
+) -> Result<(), AllocError>
     ensures { OnOk result (vec_len reasons.old + 1 ≤ vec_len reasons.new) }
 {
     add(reasons, "it is", form_text(alloc, form))?;
     match form {
         Form::Empty | Form::Unread => Ok(()),
         Form::Unknown => {
-            let text = "save it as pcap or pcapng; ./split makes of it what napt reads";
-            add(reasons, "do", String::from_str(alloc, text))
+            let command = splitting.command;
+            let text = format!(in alloc;
+                "save it as pcap or pcapng; {command} makes of it what napt reads"
+            );
+            add(reasons, "do", text)
         }
-        Form::Pcapng => add_split(alloc, reasons, "in.pcapng"),
-        Form::Gzip => add_split(alloc, reasons, "in.pcap.gz"),
+        Form::Pcapng => add_split(alloc, reasons, splitting, "in.pcapng"),
+        Form::Gzip => add_split(alloc, reasons, splitting, "in.pcap.gz"),
         Form::Pcap(_, link) => match link_name(link) {
-            Some(_) => add_split(alloc, reasons, "in.pcap"),
+            Some(_) => add_split(alloc, reasons, splitting, "in.pcap"),
             None => Ok(()),
         },
     }
 }
 
-/// Adds the command that makes napt's two captures from a named one.
-fn add_split(alloc: Global, reasons: &mut Vec<Reason>, name: &str) -> Result<(), AllocError>
+/// Adds the command that makes napt's two captures from this one, or from one of another name if it has none.
+fn add_split(
+    alloc: Global,
+    reasons: &mut Vec<Reason>,
+    splitting: Splitting<'_>,
+    other: &str,
+) -> Result<(), AllocError>
     ensures { OnOk result (vec_len reasons.old ≤ vec_len reasons.new) }
 {
-    let command = format!(in alloc; "./split {name} --inside 10.0.0.0/8 --out DIR");
-    add(reasons, "do", command)?;
+    let Splitting {
+        command,
+        inside,
+        ..
+    } = splitting;
+    let capture = splitting.capture.unwrap_or(other);
+    let call = format!(in alloc; "{command} {capture} --inside {inside} --out DIR");
+    add(reasons, "do", call)?;
     let more = "DIR/inside.pcap and DIR/outside.pcap are then what napt reads (docs/CAPTURES.md)";
     add(reasons, "", String::from_str(alloc, more))
 }

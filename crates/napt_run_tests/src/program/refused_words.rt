@@ -1,7 +1,8 @@
-//! Command lines that name no run: an option without its value, words that are no option, and one that asks for help.
+//! Command lines that name no run: an option without its value, words that are no option, and those that ask for help or the
+//! version.
 
 use crate::program::options::parsed;
-use napt_program::{LineFault, Options};
+use napt_program::{LineFault, Options, VERSION};
 use std::test::Fail;
 
 #[test]
@@ -33,6 +34,24 @@ fn tells_help(rt: HostRuntime) -> Result<(), Fail> {
     for word in ["--help", "-h"] {
         let answer = parsed(rt.alloc(), &[word])?;
         assert!(rt; is_help(&answer), "{word}");
+    }
+    Ok(())
+}
+
+/// Whether the words ask for the version, and the text is the name before it.
+fn is_version(answer: &Result<Options, LineFault>) -> bool {
+    match answer {
+        Err(LineFault::Version(text)) => text.as_str().trim_end().strip_prefix("napt ")
+            == Some(VERSION),
+        _ => false,
+    }
+}
+
+#[test]
+fn tells_version(rt: HostRuntime) -> Result<(), Fail> {
+    for word in ["--version", "-V"] {
+        let answer = parsed(rt.alloc(), &[word])?;
+        assert!(rt; is_version(&answer), "{word}");
     }
     Ok(())
 }

@@ -9,7 +9,6 @@ ghost use Rattle.napt_binding.specs.Entering.{entered, left_by};
 use crate::bindings::keys::{ExternalKey, InsideKey, inside_key, key_of};
 use crate::bindings::numbers_in_use::NumbersInUse;
 use crate::host_counts::HostCounts;
-use crate::rows::row_of;
 use napt_binding::{Binding, IdleTimers, is_live, send, take_in};
 use napt_rules::{Inbound, Received, Row, Sent};
 use napt_wire::{Cause, Endpoint, Protocol};
@@ -268,7 +267,7 @@ impl Held {
         let mut made = Vec::new(alloc);
         for binding in self.by_number.values() {
             if is_live(binding, timers, now) {
-                made.push(row_of(binding))?;
+                made.push(binding.row.row())?;
             }
         }
         Ok(made)

@@ -3,7 +3,6 @@
 ghost use Rattle.std.specs.Prelude.{◌≡◌, ◌<◌, ◌^◌};
 ghost use Rattle.napt_table.specs.Keys.{key_of, inside_key};
 
-use crate::rows::number_of;
 use napt_binding::Binding;
 use napt_wire::{Endpoint, Protocol};
 
@@ -39,7 +38,7 @@ pub(crate) fn key_of(binding: &Binding) -> ExternalKey
     ensures small { result.number < 2 ^ 16 }
 {
     ExternalKey {
-        number: number_of(binding),
+        number: binding.row.external_number(),
         protocol: binding.row.protocol(),
     }
 }

@@ -8,11 +8,10 @@ use Rattle.napt_laws.proofs.Grown.{ran_long}
 use Rattle.napt_account.specs.declared.log.Entry.{Entry}
 use Rattle.napt_account.specs.declared.log.Shortage.{Shortage}
 use Rattle.napt_account.specs.Book.{after_trace, lost_by, uses_told}
-use Rattle.napt_account.specs.Kept.{AreInTime, HaveLegs}
+use Rattle.napt_account.specs.Kept.{AreInTime}
 use Rattle.napt_account.specs.Log.{begun}
-use Rattle.napt_account.proofs.Retold.{entries_told}
-use Rattle.napt_account.proofs.Shortages.{shortages_told, in_time, traces_long, log_is}
-use Rattle.napt_account.proofs.Uses.{have_legs, uses_are}
+use Rattle.napt_account.proofs.Attribution.{retold}
+use Rattle.napt_account.proofs.Retold.{in_time, traces_long, log_is}
 use Rattle.napt_account.proofs.account.account_of.Goals as goal
 
 pub tell_all-requires-clause-kept : goal.tell_all-requires-clause-kept
@@ -22,11 +21,6 @@ pub tell_all-requires-clause-in_time : goal.tell_all-requires-clause-in_time
 tell_all-requires-clause-in_time c =
     subst (AreInTime 0) (sym (c.deref.ensures.value ∙ c.in_ok-told.ensures.traces))
     (in_time c.args.config.now 0 0 c.args.inputs.now (opening c.args.config.now))
-
-pub tell_all-requires-clause-legs : goal.tell_all-requires-clause-legs
-tell_all-requires-clause-legs c =
-    subst HaveLegs (sym (c.deref.ensures.value ∙ c.in_ok-told.ensures.traces))
-    (have_legs c.args.config.now 0 0 c.args.inputs.now (opening c.args.config.now))
 
 pub tell_all-requires-clause-few : goal.tell_all-requires-clause-few
 tell_all-requires-clause-few c =
@@ -49,9 +43,8 @@ returns-clause-entries c =
     ∙ (ap (λ (es : List Entry). fold after_trace es c.deref.result.now) c.in_ok-book.ensures.entries
     ∙ (ap (fold after_trace (map (begun rules.timers 0) (opening rules)))
     (c.deref.ensures.value ∙ c.in_ok-told.ensures.traces)
-    ∙ (sym (entries_told c.packets_carry_numbers.ensures c.steps_stay_sound.ensures.outbound
-    c.steps_stay_sound.ensures.inbound c.steps_leave_live.ensures.outbound c.steps_leave_live.ensures.inbound rules
-    c.in_ok-told.ensures.kept c.opening_is_sound.ensures inputs) ∙ sym (log_is rules inputs).0)))
+    ∙ ((retold rules c.in_ok-told.ensures.kept c.opening_is_sound.ensures inputs).entries_are
+    ∙ sym (log_is rules inputs).0)))
 
 pub returns-clause-uses : goal.returns-clause-uses
 returns-clause-uses c =
@@ -61,10 +54,7 @@ returns-clause-uses c =
     ∙ (ap (λ (es : List Entry). uses_told es c.deref.result.now) c.in_ok-book.ensures.entries
     ∙ (ap (uses_told (map (begun rules.timers 0) (opening rules)))
     (c.deref.ensures.value ∙ c.in_ok-told.ensures.traces)
-    ∙ uses_are rules (λ front. (log_is rules front).0
-    ∙ entries_told c.packets_carry_numbers.ensures c.steps_stay_sound.ensures.outbound
-    c.steps_stay_sound.ensures.inbound c.steps_leave_live.ensures.outbound c.steps_leave_live.ensures.inbound rules
-    c.in_ok-told.ensures.kept c.opening_is_sound.ensures front) inputs))
+    ∙ (retold rules c.in_ok-told.ensures.kept c.opening_is_sound.ensures inputs).uses_are))
 
 pub returns-clause-shortages : goal.returns-clause-shortages
 returns-clause-shortages c =
@@ -73,4 +63,5 @@ returns-clause-shortages c =
     c.in_ok-uses.ensures.shortages
     ∙ (ap (λ (xs : List Shortage). xs ++ flat_map lost_by c.deref.result.now) c.in_ok-book.ensures.shortages
     ∙ (ap (flat_map lost_by) (c.deref.ensures.value ∙ c.in_ok-told.ensures.traces)
-    ∙ (sym (shortages_told rules 0 0 inputs (opening rules)) ∙ sym (log_is rules inputs).1)))
+    ∙ ((retold rules c.in_ok-told.ensures.kept c.opening_is_sound.ensures inputs).shortages_are
+    ∙ sym (log_is rules inputs).1)))

@@ -1,5 +1,8 @@
-use Rattle.napt_capture.proofs.ReadsBack.{IsCapture-text}
+use Rattle.napt_capture.proofs.ReadsBack.{captured_text, read_text}
 use Rattle.napt_capture.proofs.laws.reads_back.Goals as goal
 
-pub returns : goal.returns
-returns c = IsCapture-text
+pub returns-clause-captured : goal.returns-clause-captured
+returns-clause-captured c = captured_text
+
+pub returns-clause-whole : goal.returns-clause-whole
+returns-clause-whole c = read_text

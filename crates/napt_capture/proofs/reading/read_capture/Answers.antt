@@ -1,77 +1,102 @@
 -- Each exit answers what was read.
-use Rattle.std.proofs.Common.{◌≡◌, ◌+◌, [], ◌∷◌, length, ap, ◌∙◌, arith, rules, length-append}
+use Rattle.std.proofs.Common.{◌≡◌, ◌+◌, ◌≤◌, [], ◌∷◌, length, refl, ap, ◌∙◌, arith, rules, length-append}
 use Rattle.std.proofs.lemmas.List.Elements.{All-nil, All-push}
 use Rattle.std.proofs.lemmas.Result.{err_from_is_err_and}
 use Rattle.napt_capture.specs.Contents.{Entry}
+use Rattle.napt_capture.specs.declared.fault.CaptureFault.TheVariants.{Memory}
 use Rattle.napt_capture.specs.Text.{IsWritable}
-use Rattle.napt_capture.proofs.Progress.{Progress-more, Progress-start, IsAnswered-end, IsAnswered-file, IsAnswered-record}
+use Rattle.napt_capture.proofs.Whole.{asked_joined, for_records, header_refused, reads_end, reads_fault, reads_on, refuses, starts}
 use Rattle.napt_capture.proofs.reading.read_capture.Goals as goal
 
 pub returns-in_err-spelling-clause-answer : goal.returns-in_err-spelling-clause-answer
 returns-in_err-spelling-clause-answer g c =
     let p = err_from_is_err_and c.from_residual.result c.from_residual.ensures.1 in
-    rw (p.1, p.2) (IsAnswered-file (g.R.Source.remaining c.args.reader.now)
-    (g.R.Source.remaining c.read_file_header.new.reader) c.in_err-spelling.field-0.0
-    c.in_err-spelling.ensures.err).0
-
-pub returns-in_err-spelling-clause-asked : goal.returns-in_err-spelling-clause-asked
-returns-in_err-spelling-clause-asked g c =
-    let p = err_from_is_err_and c.from_residual.result c.from_residual.ensures.1 in
-    rw (p.1, p.2) (IsAnswered-file (g.R.Source.remaining c.args.reader.now)
-    (g.R.Source.remaining c.read_file_header.new.reader) c.in_err-spelling.field-0.0
-    c.in_err-spelling.ensures.err).1
+    rw (p.1, p.2) (refuses _ _ c.in_err-spelling.field-0.0 c.in_err-spelling.ensures.header)
 
 pub loop-records-init : goal.loop-records-init
-loop-records-init g c = (
-  rw c.new-records.ensures.items (Progress-start c.in_ok-spelling.ensures.ok),
-  search rules,
-  rw c.new-records.ensures.items (All-nil IsWritable),
-  omega (arith, ap length c.new-records.ensures.items),
-)
+loop-records-init g c = record {
+  progress = rw c.new-records.ensures.items (starts c.in_ok-spelling.spelling _ _ c.in_ok-spelling.ensures.header);
+  counted = rw c.new-records.ensures.items refl;
+  room = omega arith;
+  live = search rules;
+  writable = rw c.new-records.ensures.items (All-nil IsWritable);
+  many = omega (arith, ap length c.new-records.ensures.items);
+}
 
 pub returns-in_err-record-clause-answer : goal.returns-in_err-record-clause-answer
 returns-in_err-record-clause-answer g c =
     let p = err_from_is_err_and c.from_residual-in_err-record.result c.from_residual-in_err-record.ensures.1 in
     let number : c.len.result + 1 ≡ length c.loop-records.records.items + 1 =
     omega (arith, c.len.ensures, c.loop-records.records.ok.0) in
-    rw (p.1, p.2) (IsAnswered-record (g.R.Source.remaining c.args.reader.now) _
-    (g.R.Source.remaining c.read_record.new.reader) c.in_err-record.field-0.0 c.loop-records.invariant.0 number
-    c.in_err-record.ensures.err).0
-
-pub returns-in_err-record-clause-asked : goal.returns-in_err-record-clause-asked
-returns-in_err-record-clause-asked g c =
-    let p = err_from_is_err_and c.from_residual-in_err-record.result c.from_residual-in_err-record.ensures.1 in
-    let number : c.len.result + 1 ≡ length c.loop-records.records.items + 1 =
-    omega (arith, c.len.ensures, c.loop-records.records.ok.0) in
-    rw (p.1, p.2) (IsAnswered-record (g.R.Source.remaining c.args.reader.now) _
-    (g.R.Source.remaining c.read_record.new.reader) c.in_err-record.field-0.0 c.loop-records.invariant.0 number
-    c.in_err-record.ensures.err).1
+    let inv = c.loop-records.invariant in
+    rw (p.1, p.2) (reads_fault c.in_ok-spelling.spelling c.loop-records.records.items c.loop-records.asked
+    (c.len.result + 1) inv.counted number _ _ _ inv.progress c.in_err-record.field-0.0 c.in_err-record.ensures.next)
 
 pub loop-records-preserved : goal.loop-records-preserved
 loop-records-preserved g c =
-    let next = rw c.in-Whole.is at c.in_ok-record.ensures.ok in
+    let inv = c.loop-records.invariant in
+    let number : c.len.result + 1 ≡ length c.loop-records.records.items + 1 =
+    omega (arith, c.len.ensures, c.loop-records.records.ok.0) in
+    let next = rw c.in-Whole.is at c.in_ok-record.ensures.next in
     let size : c.len-in-Whole.result ≡ length c.in-Whole.record.bytes =
     c.len-in-Whole.ensures ∙ c.record.inside.bytes.ok.0 ∙ ap (λ (e : Entry). length e.bytes) c.record.view_is in
-    let more = Progress-more (g.R.Source.remaining c.args.reader.now) _ (g.R.Source.remaining c.read_record.new.reader)
-    c.in-Whole.record c.loop-records.invariant.0 next in
-    let taken : IsWritable c.in-Whole.record = rw c.in-Whole.is at c.in_ok-record.ensures.writable in (
-      rw (c.in_ok-push-in-Whole.ensures.items, size) more,
-      search rules,
-      rw c.in_ok-push-in-Whole.ensures.items (All-push IsWritable _ _ c.loop-records.invariant.2 taken),
-      omega (
+    let more = reads_on c.in_ok-spelling.spelling c.loop-records.records.items c.loop-records.asked
+    (c.len.result + 1) inv.counted number _ _ _ inv.progress c.in-Whole.record
+    (omega (arith, number, inv.many, inv.room)) next in
+    let taken : IsWritable c.in-Whole.record = rw c.in-Whole.is at c.in_ok-record.ensures.writable in
+    let room : c.loop-records.asked + (16 + length c.in-Whole.record.bytes) ≤ 68719476736 =
+    rw c.in-Whole.is at c.in_ok-record.ensures.room in
+    record {
+      progress = rw (c.in_ok-push-in-Whole.ensures.items, size) more;
+      counted = rw c.in_ok-push-in-Whole.ensures.items
+          (omega (arith, size, inv.counted, asked_joined c.loop-records.records.items (c.in-Whole.record ∷ [])));
+      room = omega (arith, size, room);
+      live = search rules;
+      writable = rw c.in_ok-push-in-Whole.ensures.items (All-push IsWritable _ _ inv.writable taken);
+      many = omega (
         arith,
-        c.loop-records.invariant.3,
+        size,
+        inv.many,
         ap length c.in_ok-push-in-Whole.ensures.items,
         length-append c.loop-records.records.items (c.in-Whole.record ∷ []),
-      ),
-    )
+      );
+    }
+
+pub loop-records-smaller : goal.loop-records-smaller
+loop-records-smaller g c =
+    let size : c.len-in-Whole.result ≡ length c.in-Whole.record.bytes =
+    c.len-in-Whole.ensures ∙ c.record.inside.bytes.ok.0 ∙ ap (λ (e : Entry). length e.bytes) c.record.view_is in
+    let room : c.loop-records.asked + (16 + length c.in-Whole.record.bytes) ≤ 68719476736 =
+    rw c.in-Whole.is at c.in_ok-record.ensures.room in
+    omega (arith, size, room)
 
 pub returns-in-End-clause-answer : goal.returns-in-End-clause-answer
 returns-in-End-clause-answer g c =
-    (IsAnswered-end (g.R.Source.remaining c.args.reader.now) _ (g.R.Source.remaining c.read_record.new.reader)
-    c.in-End.cut c.loop-records.invariant.0 (rw c.in-End.is at c.in_ok-record.ensures.ok)).0
+    let inv = c.loop-records.invariant in
+    let number : c.len.result + 1 ≡ length c.loop-records.records.items + 1 =
+    omega (arith, c.len.ensures, c.loop-records.records.ok.0) in
+    reads_end c.in_ok-spelling.spelling c.loop-records.records.items c.loop-records.asked
+    (c.len.result + 1) inv.counted number _ _ _ inv.progress c.in-End.cut
+    (rw c.in-End.is at c.in_ok-record.ensures.next)
 
-pub returns-in-End-clause-asked : goal.returns-in-End-clause-asked
-returns-in-End-clause-asked g c =
-    (IsAnswered-end (g.R.Source.remaining c.args.reader.now) _ (g.R.Source.remaining c.read_record.new.reader)
-    c.in-End.cut c.loop-records.invariant.0 (rw c.in-End.is at c.in_ok-record.ensures.ok)).1
+pub returns-in_err-spelling-clause-memory : goal.returns-in_err-spelling-clause-memory
+returns-in_err-spelling-clause-memory g c =
+    let p = err_from_is_err_and c.from_residual.result c.from_residual.ensures.1 in
+    rw (p.1, p.2) (header_refused (g.R.Source.remaining c.args.reader.now) c.in_err-spelling.field-0.0
+    c.in_err-spelling.ensures.memory)
+
+pub returns-in_err-record-clause-memory : goal.returns-in_err-record-clause-memory
+returns-in_err-record-clause-memory g c =
+    let p = err_from_is_err_and c.from_residual-in_err-record.result c.from_residual-in_err-record.ensures.1 in
+    let inv = c.loop-records.invariant in
+    rw (p.1, p.2) (for_records c.in_ok-spelling.spelling c.loop-records.records.items c.loop-records.asked _ _
+    (omega (arith, inv.many)) inv.progress c.in_err-record.field-0.0 c.in_err-record.ensures.memory)
+
+pub returns-in_err-push-in-Whole-clause-memory : goal.returns-in_err-push-in-Whole-clause-memory
+returns-in_err-push-in-Whole-clause-memory g c =
+    let p = err_from_is_err_and c.from_residual-in_err-push-in-Whole.result
+    c.from_residual-in_err-push-in-Whole.ensures.1 in
+    let inv = c.loop-records.invariant in
+    let long = (rw c.in-Whole.is at c.in_ok-record.ensures.memory) tt in
+    rw (p.1, p.2) (for_records c.in_ok-spelling.spelling c.loop-records.records.items c.loop-records.asked _ _
+    (omega (arith, inv.many)) inv.progress Memory (λ taken. long))

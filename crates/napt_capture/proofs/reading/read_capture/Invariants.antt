@@ -1,16 +1,22 @@
 -- What was read so far is the front of the file, with these records, and no read failed.
 use Rattle.std.proofs.Common.{◌≡◌, ◌+◌, ◌-◌, ◌*◌, ◌≤◌, All, length}
 use Rattle.napt_capture.specs.declared.TheConstants.{MOST_ASKED}
+use Rattle.napt_capture.specs.Capture.{asked_records}
+use Rattle.napt_capture.specs.Reading.{Gives}
 use Rattle.napt_capture.specs.Text.{IsWritable}
-use Rattle.napt_capture.proofs.Progress.{Progress}
+use Rattle.napt_capture.proofs.Whole.{Progress}
 use Rattle.napt_capture.proofs.reading.read_capture.Given as goal
 
 abbrev pub invariant-loop-records : goal.invariant-loop-records
-invariant-loop-records g l =
-    Progress l.spelling (g.R.Source.remaining l.fn.reader) (g.R.Source.remaining l.reader) l.records.items l.asked
-    × (g.R.Source.failed l.reader ≡ g.R.Source.failed l.fn.reader)
-    × All IsWritable l.records.items
-    × (24 + 16 * length l.records.items ≤ l.asked)
+invariant-loop-records g l = record {
+  progress : Gives (g.R.Source.remaining l.fn.reader) (g.R.Source.remaining l.reader)
+      (Progress l.spelling l.records.items l.asked);
+  counted : l.asked ≡ 24 + asked_records l.records.items;
+  room : l.asked ≤ MOST_ASKED;
+  live : g.R.Source.failed l.reader ≡ g.R.Source.failed l.fn.reader;
+  writable : All IsWritable l.records.items;
+  many : 24 + 16 * length l.records.items ≤ l.asked;
+}
 
 abbrev pub decreases-loop-records : goal.decreases-loop-records
 decreases-loop-records g l = MOST_ASKED - l.asked

@@ -1,53 +1,102 @@
--- What was consumed is the header, and then the bytes so far.
-use Rattle.std.proofs.Common.{◌≡◌, ◌+◌, ◌≤◌, ◌<◌, length, arith}
+-- What was filled is the header, and then the bytes.
+use Rattle.std.proofs.Common.{◌≤◌, Err, length, arith}
 use Rattle.std.proofs.lemmas.Result.{err_from_is_err_and}
 use Rattle.std.proofs.lemmas.List.{with_items_is}
-use Rattle.napt_capture.specs.Reading.{RefusesRecord}
-use Rattle.napt_capture.proofs.Steps.{ReadsNext-cut, ReadsNext-whole, StopsBy-refused, Consumes-full}
+use Rattle.napt_capture.specs.declared.reading.Next.{Next}
+use Rattle.napt_capture.specs.declared.fault.CaptureFault.TheVariants.{TooLarge}
+use Rattle.napt_capture.specs.Reading.{ReadsNext}
+use Rattle.napt_capture.proofs.Filled.{Gives-both, Gives-known, Gives-map, Gives-same, Says-fact, filled_by}
+use Rattle.napt_capture.proofs.Header.{header_read, next_all, next_bad, next_early, next_large, next_none, next_part}
 use Rattle.napt_capture.proofs.reading.read_record.Goals as goal
 
-pub returns-in_err-fields-clause-err : goal.returns-in_err-fields-clause-err
-returns-in_err-fields-clause-err g c =
+pub returns-then-asked-clause-next : goal.returns-then-asked-clause-next
+returns-then-asked-clause-next g c =
+    Gives-same (g.R.Source.remaining c.args.reader.now)
+    (ReadsNext c.args.spelling c.args.asked c.args.number (Err TooLarge))
+    (λ text. next_none c.args.spelling c.args.asked c.args.number text c.requires.within
+    (omega (arith, c.if-asked.true)))
+
+pub returns-then-filled-lt-RECORD_HEADER-clause-next : goal.returns-then-filled-lt-RECORD_HEADER-clause-next
+returns-then-filled-lt-RECORD_HEADER-clause-next g c =
+    let read = filled_by _ _ c.in_ok-filled.filled c.fill.new.buffer c.in_ok-filled.ensures.bound
+    c.in_ok-filled.ensures.bytes c.in_ok-filled.ensures.end in
+    Gives-map _ _ (λ text left p. next_early c.args.spelling c.args.asked c.args.number c.in_ok-filled.filled
+    c.fill.new.buffer text left (omega (arith, c.fill.auto.buffer)) (omega (arith, c.if-filled-lt-RECORD_HEADER.true))
+    (omega (arith, c.if-asked.false, c.requires.within)) p) read
+
+pub returns-in_err-fields-clause-next : goal.returns-in_err-fields-clause-next
+returns-in_err-fields-clause-next g c =
     let p = err_from_is_err_and c.from_residual-in_err-fields.result c.from_residual-in_err-fields.ensures.1 in
-    let header = c.fill.new.buffer in
-    let read = Consumes-full _ _ c.in_ok-filled.filled header
-    (omega (arith, c.fill.auto.buffer, c.if-filled-lt-RECORD_HEADER.false)) c.in_ok-filled.ensures.bytes in
-    let asks : c.args.asked + 16 ≤ 68719476736 = omega (arith, c.if-asked.false, c.requires.within) in
-    let refused : RefusesRecord c.args.spelling c.args.asked c.args.number c.in_err-fields.field-0.0
-    (g.R.Source.remaining c.args.reader.now) (g.R.Source.remaining c.fill.new.reader) =
-    record { header = header; consumed = read; refused = c.in_err-fields.ensures.err c.args.asked asks } in
-    rw (p.1, p.2) (StopsBy-refused _ refused)
+    let fault = c.in_err-fields.field-0.0 in
+    let read = filled_by _ _ c.in_ok-filled.filled c.fill.new.buffer c.in_ok-filled.ensures.bound
+    c.in_ok-filled.ensures.bytes c.in_ok-filled.ensures.end in
+    rw (p.1, p.2) (Says-fact {T = Next} (Err fault) (Gives-map _ _ (λ text left p.
+    next_bad c.args.spelling c.args.asked c.args.number c.fill.new.buffer text left fault
+    (omega (arith, c.if-asked.false, c.requires.within))
+    (header_read c.in_ok-filled.filled c.fill.new.buffer text left (omega (arith, c.fill.auto.buffer))
+    (omega (arith, c.if-filled-lt-RECORD_HEADER.false)) p) c.in_err-fields.ensures.err) read))
 
-pub returns-then-filled-len-clause-ok : goal.returns-then-filled-len-clause-ok
-returns-then-filled-len-clause-ok g c =
-    let header = c.fill.new.buffer in
-    let read = Consumes-full _ _ c.in_ok-filled.filled header
-    (omega (arith, c.fill.auto.buffer, c.if-filled-lt-RECORD_HEADER.false)) c.in_ok-filled.ensures.bytes in
-    let size : length c.fill-2.new.buffer ≡ c.in_ok-fields.fields.captured =
-    omega (arith, c.fill-2.auto.buffer, c.deref_mut.ensures.len, c.in_ok-bytes.ensures.len) in
-    let early : c.in_ok-filled-2.filled < c.in_ok-fields.fields.captured =
-    omega (arith, c.if-filled-len.true, c.len.ensures, c.in_ok-bytes.ensures.len) in
-    let may : c.args.asked + (16 + c.in_ok-fields.fields.captured) ≤ 68719476736 =
-    omega (arith, c.if-asked.false, c.if-asked-fields.false, c.requires.within) in
-    ReadsNext-cut c.args.spelling c.args.asked _ _ _ header c.fill-2.new.buffer c.in_ok-filled-2.filled
-    c.in_ok-fields.fields c.in_ok-fields.ensures.ok
-    read c.in_ok-filled-2.ensures.bytes c.in_ok-filled-2.ensures.bound early
-    (c.in_ok-filled-2.ensures.end (omega (arith, size, early))) may
+pub returns-then-asked-fields-clause-next : goal.returns-then-asked-fields-clause-next
+returns-then-asked-fields-clause-next g c =
+    let read = filled_by _ _ c.in_ok-filled.filled c.fill.new.buffer c.in_ok-filled.ensures.bound
+    c.in_ok-filled.ensures.bytes c.in_ok-filled.ensures.end in
+    Gives-map _ _ (λ text left p.
+    next_large c.args.spelling c.args.asked c.args.number c.fill.new.buffer text left c.in_ok-fields.fields
+    (omega (arith, c.if-asked.false, c.requires.within))
+    (omega (arith, c.if-asked.false, c.if-asked-fields.true, c.requires.within))
+    (header_read c.in_ok-filled.filled c.fill.new.buffer text left (omega (arith, c.fill.auto.buffer))
+    (omega (arith, c.if-filled-lt-RECORD_HEADER.false)) p) c.in_ok-fields.ensures.ok) read
 
-pub returns-clause-ok : goal.returns-clause-ok
-returns-clause-ok g c =
-    let header = c.fill.new.buffer in
-    let read = Consumes-full _ _ c.in_ok-filled.filled header
-    (omega (arith, c.fill.auto.buffer, c.if-filled-lt-RECORD_HEADER.false)) c.in_ok-filled.ensures.bytes in
-    let size : length c.fill-2.new.buffer ≡ c.in_ok-fields.fields.captured =
-    omega (arith, c.fill-2.auto.buffer, c.deref_mut.ensures.len, c.in_ok-bytes.ensures.len) in
-    let full : length c.fill-2.new.buffer ≤ c.in_ok-filled-2.filled =
-    omega (arith, size, c.if-filled-len.false, c.len.ensures, c.in_ok-bytes.ensures.len) in
-    let may : c.args.asked + (16 + c.in_ok-fields.fields.captured) ≤ 68719476736 =
-    omega (arith, c.if-asked.false, c.if-asked-fields.false, c.requires.within) in
-    let filled = with_items_is c.in_ok-bytes.bytes c.fill-2.new.buffer
+pub returns-then-filled-len-clause-next : goal.returns-then-filled-len-clause-next
+returns-then-filled-len-clause-next g c =
+    let read = filled_by _ _ c.in_ok-filled.filled c.fill.new.buffer c.in_ok-filled.ensures.bound
+    c.in_ok-filled.ensures.bytes c.in_ok-filled.ensures.end in
+    let body = filled_by _ _ c.in_ok-filled-2.filled c.fill-2.new.buffer c.in_ok-filled-2.ensures.bound
+    c.in_ok-filled-2.ensures.bytes c.in_ok-filled-2.ensures.end in
+    Gives-both _ _ _ (λ text mid left p q.
+    next_part c.args.spelling c.args.asked c.args.number c.in_ok-filled-2.filled c.fill.new.buffer c.fill-2.new.buffer
+    text mid left c.in_ok-fields.fields (omega (arith, c.if-asked.false, c.if-asked-fields.false, c.requires.within))
+    (header_read c.in_ok-filled.filled c.fill.new.buffer text mid (omega (arith, c.fill.auto.buffer))
+    (omega (arith, c.if-filled-lt-RECORD_HEADER.false)) p) c.in_ok-fields.ensures.ok
+    (omega (arith, c.fill-2.auto.buffer, c.deref_mut.ensures.len, c.in_ok-bytes.ensures.len))
+    (omega (arith, c.if-filled-len.true, c.len.ensures, c.in_ok-bytes.ensures.len)) q) read body
+
+pub returns-clause-next : goal.returns-clause-next
+returns-clause-next g c =
+    let read = filled_by _ _ c.in_ok-filled.filled c.fill.new.buffer c.in_ok-filled.ensures.bound
+    c.in_ok-filled.ensures.bytes c.in_ok-filled.ensures.end in
+    let body = filled_by _ _ c.in_ok-filled-2.filled c.fill-2.new.buffer c.in_ok-filled-2.ensures.bound
+    c.in_ok-filled-2.ensures.bytes c.in_ok-filled-2.ensures.end in
+    let items = with_items_is c.in_ok-bytes.bytes c.fill-2.new.buffer
     (omega (arith, c.fill-2.auto.buffer, c.deref_mut.ensures.len)) in
-    ReadsNext-whole c.args.spelling c.args.asked _ _ _ header c.fill-2.new.buffer _ c.in_ok-fields.fields
-    c.in_ok-fields.ensures.ok
-    read (Consumes-full _ _ c.in_ok-filled-2.filled c.fill-2.new.buffer full c.in_ok-filled-2.ensures.bytes) size may
-    filled
+    Gives-both _ _ _ (λ text mid left p q.
+    next_all c.args.spelling c.args.asked c.args.number c.in_ok-filled-2.filled c.fill.new.buffer c.fill-2.new.buffer
+    text mid left _ c.in_ok-fields.fields (omega (arith, c.if-asked.false, c.if-asked-fields.false, c.requires.within))
+    (header_read c.in_ok-filled.filled c.fill.new.buffer text mid (omega (arith, c.fill.auto.buffer))
+    (omega (arith, c.if-filled-lt-RECORD_HEADER.false)) p) c.in_ok-fields.ensures.ok
+    (omega (arith, c.fill-2.auto.buffer, c.deref_mut.ensures.len, c.in_ok-bytes.ensures.len))
+    (omega (arith, c.if-filled-len.false, c.len.ensures, c.in_ok-bytes.ensures.len)) q items) read body
+
+pub returns-in_err-fields-clause-memory : goal.returns-in_err-fields-clause-memory
+returns-in_err-fields-clause-memory g c taken =
+    let read = filled_by _ _ c.in_ok-filled.filled c.fill.new.buffer c.in_ok-filled.ensures.bound
+    c.in_ok-filled.ensures.bytes c.in_ok-filled.ensures.end in
+    Gives-known (λ text. 16 ≤ length text) _ _ (Gives-map _ _ (λ text left p.
+    (header_read c.in_ok-filled.filled c.fill.new.buffer text left (omega (arith, c.fill.auto.buffer))
+    (omega (arith, c.if-filled-lt-RECORD_HEADER.false)) p).long) read)
+
+pub returns-in_err-bytes-clause-memory : goal.returns-in_err-bytes-clause-memory
+returns-in_err-bytes-clause-memory g c taken =
+    let read = filled_by _ _ c.in_ok-filled.filled c.fill.new.buffer c.in_ok-filled.ensures.bound
+    c.in_ok-filled.ensures.bytes c.in_ok-filled.ensures.end in
+    Gives-known (λ text. 16 ≤ length text) _ _ (Gives-map _ _ (λ text left p.
+    (header_read c.in_ok-filled.filled c.fill.new.buffer text left (omega (arith, c.fill.auto.buffer))
+    (omega (arith, c.if-filled-lt-RECORD_HEADER.false)) p).long) read)
+
+pub returns-clause-memory : goal.returns-clause-memory
+returns-clause-memory g c taken =
+    let read = filled_by _ _ c.in_ok-filled.filled c.fill.new.buffer c.in_ok-filled.ensures.bound
+    c.in_ok-filled.ensures.bytes c.in_ok-filled.ensures.end in
+    Gives-known (λ text. 16 ≤ length text) _ _ (Gives-map _ _ (λ text left p.
+    (header_read c.in_ok-filled.filled c.fill.new.buffer text left (omega (arith, c.fill.auto.buffer))
+    (omega (arith, c.if-filled-lt-RECORD_HEADER.false)) p).long) read)

@@ -1,7 +1,7 @@
 use Rattle.std.proofs.Common.{rules, ◌∙◌, ap}
 use Rattle.clap.specs.Words.{app_of}
 use Rattle.napt_program.specs.CommandLine.{files}
-use Rattle.napt_program.proofs.LineLemmas.{files_read, help_line, mistaken_line, taken_line}
+use Rattle.napt_program.proofs.LineLemmas.{files_read, help_line, mistaken_line, taken_line, version_line}
 use Rattle.napt_program.proofs.options.parse_words_of.Goals as goal
 
 pub returns-in-Ok-clause-ok : goal.returns-in-Ok-clause-ok
@@ -20,9 +20,15 @@ returns-clause-help c asked =
     (help_line (app_of c.in_ok-command.command) _ c.in-Err.error c.in_ok-command.ensures c.in-Err.ensures.kinds
     (c.in_ok-fault_of-in-Err.ensures.help asked))
 
+pub returns-clause-version : goal.returns-clause-version
+returns-clause-version c asked =
+    rw (← c.as_slice.ensures.value)
+    (version_line (app_of c.in_ok-command.command) _ c.in-Err.error c.in_ok-command.ensures c.in-Err.ensures.kinds
+    (c.in_ok-fault_of-in-Err.ensures.version asked))
+
 pub returns-clause-usage : goal.returns-clause-usage
 returns-clause-usage c is_usage =
     let causes = c.in_ok-fault_of-in-Err.ensures.usage (search rules) in
     rw (← c.as_slice.ensures.value)
     (mistaken_line (app_of c.in_ok-command.command) _ c.in-Err.error c.in_ok-command.ensures c.in-Err.ensures.kinds
-    causes.0 causes.1)
+    causes.0 causes.1 causes.2)

@@ -5,8 +5,7 @@ use Rattle.napt_config.specs.declared.settings.Redirect.{Redirect}
 use Rattle.napt_rules.specs.Prelude.{Binding, redirected, opening, row}
 use Rattle.napt_rules.specs.declared.Row.{Row}
 use Rattle.napt_account.specs.declared.log.Entry.{Entry}
-use Rattle.napt_account.specs.Log.{begun}
-use Rattle.napt_account.specs.Book.{is_of}
+use Rattle.napt_account.specs.Log.{begun, is_of}
 use Rattle.napt_account.proofs.Begun.{begin_next, begin_free}
 use Rattle.napt_account.proofs.Lists.{map_joined}
 use Rattle.napt_account.proofs.book.Book.begin.Goals as goal

@@ -1,10 +1,12 @@
-use Rattle.std.proofs.Common.{◌≡◌, ◌+◌, List, [], ◌∷◌, ◌++◌, cond, map, refl, sym, ◌∙◌, ap, arith}
+use Rattle.std.proofs.Common.{◌≡◌, ℕ, ◌+◌, List, [], ◌∷◌, ◌++◌, cond, map, Some, refl, sym, ◌∙◌, ap, arith}
 use Rattle.std.specs.List.{list_any}
+use Rattle.napt_wire.specs.declared.Way.TheVariants.{Outgoing}
+use Rattle.napt_account.specs.declared.account.Note.TheVariants.{Made}
 use Rattle.napt_account.specs.declared.log.Entry.{Entry}
-use Rattle.napt_account.specs.Book.{is_of, through, sent_through, made_by}
-use Rattle.napt_account.proofs.Books.{any_at, changed, kept_set, kept_more}
-use Rattle.napt_account.specs.Uses.{use_between}
-use Rattle.napt_account.proofs.Uses.{found_out, made_out_of}
+use Rattle.napt_account.specs.Book.{made_by, out_at}
+use Rattle.napt_account.specs.Log.{is_of, counted, through}
+use Rattle.napt_account.specs.Uses.{used}
+use Rattle.napt_account.proofs.Books.{any_at, changed, its_place, kept_set, kept_more, no_place, used_there}
 use Rattle.napt_account.proofs.book.Book.go_out.Goals as goal
 
 pub overflow_add-entry : goal.overflow_add-entry
@@ -15,7 +17,7 @@ overflow_add-entry c =
 pub returns-clause-entries : goal.returns-clause-entries
 returns-clause-entries c =
     let es : List Entry = c.args.self.now.log.entries.items in
-    let change : Entry → Entry = sent_through c.args.now c.args.timed.end in
+    let change : Entry → Entry = counted Outgoing c.args.now c.args.timed.end in
     let stands = c.in-Some.ensures.some in
     changed c.args.now c.requires.0 es c.args.self.now.latest c.requires.1 c.args.timed.row change c.in-Some.place
     c.in-Some.entry stands.0 stands.1
@@ -27,13 +29,14 @@ pub returns-clause-kept : goal.returns-clause-kept
 returns-clause-kept c = λ most kept.
     kept_set c.args.now most c.args.self.now.log.entries.items c.args.self.now.latest kept c.args.timed.row
     c.in-Some.place c.in-Some.entry c.in-Some.ensures.some.0 c.in-Some.ensures.some.1
-    (sent_through c.args.now c.args.timed.end c.in-Some.entry) refl (omega arith) (omega arith)
+    (counted Outgoing c.args.now c.args.timed.end c.in-Some.entry) refl (omega arith) (omega arith)
 
 pub returns-clause-uses : goal.returns-clause-uses
 returns-clause-uses c =
-    found_out c.args.self.now.log.entries.items c.in-Some.place c.in-Some.entry
-    (sent_through c.args.now c.args.timed.end c.in-Some.entry) c.found.result c.in-Some.ensures.some.0
-    c.found.ensures refl refl
+    let es : List Entry = c.args.self.now.log.entries.items in
+    used_there Outgoing es c.in-Some.place c.in-Some.entry c.in-Some.ensures.some.0 c.found.result c.found.ensures
+    ∙ sym (ap (out_at es) (its_place c.args.now c.requires.0 es c.args.self.now.latest c.requires.1 c.args.timed.row
+    c.in-Some.place c.in-Some.entry c.in-Some.ensures.some.0 c.in-Some.ensures.some.1))
 
 pub returns-in_default-clause-kept : goal.returns-in_default-clause-kept
 returns-in_default-clause-kept c = λ most kept.
@@ -48,6 +51,5 @@ returns-in_default-clause-kept c = λ most kept.
 pub returns-in_default-clause-uses : goal.returns-in_default-clause-uses
 returns-in_default-clause-uses c =
     let es : List Entry = c.args.self.now.log.entries.items in
-    made_out_of es c.in_ok-made.made c.by_packet.result c.in_ok-made.ensures.place
-    (ap (λ (e : Entry). e.sent) c.by_packet.ensures) (ap (λ (e : Entry). e.received) c.by_packet.ensures)
-    ∙ ap (use_between es) (sym c.in_ok-made.ensures.entries)
+    ap (λ (n : ℕ). used Outgoing Made (Some n)) c.in_ok-made.ensures.place
+    ∙ sym (ap (out_at es) (no_place c.args.now c.args.timed.row es c.in_default.ensures.none))

@@ -1,13 +1,16 @@
-use Rattle.std.proofs.Common.{◌≡◌, ℕ, ◌+◌, ◌∙◌, subst, arith}
+use Rattle.std.proofs.Common.{◌≡◌, ℕ, ◌+◌, List, ◌∙◌, ap, subst, arith}
+use Rattle.napt_account.specs.declared.account.Use.{Use}
+use Rattle.napt_account.specs.declared.log.Entry.{Entry}
+use Rattle.napt_account.specs.Book.{use_told}
 use Rattle.napt_account.specs.Kept.{IsBook}
-use Rattle.napt_account.proofs.Uses.{both_told}
+use Rattle.napt_account.specs.Uses.{both_uses}
 use Rattle.napt_account.proofs.book.Book.tell.Goals as goal
 
 pub pass-requires-2 : goal.pass-requires-2
 pass-requires-2 c =
-    let most : ℕ = c.requires.kept.0 in
-    let room = c.requires.kept.2 in
-    (most + 1, c.in_ok-first.ensures.kept most c.requires.kept.1, omega arith)
+    let most : ℕ = c.requires.0 in
+    let room = c.requires.2 in
+    (most + 1, c.in_ok-first.ensures.kept most c.requires.1, omega arith)
 
 pub returns-clause-kept : goal.returns-clause-kept
 returns-clause-kept c = λ most kept.
@@ -17,7 +20,9 @@ returns-clause-kept c = λ most kept.
 
 pub returns-clause-uses : goal.returns-clause-uses
 returns-clause-uses c =
-    c.both_uses.ensures ∙ both_told c.args.trace.now c.args.trace.first c.args.trace.second c.requires.legs
-    c.args.self.now.log.entries.items c.pass.new.self.log.entries.items c.pass-2.new.self.log.entries.items
-    c.in_ok-first.first c.in_ok-second.second c.in_ok-first.ensures.uses c.in_ok-second.ensures.uses
-    c.in_ok-first.ensures.entries c.in_ok-second.ensures.entries
+    let now : ℕ = c.args.trace.now in
+    c.both_uses.ensures
+    ∙ (ap (λ (u : Use). both_uses u c.in_ok-second.second) c.in_ok-first.ensures.uses
+    ∙ ap (both_uses (use_told now c.args.trace.first c.args.self.now.log.entries.items))
+    (c.in_ok-second.ensures.uses
+    ∙ ap (λ (es : List Entry). use_told now c.args.trace.second es) c.in_ok-first.ensures.entries))

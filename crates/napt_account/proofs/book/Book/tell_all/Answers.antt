@@ -6,13 +6,11 @@ use Rattle.napt_sequential.specs.declared.passage.Passage.TheVariants.{Nothing}
 use Rattle.napt_sequential.specs.declared.passage.Trace.{Trace}
 use Rattle.napt_account.specs.declared.log.Entry.{Entry}
 use Rattle.napt_account.specs.declared.log.Shortage.{Shortage}
-use Rattle.napt_account.specs.Book.{after_trace, lost_by, uses_told}
-use Rattle.napt_account.specs.Kept.{IsBook, HaveLegs, AreInTime}
+use Rattle.napt_account.specs.Book.{after_trace, lost_by, use_by_trace, uses_told}
+use Rattle.napt_account.specs.Kept.{IsBook, AreInTime}
 use Rattle.napt_account.specs.declared.account.Use.{Use}
-use Rattle.napt_account.specs.Uses.{use_between}
-use Rattle.napt_account.proofs.Uses.{uses_more}
-use Rattle.napt_account.proofs.Books.{fold_joined, drop_at, kept_later}
-use Rattle.napt_account.proofs.Shortages.{flat_joined}
+use Rattle.napt_account.proofs.Books.{fold_joined, drop_at, kept_later, uses_more}
+use Rattle.napt_account.proofs.Retold.{flat_joined}
 use Rattle.napt_account.proofs.book.Book.tell_all.Goals as goal
 
 pub tell-requires : goal.tell-requires
@@ -22,16 +20,12 @@ tell-requires c =
     let kept = c.loop-trace.invariant.kept in
     let in_time = subst (AreInTime kept.0) (drop_at c.args.traces.now n none c.loop-trace-test.true) kept.2 in
     let few = c.requires.few in
-    let lt = c.loop-trace-test.true in
-    record {
-      kept = (
-        2 * n,
-        kept_later kept.0 (get_or c.args.traces.now n none).now (2 * n) in_time.0 c.loop-trace.self.log.entries.items
-            c.loop-trace.self.latest kept.1,
-        omega arith,
-      );
-      legs = (subst HaveLegs (drop_at c.args.traces.now n none c.loop-trace-test.true) c.loop-trace.invariant.legs).0;
-    }
+    let lt = c.loop-trace-test.true in (
+      2 * n,
+      kept_later kept.0 (get_or c.args.traces.now n none).now (2 * n) in_time.0 c.loop-trace.self.log.entries.items
+          c.loop-trace.self.latest kept.1,
+      omega arith,
+    )
 
 pub loop-trace-preserved : goal.loop-trace-preserved
 loop-trace-preserved c =
@@ -44,7 +38,6 @@ loop-trace-preserved c =
     let more : take (n + 1) all ≡ take n all ++ trace ∷ [] = take_more all n none c.loop-trace-test.true in
     let entries : List Entry = c.args.self.now.log.entries.items in
     let shortages : List Shortage = c.args.self.now.log.shortages.items in
-    let legs = subst HaveLegs (drop_at all n none c.loop-trace-test.true) before.legs in
     let next : suc n ≡ n + 1 = omega arith in
     let twice : 2 * n + 2 ≡ 2 * (n + 1) = omega arith in
     record {
@@ -58,13 +51,10 @@ loop-trace-preserved c =
           ∙ ap (λ (xs : List Shortage). shortages ++ xs)
           (ap (λ (xs : List Shortage). flat_map lost_by (take n all) ++ xs) (sym (append-nil (lost_by trace)))
           ∙ (sym (flat_joined lost_by (take n all) (trace ∷ [])) ∙ ap (flat_map lost_by) (sym more)))));
-      legs = subst (λ (m : ℕ). HaveLegs (drop m all)) next legs.1;
       uses = c.in_ok-push.ensures.items
           ∙ (ap (λ (us : List Use). us ++ c.in_ok-used.used ∷ []) before.uses
           ∙ (ap (λ (u : Use). uses_told entries (take n all) ++ u ∷ [])
-          (c.in_ok-used.ensures.uses ∙ (ap (use_between c.loop-trace.self.log.entries.items)
-          c.in_ok-used.ensures.entries
-          ∙ ap (λ (es : List Entry). use_between es (after_trace es trace)) before.entries))
+          (c.in_ok-used.ensures.uses ∙ ap (λ (es : List Entry). use_by_trace es trace) before.entries)
           ∙ (sym (uses_more entries (take n all) trace) ∙ ap (uses_told entries) (sym more))));
       kept = (
         trace.now,

@@ -1,31 +1,38 @@
-use Rattle.std.proofs.Common.{◌≡◌, ◌≤◌, ◌<◌, true, false, ltb, refl, arith}
+use Rattle.std.proofs.Common.{◌≡◌, ◌≤◌, ◌<◌, ⊎_elim, true, false, ltb, refl, sym, ◌∙◌, arith}
 use Rattle.std.specs.List.{list_any}
+use Rattle.std.proofs.lemmas.Bool.{or_cases}
 use Rattle.std.proofs.lemmas.Bool.Decides.{nat_tests}
+use Rattle.std.proofs.lemmas.List.Folds.{list_any_at, list_any_more}
 use Rattle.napt_rules.specs.Life as life
-use Rattle.napt_binding.proofs.Lists.{any_index}
 use Rattle.napt_rules.proofs.Lists.{any_weaker}
 use Rattle.napt_rules.proofs.Life.{lived_flow}
 use Rattle.napt_binding.proofs.flows.few.last_moment_of.Goals as goal
 
 pub loop-flow-init : goal.loop-flow-init
-loop-flow-init c = (
-  omega arith,
-  λ t le. any_weaker (life.is_live_flow c.args.timers t) (life.is_live_flow c.args.timers c.args.now)
-      c.args.flows.now (lived_flow c.args.timers t c.args.now le) c.requires.live,
-)
+loop-flow-init c = record {
+  later = omega arith;
+  lives = λ t le. any_weaker (life.is_live_flow c.args.timers t) (life.is_live_flow c.args.timers c.args.now)
+      c.args.flows.now (lived_flow c.args.timers t c.args.now le) c.requires.live;
+  far = λ t lt h. cc;
+}
 
 pub loop-flow-preserved : goal.loop-flow-preserved
 loop-flow-preserved c =
     let inv = c.loop-flow.invariant in
-    let e = c.max-last.ensures in (
-      omega arith,
-      λ t le. elim (ltb c.loop-flow.last t) as (λ v. ltb c.loop-flow.last t ≡ v →
+    let e = c.max-last.ensures in
+    let i = c.loop-flow.flow-index in record {
+      later = omega arith;
+      lives = λ t le. elim (ltb c.loop-flow.last t) as (λ v. ltb c.loop-flow.last t ≡ v →
           list_any (life.is_live_flow c.args.timers t) c.args.flows.now ≡ true) [
             | true ↦ λ s.
                 let past : c.loop-flow.last < t = grind (arith, nat_tests) in
                 let within : t ≤ c.flow_moment.result = omega arith in
-                any_index (life.is_live_flow c.args.timers t) c.args.flows.now c.loop-flow.flow-index _
-                c.loop-flow-test.true (c.flow_moment.ensures t within)
-            | false ↦ λ s. let within : t ≤ c.loop-flow.last = grind (arith, nat_tests) in inv.1 t within
-          ] refl,
-    )
+                list_any_at (life.is_live_flow c.args.timers t) c.args.flows.now i _ c.loop-flow-test.true
+                (c.flow_moment.ensures.lives t within)
+            | false ↦ λ s. let within : t ≤ c.loop-flow.last = grind (arith, nat_tests) in inv.lives t within
+          ] refl;
+      far = λ t small h. ⊎_elim (λ before. let within = inv.far t small before in omega arith)
+          (λ here. let within = c.flow_moment.ensures.far t small here in omega arith)
+          (or_cases _ _ (sym (list_any_more (life.is_live_flow c.args.timers t) c.args.flows.now i _
+          c.loop-flow-test.true) ∙ h));
+    }

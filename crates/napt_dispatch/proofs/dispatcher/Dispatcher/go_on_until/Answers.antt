@@ -6,27 +6,23 @@ use Rattle.napt_dispatch.proofs.dispatcher.Dispatcher.go_on_until.Goals as goal
 pub loop-init : goal.loop-init
 loop-init g c = record {
   went = [];
-  goes = goes_none c.args.pool.now c.args.self.now c.requires.sized;
+  goes = goes_none c.requires.sized;
   took = g.met.D.Departures.takes_none c.args.departures.now;
 }
 
 pub loop-preserved : goal.loop-preserved
 loop-preserved g c =
-    lets_turn g.D.Departures.takes g.D.Departures.fails g.met.D.Departures.takes_more c.args.pool.now c.args.self.now
-    c.args.departures.now c.loop.pool c.loop.self c.loop.departures c.hand_over.new.self c.hand_over.new.departures
-    c.go_on.new.pool c.go_on.new.self c.loop.invariant c.in_ok-hand_over.ensures c.in_ok-go_on.ensures.state
+    lets_turn g.D.Departures.fails g.met.D.Departures.takes_more c.loop.invariant c.in_ok-hand_over.ensures
+    c.in_ok-go_on.ensures.state
 
 pub returns-in_err-hand_over-clause-state : goal.returns-in_err-hand_over-clause-state
 returns-in_err-hand_over-clause-state g c =
     let p = err_from_is_err_and c.from_residual.result c.from_residual.ensures.1 in
     rw (p.1, p.2)
-    (lets_halt g.D.Departures.takes g.D.Departures.fails g.met.D.Departures.takes_more c.args.pool.now c.args.self.now
-    c.args.departures.now c.loop.pool c.loop.self c.loop.departures c.loop.pool c.hand_over.new.self
-    c.hand_over.new.departures g.G.Gate.is_open c.in_err-hand_over.field-0.0 c.loop.invariant
-    c.in_err-hand_over.ensures)
+    (lets_halt g.D.Departures.fails g.met.D.Departures.takes_more c.loop.pool c.hand_over.new.self
+    c.hand_over.new.departures g.G.Gate.is_open c.in_err-hand_over.field-0.0
+    c.loop.invariant c.in_err-hand_over.ensures)
 
 pub returns-then-has_reached-clause-state : goal.returns-then-has_reached-clause-state
 returns-then-has_reached-clause-state g c =
-    lets_more g.D.Departures.takes g.D.Departures.fails g.met.D.Departures.takes_more c.args.pool.now c.args.self.now
-    c.args.departures.now c.loop.pool c.loop.self c.loop.departures c.loop.pool c.hand_over.new.self
-    c.hand_over.new.departures c.loop.invariant c.in_ok-hand_over.ensures
+    lets_more g.D.Departures.fails g.met.D.Departures.takes_more _ _ _ c.loop.invariant c.in_ok-hand_over.ensures

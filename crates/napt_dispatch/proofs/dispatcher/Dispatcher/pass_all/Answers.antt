@@ -1,6 +1,6 @@
 use Rattle.std.proofs.Common.{inr}
 use Rattle.std.proofs.lemmas.Result.{err_from_is_err_and}
-use Rattle.napt_dispatch.proofs.Passing.{reads_halt, reads_end}
+use Rattle.napt_dispatch.proofs.Passing.{reads_halt, reads_over}
 use Rattle.napt_dispatch.proofs.dispatcher.Dispatcher.pass_all.Goals as goal
 
 pub returns-in_err-settle : goal.returns-in_err-settle
@@ -8,19 +8,16 @@ returns-in_err-settle g c =
     let p = err_from_is_err_and c.from_residual-in_err-settle.result c.from_residual-in_err-settle.ensures.1 in
     let r = c.in_ok-end.ensures in
     rw (p.1, p.2)
-    (reads_halt g.D.Departures.takes g.D.Departures.fails g.met.D.Departures.takes_more c.args.config.now
-    g.A.Arrivals.hands g.A.Arrivals.ends g.D.Departures.is_settled c.args.pool.now c.args.self.now c.args.arrivals.now
-    c.args.departures.now c.read_all.new.pool c.read_all.new.self c.read_all.new.departures c.settle.new.pool
-    c.settle.new.self c.read_all.new.arrivals c.settle.new.departures g.G.Gate.is_open r.inputs r.went
+    (reads_halt g.D.Departures.fails g.met.D.Departures.takes_more g.D.Departures.is_settled
+    c.settle.new.pool c.settle.new.self c.settle.new.departures g.G.Gate.is_open
     c.in_err-settle.field-0.0 r.reads r.took (inr (c.in_ok-end.end.fault, r.came)) c.in_err-settle.ensures.state)
 
 pub returns : goal.returns
 returns g c = record {
-  to_end = reads_end g.D.Departures.takes g.D.Departures.fails g.met.D.Departures.takes_more c.args.config.now
-      g.A.Arrivals.hands g.A.Arrivals.ends g.D.Departures.is_settled c.args.pool.now c.args.self.now
-      c.args.arrivals.now c.args.departures.now c.read_all.new.pool c.read_all.new.self c.read_all.new.departures
-      c.settle.new.pool c.settle.new.self c.read_all.new.arrivals c.settle.new.departures c.in_ok-end.end
-      c.in_ok-end.ensures c.in_ok-settle.ensures.state;
+  to_end =
+      let r = c.in_ok-end.ensures in
+      reads_over g.D.Departures.fails g.met.D.Departures.takes_more g.D.Departures.is_settled _ _ _ c.in_ok-end.end
+      r.reads r.took c.in_ok-settle.ensures.state r.came r.clock;
   done = c.in_ok-settle.ensures.done;
   none_under_way = c.in_ok-settle.ensures.left;
   few = c.in_ok-settle.ensures.few;

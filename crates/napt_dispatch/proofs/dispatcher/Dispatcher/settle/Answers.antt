@@ -4,9 +4,7 @@ use Rattle.napt_dispatch.proofs.dispatcher.Dispatcher.settle.Goals as goal
 
 pub returns-in-Ok-clause-state : goal.returns-in-Ok-clause-state
 returns-in-Ok-clause-state g c =
-    lets_settle g.D.Departures.takes g.D.Departures.fails g.met.D.Departures.takes_more c.args.pool.now c.args.self.now
-    c.args.departures.now c.go_on_until.new.pool c.go_on_until.new.self c.go_on_until.new.departures c.settle.new.self
-    c.in_ok-go_on_until.ensures.state c.in-Ok.ensures.0
+    lets_settle g.D.Departures.fails g.met.D.Departures.takes_more c.in_ok-go_on_until.ensures.state c.in-Ok.ensures.0
 
 pub returns-in-Ok-clause-room : goal.returns-in-Ok-clause-room
 returns-in-Ok-clause-room g c = room_idle c.go_on_until.new.self c.in_ok-go_on_until.ensures.reached

@@ -1,9 +1,9 @@
 use Rattle.std.proofs.Common.{false}
-use Rattle.napt_dispatch.specs.Standing.{parts_of, Continues, HasTaken}
+use Rattle.napt_dispatch.specs.Standing.{Continues, HasTaken}
 use Rattle.napt_dispatch.proofs.dispatcher.Dispatcher.take_some.Given as goal
 
 abbrev pub invariant-loop : goal.invariant-loop
 invariant-loop g l = record {
   state : Continues l.initial.pool l.initial.self l.pool l.self;
-  none : HasTaken (parts_of l.initial.self) (parts_of l.self) false;
+  none : HasTaken l.initial.self l.self false;
 }

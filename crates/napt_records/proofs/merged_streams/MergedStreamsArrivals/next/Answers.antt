@@ -4,7 +4,7 @@ use Rattle.napt_records.proofs.merged_streams.MergedStreamsArrivals.next.Goals a
 
 pub returns : goal.returns
 returns g c =
-    Hands-any g.R.Source.remaining g.Q.Source.remaining g.R.Source.failed g.Q.Source.failed c.args.self.now
+    Hands-any c.args.self.now
     c.look.new.self c.take.new.self c.take.result c.look.ensures.same c.in_ok-look.ensures.looks c.take.ensures.takes
     c.take.ensures.inside c.take.ensures.outside
 

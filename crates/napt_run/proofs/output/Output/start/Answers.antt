@@ -4,5 +4,5 @@ use Rattle.napt_run.proofs.output.Output.start.Goals as goal
 
 pub returns-clause-err : goal.returns-clause-err
 returns-clause-err g c =
-    flush_breaks g.W.Sink.contents g.W.Sink.failed c.args.self.now c.begin.new.self c.flush.new.self file_header
+    flush_breaks c.args.self.now c.begin.new.self c.flush.new.self file_header
     c.flush.result c.in_ok-begin.ensures.ok c.flush.ensures.err

@@ -1,18 +1,14 @@
 use Rattle.std.proofs.Common.{Ok, sym, add-zero}
 use Rattle.std.proofs.lemmas.Result.{err_from_is_err_and}
-use Rattle.napt_run.specs.Devices.{bytes_if}
 use Rattle.napt_run.specs.declared.passing.Totals.{Totals}
 use Rattle.napt_run.proofs.Headed.{headed, none_read, unheaded}
-use Rattle.napt_run.proofs.Headers.{none_more}
 use Rattle.napt_run.proofs.passing.Setting.begin_and_run.Goals as goal
 
 pub returns-in_err-begin-clause-runs : goal.returns-in_err-begin-clause-runs
 returns-in_err-begin-clause-runs g c =
     let p = err_from_is_err_and c.from_residual.result c.from_residual.ensures.1 in
-    rw (p.1, p.2) (unheaded g.G.Gate.is_open c.args.self.config.now g.W.Sink.contents g.W.Sink.failed
-    g.W.Sink.is_flushed g.V.Sink.contents g.V.Sink.failed g.V.Sink.is_flushed (g.R.Source.remaining c.args.inside.now)
-    (bytes_if c.args.has_outside (g.Q.Source.remaining c.args.outside.now)) c.args.leaving.now c.begin.new.self
-    c.requires.written
+    rw (p.1, p.2) (unheaded g.G.Gate.is_open c.args.self.config.now (g.R.Source.remaining c.args.inside.now)
+    (g.Q.Source.remaining c.args.outside.now) c.args.leaving.now c.begin.new.self c.requires.written
     c.in_err-begin.field-0.0 (c.in_err-begin.ensures.err c.requires.sound))
 
 pub returns-in_err-begin-clause-readings : goal.returns-in_err-begin-clause-readings
@@ -20,20 +16,17 @@ returns-in_err-begin-clause-readings g c not_run =
     let p = err_from_is_err_and c.from_residual.result c.from_residual.ensures.1 in
     rw (p.1, p.2) (
       Ok tt,
-      none_read g.G.Gate.is_open c.args.self.config.now g.W.Sink.contents g.W.Sink.failed
-          g.W.Sink.is_flushed g.V.Sink.contents g.V.Sink.failed g.V.Sink.is_flushed
-          (g.R.Source.remaining c.args.inside.now)
-          (bytes_if c.args.has_outside (g.Q.Source.remaining c.args.outside.now)) Totals c.args.leaving.now
-          c.begin.new.self c.in_err-begin.field-0.0 (c.in_err-begin.ensures.err c.requires.sound),
+      none_read g.G.Gate.is_open c.args.self.config.now (g.R.Source.remaining c.args.inside.now)
+          (g.Q.Source.remaining c.args.outside.now) Totals c.args.leaving.now c.begin.new.self
+          c.in_err-begin.field-0.0 (c.in_err-begin.ensures.err c.requires.sound),
       sym (add-zero (g.R.Source.failed c.args.inside.now)),
-      none_more c.args.has_outside g.Q.Source.failed c.args.outside.now,
+      sym (add-zero (g.Q.Source.failed c.args.outside.now)),
     )
 
 pub returns-clause-runs : goal.returns-clause-runs
 returns-clause-runs g c =
-    headed g.G.Gate.is_open c.args.self.config.now g.W.Sink.contents g.W.Sink.failed
-    g.W.Sink.is_flushed g.V.Sink.contents g.V.Sink.failed g.V.Sink.is_flushed _ _ c.args.leaving.now c.begin.new.self
-    c.run_over.new.leaving c.in_ok-begin.ensures.ok c.run_over.result c.run_over.ensures.runs
+    headed g.G.Gate.is_open c.args.self.config.now _ _ c.args.leaving.now c.begin.new.self c.run_over.new.leaving
+    c.in_ok-begin.ensures.ok c.run_over.result c.run_over.ensures.runs
 
 pub returns-clause-readings : goal.returns-clause-readings
 returns-clause-readings g c not_run = c.run_over.ensures.readings not_run

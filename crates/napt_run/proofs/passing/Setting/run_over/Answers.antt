@@ -1,32 +1,29 @@
-use Rattle.std.proofs.Common.{◌+◌, ◌∙◌, ap, add-zero, sym, refl, Err}
+use Rattle.std.proofs.Common.{add-zero, sym, refl, Err}
 use Rattle.std.proofs.lemmas.Result.{err_from_is_err_and}
 use Rattle.napt_wire.specs.declared.Side.TheVariants as sides
 use Rattle.napt_records.specs.declared.Fault.TheVariants.{Capture}
 use Rattle.napt_run.specs.Captures.{failed_readings}
-use Rattle.napt_run.specs.Devices.{bytes_if}
-use Rattle.napt_run.proofs.Headers.{has_is, header_failed, header_of, knows_inside, knows_outside, more_after, none_more}
+use Rattle.napt_run.proofs.Headers.{header_failed, header_of, inside_refused, more_after, outside_refused}
 use Rattle.napt_run.proofs.passing.Setting.run_over.Goals as goal
 
 pub returns-in_err-ours-clause-runs : goal.returns-in_err-ours-clause-runs
 returns-in_err-ours-clause-runs g c =
     let p = err_from_is_err_and c.from_residual.result c.from_residual.ensures.1 in
-    rw (p.1, p.2) (header_failed g.G.Gate.is_open c.args.self.config.now g.W.Sink.contents g.W.Sink.failed
-    g.W.Sink.is_flushed g.V.Sink.contents g.V.Sink.failed g.V.Sink.is_flushed (g.R.Source.remaining c.args.inside.now)
-    (bytes_if c.args.has_outside (g.Q.Source.remaining c.args.outside.now)) c.args.leaving.now c.requires.settled
-    sides.Inside c.in_err-ours.field-0.0 _ _ (knows_inside _ _) c.in_err-ours.ensures.fault)
+    rw (p.1, p.2) (header_failed g.G.Gate.is_open c.args.self.config.now (g.R.Source.remaining c.args.inside.now)
+    (g.Q.Source.remaining c.args.outside.now) c.args.leaving.now c.requires.settled
+    sides.Inside c.in_err-ours.field-0.0 _ _ (λ inner. inside_refused _ _ _ inner) c.in_err-ours.ensures.fault)
 
 pub returns-in_err-theirs-clause-runs : goal.returns-in_err-theirs-clause-runs
 returns-in_err-theirs-clause-runs g c =
     let p = err_from_is_err_and c.from_residual-in_err-theirs.result c.from_residual-in_err-theirs.ensures.1 in
-    rw (p.1, p.2) (header_failed g.G.Gate.is_open c.args.self.config.now g.W.Sink.contents g.W.Sink.failed
-    g.W.Sink.is_flushed g.V.Sink.contents g.V.Sink.failed g.V.Sink.is_flushed (g.R.Source.remaining c.args.inside.now)
-    (bytes_if c.args.has_outside (g.Q.Source.remaining c.args.outside.now)) c.args.leaving.now c.requires.settled
-    sides.Outside c.in_err-theirs.field-0.0 _ _ (knows_outside _ _ c.args.has_outside c.in_err-theirs.ensures.given)
-    c.in_err-theirs.ensures.fault)
+    rw (p.1, p.2) (header_failed g.G.Gate.is_open c.args.self.config.now (g.R.Source.remaining c.args.inside.now)
+    (g.Q.Source.remaining c.args.outside.now) c.args.leaving.now c.requires.settled
+    sides.Outside c.in_err-theirs.field-0.0 _ _ (λ inner. outside_refused _ _ _ _ _ inner
+    c.in_ok-ours.ensures.header.header) c.in_err-theirs.ensures.fault)
 
 pub returns-clause-runs : goal.returns-clause-runs
 returns-clause-runs g c =
-    c.run_behind_headers.ensures.runs c.args.has_outside (g.R.Source.remaining c.args.inside.now)
+    c.run_behind_headers.ensures.runs (g.R.Source.remaining c.args.inside.now)
     (g.Q.Source.remaining c.args.outside.now) c.in_ok-ours.ensures.header c.in_ok-theirs.ensures.header
 
 pub returns-in_err-ours-clause-readings : goal.returns-in_err-ours-clause-readings
@@ -37,14 +34,14 @@ returns-in_err-ours-clause-readings g c not_run =
       Err (Capture sides.Inside fault),
       refl,
       rw is at c.in_err-ours.ensures.count,
-      none_more c.args.has_outside g.Q.Source.failed c.args.outside.now,
+      sym (add-zero (g.Q.Source.failed c.args.outside.now)),
     )
 
 pub returns-in_err-theirs-clause-readings : goal.returns-in_err-theirs-clause-readings
 returns-in_err-theirs-clause-readings g c not_run =
     let p = err_from_is_err_and c.from_residual-in_err-theirs.result c.from_residual-in_err-theirs.ensures.1 in
     let (fault, is) = header_of sides.Outside c.in_err-theirs.field-0.0 _ _ c.in_err-theirs.ensures.fault in
-    rw (p.1, p.2, is, c.in_err-theirs.ensures.given) (
+    rw (p.1, p.2, is) (
       Err (Capture sides.Outside fault),
       refl,
       c.in_ok-ours.ensures.count,
@@ -56,9 +53,6 @@ returns-clause-readings g c not_run =
     let (read, is, ours, theirs) = c.run_behind_headers.ensures.readings not_run in (
       read,
       is,
-      ours ∙ ap (λ n. n + failed_readings sides.Inside read)
-          (c.in_ok-ours.ensures.count ∙ add-zero (g.R.Source.failed c.args.inside.now)),
-      more_after c.args.has_outside g.Q.Source.failed c.args.outside.now _ _ _
-          (c.in_ok-theirs.ensures.count ∙ add-zero (g.Q.Source.failed c.args.outside.now))
-          (rw (sym (has_is g.Q.Source.remaining c.args.has_outside _ _ _ c.in_ok-theirs.ensures.header)) theirs),
+      more_after _ _ _ (failed_readings sides.Inside read) c.in_ok-ours.ensures.count ours,
+      more_after _ _ _ (failed_readings sides.Outside read) c.in_ok-theirs.ensures.count theirs,
     )

@@ -4,8 +4,7 @@ use Rattle.napt_run.proofs.passing.Setting.stream.Goals as goal
 
 pub returns-clause-to_outside : goal.returns-clause-to_outside
 returns-clause-to_outside g c =
-    outside_gets g.G.Gate.is_open _ _ _ _ g.V.Sink.contents g.V.Sink.failed g.V.Sink.is_flushed _ _
-    c.into-leaving.result
+    outside_gets g.G.Gate.is_open _ _ _ c.into-leaving.result
     c.begin_and_run-told.new.leaving _ c.begin_and_run-told.ensures.runs
     (ap (λ o. o.written) c.into-leaving.ensures.to_outside ∙ c.over-ours.ensures.written) _ _
     (ap (λ o. o.device.now) c.into-leaving.ensures.to_outside ∙ c.over-ours.ensures.device)
@@ -14,7 +13,7 @@ returns-clause-to_outside g c =
 
 pub returns-clause-to_inside : goal.returns-clause-to_inside
 returns-clause-to_inside g c =
-    inside_gets g.G.Gate.is_open _ g.W.Sink.contents g.W.Sink.failed g.W.Sink.is_flushed _ _ _ _ _ c.into-leaving.result
+    inside_gets g.G.Gate.is_open _ _ _ c.into-leaving.result
     c.begin_and_run-told.new.leaving _ c.begin_and_run-told.ensures.runs
     (ap (λ o. o.written) c.into-leaving.ensures.to_inside ∙ c.over-theirs.ensures.written) _ _
     (ap (λ o. o.device.now) c.into-leaving.ensures.to_inside ∙ c.over-theirs.ensures.device)
@@ -22,7 +21,7 @@ returns-clause-to_inside g c =
     ∙ ap (λ o. o.device.ghost_name) (sym c.into-leaving.ensures.to_inside) ∙ sym same))
 
 pub returns-clause-says : goal.returns-clause-says
-returns-clause-says g c = says _ _ _ _ _ _ _ _ _ _ _ _ _ c.begin_and_run-told.ensures.runs
+returns-clause-says g c = says _ _ _ _ _ _ _ c.begin_and_run-told.ensures.runs
 
 pub returns-clause-readings : goal.returns-clause-readings
 returns-clause-readings g c not_run = c.begin_and_run-told.ensures.readings not_run

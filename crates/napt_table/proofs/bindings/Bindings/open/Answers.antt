@@ -1,4 +1,4 @@
-use Rattle.std.proofs.Common.{◌≡◌, None, true, refl, sym, ap, subst, ◌∙◌}
+use Rattle.std.proofs.Common.{◌≡◌, None, sym, ap, subst, ◌∙◌}
 use Rattle.napt_rules.specs.Prelude.{Binding}
 use Rattle.napt_rules.specs.declared.Row.{Row}
 use Rattle.napt_table.specs.Bindings.{BindingsState}

@@ -19,7 +19,7 @@ returns-in-Some c =
     ∙ sym (end_without_dead timers c.keep_limits.ensures c.args.now b
     (sym c.is_live.ensures ∙ c.if-is_live.true)) in
     rw (← c.self.view_is)
-    (ap (λ (r : _). let t : TimedRow = record { row = r; end = c.end_of.result } in Some t) c.row_of.ensures.row
+    (ap (λ (r : _). let t : TimedRow = record { row = r; end = c.end_of.result } in Some t) c.row.ensures.row
     ∙ (ap (λ (e : _). let t : TimedRow = record { row = row b; end = e } in Some t) end_is
     ∙ (sym (ap (λ v. option_map (timed timers) (cond v (Some (with_live_flows timers c.args.now b)) None))
     (sym c.is_live.ensures ∙ c.if-is_live.true))

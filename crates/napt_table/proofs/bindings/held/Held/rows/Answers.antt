@@ -15,7 +15,7 @@ loop-binding-preserved-in-Continue-1 c =
     let live : Binding → Bool = is_live c.args.timers c.args.now in
     let binding : Binding = c.in-Some.binding.now in
     let next : List Binding = c.next.new.self in
-    let made : Row = c.row_of.result in
+    let made : Row = c.row.result in
     let step : c.loop-binding.binding-iterator ≡ binding ∷ next =
     rest_more deref _ _ c.next.result c.in-Some.binding c.in-Some.is c.next.ensures.steps in
     let lives : live binding ≡ true = sym c.is_live.ensures ∙ c.if-is_live.true in
@@ -23,9 +23,9 @@ loop-binding-preserved-in-Continue-1 c =
     ∷ map row (filter live next) =
     ap (λ (l : List Binding). items ++ map row (filter live l)) step
     ∙ (ap (λ v. items ++ map row (cond v (binding ∷ filter live next) (filter live next))) lives
-    ∙ ap (λ (r : Row). items ++ r ∷ map row (filter live next)) (sym c.row_of.ensures.row)) in
+    ∙ ap (λ (r : Row). items ++ r ∷ map row (filter live next)) (sym c.row.ensures.row)) in
     record {
       rest = ap (λ (l : List Row). l ++ map row (filter live next)) c.in_ok-push.ensures.items
           ∙ (append_assoc items (made ∷ []) (map row (filter live next)) ∙ (sym left ∙ before.rest));
-      small = rw c.in_ok-push.ensures.items (All-push IsSmall items made before.small c.row_of.ensures.small);
+      small = rw c.in_ok-push.ensures.items (All-push IsSmall items made before.small c.row.ensures.small);
     }

@@ -1,0 +1,136 @@
+//! Requests: who had an external endpoint, and when. One is on the command line, or many are in a file.
+
+use crate::options::{Form, party_of};
+use crate::places::tell_config;
+use crate::reading::configuration_text;
+use crate::spans::span_of;
+use crate::stop::Stop;
+use napt_log_text::Request;
+use napt_wire::{Endpoint, Protocol};
+use std::alloc::{AllocError, Global};
+use std::rt::Files;
+use std::str;
+
+/// What a line of requests is to be.
+const WANTED: &str =
+    "expected ADDRESS[:PORT] TIME [PROTOCOL], as 203.0.113.1:5000 2026-11-26T10:02:07Z udp";
+
+/// A request.
+#[derive(Clone, Copy)]
+pub struct Asked {
+    /// Its line in a file of requests, from 1.
+    pub line: Option<u64>,
+    pub request: Request,
+}
+
+impl Asked {
+    /// The external endpoint that it names, if it is one.
+    pub fn endpoint(&self) -> Option<Endpoint> {
+        let party = self.request.party;
+        Some(Endpoint {
+            address: party.address,
+            number: party.number?,
+        })
+    }
+}
+
+/// What a file of requests holds.
+enum Lines {
+    Requests(Vec<Asked>),
+    /// The number of the first line that is no request.
+    Wrong(u64),
+}
+
+/// The requests of a form, none if it has none. A file that cannot be read, or a line of it that is no request, is
+/// reported.
+pub fn requests_of<R: Files + Input + Eprint + AllocGlobal>(
+    rt: &R,
+    form: Form<'_>,
+) -> Result<Vec<Asked>, Stop> {
+    let mut asked = Vec::new(rt.alloc());
+    match form {
+        Form::Holders(request) => asked.push(Asked {
+            line: None,
+            request,
+        })?,
+        Form::Requests(path) => return requests_at(rt, path),
+        _ => {}
+    }
+    Ok(asked)
+}
+
+fn requests_at<R: Files + Input + Eprint + AllocGlobal>(
+    rt: &R,
+    path: &str,
+) -> Result<Vec<Asked>, Stop> {
+    let text = match configuration_text(rt, path) {
+        Ok(text) => text,
+        Err(napt_program::Stop::File(_)) => return Err(tell_config(rt, "requests", path)),
+        Err(stop) => return Err(Stop::As(stop)),
+    };
+    match lines_of(rt.alloc(), &text)? {
+        Lines::Requests(asked) => Ok(asked),
+        Lines::Wrong(number) => {
+            let _ = eprintln!(rt; "explain: --requests {path}: line {number}: {WANTED}");
+            Err(Stop::Told(napt_program::Stop::Usage))
+        }
+    }
+}
+
+/// The requests of a text, one a line. Lines without a word are left out.
+fn lines_of(alloc: Global, text: &[u8]) -> Result<Lines, AllocError> {
+    let text = match str::from_utf8(text) {
+        Ok(text) => text,
+        Err(error) => return Ok(Lines::Wrong(line_at(text, error.valid_up_to()))),
+    };
+    let mut asked = Vec::new(alloc);
+    let mut number = 0u64;
+    for line in text.lines() {
+        number = number.saturating_add(1);
+        if line.trim().is_empty() {
+            continue;
+        }
+        let Some(request) = request_of(line) else {
+            return Ok(Lines::Wrong(number));
+        };
+        asked.push(Asked {
+            line: Some(number),
+            request,
+        })?;
+    }
+    Ok(Lines::Requests(asked))
+}
+
+/// The number of the line that a byte of a text is in.
+fn line_at(text: &[u8], place: usize) -> u64 {
+    let ended = text.iter().take(place).filter(|it| **it == b'\n').count();
+    (ended as u64).saturating_add(1)
+}
+
+/// Parses an endpoint or an address, a time and maybe a protocol.
+fn request_of(line: &str) -> Option<Request> {
+    let mut words = line.split_whitespace();
+    let party = party_of(words.next()?)?;
+    let at = Some(span_of(words.next()?)?);
+    let protocol = match words.next() {
+        Some(name) => Some(protocol_of(name)?),
+        None => None,
+    };
+    if words.next().is_some() {
+        return None;
+    }
+    Some(Request {
+        protocol,
+        party,
+        at,
+    })
+}
+
+fn protocol_of(name: &str) -> Option<Protocol> {
+    match name {
+        "icmp" => Some(Protocol::Icmp),
+        "tcp" => Some(Protocol::Tcp),
+        "udp" => Some(Protocol::Udp),
+        _ => None,
+    }
+}

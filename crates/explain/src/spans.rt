@@ -1,0 +1,81 @@
+//! Times as users write them. Each stands for its whole last digit: for every moment that begins with its digits.
+
+use jiff::Timestamp;
+use napt_log_text::Span;
+
+const SECOND: u64 = 1_000_000_000;
+
+const MINUTE: u64 = 60 * SECOND;
+
+const HOUR: u64 = 60 * MINUTE;
+
+/// How many decimals of a second there are.
+const DECIMALS: usize = 9;
+
+/// How many digits hours, minutes and seconds have together.
+const CLOCK: usize = 6;
+
+/// The span that a time stands for: seconds since 1970, or a date in RFC 3339.
+pub fn span_of(text: &str) -> Option<Span> {
+    span_of_seconds(text).or_else(|| span_of_date(text))
+}
+
+/// Parses seconds with up to nine decimals, as nanoseconds.
+pub fn nanoseconds_of(text: &str) -> Option<u64> {
+    u64::try_from(span_of_seconds(text)?.first).ok()
+}
+
+fn span_of_seconds(text: &str) -> Option<Span> {
+    let Some((seconds, decimals)) = text.split_once('.') else {
+        let first = u128::from(text.parse::<u64>().ok()?).checked_mul(u128::from(SECOND))?;
+        return span_from(first, SECOND);
+    };
+    if decimals.is_empty() || !decimals.bytes().all(|it| it.is_ascii_digit()) {
+        return None;
+    }
+    let unit = unit_of(decimals.len())?;
+    let rest = decimals.parse::<u64>().ok()?.checked_mul(unit)?;
+    let whole = u128::from(seconds.parse::<u64>().ok()?).checked_mul(u128::from(SECOND))?;
+    span_from(whole.checked_add(u128::from(rest))?, unit)
+}
+
+fn span_of_date(text: &str) -> Option<Span> {
+    let date = text.parse::<Timestamp>().ok()?;
+    let unit = match clock_digits(text)? {
+        2 => HOUR,
+        4 => MINUTE,
+        digits => unit_of(digits.checked_sub(CLOCK)?)?,
+    };
+    span_from(u128::try_from(date.as_nanosecond()).ok()?, unit)
+}
+
+/// The span from a moment on that is a unit long.
+fn span_from(first: u128, unit: u64) -> Option<Span> {
+    Some(Span {
+        first,
+        until: first.checked_add(u128::from(unit))?,
+    })
+}
+
+/// The ns of the last of so many decimals of a second.
+fn unit_of(decimals: usize) -> Option<u64> {
+    let mut unit = 1u64;
+    for _ in 0..DECIMALS.checked_sub(decimals)? {
+        unit = unit.checked_mul(10)?;
+    }
+    Some(unit)
+}
+
+/// How many digits the time of day of a date has.
+fn clock_digits(date: &str) -> Option<usize> {
+    let separator = date
+        .bytes()
+        .position(|it| matches!(it, b'T' | b't' | b' '))?;
+    let clock = date.bytes().skip(separator.checked_add(1)?);
+    Some(
+        clock
+            .take_while(|it| it.is_ascii_digit() || matches!(*it, b':' | b'.' | b','))
+            .filter(|it| it.is_ascii_digit())
+            .count(),
+    )
+}

@@ -1,0 +1,269 @@
+-- What a text begins with, and what it holds.
+use Rattle.std.proofs.Common.{◌≡◌, ℕ, zero, suc, ◌+◌, ◌-◌, ◌<◌, ◌≤◌, inl, inr, Bool, true, false, List, [], ◌∷◌, length, take, drop, Option, Some, None, Result, Ok, Err, refl, sym, ◌∙◌, ap, arith, length-drop, length-take-le}
+use Rattle.std.specs.Prelude.{nat_lt, ◌==◌, ◌&&◌, ◌||◌}
+use Rattle.std.proofs.lemmas.Bool.{cases_Bool, cases_lt, lt-ltb, le-ltb}
+use Rattle.napt_capture.specs.declared.TheConstants.{LARGEST_RECORD}
+use Rattle.napt_capture.specs.declared.fault.CaptureFault.{CaptureFault}
+use Rattle.napt_capture.specs.declared.fault.CaptureFault.TheVariants.{TooLarge}
+use Rattle.napt_capture.specs.declared.reading.Next.{Next}
+use Rattle.napt_capture.specs.declared.reading.Next.TheVariants.{Whole, End}
+use Rattle.napt_capture.specs.declared.spelling.Spelling.{Spelling}
+use Rattle.byteorder.specs.Endian.{big_number}
+use Rattle.napt_capture.specs.Spelling.{long_number, short_number, spelling_of, units_per_second}
+use Rattle.napt_capture.specs.Contents.{Entry}
+use Rattle.napt_capture.specs.Capture.{Held, announced, asked_first, asked_records, captured, captured_by, captured_of, entry_in, fraction_of, held, held_by, next_by, next_in, number_behind, size_in, spelling_by, spelling_in}
+
+-- THE HEADER OF A RECORD
+
+pub size_good : (s : Spelling) (number : ℕ) (header : List ℕ) → fraction_of s header < units_per_second s →
+    captured_of s header ≤ LARGEST_RECORD → size_in s number header ≡ Ok (captured_of s header)
+size_good s number header less few =
+    rw (lt-ltb (fraction_of s header) (units_per_second s) less, le-ltb LARGEST_RECORD (captured_of s header) few) refl
+
+announced_any : (s : Spelling) (n m : ℕ) (header : List ℕ) → announced (size_in s n header)
+    ≡ announced (size_in s m header)
+announced_any s n m header = elim (cases_Bool (nat_lt (fraction_of s header) (units_per_second s))) [
+  | inl less ↦ elim (cases_Bool (nat_lt LARGEST_RECORD (captured_of s header))) [
+    | inl long ↦ rw (less, long) refl
+    | inr few ↦ rw (less, few) refl
+  ]
+  | inr more ↦ rw more refl
+]
+
+-- the largest record is announced at most
+size_few : (s : Spelling) (n : ℕ) (header : List ℕ) → announced (size_in s n header) ≤ LARGEST_RECORD
+size_few s n header = elim (cases_Bool (nat_lt (fraction_of s header) (units_per_second s))) [
+  | inl less ↦ elim (cases_lt LARGEST_RECORD (captured_of s header)) [
+    | inl long ↦ rw (less, lt-ltb LARGEST_RECORD (captured_of s header) long) (omega arith)
+    | inr few ↦ rw (less, le-ltb LARGEST_RECORD (captured_of s header) few) few
+  ]
+  | inr more ↦ rw more (omega arith)
+]
+
+-- WHAT A TEXT BEGINS WITH
+
+pub next_short : (s : Spelling) (n : ℕ) (text : List ℕ) → length text < 16 → next_in s n text
+    ≡ Ok (End (nat_lt 0 (length text)))
+next_short s n text short = rw (lt-ltb (length text) 16 short) refl
+
+pub next_long : (s : Spelling) (n : ℕ) (text : List ℕ) → 16 ≤ length text → next_in s n text
+    ≡ next_by s text (size_in s n (take 16 text))
+next_long s n text long = rw (le-ltb (length text) 16 long) refl
+
+pub next_fault : (s : Spelling) (n : ℕ) (text : List ℕ) (fault : CaptureFault) → 16 ≤ length text →
+    size_in s n (take 16 text) ≡ Err fault → next_in s n text ≡ Err fault
+next_fault s n text fault long is = next_long s n text long ∙ ap (next_by s text) is
+
+pub next_cut : (s : Spelling) (n : ℕ) (text : List ℕ) (size : ℕ) → 16 ≤ length text →
+    size_in s n (take 16 text) ≡ Ok size → length text < 16 + size → next_in s n text ≡ Ok (End true)
+next_cut s n text size long is short =
+    next_long s n text long ∙ ap (next_by s text) is ∙ rw (lt-ltb (length text) (16 + size) short) refl
+
+pub next_whole : (s : Spelling) (n : ℕ) (text : List ℕ) (size : ℕ) → size_in s n (take 16 text) ≡ Ok size →
+    16 + size ≤ length text → next_in s n text ≡ Ok (Whole (entry_in s size text))
+next_whole s n text size is whole =
+    next_long s n text (omega (arith, whole)) ∙ ap (next_by s text) is
+    ∙ rw (le-ltb (length text) (16 + size) whole) refl
+
+pub asked_short : (s : Spelling) (text : List ℕ) → length text < 16 → asked_first s text ≡ 16
+asked_short s text short = rw (lt-ltb (length text) 16 short) refl
+
+pub asked_long : (s : Spelling) (n : ℕ) (text : List ℕ) (size : Result ℕ CaptureFault) → 16 ≤ length text →
+    size_in s n (take 16 text) ≡ size → asked_first s text ≡ 16 + announced size
+asked_long s n text size long is =
+    rw (le-ltb (length text) 16 long) (ap (λ k. 16 + k) (announced_any s 0 n (take 16 text) ∙ ap announced is))
+
+pub asked_least : (s : Spelling) (text : List ℕ) → 16 ≤ asked_first s text
+asked_least s text = elim (cases_lt (length text) 16) [
+  | inl short ↦ omega (arith, asked_short s text short)
+  | inr long ↦ omega (arith, asked_long s 0 text (size_in s 0 (take 16 text)) long refl)
+]
+
+pub asked_most : (s : Spelling) (text : List ℕ) → asked_first s text ≤ 262160
+asked_most s text = elim (cases_lt (length text) 16) [
+  | inl short ↦ omega (arith, asked_short s text short)
+  | inr long ↦ omega (
+    arith,
+    asked_long s 0 text (size_in s 0 (take 16 text)) long refl,
+    size_few s 0 (take 16 text),
+  )
+]
+
+-- the cases
+pub data FirstOf (s : Spelling) (n : ℕ) (text : List ℕ) : Type 0 where
+  is_short : length text < 16 → FirstOf s n text
+  is_bad : (fault : CaptureFault) → 16 ≤ length text → size_in s n (take 16 text) ≡ Err fault → FirstOf s n text
+  is_cut : (size : ℕ) → 16 ≤ length text → size_in s n (take 16 text) ≡ Ok size → length text < 16 + size
+      → FirstOf s n text
+  is_whole : (size : ℕ) → size_in s n (take 16 text) ≡ Ok size → 16 + size ≤ length text → FirstOf s n text
+
+first_by : (s : Spelling) (n : ℕ) (text : List ℕ) (size : Result ℕ CaptureFault) → 16 ≤ length text →
+    size_in s n (take 16 text) ≡ size → FirstOf s n text
+first_by s n text (Err fault) long is = is_bad fault long is
+first_by s n text (Ok size) long is = elim (cases_lt (length text) (16 + size)) [
+  | inl short ↦ is_cut size long is short
+  | inr whole ↦ is_whole size is whole
+]
+
+pub first_of : (s : Spelling) (n : ℕ) (text : List ℕ) → FirstOf s n text
+first_of s n text = elim (cases_lt (length text) 16) [
+  | inl short ↦ is_short short
+  | inr long ↦ first_by s n text (size_in s n (take 16 text)) long refl
+]
+
+pub entry_size : (s : Spelling) (text : List ℕ) (size : ℕ) → 16 + size ≤ length text →
+    length (entry_in s size text).bytes ≡ size
+entry_size s text size whole = length-take-le size (drop 16 text) (omega (arith, length-drop 16 text, whole))
+
+-- a whole record is in the text, and is what is asked for
+record IsWhole (s : Spelling) (n : ℕ) (text : List ℕ) (entry : Entry) : Type 0 where
+  pub within : 16 + length entry.bytes ≤ length text
+  pub asked : asked_first s text ≡ 16 + length entry.bytes
+
+whole_of : (s : Spelling) (n : ℕ) (text : List ℕ) (entry : Entry) → FirstOf s n text →
+    next_in s n text ≡ Ok (Whole entry) → IsWhole s n text entry
+whole_of s n text entry (is_short short) is = let never = sym (next_short s n text short) ∙ is in absurd cc
+whole_of s n text entry (is_bad fault long size_is) is =
+    let never = sym (next_fault s n text fault long size_is) ∙ is in absurd cc
+whole_of s n text entry (is_cut size long size_is short) is =
+    let never = sym (next_cut s n text size long size_is short) ∙ is in absurd cc
+whole_of s n text entry (is_whole size size_is whole) is =
+    let both = sym (next_whole s n text size size_is whole) ∙ is in
+    let same : entry_in s size text ≡ entry = cc in
+    let long : length entry.bytes ≡ size = ap (λ (e : Entry). length e.bytes)
+    (sym same) ∙ entry_size s text size whole in
+    record {
+      within = omega (arith, long, whole);
+      asked = omega (arith, long, asked_long s n text (Ok size) (omega (arith, whole)) size_is);
+    }
+
+pub next_within_text : (s : Spelling) (n : ℕ) (text : List ℕ) (entry : Entry) → next_in s n text ≡ Ok (Whole entry) →
+    16 + length entry.bytes ≤ length text
+next_within_text s n text entry is = (whole_of s n text entry (first_of s n text) is).within
+
+pub next_asked : (s : Spelling) (n : ℕ) (text : List ℕ) (entry : Entry) → next_in s n text ≡ Ok (Whole entry) →
+    asked_first s text ≡ 16 + length entry.bytes
+next_asked s n text entry is = (whole_of s n text entry (first_of s n text) is).asked
+
+-- ALL RECORDS
+
+skips : (s : Spelling) (n skipped : ℕ) (text : List ℕ) → held s n skipped text ≡ held s n 0 (drop skipped text)
+unfolding held
+skips s n zero [] = refl
+skips s n (suc skipped) [] = refl
+skips s n zero (byte ∷ text) = refl
+skips s n (suc skipped) (byte ∷ text) = skips s n skipped text
+
+abbrev pub with_first : Entry → Held → Held
+with_first entry more = record { records = entry ∷ more.records; end = more.end }
+
+pub held_record : (s : Spelling) (n : ℕ) (text : List ℕ) (entry : Entry) → next_in s n text ≡ Ok (Whole entry) →
+    held s n 0 text ≡ with_first entry (held s (number_behind n) 0 (drop (16 + length entry.bytes) text))
+unfolding held
+held_record s n [] entry is = absurd cc
+held_record s n (byte ∷ text) entry is =
+    let m = number_behind n in
+    let size : 16 + length entry.bytes ≡ suc (15 + length entry.bytes) = omega arith in
+    ap (λ r. held_by r (λ skipped. held s m skipped text)) is
+    ∙ ap (with_first entry) (skips s m (15 + length entry.bytes) text
+    ∙ ap (λ k. held s m 0 (drop k (byte ∷ text))) (sym size))
+
+pub held_end : (s : Spelling) (n : ℕ) (text : List ℕ) (cut : Bool) → next_in s n text ≡ Ok (End cut) →
+    held s n 0 text ≡ record { records = []; end = Ok cut }
+unfolding held
+held_end s n [] cut is = let same : Ok (End false) ≡ Ok (End cut) = is in cc
+held_end s n (byte ∷ text) cut is = ap (λ r. held_by r (λ skipped. held s (number_behind n) skipped text)) is
+
+pub held_fault : (s : Spelling) (n : ℕ) (text : List ℕ) (fault : CaptureFault) → next_in s n text ≡ Err fault →
+    held s n 0 text ≡ record { records = []; end = Err fault }
+unfolding held
+held_fault s n [] fault is = absurd cc
+held_fault s n (byte ∷ text) fault is = ap (λ r. held_by r (λ skipped. held s (number_behind n) skipped text)) is
+
+-- the records are no longer than the text
+records_by : (s : Spelling) (n : ℕ) (text : List ℕ) (others : ℕ → Held) (next : Result Next CaptureFault) →
+    next_in s n text ≡ next
+    → ((skipped : ℕ) → asked_records (others skipped).records ≤ (length text - 1) - skipped)
+    → asked_records (held_by next others).records ≤ length text
+records_by s n text others (Ok (End cut)) is few = omega arith
+records_by s n text others (Err fault) is few = omega arith
+records_by s n text others (Ok (Whole entry)) is few =
+    omega (arith, few (15 + length entry.bytes), next_within_text s n text entry is)
+
+pub records_within : (s : Spelling) (n skipped : ℕ) (text : List ℕ) → asked_records (held s n skipped text).records
+    ≤ length text - skipped
+unfolding held
+records_within s n skipped [] = omega arith
+records_within s n (suc skipped) (byte ∷ text) = omega (arith, records_within s n skipped text)
+records_within s n zero (byte ∷ text) =
+    let few = λ (skipped : ℕ). records_within s (number_behind n) skipped text in
+    let all = records_by s n (byte ∷ text) (λ skipped. held s (number_behind n) skipped text)
+    (next_in s n (byte ∷ text))
+    refl (λ skipped. omega (arith, few skipped)) in
+    omega (arith, all)
+
+-- NONE IS TOO LARGE
+
+size_never : (s : Spelling) (n : ℕ) (header : List ℕ) → size_in s n header ≡ Err TooLarge → ⊥
+size_never s n header is = elim (cases_Bool (nat_lt (fraction_of s header) (units_per_second s))) [
+  | inl less ↦ elim (cases_Bool (nat_lt LARGEST_RECORD (captured_of s header))) [
+    | inl long ↦ let never = rw (less, long) at is in cc
+    | inr few ↦ let never = rw (less, few) at is in cc
+  ]
+  | inr more ↦ let never = rw more at is in cc
+]
+
+next_never : (s : Spelling) (n : ℕ) (text : List ℕ) → FirstOf s n text → next_in s n text ≡ Err TooLarge → ⊥
+next_never s n text (is_short short) is = let never = sym (next_short s n text short) ∙ is in cc
+next_never s n text (is_bad fault long size) is =
+    let both = sym (next_fault s n text fault long size) ∙ is in
+    let same : fault ≡ TooLarge = cc in
+    size_never s n (take 16 text) (size ∙ ap (λ f. Err f) same)
+next_never s n text (is_cut size long size_is short) is =
+    let never = sym (next_cut s n text size long size_is short) ∙ is in cc
+next_never s n text (is_whole size size_is whole) is =
+    let never = sym (next_whole s n text size size_is whole) ∙ is in cc
+
+held_by_never : (s : Spelling) (n : ℕ) (text : List ℕ) (others : ℕ → Held) (next : Result Next CaptureFault) →
+    next_in s n text ≡ next → ((skipped : ℕ) → (others skipped).end ≡ Err TooLarge → ⊥)
+    → (held_by next others).end ≡ Err TooLarge → ⊥
+held_by_never s n text others (Ok (Whole entry)) next more is = more (15 + length entry.bytes) is
+held_by_never s n text others (Ok (End cut)) next more is = cc
+held_by_never s n text others (Err fault) next more is =
+    let same : fault ≡ TooLarge = cc in
+    next_never s n text (first_of s n text) (next ∙ ap (λ f. Err f) same)
+
+held_never : (s : Spelling) (n skipped : ℕ) (text : List ℕ) → (held s n skipped text).end ≡ Err TooLarge → ⊥
+unfolding held
+held_never s n skipped [] is = cc
+held_never s n (suc skipped) (byte ∷ text) is = held_never s n skipped text is
+held_never s n zero (byte ∷ text) is =
+    held_by_never s n (byte ∷ text) (λ skipped. held s (number_behind n) skipped text) (next_in s n (byte ∷ text)) refl
+    (λ skipped. held_never s (number_behind n) skipped text) is
+
+spelling_by_never : (header : List ℕ) (o : Option Spelling) → spelling_by header o ≡ Err TooLarge → ⊥
+spelling_by_never header None is = cc
+spelling_by_never header (Some s) is =
+    elim (cases_Bool (short_number s (drop 4 header) == 2 && short_number s (drop 6 header) == 4)) [
+      | inl good ↦
+          elim (cases_Bool (long_number s (drop 20 header) == 101 || long_number s (drop 20 header) == 228)) [
+            | inl link ↦ let never = rw (good, link) at is in cc
+            | inr link ↦ let never = rw (good, link) at is in cc
+          ]
+      | inr bad ↦ let never = rw bad at is in cc
+    ]
+
+spelling_never : (header : List ℕ) → spelling_in header ≡ Err TooLarge → ⊥
+spelling_never header is = elim (cases_Bool (nat_lt (length header) 24)) [
+  | inl short ↦ let never = rw short at is in cc
+  | inr long ↦ spelling_by_never header (spelling_of (big_number 4 header)) (rw long at is)
+]
+
+captured_never : (r : Result Spelling CaptureFault) (text : List ℕ) → (r ≡ Err TooLarge → ⊥) →
+    (captured_by r text).end ≡ Err TooLarge → ⊥
+captured_never (Ok s) text never is = held_never s 1 0 text is
+captured_never (Err fault) text never is = let same : fault ≡ TooLarge = cc in never (ap (λ f. Err f) same)
+
+pub never_large : (bytes : List ℕ) → (captured bytes).end ≡ Err TooLarge → ⊥
+never_large bytes is =
+    captured_never (spelling_in (take 24 bytes)) (drop 24 bytes) (spelling_never (take 24 bytes)) is

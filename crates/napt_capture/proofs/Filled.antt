@@ -1,0 +1,119 @@
+-- The steps of reading over known bytes.
+use Rattle.std.proofs.Common.{◌≡◌, ℕ, ◌+◌, ◌<◌, ◌≤◌, min, inl, inr, List, [], ◌++◌, length, take, drop, Option, Some, None, Result, Ok, Err, refl, sym, ◌∙◌, ap, arith, take_all, length-take-le, length-append, append-nil, take_at, drop_at, drop_of_length-le}
+use Rattle.std.specs.Io.KnownBytes.{Consumes, IsAtEnd}
+use Rattle.std.proofs.lemmas.Bool.{cases_lt}
+use Rattle.napt_capture.specs.declared.fault.CaptureFault.{CaptureFault}
+use Rattle.napt_capture.specs.declared.fault.CaptureFault.TheVariants.{NoHeader, BadMagic, BadVersion, BadLink, BadFraction, TooLong, TooLarge, Read, Memory}
+use Rattle.std.specs.Prelude.{IfSome}
+use Rattle.napt_capture.specs.Reading.{Gives, Says}
+
+-- unless the device or memory failed
+pub Says-fact : {T : Type 0} (result : Result T CaptureFault) {P : Type 0} → P → Says result P
+Says-fact (Ok value) p = p
+Says-fact (Err NoHeader) p = p
+Says-fact (Err BadMagic) p = p
+Says-fact (Err BadVersion) p = p
+Says-fact (Err BadLink) p = p
+Says-fact (Err (BadFraction _)) p = p
+Says-fact (Err (TooLong _)) p = p
+Says-fact (Err TooLarge) p = p
+Says-fact (Err Read) p = tt
+Says-fact (Err Memory) p = tt
+
+-- the same of another answer with the same fault
+pub Says-err : (T U : Type 0) (fault : CaptureFault) {P Q : Type 0} → (P → Q) → Says {T = T} (Err fault) P →
+    Says {T = U} (Err fault) Q
+Says-err T U NoHeader f p = f p
+Says-err T U BadMagic f p = f p
+Says-err T U BadVersion f p = f p
+Says-err T U BadLink f p = f p
+Says-err T U (BadFraction _) f p = f p
+Says-err T U (TooLong _) f p = f p
+Says-err T U TooLarge f p = f p
+Says-err T U Read f p = tt
+Says-err T U Memory f p = tt
+
+pub Says-map : {T : Type 0} (result : Result T CaptureFault) {P Q : Type 0} → (P → Q) → Says result P → Says result Q
+Says-map (Ok value) f p = f p
+Says-map {T} (Err fault) f p = Says-err T T fault f p
+
+-- of known bytes
+pub Gives-map : (old new : Option (List ℕ)) {P Q : List ℕ → List ℕ → Type 0} →
+    ((bytes left : List ℕ) → P bytes left → Q bytes left) → Gives old new P → Gives old new Q
+Gives-map None new f p = tt
+Gives-map (Some bytes) None f p = absurd p
+Gives-map (Some bytes) (Some left) f p = f bytes left p
+
+pub Gives-same : (old : Option (List ℕ)) (P : List ℕ → List ℕ → Type 0) → ((bytes : List ℕ) → P bytes bytes) →
+    Gives old old P
+Gives-same None P p = tt
+Gives-same (Some bytes) P p = p bytes
+
+pub Gives-both : (old mid new : Option (List ℕ)) {P Q R : List ℕ → List ℕ → Type 0} →
+    ((bytes text left : List ℕ) → P bytes text → Q text left → R bytes left) → Gives old mid P → Gives mid new Q
+    → Gives old new R
+Gives-both None mid new f p q = tt
+Gives-both (Some bytes) None new f p q = absurd p
+Gives-both (Some bytes) (Some text) None f p q = absurd q
+Gives-both (Some bytes) (Some text) (Some left) f p q = f bytes text left p q
+
+pub Gives-known : (P : List ℕ → Type 0) (old new : Option (List ℕ)) → Gives old new (λ bytes left. P bytes) →
+    IfSome old P
+Gives-known P None new p = tt
+Gives-known P (Some bytes) None p = absurd p
+Gives-known P (Some bytes) (Some left) p = p
+
+-- a buffer of which so many bytes were filled has the front of the bytes
+pub record Fills (filled : ℕ) (buffer bytes left : List ℕ) : Type 0 where
+  pub front : take filled buffer ≡ take (length buffer) bytes
+  pub left_is : left ≡ drop (length buffer) bytes
+  pub size : filled ≡ min (length buffer) (length bytes)
+
+fills : (filled : ℕ) (buffer bytes left : List ℕ) → filled ≤ length buffer → bytes ≡ take filled buffer ++ left →
+    (filled < length buffer → left ≡ []) → Fills filled buffer bytes left
+fills filled buffer bytes left within consumed at_end =
+    let size = length-take-le filled buffer within in
+    elim (cases_lt filled (length buffer)) [
+      | inl short ↦
+          let none = at_end short in
+          let all : bytes ≡ take filled buffer = consumed ∙ ap (λ l. take filled buffer ++ l) none
+          ∙ append-nil (take filled buffer) in
+          let long : length bytes ≡ filled = ap length all ∙ size in
+          record {
+            front = sym all ∙ sym (take_all (length buffer) bytes (omega (arith, long, short)));
+            left_is = none ∙ sym
+                (drop_of_length-le bytes (let few : length bytes ≤ length buffer = omega (arith, long, short) in few));
+            size = omega (arith, long, short);
+          }
+      | inr full ↦
+          let whole = take_all filled buffer full in
+          let split : bytes ≡ buffer ++ left = consumed ∙ ap (λ l. l ++ left) whole in
+          let long : length bytes ≡ length buffer + length left = ap length split ∙ length-append buffer left in
+          record {
+            front = whole ∙ sym (ap (take (length buffer)) split ∙ take_at buffer left (length buffer) refl);
+            left_is = sym (ap (drop (length buffer)) split ∙ drop_at buffer left (length buffer) refl);
+            size = omega (arith, long, within, full);
+          }
+    ]
+
+pub filled_by : (old new : Option (List ℕ)) (filled : ℕ) (buffer : List ℕ) → filled ≤ length buffer →
+    Consumes old new (take filled buffer) → (filled < length buffer → IsAtEnd new)
+    → Gives old new (Fills filled buffer)
+filled_by None new filled buffer within consumed at_end = tt
+filled_by (Some bytes) None filled buffer within consumed at_end = absurd consumed
+filled_by (Some bytes) (Some left) filled buffer within consumed at_end =
+    fills filled buffer bytes left within consumed at_end
+
+-- a buffer that was filled to its end
+pub record FillsAll (buffer bytes left : List ℕ) : Type 0 where
+  pub front : take (length buffer) bytes ≡ buffer
+  pub left_is : left ≡ drop (length buffer) bytes
+  pub long : length buffer ≤ length bytes
+
+pub fills_all : (filled : ℕ) (buffer bytes left : List ℕ) → length buffer ≤ filled → Fills filled buffer bytes left →
+    FillsAll buffer bytes left
+fills_all filled buffer bytes left full p = record {
+  front = sym p.front ∙ take_all filled buffer full;
+  left_is = p.left_is;
+  long = omega (arith, p.size, full);
+}

@@ -1,0 +1,169 @@
+-- The record that is next, from what two reads filled.
+use Rattle.std.proofs.Common.{◌≡◌, ℕ, ◌+◌, ◌-◌, ◌<◌, ◌≤◌, List, length, take, drop, Result, Ok, Err, true, refl, sym, ◌∙◌, ap, arith, length-drop, length-take, drop-drop, drop_of_length-le}
+use Rattle.std.specs.Prelude.{nat_lt}
+use Rattle.std.proofs.lemmas.Bool.{lt-ltb, le-ltb}
+use Rattle.napt_capture.specs.declared.TheConstants.{MOST_ASKED}
+use Rattle.napt_capture.specs.declared.fault.CaptureFault.{CaptureFault}
+use Rattle.napt_capture.specs.declared.fault.CaptureFault.TheVariants.{NoHeader, TooLarge}
+use Rattle.napt_capture.specs.declared.reading.Next.TheVariants.{Whole, End}
+use Rattle.napt_capture.specs.declared.reading.Fields.{Fields}
+use Rattle.napt_capture.specs.declared.spelling.Spelling.{Spelling}
+use Rattle.napt_capture.specs.Capture.{asked_first, entry_in, next_in, size_in, spelling_in}
+use Rattle.napt_capture.specs.Reading.{HasFields, ReadsNext, next_within}
+use Rattle.napt_capture.proofs.Captured.{asked_least, asked_long, asked_short, next_cut, next_fault, next_short, next_whole}
+use Rattle.napt_capture.proofs.Filled.{Fills, fills_all}
+
+large_is : (s : Spelling) (asked n : ℕ) (text : List ℕ) → MOST_ASKED < asked + asked_first s text →
+    next_within s asked n text ≡ Err TooLarge
+large_is s asked n text large = rw (lt-ltb MOST_ASKED (asked + asked_first s text) large) refl
+
+few_is : (s : Spelling) (asked n : ℕ) (text : List ℕ) → asked + asked_first s text ≤ MOST_ASKED →
+    next_within s asked n text ≡ next_in s n text
+few_is s asked n text few = rw (le-ltb MOST_ASKED (asked + asked_first s text) few) refl
+
+-- nothing may be asked for
+pub next_none : (s : Spelling) (asked n : ℕ) (text : List ℕ) → asked ≤ MOST_ASKED → MOST_ASKED < asked + 16 →
+    ReadsNext s asked n (Err TooLarge) text text
+next_none s asked n text room large = record {
+  is = large_is s asked n text (omega (arith, large, asked_least s text));
+  taken = 0;
+  left_is = refl;
+  within = omega arith;
+  room = omega (arith, room);
+  takes = sym (rw (lt-ltb MOST_ASKED (asked + 16) large) refl);
+}
+
+-- the header ends early
+pub next_early : (s : Spelling) (asked n filled : ℕ) (buffer text left : List ℕ) → length buffer ≡ 16 → filled < 16 →
+    asked + 16 ≤ MOST_ASKED → Fills filled buffer text left
+    → ReadsNext s asked n (Ok (End (nat_lt 0 filled))) text left
+next_early s asked n filled buffer text left size early room p =
+    let short : length text < 16 = omega (arith, p.size, size, early) in
+    let same : filled ≡ length text = omega (arith, p.size, size, early) in
+    let asks = asked_short s text short in
+    record {
+      is = few_is s asked n text (omega (arith, asks, room)) ∙ next_short s n text short
+          ∙ ap (λ k. Ok (End (nat_lt 0 k))) (sym same);
+      taken = 16;
+      left_is = p.left_is ∙ ap (λ k. drop k text) size;
+      within = omega (arith, asks);
+      room = room;
+      takes = drop_of_length-le text (let few : length text ≤ 16 = omega (arith, short) in few);
+    }
+
+-- the header was read
+pub record HeaderRead (header text left : List ℕ) : Type 0 where
+  pub header_is : take 16 text ≡ header
+  pub left_is : left ≡ drop 16 text
+  pub long : 16 ≤ length text
+
+pub header_read : (filled : ℕ) (header text left : List ℕ) → length header ≡ 16 → 16 ≤ filled →
+    Fills filled header text left → HeaderRead header text left
+header_read filled header text left size full p =
+    let all = fills_all filled header text left (omega (arith, size, full)) p in
+    record {
+      header_is = ap (λ k. take k text) (sym size) ∙ all.front;
+      left_is = all.left_is ∙ ap (λ k. drop k text) size;
+      long = omega (arith, all.long, size);
+    }
+
+-- and has a fault
+pub next_bad : (s : Spelling) (asked n : ℕ) (header text left : List ℕ) (fault : CaptureFault) →
+    asked + 16 ≤ MOST_ASKED → HeaderRead header text left → size_in s n header ≡ Err fault
+    → ReadsNext s asked n (Err fault) text left
+next_bad s asked n header text left fault room p bad =
+    let is = ap (size_in s n) p.header_is ∙ bad in
+    let asks = asked_long s n text (Err fault) p.long is in
+    record {
+      is = few_is s asked n text (omega (arith, asks, room)) ∙ next_fault s n text fault p.long is;
+      taken = 16;
+      left_is = p.left_is;
+      within = omega (arith, asks);
+      room = room;
+      takes = sym (rw (le-ltb MOST_ASKED (asked + 16) room) refl);
+    }
+
+-- and announces too much
+pub next_large : (s : Spelling) (asked n : ℕ) (header text left : List ℕ) (f : Fields) →
+    asked + 16 ≤ MOST_ASKED → MOST_ASKED < asked + (16 + f.captured) → HeaderRead header text left
+    → HasFields s n header f → ReadsNext s asked n (Err TooLarge) text left
+next_large s asked n header text left f room large p fields =
+    let is = ap (size_in s n) p.header_is ∙ fields.size in
+    let asks = asked_long s n text (Ok f.captured) p.long is in
+    record {
+      is = large_is s asked n text (omega (arith, asks, large));
+      taken = 16;
+      left_is = p.left_is;
+      within = omega (arith, asks);
+      room = room;
+      takes = sym (rw (le-ltb MOST_ASKED (asked + 16) room) refl);
+    }
+
+-- the bytes end early
+pub next_part : (s : Spelling) (asked n filled : ℕ) (header buffer text mid left : List ℕ) (f : Fields) →
+    asked + (16 + f.captured) ≤ MOST_ASKED → HeaderRead header text mid → HasFields s n header f
+    → length buffer ≡ f.captured → filled < f.captured → Fills filled buffer mid left
+    → ReadsNext s asked n (Ok (End true)) text left
+next_part s asked n filled header buffer text mid left f room p fields size early q =
+    let is = ap (size_in s n) p.header_is ∙ fields.size in
+    let asks = asked_long s n text (Ok f.captured) p.long is in
+    let long : length mid ≡ length text - 16 = ap length p.left_is ∙ length-drop 16 text in
+    record {
+      is = few_is s asked n text (omega (arith, asks, room))
+          ∙ next_cut s n text f.captured p.long is (omega (arith, long, p.long, q.size, size, early));
+      taken = 16 + f.captured;
+      left_is = q.left_is ∙ ap (λ k. drop k mid) size ∙ ap (drop f.captured) p.left_is ∙ drop-drop f.captured 16 text;
+      within = omega (arith, asks);
+      room = room;
+      takes = drop_of_length-le text
+          (let few : length text ≤ 16 + f.captured = omega (
+            arith,
+            long,
+            p.long,
+            q.size,
+            size,
+            early,
+          ) in few);
+    }
+
+-- the record is whole
+pub next_all : (s : Spelling) (asked n filled : ℕ) (header buffer text mid left items : List ℕ) (f : Fields) →
+    asked + (16 + f.captured) ≤ MOST_ASKED → HeaderRead header text mid → HasFields s n header f
+    → length buffer ≡ f.captured → f.captured ≤ filled → Fills filled buffer mid left → items ≡ buffer
+    → ReadsNext s asked n (Ok (Whole (record { time = f.time; bytes = items; original = f.original }))) text left
+next_all s asked n filled header buffer text mid left items f room p fields size full q items_are =
+    let is = ap (size_in s n) p.header_is ∙ fields.size in
+    let asks = asked_long s n text (Ok f.captured) p.long is in
+    let all = fills_all filled buffer mid left (omega (arith, size, full)) q in
+    let long : length mid ≡ length text - 16 = ap length p.left_is ∙ length-drop 16 text in
+    let bytes : take f.captured (drop 16 text) ≡ items =
+    ap (take f.captured) (sym p.left_is) ∙ ap (λ k. take k mid) (sym size) ∙ all.front ∙ sym items_are in
+    let same : entry_in s f.captured text ≡ record { time = f.time; bytes = items; original = f.original } =
+    rw (p.header_is, bytes, fields.time, fields.original) refl in
+    let count : length items ≡ f.captured = ap length items_are ∙ size in
+    record {
+      is = few_is s asked n text (omega (arith, asks, room))
+          ∙ next_whole s n text f.captured is (omega (arith, long, p.long, all.long, size))
+          ∙ ap (λ e. Ok (Whole e)) same;
+      taken = 16 + f.captured;
+      left_is = all.left_is ∙ ap (λ k. drop k mid) size ∙ ap (drop f.captured) p.left_is ∙ drop-drop f.captured 16 text;
+      within = omega (arith, asks);
+      room = room;
+      takes = omega (arith, count);
+    }
+
+-- ---- the header of the file
+
+pub file_short : (filled : ℕ) (buffer bytes left : List ℕ) → length buffer ≡ 24 → filled < 24 →
+    Fills filled buffer bytes left → (spelling_in (take 24 bytes) ≡ Err NoHeader) × (left ≡ drop 24 bytes)
+file_short filled buffer bytes left size short p =
+    let few : length (take 24 bytes) < 24 = omega (arith, length-take 24 bytes, p.size, size, short) in
+    (rw (lt-ltb (length (take 24 bytes)) 24 few) refl, p.left_is ∙ ap (λ k. drop k bytes) size)
+
+pub file_whole : (filled : ℕ) (buffer bytes left : List ℕ) (result : Result Spelling CaptureFault) →
+    length buffer ≡ 24 → 24 ≤ filled → spelling_in buffer ≡ result → Fills filled buffer bytes left
+    → (spelling_in (take 24 bytes) ≡ result) × (left ≡ drop 24 bytes)
+file_whole filled buffer bytes left result size full is p =
+    let all = fills_all filled buffer bytes left (omega (arith, size, full)) p in
+    let header : take 24 bytes ≡ buffer = ap (λ k. take k bytes) (sym size) ∙ all.front in
+    (ap spelling_in header ∙ is, all.left_is ∙ ap (λ k. drop k bytes) size)

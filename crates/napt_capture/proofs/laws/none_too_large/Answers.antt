@@ -1,0 +1,9 @@
+use Rattle.napt_capture.proofs.Captured.{never_large}
+use Rattle.napt_capture.proofs.Whole.{read_short}
+use Rattle.napt_capture.proofs.laws.none_too_large.Goals as goal
+
+pub returns-clause-whole : goal.returns-clause-whole
+returns-clause-whole c = read_short
+
+pub returns-clause-never : goal.returns-clause-never
+returns-clause-never c = never_large

@@ -1,0 +1,13 @@
+-- What contracts see of devices in place of those that nobody gave.
+use Rattle.std.specs.Prelude.{ℕ, Bool, List, drop}
+use Rattle.napt_capture.specs.Text.{file_header}
+use Rattle.napt_capture.specs.declared.absent.NoPackets.{NoPackets}
+use Rattle.napt_capture.specs.declared.absent.Nowhere.{Nowhere}
+
+-- the bytes that reads of the capture will give
+abbrev pub bytes_left : NoPackets → List ℕ
+bytes_left capture = drop capture.taken file_header
+
+-- nothing was written since the last flush
+abbrev pub flushed_of : Nowhere → Bool
+flushed_of nowhere = nowhere.is_flushed

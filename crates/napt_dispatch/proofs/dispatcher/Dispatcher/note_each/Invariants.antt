@@ -1,0 +1,13 @@
+use Rattle.std.proofs.Common.{◌≡◌, ◌+◌, ◌++◌, length}
+use Rattle.std.specs.Vec.Iter.{drain_items}
+use Rattle.napt_dispatch.specs.QueueStates.{many_owed}
+use Rattle.napt_dispatch.specs.Standing.{NotesAll}
+use Rattle.napt_dispatch.proofs.dispatcher.Dispatcher.note_each.Given as goal
+
+abbrev pub invariant-loop-answer : goal.invariant-loop-answer
+invariant-loop-answer l = record {
+  split : l.yielded ++ drain_items l.answer-iterator ≡ drain_items l.initial.answer-iterator;
+  many : length l.self.queues ≡ length l.initial.self.queues;
+  noted : NotesAll l.w l.yielded l.initial.self l.self;
+  fewer : many_owed l.self.queues + length l.yielded ≡ many_owed l.initial.self.queues;
+}

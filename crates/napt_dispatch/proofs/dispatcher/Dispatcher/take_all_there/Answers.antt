@@ -1,0 +1,18 @@
+use Rattle.std.proofs.Common.{sym, ◌∙◌, ap, ◌||◌}
+use Rattle.napt_dispatch.proofs.Offering.{taken_more}
+use Rattle.napt_dispatch.proofs.Passing.{continues_both}
+use Rattle.napt_dispatch.proofs.dispatcher.Dispatcher.take_all_there.Goals.{then-branch, else-branch}
+use Rattle.napt_dispatch.proofs.dispatcher.Dispatcher.take_all_there.Goals as goal
+
+pub loop-w-preserved : goal.loop-w-preserved
+loop-w-preserved g c =
+    let more = taken_more c.args.self.now c.loop-w.self c.take_there.new.self c.loop-w.any _ c.if-branch.any in
+    record {
+      state = continues_both c.loop-w.invariant.state c.in_ok-take_there.ensures.state;
+      told = elim c.if-branch.branch [
+        | then-branch w ↦ more (w.any-is ∙ ap (λ m. m || c.loop-w.any) (sym w.if-branch.true)) c.loop-w.invariant.told
+            c.in_ok-take_there.ensures.told
+        | else-branch w ↦ more (w.any-is ∙ ap (λ m. m || c.loop-w.any) (sym w.if-branch.false)) c.loop-w.invariant.told
+            c.in_ok-take_there.ensures.told
+      ];
+    }

@@ -1,0 +1,30 @@
+use Rattle.std.proofs.Common.{◌<◌, [], ◌∷◌, length, rules}
+use Rattle.napt_dispatch.specs.Standing.{NotesAll}
+use Rattle.napt_dispatch.proofs.Offering.{notes_none, notes_more, over_pool, answered_keeps}
+use Rattle.napt_dispatch.proofs.dispatcher.Dispatcher.take_reply.Goals as goal
+
+pub returns-in_ok-note-in-Some-One-clause-state : goal.returns-in_ok-note-in-Some-One-clause-state
+returns-in_ok-note-in-Some-One-clause-state g c =
+    let inside : c.args.w < length c.args.self.now.queues = rw c.requires.sized c.requires.place in
+    let notes : NotesAll c.args.w (c.in-Some-One.answer ∷ []) c.args.self.now c.note.new.self =
+    notes_more c.args.w c.in-Some-One.answer c.args.self.now c.note.new.self inside
+    c.in_ok-note-in-Some-One.ensures.noted [] c.args.self.now (notes_none c.args.w c.args.self.now) in
+    record {
+      starts_stay = c.in_ok-take_all.ensures.starts;
+      sized = search rules;
+      journal_stays = notes.journal_stays;
+      keeps = over_pool (answered_keeps c.args.w (c.in-Some-One.answer ∷ []) c.args.pool.now c.args.self.now
+          c.take_all.new.self c.note.new.self c.requires.place c.in_ok-take_all.ensures.accepts
+          (rw (c.in-Some-One.is, c.in-Some-One.field-0-is) at c.in_ok-take_all.ensures.some) notes);
+    }
+
+pub returns-in_ok-note_all-in-Some-All-clause-state : goal.returns-in_ok-note_all-in-Some-All-clause-state
+returns-in_ok-note_all-in-Some-All-clause-state g c = record {
+  starts_stay = c.in_ok-take_all.ensures.starts;
+  sized = search rules;
+  journal_stays = c.in_ok-note_all-in-Some-All.ensures.noted.journal_stays;
+  keeps = over_pool (answered_keeps c.args.w c.in-Some-All.answered.answers.items c.args.pool.now c.args.self.now
+      c.take_all.new.self c.note_all.new.self c.requires.place c.in_ok-take_all.ensures.accepts
+      (rw (c.in-Some-All.is, c.in-Some-All.field-0-is) at c.in_ok-take_all.ensures.some)
+      c.in_ok-note_all-in-Some-All.ensures.noted);
+}

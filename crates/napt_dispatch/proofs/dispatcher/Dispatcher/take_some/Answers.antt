@@ -1,0 +1,13 @@
+use Rattle.napt_dispatch.proofs.Offering.{taken_none}
+use Rattle.napt_dispatch.proofs.Passing.{continues_both}
+use Rattle.napt_dispatch.proofs.dispatcher.Dispatcher.take_some.Goals as goal
+
+pub returns-then-branch-clause-state : goal.returns-then-branch-clause-state
+returns-then-branch-clause-state g c = continues_both c.loop.invariant.state c.in_ok-take_all_there.ensures.state
+
+pub loop-preserved : goal.loop-preserved
+loop-preserved g c = record {
+  state = continues_both c.loop.invariant.state c.in_ok-take_all_there.ensures.state;
+  none = taken_none c.args.self.now c.loop.self c.take_all_there.new.self _ c.if-branch.false c.loop.invariant.none
+      c.in_ok-take_all_there.ensures.told;
+}

@@ -1,0 +1,14 @@
+use Rattle.std.proofs.Common.{rules}
+use Rattle.napt_dispatch.proofs.Offering.{taken_on}
+use Rattle.napt_dispatch.proofs.Passing.{continues_both}
+use Rattle.napt_dispatch.proofs.dispatcher.Dispatcher.take_there.Goals as goal
+
+pub returns-then-not-branch-clause-state : goal.returns-then-not-branch-clause-state
+returns-then-not-branch-clause-state g c = continues_both c.loop.invariant.state c.in_ok-take_reply.ensures.state
+
+pub loop-preserved : goal.loop-preserved
+loop-preserved g c = record {
+  state = continues_both c.loop.invariant.state c.in_ok-take_reply.ensures.state;
+  told = taken_on c.args.self.now c.loop.self c.take_reply.new.self c.loop.any _ (search rules) c.loop.invariant.told
+      c.in_ok-take_reply.ensures.told;
+}

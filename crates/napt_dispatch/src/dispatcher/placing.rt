@@ -1,0 +1,158 @@
+//! Placing the legs of an input: the first one and a placeholder for the second are held for their workers.
+
+ghost use Rattle.std.specs.Prelude.{◌≡◌, ◌+◌, ◌<◌, ◌≤◌, Bool, length, slice_get, Ok, Err, Some, None, IfOk, IfErr, IfSome, OnOk, MatchOption};
+ghost use Rattle.napt_wire.specs.declared.Side.TheVariants.{Inside as InsideSide};
+ghost use Rattle.napt_wire.specs.Fields.{destination};
+ghost use Rattle.napt_wire.specs.Packet.{IsPacket};
+ghost use Rattle.napt_wire.specs.Reading.{reading};
+ghost use Rattle.napt_config.specs.Rules.{KeepsRules, place_of};
+ghost use Rattle.napt_rules.specs.Prelude.{way_from, served_at, admission_as};
+ghost use Rattle.napt_rules.specs.declared.Outcome.TheVariants.{Dropped};
+ghost use Rattle.napt_dispatch.specs.declared.dispatcher.holding.Held.TheVariants.{Ready, Place};
+ghost use Rattle.napt_dispatch.specs.declared.dispatcher.progress.Progress.TheVariants.{EndedIn};
+ghost use Rattle.napt_dispatch.specs.Dispatch.{IsDispatchFault};
+ghost use Rattle.napt_dispatch.specs.QueueStates.{many_held, with_last, with_queue};
+ghost use Rattle.napt_dispatch.specs.Windows.{progress_in, IsUnmarked, IsWritten};
+ghost use Rattle.napt_dispatch.specs.Standing.{journal_of, Admits};
+
+use crate::dispatcher::Dispatcher;
+use crate::dispatcher::holding::Held;
+use crate::dispatcher::progress::Progress;
+use crate::stopped::ImpossibleAnswer;
+use napt_config::Config;
+use napt_sequential::{Input, Outcome, RunFault, places_stand_for_legs, right_answers, way_from};
+use napt_translate::{Leg, onward, route};
+use napt_wire::{Cause, Packet, Side};
+use std::alloc::AllocError;
+
+impl Dispatcher {
+    /// Holds a placeholder at worker `to`, if there is one, for the second leg of the input with this number.
+    fn hold_place(&mut self, to: Option<u32>, number: u64) -> Result<(), AllocError>
+        requires to { IfSome to (λ v. v < length self.old.queues) }
+        requires room { many_held self.old.queues < 65536 }
+        requires open { IsUnmarked number self.old.progress }
+        ensures many { length self.new.queues ≡ length self.old.queues }
+        ensures placed { OnOk result (MatchOption to (self.new.queues ≡ self.old.queues) (λ v.
+            self.new.queues ≡ with_queue v (with_last (Place number)) self.old.queues)) }
+        ensures progress { progress_in self.new.progress ≡ progress_in self.old.progress }
+        ensures journal { journal_of self.new.progress ≡ journal_of self.old.progress }
+    {
+        match to {
+            None => Ok(()),
+            Some(v) => {
+                self.progress.note_place(number);
+                self.queues.hold(v, Held::Place(number))
+            }
+        }
+    }
+
+    /// Holds a first leg for worker `w`, and a placeholder at worker `to`, if there is one.
+    fn hold_first(&mut self, w: u32, leg: Leg, to: Option<u32>) -> Result<(), AllocError>
+        requires place { w < length self.old.queues }
+        requires to { IfSome to (λ v. v < length self.old.queues) }
+        requires room { many_held self.old.queues + 2 ≤ 65536 }
+        requires open { IsUnmarked leg.number self.old.progress }
+        ensures many { length self.new.queues ≡ length self.old.queues }
+        ensures placed { OnOk result
+            (let one : _ = with_queue w (with_last (Ready leg)) self.old.queues in
+            MatchOption to (self.new.queues ≡ one)
+            (λ v. self.new.queues ≡ with_queue v (with_last (Place leg.number)) one)) }
+        ensures progress { OnOk result (progress_in self.new.progress
+            ≡ progress_in self.old.progress) }
+        ensures journal { OnOk result (journal_of self.new.progress
+            ≡ journal_of self.old.progress) }
+    {
+        let number = leg.number;
+        self.queues.hold(w, Held::Ready(leg))?;
+        self.hold_place(to, number)
+    }
+
+    /// Notes that the input with this number is dropped and has no leg.
+    fn note_dropped(&mut self, number: u64, cause: Cause) -> Result<(), ImpossibleAnswer>
+        ensures same { self.new.queues ≡ self.old.queues }
+        ensures noted { OnOk result (IsWritten number (EndedIn (Dropped cause))
+            self.old.progress self.new.progress) }
+    {
+        let dropped = Progress::EndedIn(Outcome::Dropped(cause));
+        self.progress.write(number, dropped)?;
+        Ok(())
+    }
+
+    /// Reads the input with this number, at a time in ns, and holds its first leg. Returns the worker that it is held for, if
+    /// the input has a leg.
+    pub(super) fn admit(
+        &mut self,
+        config: &Config,
+        number: u64,
+        now: u64,
+        input: Input,
+    ) -> Result<Option<u32>, RunFault>
+        requires keeps { KeepsRules config.now }
+        requires sized { length self.old.queues ≡ length config.now.pool }
+        requires room { many_held self.old.queues + 2 ≤ 65536 }
+        requires open { IsUnmarked number self.old.progress }
+        ensures many { length self.new.queues ≡ length self.old.queues }
+        ensures place { IfOk result (λ place. IfSome place (λ w. w < length config.now.pool)) }
+        ensures journal { OnOk result (journal_of self.new.progress
+            ≡ journal_of self.old.progress) }
+        ensures admits { OnOk result (Admits config.now number now input self.old self.new) }
+        ensures fault { (open_gate : Bool) → IfErr result (IsDispatchFault open_gate) }
+    {
+        right_answers();
+        places_stand_for_legs();
+        let side = input.side;
+        match read_and_route(config, side, input.bytes) {
+            Ok((place, packet)) => {
+                let to = second_place(config, side, &packet);
+                let leg = Leg {
+                    number,
+                    now,
+                    way: way_from(side),
+                    packet,
+                };
+                self.hold_first(place, leg, to)?;
+                Ok(Some(place))
+            }
+            Err(cause) => {
+                self.note_dropped(number, cause)?;
+                Ok(None)
+            }
+        }
+    }
+}
+
+/// Returns the place in the pool of the address that a first leg may be answered onward to.
+fn second_place(config: &Config, side: Side, packet: &Packet) -> Option<u32>
+    ensures some { IfSome result (λ place. (side ≡ InsideSide)
+        × (place_of config.now (destination packet.now).address ≡ Some place)) }
+    ensures none { result ≡ None → side ≡ InsideSide →
+        place_of config.now (destination packet.now).address ≡ None }
+    ensures reads { IsPacket packet.now }
+{
+    // called for its clause alone: the packet is one
+    let _bytes = packet.bytes();
+    match side {
+        Side::Outside => None,
+        Side::Inside => onward(config, packet),
+    }
+}
+
+/// Reads a packet from a side. Returns the place in the pool of the address that serves it and the packet, or why it is
+/// dropped.
+fn read_and_route(config: &Config, side: Side, bytes: Vec<u8>) -> Result<(u32, Packet), Cause>
+    requires keeps { KeepsRules config.now }
+    ensures admitted { IfOk result (λ first.
+        (admission_as config.now side (reading side bytes.items)
+        ≡ Ok first.1) × (slice_get config.now.pool first.0
+        ≡ Some (served_at config.now (way_from side) first.1))) }
+    ensures refused { IfErr result (λ cause. admission_as config.now side (reading side bytes.items)
+        ≡ Err cause) }
+{
+    match Packet::read(side, bytes) {
+        Ok(packet) => match route(config, side, &packet) {
+            Ok(place) => Ok((place, packet)),
+            Err(cause) => Err(cause),
+        },
+        Err((cause, _)) => Err(cause),
+    }
+}

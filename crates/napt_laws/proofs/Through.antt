@@ -1,0 +1,155 @@
+-- What a leg says of the binding that its packet went through.
+use Rattle.std.proofs.Common.{◌≡◌, ℕ, Bool, true, false, cond, List, Option, Some, None, Result, Ok, Err, refl, sym, ◌∙◌, ap, subst}
+use Rattle.std.specs.Prelude.{find}
+use Rattle.std.specs.Option.{option_map}
+use Rattle.napt_wire.specs.declared.Cause.{Cause}
+use Rattle.napt_wire.specs.declared.Way.{Way}
+use Rattle.napt_wire.specs.declared.Way.TheVariants.{Outgoing, Incoming}
+use Rattle.napt_wire.specs.declared.Kind.{Kind}
+use Rattle.napt_wire.specs.declared.Kind.TheVariants.{Udp, Tcp, Echo, ErrorOf}
+use Rattle.napt_wire.specs.Fields.{kind, is_error}
+use Rattle.napt_config.specs.Rules.{Rules}
+use Rattle.napt_rules.specs.declared.Inbound.{Inbound}
+use Rattle.napt_rules.specs.declared.Sent.{Sent}
+use Rattle.napt_rules.specs.declared.Received.{Received}
+use Rattle.napt_rules.specs.declared.Leg.{Leg}
+use Rattle.napt_rules.specs.declared.End.TheVariants.{Dropped}
+use Rattle.napt_rules.specs.Prelude.{Binding, purge, permits, inbound_of, granted, of_source, sent_by, fresh, Out, out_made, out_found, step_out, of_destination, received_by, In, in_found, step_in, onward_by, end_out, end_in, sent_of, received_of, Acted, act_by}
+use Rattle.napt_laws.specs.Through.{IsSaid, OutSaysItsBinding, InSaysItsBinding, ErrorsGoThroughNone, DroppedGoThroughNone}
+use Rattle.napt_laws.proofs.Acts.{of_act}
+use Rattle.napt_laws.proofs.Endpoints.{inside_it}
+use Rattle.napt_laws.proofs.Finds.{find_changed, find_pushed}
+use Rattle.napt_laws.proofs.Passes.{in_passed}
+use Rattle.napt_laws.proofs.StepsLive.{out_leaves_live, in_leaves_live}
+
+-- OUT
+
+module _ (quota : Option ℕ) (address : ℕ) (packet : Sent) (live : List Binding) where
+  abbrev at_source : List Binding → Option Binding
+  at_source list = find (of_source address packet) list
+
+  abbrev OutSays : Out → Type 0
+  OutSays out = IsSaid out.number (at_source live) (at_source out.list) out.through
+
+  made_says : at_source live ≡ None → (number : Result ℕ Cause) → OutSays (out_made live address packet number)
+  made_says none (Err cause) = refl
+  made_says none (Ok number) =
+      let new : Binding = sent_by packet (fresh address packet number) in
+      let its : of_source address packet new ≡ true =
+      inside_it address packet.protocol packet.inside new.row refl refl refl in
+      record {
+        went = record { binding = new; made = true };
+        is = refl;
+        binding = find_pushed (of_source address packet) live new none ∙ ap (λ v. cond v (Some new) None) its;
+        made = (λ made. none, λ none. refl);
+      }
+
+  out_says : (found : Option Binding) → at_source live ≡ found → OutSays (out_found quota live address packet found)
+  out_says None none = made_says none (granted quota live address packet)
+  out_says (Some b) is = record {
+    went = record { binding = sent_by packet b; made = false };
+    is = refl;
+    binding = find_changed (of_source address packet) (sent_by packet) (λ x. refl) live
+        ∙ ap (option_map (sent_by packet)) is;
+    made = (λ made. cc, λ none. cc);
+  }
+
+pub out_says_its_binding : OutSaysItsBinding
+out_says_its_binding timers t quota address packet list =
+    let live : List Binding = purge timers packet.now list in
+    let out : Out = step_out timers quota address packet list in
+    subst (λ (left : List Binding). IsSaid out.number (find (of_source address packet) live)
+    (find (of_source address packet) left) out.through) (sym (out_leaves_live timers t quota address packet list))
+    (out_says quota address packet live (find (of_source address packet) live) refl)
+
+-- IN
+
+module _ (inbound : Inbound) (address : ℕ) (packet : Received) (live : List Binding) where
+  abbrev at_destination : List Binding → Option Binding
+  at_destination list = find (of_destination address packet) list
+
+  abbrev InSays : In → Type 0
+  InSays came = IsSaid came.inside (at_destination live) (at_destination came.list) came.through
+
+  passed_says : (b : Binding) → at_destination live ≡ Some b → (passes : Bool) →
+      InSays (in_passed inbound live address packet b passes)
+  passed_says b is false = refl
+  passed_says b is true = record {
+    went = record { binding = received_by inbound packet b; made = false };
+    is = refl;
+    binding = find_changed (of_destination address packet) (received_by inbound packet) (λ x. refl) live
+        ∙ ap (option_map (received_by inbound packet)) is;
+    made = (λ made. cc, λ none. cc);
+  }
+
+  in_says : (found : Option Binding) → at_destination live ≡ found → InSays (in_found inbound live address packet found)
+  in_says None none = refl
+  in_says (Some b) is = passed_says b is (permits inbound b packet.remote)
+
+pub in_says_its_binding : InSaysItsBinding
+in_says_its_binding timers t inbound address packet list =
+    let live : List Binding = purge timers packet.now list in
+    let came : In = step_in timers inbound address packet list in
+    subst (λ (left : List Binding). IsSaid came.inside (find (of_destination address packet) live)
+    (find (of_destination address packet) left) came.through)
+    (sym (in_leaves_live timers t inbound address packet list))
+    (in_says inbound address packet live (find (of_destination address packet) live) refl)
+
+-- NONE
+
+module _ (rules : Rules) (address : ℕ) (leg : Leg) (list : List Binding) where
+  error_none : (way : Way) (k : Kind) → is_error k ≡ true → (act_by rules address leg list way k).through ≡ None
+  error_none Outgoing (ErrorOf inner) h = refl
+  error_none Incoming (ErrorOf inner) h = refl
+  error_none way Udp h = cc
+  error_none way (Tcp flags) h = cc
+  error_none way Echo h = cc
+
+  module _ (cause : Cause) where
+    abbrev IsNone : Acted → Type 0
+    IsNone acted = acted.end ≡ Dropped cause → acted.through ≡ None
+
+    onward_goes : (place : Option ℕ) (packet : List ℕ) → onward_by place packet ≡ Dropped cause → ⊥
+    onward_goes None packet h = cc
+    onward_goes (Some place) packet h = cc
+
+    module _ (packet : Sent) (live : List Binding) where
+      made_none : (number : Result ℕ Cause) → (let out : Out = out_made live address packet number in
+          end_out rules address leg.packet out.number ≡ Dropped cause → out.through ≡ None)
+      made_none (Err other) h = refl
+      made_none (Ok number) h = absurd (onward_goes _ _ h)
+
+      sent_none : (found : Option Binding) → (let out : Out = out_found rules.quota live address packet found in
+          end_out rules address leg.packet out.number ≡ Dropped cause → out.through ≡ None)
+      sent_none None h = made_none (granted rules.quota live address packet) h
+      sent_none (Some b) h = absurd (onward_goes _ _ h)
+
+    module _ (packet : Received) (live : List Binding) where
+      passed_none : (b : Binding) (passes : Bool) →
+          (let came : In = in_passed (inbound_of rules) live address packet b passes in
+          end_in leg.packet came.inside ≡ Dropped cause → came.through ≡ None)
+      passed_none b false h = refl
+      passed_none b true h = cc
+
+      came_none : (found : Option Binding) →
+          (let came : In = in_found (inbound_of rules) live address packet found in
+          end_in leg.packet came.inside ≡ Dropped cause → came.through ≡ None)
+      came_none None h = refl
+      came_none (Some b) h = passed_none b (permits (inbound_of rules) b packet.remote) h
+
+    dropped_none : (way : Way) (k : Kind) → IsNone (act_by rules address leg list way k)
+    dropped_none = of_act rules address leg list IsNone
+        (λ protocol flags. let packet : Sent = sent_of protocol flags leg.now leg.packet in
+        let live : List Binding = purge rules.timers leg.now list in
+        sent_none packet live (find (of_source address packet) live))
+        (λ protocol flags. let packet : Received = received_of protocol flags leg.now leg.packet in
+        let live : List Binding = purge rules.timers leg.now list in
+        came_none packet live (find (of_destination address packet) live))
+        (λ end h. refl)
+
+pub errors_go_through_none : ErrorsGoThroughNone
+errors_go_through_none rules address leg list h = error_none rules address leg list leg.way (kind leg.packet) h
+
+pub dropped_go_through_none : DroppedGoThroughNone
+dropped_go_through_none rules address leg list cause h =
+    dropped_none rules address leg list cause leg.way (kind leg.packet) h

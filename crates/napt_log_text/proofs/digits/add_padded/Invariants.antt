@@ -1,0 +1,9 @@
+use Rattle.std.proofs.Common.{◌≡◌, ◌++◌, ◌-◌, ◌≤◌, length, replicate, string_bytes}
+use Rattle.napt_log_text.proofs.digits.add_padded.Given as goal
+
+-- the zeros so far are there
+abbrev pub invariant-loop : goal.invariant-loop
+invariant-loop l = record {
+  few : l.counter - length l.shown ≤ l.width - length l.shown;
+  zeros : string_bytes l.text ≡ string_bytes l.fn.text ++ replicate (l.counter - length l.shown) 48;
+}

@@ -1,0 +1,5 @@
+pub mod Calendar
+pub mod Times
+pub mod Rows
+pub mod Requests
+pub mod Holders

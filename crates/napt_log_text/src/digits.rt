@@ -1,0 +1,63 @@
+//! Numbers, addresses and endpoints as texts.
+ghost use Rattle.std.specs.Prelude.{◌≡◌, ◌++◌, OnOk, decimal, string_bytes};
+ghost use Rattle.napt_config.specs.Text.{address_text};
+ghost use Rattle.napt_records.specs.Report.{endpoint_text};
+ghost use Rattle.napt_log_text.specs.Times.{padded};
+
+use itoa::Buffer;
+use napt_wire::Endpoint;
+use std::alloc::AllocError;
+
+/// Appends a number in decimal. Fails only if memory runs out.
+pub fn add_number(text: &mut String, number: u64) -> Result<(), AllocError>
+    ensures { OnOk result (string_bytes text.new ≡ string_bytes text.old ++ decimal number) }
+{
+    let mut digits = Buffer::new();
+    text.push_str(digits.format(number))
+}
+
+/// Appends a number in decimal, with zeros in front of it up to a width. Fails only if memory runs out.
+pub(crate) fn add_padded(text: &mut String, number: u32, width: usize) -> Result<(), AllocError>
+    ensures { OnOk result (string_bytes text.new ≡ string_bytes text.old ++ padded width number) }
+{
+    let mut digits = Buffer::new();
+    let shown = digits.format(number);
+    for _ in shown.len()..width {
+        text.push_str("0")?;
+    }
+    text.push_str(shown)?;
+    Ok(())
+}
+
+fn add_octet(text: &mut String, octet: u8) -> Result<(), AllocError>
+    ensures { OnOk result (string_bytes text.new ≡ string_bytes text.old ++ decimal octet) }
+{
+    let mut digits = Buffer::new();
+    text.push_str(digits.format(octet))
+}
+
+/// Appends an address, such as `10.0.0.2`. Fails only if memory runs out.
+pub fn add_address(text: &mut String, address: u32) -> Result<(), AllocError>
+    ensures { OnOk result (string_bytes text.new ≡ string_bytes text.old ++ address_text address) }
+{
+    let octets = address.to_be_bytes();
+    add_octet(text, octets[0])?;
+    text.push_str(".")?;
+    add_octet(text, octets[1])?;
+    text.push_str(".")?;
+    add_octet(text, octets[2])?;
+    text.push_str(".")?;
+    add_octet(text, octets[3])?;
+    Ok(())
+}
+
+/// Appends an endpoint, such as `10.0.0.2:5000`. Fails only if memory runs out.
+pub fn add_endpoint(text: &mut String, endpoint: Endpoint) -> Result<(), AllocError>
+    ensures { OnOk result (string_bytes text.new
+        ≡ string_bytes text.old ++ endpoint_text endpoint) }
+{
+    add_address(text, endpoint.address)?;
+    text.push_str(":")?;
+    add_number(text, u64::from(endpoint.number))?;
+    Ok(())
+}

@@ -1,0 +1,243 @@
+//! The events of the log, and their rows as CSV.
+ghost use Rattle.std.specs.Prelude.{◌≡◌, ◌++◌, OnOk, Some, decimal, codes, string_bytes};
+ghost use Rattle.napt_log_text.specs.Rows as rows;
+
+use crate::digits::{add_address, add_number};
+use crate::moment::Moment;
+use itoa::Buffer;
+use napt_account::{Entry, Shortage};
+use napt_config::Config;
+use napt_rules::Row;
+use napt_wire::{Cause, Endpoint, Protocol};
+use std::alloc::AllocError;
+
+/// The values of natEvent that occur (RFC 8158).
+const BINDING_MADE: u64 = 8;
+
+const BINDING_ENDED: u64 = 9;
+
+const PORTS_EXHAUSTED: u64 = 12;
+
+const QUOTA_EXCEEDED: u64 = 13;
+
+/// The first row of the log: the names of its fields.
+pub fn header() -> &'static str
+    ensures { result.now ≡ rows.header }
+{
+    "observationTimeNanoseconds,time,natEvent,protocolIdentifier,sourceIPv4Address,sourceTransportPort,\
+    postNATSourceIPv4Address,postNAPTSourceTransportPort,natQuotaExceededEvent,binding,redirect,packets_out,\
+    packets_in,flowEndNanoseconds,last_use\n"
+}
+
+/// An entry of the log, with its number in it.
+#[derive(Clone, Copy, Debug, PartialEq, Eq)]
+pub struct Listed {
+    /// From 1, in the order of making.
+    pub number: u64,
+    pub entry: Entry,
+}
+
+/// An event of the log.
+#[derive(Clone, Copy, Debug, PartialEq, Eq)]
+pub enum Event {
+    /// A binding was made.
+    Made(Listed),
+    /// A binding expired, at the end in its entry.
+    Ended(Listed),
+    /// No event: a binding lives at the run's last packet, and ends as its entry says if no packet comes.
+    Living(Listed),
+    /// A packet got no binding.
+    Refused(Shortage),
+}
+
+impl Event {
+    /// Appends its row. The configuration has the external address of a host that got no binding. Fails only if memory
+    /// runs out.
+    #[tactic(auto, unfolding(crate::specs::Rows::csv_row))]
+    pub fn add_row(&self, config: &Config, text: &mut String) -> Result<(), AllocError>
+        ensures { OnOk result (string_bytes text.new ≡ string_bytes text.old
+            ++ rows.csv_row config.now self.now) }
+    {
+        match self {
+            Event::Made(listed) => {
+                let made = u128::from(listed.entry.made);
+                listed.add_row(Some(made), Some(BINDING_MADE), text)
+            }
+            Event::Ended(listed) => listed.add_row(listed.entry.end, Some(BINDING_ENDED), text),
+            Event::Living(listed) => listed.add_row(listed.entry.end, None, text),
+            Event::Refused(shortage) => { add_shortage(shortage, config.pair(shortage.host), text) }
+        }
+    }
+}
+
+impl Listed {
+    /// Appends the row of an event at a time, or of none.
+    fn add_row(
+        &self,
+        at: Option<u128>,
+        event: Option<u64>,
+        text: &mut String,
+    ) -> Result<(), AllocError>
+        ensures { OnOk result (string_bytes text.new ≡ string_bytes text.old
+            ++ rows.row_text (rows.time_fields at ++ rows.listed_fields event self.now)) }
+    {
+        add_time(at, text)?;
+        text.push_str(",")?;
+        add_binding(event, &self.entry.binding, text)?;
+        text.push_str(",")?;
+        self.add_entry(text)?;
+        text.push_str("\n")?;
+        Ok(())
+    }
+
+    /// Appends its number and the fields behind it.
+    fn add_entry(&self, text: &mut String) -> Result<(), AllocError>
+        ensures { OnOk result (string_bytes text.new
+            ≡ string_bytes text.old ++ (decimal self.now.number
+            ++ codes "," ++ rows.flag_text self.now.entry.binding.fixed ++ codes ","
+            ++ decimal self.now.entry.sent ++ codes "," ++ decimal self.now.entry.received ++ codes ","
+            ++ rows.time_text (rows.last_use self.now.entry))) }
+    {
+        add_field(self.number, text)?;
+        text.push_str(flag(self.entry.binding.fixed))?;
+        text.push_str(",")?;
+        add_field(self.entry.sent, text)?;
+        add_field(self.entry.received, text)?;
+        add_time(last_use(&self.entry), text)?;
+        Ok(())
+    }
+}
+
+/// Appends a time in ns and as a date, with a comma between them.
+fn add_time(time: Option<u128>, text: &mut String) -> Result<(), AllocError>
+    ensures { OnOk result (string_bytes text.new ≡ string_bytes text.old ++ rows.time_text time) }
+{
+    let Some(time) = time else {
+        return text.push_str(",");
+    };
+    let mut digits = Buffer::new();
+    text.push_str(digits.format(time))?;
+    text.push_str(",")?;
+    Moment(time).add_date(text)?;
+    Ok(())
+}
+
+/// Appends a number and a comma.
+fn add_field(number: u64, text: &mut String) -> Result<(), AllocError>
+    ensures { OnOk result (string_bytes text.new
+        ≡ string_bytes text.old ++ (decimal number ++ codes ",")) }
+{
+    add_number(text, number)?;
+    text.push_str(",")?;
+    Ok(())
+}
+
+/// Appends an endpoint as two fields, and a comma.
+fn add_endpoint_fields(endpoint: Endpoint, text: &mut String) -> Result<(), AllocError>
+    ensures { OnOk result (string_bytes text.new ≡ string_bytes text.old
+        ++ rows.before_more (rows.endpoint_fields endpoint)) }
+{
+    add_address(text, endpoint.address)?;
+    text.push_str(",")?;
+    add_field(u64::from(endpoint.number), text)?;
+    Ok(())
+}
+
+/// Appends the number of an event, if there is one, and a comma.
+fn add_event(event: Option<u64>, text: &mut String) -> Result<(), AllocError>
+    ensures { OnOk result (string_bytes text.new ≡ string_bytes text.old
+        ++ (rows.number_if_any event ++ codes ",")) }
+{
+    match event {
+        Some(event) => add_field(event, text),
+        None => text.push_str(","),
+    }
+}
+
+/// Appends the fields of a binding, and a comma.
+fn add_binding(event: Option<u64>, binding: &Row, text: &mut String) -> Result<(), AllocError>
+    ensures { OnOk result (string_bytes text.new ≡ string_bytes text.old
+        ++ rows.before_more (rows.binding_fields event binding.now)) }
+{
+    add_event(event, text)?;
+    add_field(protocol_number(binding.protocol), text)?;
+    add_endpoint_fields(binding.inside, text)?;
+    add_endpoint_fields(binding.external, text)?;
+    Ok(())
+}
+
+/// Appends the row of a shortage; `external` is the external address of its host.
+fn add_shortage(shortage: &Shortage, external: u32, text: &mut String) -> Result<(), AllocError>
+    ensures { OnOk result (string_bytes text.new ≡ string_bytes text.old
+        ++ rows.row_text (rows.time_fields (Some shortage.now.at)
+        ++ rows.shortage_fields external shortage.now)) }
+{
+    add_time(Some(u128::from(shortage.at)), text)?;
+    text.push_str(",")?;
+    add_refusal(shortage, text)?;
+    add_address(text, external)?;
+    text.push_str(",,")?;
+    text.push_str(quota(shortage.cause))?;
+    text.push_str(",,,,,,\n")?;
+    Ok(())
+}
+
+/// Appends the fields of a shortage from its natEvent to its host, an empty one, and a comma.
+fn add_refusal(shortage: &Shortage, text: &mut String) -> Result<(), AllocError>
+    ensures { OnOk result (string_bytes text.new ≡ string_bytes text.old
+        ++ rows.before_more (rows.refusal_fields shortage.now)) }
+{
+    add_field(shortage_number(shortage.cause), text)?;
+    add_field(protocol_number(shortage.protocol), text)?;
+    add_address(text, shortage.host)?;
+    text.push_str(",,")?;
+    Ok(())
+}
+
+/// The natEvent of a shortage.
+fn shortage_number(cause: Cause) -> u64
+    ensures { result ≡ rows.shortage_number cause }
+{
+    match cause {
+        Cause::OverQuota => QUOTA_EXCEEDED,
+        _ => PORTS_EXHAUSTED,
+    }
+}
+
+/// The natQuotaExceededEvent of a shortage, if it has one.
+fn quota(cause: Cause) -> &'static str
+    ensures { result.now ≡ rows.quota_text cause }
+{
+    match cause {
+        Cause::OverQuota => "3",
+        _ => "",
+    }
+}
+
+/// A protocol's number (IANA).
+fn protocol_number(protocol: Protocol) -> u64
+    ensures { result ≡ rows.protocol_number protocol }
+{
+    match protocol {
+        Protocol::Icmp => 1,
+        Protocol::Tcp => 6,
+        Protocol::Udp => 17,
+    }
+}
+
+fn flag(is_set: bool) -> &'static str
+    ensures { result.now ≡ rows.flag_text is_set }
+{
+    if is_set { "1" } else { "0" }
+}
+
+/// When a packet last went through the binding, if one did.
+fn last_use(entry: &Entry) -> Option<u128>
+    ensures { result ≡ rows.last_use entry.now }
+{
+    if entry.sent > 0 || entry.received > 0 {
+        Some(u128::from(entry.last))
+    } else {
+        None
+    }
+}

@@ -1,0 +1,217 @@
+//! The lines that say who had an external endpoint, and when (RFC 6888, section 4; RFC 6269, section 12).
+ghost use Rattle.std.specs.Prelude.{◌≡◌, ◌++◌, OnOk, false, option_map, string_bytes};
+ghost use Rattle.napt_log_text.specs.Holders as holders;
+
+use crate::digits::{add_address, add_endpoint, add_number};
+use crate::moment::Moment;
+use crate::request::{Nearest, Request, Span};
+use napt_account::{Entry, Party};
+use napt_config::Config;
+use napt_records::protocol_name;
+use napt_wire::Protocol;
+use std::alloc::AllocError;
+
+/// Appends the line of a binding that had an endpoint. `last` is the time of the run's last packet, in ns: an end after
+/// it comes only if no packet does. Fails only if memory runs out.
+pub fn add_holder(entry: &Entry, last: u64, text: &mut String) -> Result<(), AllocError>
+    ensures { OnOk result (string_bytes text.new
+        ≡ string_bytes text.old ++ holders.holder_line last entry.now) }
+{
+    add_binding(entry, last, text)?;
+    text.push_str("\n")?;
+    Ok(())
+}
+
+/// Appends the number of a request, which stands before each of its lines where there are several. Fails only if memory
+/// runs out.
+pub fn add_mark(number: u64, text: &mut String) -> Result<(), AllocError>
+    ensures { OnOk result (string_bytes text.new
+        ≡ string_bytes text.old ++ holders.mark_text number) }
+{
+    add_number(text, number)?;
+    text.push_str(": ")?;
+    Ok(())
+}
+
+/// Appends a binding and from when until when it had its endpoint.
+#[tactic(auto, unfolding(crate::specs::Holders::holder_text))]
+fn add_binding(entry: &Entry, last: u64, text: &mut String) -> Result<(), AllocError>
+    ensures { OnOk result (string_bytes text.new
+        ≡ string_bytes text.old ++ holders.holder_text last entry.now) }
+{
+    text.push_str(protocol_name(entry.binding.protocol))?;
+    text.push_str(" ")?;
+    add_endpoint(text, entry.binding.inside)?;
+    text.push_str(" at ")?;
+    add_endpoint(text, entry.binding.external)?;
+    add_span(entry, last, text)?;
+    Ok(())
+}
+
+/// Appends from when until when a binding had its endpoint.
+fn add_span(entry: &Entry, last: u64, text: &mut String) -> Result<(), AllocError>
+    ensures { OnOk result (string_bytes text.new ≡ string_bytes text.old
+        ++ holders.span_text last entry.now.binding.fixed entry.now.made entry.now.end) }
+{
+    match entry.end {
+        Some(end) => add_times(entry.made, end, last, text),
+        None if entry.binding.fixed => text.push_str(" always, a redirect"),
+        None => add_open(entry.made, text),
+    }
+}
+
+/// Appends from when on a binding had its endpoint whose end is not known.
+fn add_open(made: u64, text: &mut String) -> Result<(), AllocError>
+    ensures { OnOk result (string_bytes text.new
+        ≡ string_bytes text.old ++ holders.open_text false made) }
+{
+    text.push_str(" from ")?;
+    Moment(u128::from(made)).add_to(text)?;
+    text.push_str(" on, with no end in the log")?;
+    Ok(())
+}
+
+/// Appends both times of a binding that ends.
+fn add_times(made: u64, end: u128, last: u64, text: &mut String) -> Result<(), AllocError>
+    ensures { OnOk result (string_bytes text.new
+        ≡ string_bytes text.old ++ holders.times_text last made end) }
+{
+    text.push_str(" from ")?;
+    Moment(u128::from(made)).add_to(text)?;
+    text.push_str(" until ")?;
+    Moment(end).add_to(text)?;
+    text.push_str(premise(end, last))?;
+    Ok(())
+}
+
+fn premise(end: u128, last: u64) -> &'static str
+    ensures { result.now ≡ holders.premise_text last end }
+{
+    if end <= u128::from(last) {
+        ""
+    } else {
+        ", if no packet comes"
+    }
+}
+
+/// Appends the line that says that nobody had the endpoint, and who had it last before and first after. The configuration
+/// knows the addresses of the pool; without one none is said to be foreign. `last` is the time of the run's last packet,
+/// in ns. Fails only if memory runs out.
+#[tactic(auto, unfolding(crate::specs::Holders::nobody_line))]
+pub fn add_nobody(
+    request: &Request,
+    nearest: &Nearest,
+    config: Option<&Config>,
+    last: u64,
+    text: &mut String,
+) -> Result<(), AllocError>
+    ensures { OnOk result (string_bytes text.new ≡ string_bytes text.old
+        ++ holders.nobody_line (option_map (λ known. known.now) config.entry) last request.now nearest.now) }
+{
+    text.push_str("nobody had ")?;
+    add_protocol(request.protocol, text)?;
+    add_party(request.party, text)?;
+    add_reason(request, nearest, config, last, text)?;
+    text.push_str("\n")?;
+    Ok(())
+}
+
+fn add_protocol(protocol: Option<Protocol>, text: &mut String) -> Result<(), AllocError>
+    ensures { OnOk result (string_bytes text.new
+        ≡ string_bytes text.old ++ holders.protocol_text protocol) }
+{
+    let Some(protocol) = protocol else {
+        return Ok(());
+    };
+    text.push_str(protocol_name(protocol))?;
+    text.push_str(" ")?;
+    Ok(())
+}
+
+fn add_party(party: Party, text: &mut String) -> Result<(), AllocError>
+    ensures { OnOk result (string_bytes text.new
+        ≡ string_bytes text.old ++ holders.party_text party) }
+{
+    add_address(text, party.address)?;
+    let Some(number) = party.number else {
+        return Ok(());
+    };
+    text.push_str(":")?;
+    add_number(text, u64::from(number))?;
+    Ok(())
+}
+
+/// Appends that the address is not in the pool, or when it was that nobody had it, and who had it last before and first
+/// after.
+fn add_reason(
+    request: &Request,
+    nearest: &Nearest,
+    config: Option<&Config>,
+    last: u64,
+    text: &mut String,
+) -> Result<(), AllocError>
+    ensures { OnOk result (string_bytes text.new ≡ string_bytes text.old
+        ++ holders.reason_text (option_map (λ known. known.now) config.entry) last request.now nearest.now) }
+{
+    if is_foreign(config, request.party.address) {
+        return text.push_str(": it is no address of the pool");
+    }
+    add_asked(request.at, text)?;
+    add_nearest(nearest, last, text)?;
+    Ok(())
+}
+
+/// Whether an address is known to be none of the pool.
+fn is_foreign(config: Option<&Config>, address: u32) -> bool
+    ensures { result ≡ holders.is_foreign (option_map (λ known. known.now) config.entry) address }
+{
+    match config {
+        Some(config) => config.pool_index(address).is_none(),
+        None => false,
+    }
+}
+
+/// Appends when it was that nobody had the endpoint.
+fn add_asked(at: Option<Span>, text: &mut String) -> Result<(), AllocError>
+    ensures { OnOk result (string_bytes text.new ≡ string_bytes text.old ++ holders.asked_text at) }
+{
+    let Some(span) = at else {
+        return Ok(());
+    };
+    if span.until.saturating_sub(1) == span.first {
+        text.push_str(" at ")?;
+        return Moment(span.first).add_to(text);
+    }
+    text.push_str(" from ")?;
+    Moment(span.first).add_to(text)?;
+    text.push_str(" until ")?;
+    Moment(span.until).add_to(text)?;
+    Ok(())
+}
+
+fn add_nearest(nearest: &Nearest, last: u64, text: &mut String) -> Result<(), AllocError>
+    ensures { OnOk result (string_bytes text.new
+        ≡ string_bytes text.old ++ holders.nearest_text last nearest.now) }
+{
+    add_behind("; before: ", &nearest.before, last, text)?;
+    add_behind("; after: ", &nearest.after, last, text)?;
+    Ok(())
+}
+
+/// Appends words and a binding, if there is one.
+fn add_behind(
+    words: &str,
+    entry: &Option<Entry>,
+    last: u64,
+    text: &mut String,
+) -> Result<(), AllocError>
+    ensures { OnOk result (string_bytes text.new
+        ≡ string_bytes text.old ++ holders.holder_behind words.now last entry.now) }
+{
+    let Some(entry) = entry else {
+        return Ok(());
+    };
+    text.push_str(words)?;
+    add_binding(entry, last, text)?;
+    Ok(())
+}

@@ -1,0 +1,163 @@
+//! Requests to a log: who had an external endpoint, and when (RFC 6888, section 4; RFC 6269, section 12).
+ghost use Rattle.std.specs.Prelude.{◌≡◌, IfOk};
+ghost use Rattle.napt_log_text.specs.Requests as requests;
+
+use napt_account::{Entry, Party};
+use napt_wire::Protocol;
+use std::alloc::{AllocError, Global};
+
+/// A span of time in ns since 1970-01-01 UTC: from its first moment until one that is no longer in it.
+#[derive(Clone, Copy, Debug, PartialEq, Eq)]
+pub struct Span {
+    pub first: u128,
+    pub until: u128,
+}
+
+/// Who had an external endpoint, or any endpoint of an external address?
+#[derive(Clone, Copy)]
+pub struct Request {
+    /// If absent, any.
+    pub protocol: Option<Protocol>,
+    pub party: Party,
+    /// At some moment of this span; if absent, at any time.
+    pub at: Option<Span>,
+}
+
+/// Those who had the endpoint last before the span of a request, and first after it.
+#[derive(Clone, Copy)]
+pub struct Nearest {
+    /// The one that ended last; of several that ended then, the one that was made last.
+    pub before: Option<Entry>,
+    /// The one that was made first.
+    pub after: Option<Entry>,
+}
+
+impl Request {
+    /// The entries of a log that answer the request, in their order; `AllocError` if memory is refused.
+    pub fn holders_among(&self, alloc: Global, entries: &[Entry]) -> Result<Vec<Entry>, AllocError>
+        ensures { IfOk result (λ found. found.items ≡ requests.holders self.now entries.now) }
+    {
+        entries
+            .iter()
+            .filter(|entry| self.is_answered_by(*entry))
+            .copied()
+            .collect(alloc)
+    }
+
+    /// The nearest holders among the entries of a log.
+    pub fn nearest_among(&self, entries: &[Entry]) -> Nearest
+        ensures before { result.before ≡ requests.last_before self.now entries.now }
+        ensures after { result.after ≡ requests.first_after self.now entries.now }
+    {
+        Nearest {
+            before: self.last_before(entries),
+            after: entries.iter().copied().find(|entry| self.is_before(entry)),
+        }
+    }
+
+    /// Whether the binding of an entry had the endpoint at some time.
+    fn is_for(&self, entry: &Entry) -> bool
+        ensures { result ≡ requests.is_asked self.now entry.now }
+    {
+        is_of(self.protocol, entry.binding.protocol) && self.party.has(entry.binding.external)
+    }
+
+    /// Whether it had the endpoint at some moment of the span.
+    fn is_answered_by(&self, entry: &Entry) -> bool
+        ensures { result ≡ requests.is_holder self.now entry.now }
+    {
+        self.is_for(entry)
+            && match self.at {
+                Some(span) => span.meets(entry),
+                None => true,
+            }
+    }
+
+    /// Whether it had the endpoint and was made after the span.
+    fn is_before(&self, entry: &Entry) -> bool
+        ensures { result ≡ requests.is_next self.now entry.now }
+    {
+        self.is_for(entry)
+            && match self.at {
+                Some(span) => span.until <= u128::from(entry.made),
+                None => false,
+            }
+    }
+
+    /// Whether it had the endpoint and had ended before the span.
+    fn is_behind(&self, entry: &Entry) -> bool
+        ensures { result ≡ requests.is_past self.now entry.now }
+    {
+        self.is_for(entry)
+            && match (self.at, entry.end) {
+                (Some(span), Some(end)) => end <= span.first,
+                _ => false,
+            }
+    }
+
+    /// The one that ended last of those that had the endpoint and had ended before the span.
+    fn last_before(&self, entries: &[Entry]) -> Option<Entry>
+        ensures { result ≡ requests.last_before self.now entries.now }
+    {
+        entries
+            .iter()
+            .fold(None, |last, entry| self.last_so_far(last, entry))
+    }
+
+    /// The same up to an entry.
+    fn last_so_far(&self, last: Option<Entry>, entry: &Entry) -> Option<Entry>
+        ensures { result ≡ requests.last_so_far self.now last entry.now }
+    {
+        if self.is_behind(entry) {
+            Some(later(last, entry))
+        } else {
+            last
+        }
+    }
+}
+
+impl Span {
+    /// Whether the binding of an entry has a moment in common with it.
+    fn meets(self, entry: &Entry) -> bool
+        ensures { result ≡ requests.has_moment_of self entry.now }
+    {
+        u128::from(entry.made) < self.until
+            && match entry.end {
+                Some(end) => self.first < end,
+                None => true,
+            }
+    }
+}
+
+/// Whether a protocol is the one that is wanted, if one is.
+fn is_of(wanted: Option<Protocol>, protocol: Protocol) -> bool
+    ensures { result ≡ requests.is_of wanted protocol }
+{
+    match (wanted, protocol) {
+        (None, _)
+        | (Some(Protocol::Icmp), Protocol::Icmp)
+        | (Some(Protocol::Tcp), Protocol::Tcp)
+        | (Some(Protocol::Udp), Protocol::Udp) => true,
+        _ => false,
+    }
+}
+
+/// The one that ended later, and the second if both ended at one time.
+fn later(found: Option<Entry>, entry: &Entry) -> Entry
+    ensures { result ≡ requests.later_ended found entry.now }
+{
+    match found {
+        Some(found) if is_later(found.end, entry.end) => found,
+        _ => *entry,
+    }
+}
+
+/// Whether the first of two ends is the later one.
+fn is_later(one: Option<u128>, other: Option<u128>) -> bool
+    ensures { result ≡ requests.is_later one other }
+{
+    match (one, other) {
+        (Some(one), Some(other)) => one > other,
+        _ => false,
+    }
+}

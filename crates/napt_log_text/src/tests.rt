@@ -1,0 +1,194 @@
+//! Dates around which the calendar is not plain, as Python's `datetime` has them, and a row and a line of each kind.
+
+use crate::{Event, Listed, Moment, Request, Span, add_holder, add_mark, add_nobody, header};
+use napt_account::{Entry, Party, Shortage};
+use napt_config::Config;
+use napt_rules::Row;
+use napt_wire::{Cause, Endpoint, Protocol};
+use std::alloc::Global;
+use std::test::Fail;
+
+/// Times in ns since 1970-01-01, and their dates; the last has none.
+const DATES: &[(u128, &str)] = &[
+    (0, "1970-01-01T00:00:00.000000000Z"),
+    (68_169_600_000_000_000, "1972-02-29T00:00:00.000000000Z"),
+    (951_868_799_999_999_999, "2000-02-29T23:59:59.999999999Z"),
+    (951_868_800_000_000_000, "2000-03-01T00:00:00.000000000Z"),
+    (1_795_687_327_000_000_001, "2026-11-26T10:02:07.000000001Z"),
+    (4_107_542_399_999_999_999, "2100-02-28T23:59:59.999999999Z"),
+    (4_107_542_400_000_000_000, "2100-03-01T00:00:00.000000000Z"),
+    (9_223_372_036_854_775_807, "2262-04-11T23:47:16.854775807Z"),
+    (18_446_744_073_709_551_615, "2554-07-21T23:34:33.709551615Z"),
+    (
+        253_402_300_799_999_999_999,
+        "9999-12-31T23:59:59.999999999Z",
+    ),
+    (253_402_300_800_000_000_000, ""),
+];
+
+const CONFIG: &[u8] = b"inside = [\"10.0.0.0/8\"]\npool = [\"203.0.113.1\"]\n";
+
+#[test]
+fn dates_are_those_of_the_calendar(rt: HostRuntime) -> Result<(), Fail> {
+    for (time, date) in DATES {
+        let mut text = String::new(rt.alloc());
+        Moment(*time).add_date(&mut text)?;
+        assert_eq!(rt; text.as_str(), *date);
+    }
+    Ok(())
+}
+
+/// A binding of a UDP host that was made at 1 s and ends behind the times of 64 bits.
+const ENTRY: Entry = Entry {
+    binding: Row {
+        protocol: Protocol::Udp,
+        inside: Endpoint {
+            address: 0x0A00_0002,
+            number: 5000,
+        },
+        external: Endpoint {
+            address: 0xCB00_7101,
+            number: 1024,
+        },
+        fixed: false,
+    },
+    made: 1_000_000_000,
+    end: Some(304_000_000_000),
+    sent: 3,
+    received: 2,
+    last: 4_000_000_000,
+    last_sent: 2_000_000_000,
+};
+
+/// The row of an event.
+fn row_of(alloc: Global, event: Event) -> Result<String, Fail> {
+    let config = Config::read(alloc, CONFIG)?;
+    let mut text = String::new(alloc);
+    event.add_row(&config, &mut text)?;
+    Ok(text)
+}
+
+#[test]
+fn each_event_has_a_row(rt: HostRuntime) -> Result<(), Fail> {
+    let listed = Listed {
+        number: 7,
+        entry: ENTRY,
+    };
+    let shortage = Shortage {
+        at: 5,
+        cause: Cause::OverQuota,
+        protocol: Protocol::Icmp,
+        host: 0x0A00_0003,
+    };
+    let made = row_of(rt.alloc(), Event::Made(listed))?;
+    assert_eq!(rt;
+        made.as_str(),
+        "1000000000,1970-01-01T00:00:01.000000000Z,8,17,10.0.0.2,5000,203.0.113.1,1024,,7,0,3,2,4000000000,1970-01-01T00:00:04.000000000Z\n"
+    );
+    let ended = row_of(rt.alloc(), Event::Ended(listed))?;
+    assert_eq!(rt;
+        ended.as_str(),
+        "304000000000,1970-01-01T00:05:04.000000000Z,9,17,10.0.0.2,5000,203.0.113.1,1024,,7,0,3,2,4000000000,1970-01-01T00:00:04.000000000Z\n"
+    );
+    let living = row_of(rt.alloc(), Event::Living(listed))?;
+    assert_eq!(rt;
+        living.as_str(),
+        "304000000000,1970-01-01T00:05:04.000000000Z,,17,10.0.0.2,5000,203.0.113.1,1024,,7,0,3,2,4000000000,1970-01-01T00:00:04.000000000Z\n"
+    );
+    let refused = row_of(rt.alloc(), Event::Refused(shortage))?;
+    assert_eq!(rt;
+        refused.as_str(),
+        "5,1970-01-01T00:00:00.000000005Z,13,1,10.0.0.3,,203.0.113.1,,3,,,,,,\n"
+    );
+    assert_eq!(rt; header().matches(',').count(), refused.matches(',').count());
+    Ok(())
+}
+
+/// The external endpoint of `ENTRY`, with another number.
+fn party(number: u16) -> Party {
+    Party {
+        address: 0xCB00_7101,
+        number: Some(number),
+    }
+}
+
+/// Whoever had an endpoint of that number, over UDP, in a span of ns.
+fn request(number: u16, first: u128, until: u128) -> Request {
+    Request {
+        protocol: Some(Protocol::Udp),
+        party: party(number),
+        at: Some(Span { first, until }),
+    }
+}
+
+#[test]
+fn holders_have_lines(rt: HostRuntime) -> Result<(), Fail> {
+    let mut text = String::new(rt.alloc());
+    add_mark(12, &mut text)?;
+    add_holder(&ENTRY, 303_999_999_999, &mut text)?;
+    let cut = Entry { end: None, ..ENTRY };
+    add_holder(&cut, 4_000_000_000, &mut text)?;
+    assert_eq!(rt;
+        text.as_str(),
+        "12: udp 10.0.0.2:5000 at 203.0.113.1:1024 from 1.000000000 (1970-01-01T00:00:01.000000000Z) until 304.000000000 (1970-01-01T00:05:04.000000000Z), if no packet comes\nudp 10.0.0.2:5000 at 203.0.113.1:1024 from 1.000000000 (1970-01-01T00:00:01.000000000Z) on, with no end in the log\n"
+    );
+    Ok(())
+}
+
+#[test]
+fn nobody_has_lines(rt: HostRuntime) -> Result<(), Fail> {
+    let config = Config::read(rt.alloc(), CONFIG)?;
+    let mut text = String::new(rt.alloc());
+    let entries = [ENTRY];
+    let before = request(1024, 999_999_999, 1_000_000_000);
+    add_nobody(
+        &before,
+        &before.nearest_among(&entries),
+        Some(&config),
+        4_000_000_000,
+        &mut text,
+    )?;
+    let other = request(9, 0, 1_000_000_000);
+    add_nobody(
+        &other,
+        &other.nearest_among(&entries),
+        None,
+        4_000_000_000,
+        &mut text,
+    )?;
+    assert_eq!(rt;
+        text.as_str(),
+        "nobody had udp 203.0.113.1:1024 at 0.999999999 (1970-01-01T00:00:00.999999999Z); after: udp 10.0.0.2:5000 at 203.0.113.1:1024 from 1.000000000 (1970-01-01T00:00:01.000000000Z) until 304.000000000 (1970-01-01T00:05:04.000000000Z), if no packet comes\nnobody had udp 203.0.113.1:9 from 0.000000000 (1970-01-01T00:00:00.000000000Z) until 1.000000000 (1970-01-01T00:00:01.000000000Z)\n"
+    );
+    Ok(())
+}
+
+#[test]
+fn a_span_has_holders(rt: HostRuntime) -> Result<(), Fail> {
+    // one after another: at 1 s, from 304 s and from 900 s on
+    let second = Entry {
+        made: 304_000_000_000,
+        end: Some(604_000_000_000),
+        ..ENTRY
+    };
+    let third = Entry {
+        made: 900_000_000_000,
+        end: None,
+        ..ENTRY
+    };
+    let entries = [ENTRY, second, third];
+    let both = request(1024, 303_999_999_999, 304_000_000_001);
+    let holders = both.holders_among(rt.alloc(), &entries)?;
+    assert_eq!(rt; holders.as_slice(), [ENTRY, second].as_slice());
+    let none = request(1024, 604_000_000_000, 900_000_000_000);
+    assert_eq!(rt; none.holders_among(rt.alloc(), &entries)?.len(), 0);
+    let nearest = none.nearest_among(&entries);
+    assert_eq!(rt; nearest.before, Some(second));
+    assert_eq!(rt; nearest.after, Some(third));
+    let tcp = Request {
+        protocol: Some(Protocol::Tcp),
+        ..none
+    };
+    assert_eq!(rt; tcp.nearest_among(&entries).before, None);
+    Ok(())
+}

@@ -1,0 +1,48 @@
+-- Which options are standard input or standard output, and which wants one that another has.
+use Rattle.std.specs.Prelude.{◌&&◌, ◌||◌, Bool, false, not, Option, Some, None, bytes_eq, codes, is_some, if◌then◌else◌}
+use Rattle.clap.specs.Words.{Text}
+use Rattle.napt_program.specs.CommandLine.{Files}
+use Rattle.napt_program.specs.declared.role.Role.{Role}
+use Rattle.napt_program.specs.declared.role.Role.TheVariants as role
+
+-- the file that the option of a role names
+abbrev pub file_for : Files → Role → Option Text
+file_for named role.Config = named.config
+file_for named role.Inside = named.inside
+file_for named role.Outside = named.outside
+file_for named role.ToOutside = named.to_outside
+file_for named role.ToInside = named.to_inside
+file_for named role.Report = named.report
+
+-- `-` is no file, but a standard stream
+abbrev pub is_dash : Text → Bool
+is_dash path = bytes_eq path (codes "-")
+
+abbrev pub is_dash_given : Option Text → Bool
+is_dash_given None = false
+is_dash_given (Some path) = is_dash path
+
+abbrev pub is_stream : Files → Role → Bool
+is_stream named r = is_dash_given (file_for named r)
+
+-- of the captures that are read and written without an option
+abbrev pub is_standard : Files → Role → Bool
+is_standard named r = not (is_some (file_for named r)) || is_stream named r
+
+-- the first output that wants standard output after another
+abbrev pub output_again : Files → Option Role
+output_again named =
+    if is_stream named role.ToInside && is_standard named role.ToOutside then Some role.ToInside
+    else (if is_stream named role.Report && (is_stream named role.ToInside || is_standard named role.ToOutside)
+    then Some role.Report
+    else None)
+
+-- the first option that wants a standard stream which another has: that of the configuration, if the inside capture is
+-- standard input by default
+abbrev pub standard_again : Files → Option Role
+standard_again named =
+    if is_stream named role.Config && not (is_some named.inside) then Some role.Config
+    else (if is_stream named role.Config && is_stream named role.Inside then Some role.Inside
+    else (if is_stream named role.Outside && (is_stream named role.Config || is_standard named role.Inside)
+    then Some role.Outside
+    else output_again named))

@@ -1,0 +1,70 @@
+-- What two files give, behind their headers.
+use Rattle.std.proofs.Common.{◌≡◌, ℕ, List, take, drop, Option, None, Some, Result, Ok, Err, ap, ◌∙◌}
+use Rattle.napt_wire.specs.declared.Side.{Side}
+use Rattle.napt_wire.specs.declared.Side.TheVariants.{Inside, Outside}
+use Rattle.napt_capture.specs.declared.device.Source.{Ghosts}
+use Rattle.napt_capture.specs.declared.fault.CaptureFault.{CaptureFault}
+use Rattle.napt_capture.specs.declared.fault.CaptureFault.TheVariants.{Read, TooLarge}
+use Rattle.napt_capture.specs.declared.spelling.Spelling.{Spelling}
+use Rattle.napt_capture.specs.Capture.{captured, captured_by, spelling_in}
+use Rattle.napt_capture.specs.Reading.{Gives}
+use Rattle.napt_capture.proofs.Captured.{never_large}
+use Rattle.napt_records.specs.Begun.{AreBegun}
+use Rattle.napt_records.specs.MergeLaws.{held_of}
+use Rattle.napt_records.specs.Taking.{Inputs, inputs_until}
+use Rattle.napt_records.specs.declared.merged_streams.Cuts.{Cuts}
+use Rattle.napt_records.specs.declared.merged_streams.MergedStreams.{MergedStreams}
+use Rattle.napt_records.specs.declared.merged_streams.SideFault.{SideFault}
+use Rattle.napt_records.proofs.Merges.{merge_meets}
+use Rattle.napt_run.specs.Files.{files_until, unless_bad, unless_refused}
+
+-- a header that was read of known bytes
+pub spelled : (bytes : List ℕ) (left : Option (List ℕ)) (r : Result Spelling CaptureFault) →
+    Gives (Some bytes) left (λ bytes left. (spelling_in (take 24 bytes) ≡ r) × (left ≡ drop 24 bytes))
+    → spelling_in (take 24 bytes) ≡ r
+spelled bytes None r p = absurd p
+spelled bytes (Some left) r p = p.0
+
+pub begun_files : {R Q : Type 0} {G : Ghosts R} {H : Ghosts Q} (begin : MergedStreams R Q G H)
+    (bytes others : List ℕ) → AreBegun begin bytes others
+    → files_until bytes others ≡ inputs_until (captured bytes) (captured others)
+begun_files begin bytes others p =
+    let all : Inputs = inputs_until (captured bytes) (captured others) in
+    ap (λ r. unless_bad Inside r (unless_refused Outside others all))
+    (spelled bytes _ (Ok begin.inside.records.spelling) p.inside_begun.header)
+    ∙ ap (λ r. unless_bad Outside r all)
+    (spelled others _ (Ok begin.outside.records.spelling) p.outside_begun.header)
+
+-- NO FILE IS TOO LARGE
+
+abbrev NoneLarge : Inputs → Type 0
+NoneLarge inputs = (side : Side) → inputs.end ≡ Err (record { side = side; fault = TooLarge }) → ⊥
+
+abbrev fault_in : Result Cuts SideFault → CaptureFault
+fault_in (Ok cuts) = Read
+fault_in (Err fault) = fault.fault
+
+bad_large : (side : Side) (r : Result Spelling CaptureFault) (inputs : Inputs) → (r ≡ Err TooLarge → ⊥) →
+    NoneLarge inputs → NoneLarge (unless_bad side r inputs)
+bad_large side (Ok spelling) inputs never none = none
+bad_large side (Err fault) inputs never none = λ other is. never (ap (λ f. Err f) (ap fault_in is))
+
+header_large : (bytes : List ℕ) → spelling_in (take 24 bytes) ≡ Err TooLarge → ⊥
+header_large bytes is = never_large bytes (ap (λ r. (captured_by r (drop 24 bytes)).end) is)
+
+refused_large : (side : Side) (bytes : List ℕ) (inputs : Inputs) → NoneLarge inputs →
+    NoneLarge (unless_refused side bytes inputs)
+refused_large side bytes inputs none =
+    bad_large side (spelling_in (take 24 bytes)) inputs (header_large bytes) none
+
+held_large : (side : Side) (bytes others : List ℕ) →
+    (held_of side (captured bytes) (captured others)).end ≡ Err TooLarge → ⊥
+held_large Inside bytes others is = never_large bytes is
+held_large Outside bytes others is = never_large others is
+
+pub files_large : (bytes others : List ℕ) → NoneLarge (files_until bytes others)
+files_large bytes others =
+    let all : Inputs = inputs_until (captured bytes) (captured others) in
+    refused_large Inside bytes (unless_refused Outside others all) (refused_large Outside others all
+    (λ side is. held_large side bytes others
+    (merge_meets (captured bytes) (captured others) (record { side = side; fault = TooLarge }) is)))

@@ -1,0 +1,91 @@
+//! What no contract says of the calls that `napt` and `stream` make: their workers are on threads of their own and step at the same time,
+//! one that waits holds up no other, and each asks the gate that the call is given.
+
+use crate::captures::{ALL_GOOD, Call, Given, HEADER, Written, captured, push_packet};
+use crate::gates::{Hold, MOST_ASKS, Way};
+use crate::packets::udp;
+use crate::sample_inputs::THREE_ADDRESSES;
+use napt_pool::PoolFault;
+use napt_run::{Fault, RunFault};
+use napt_samples::hosts::{CLIENT, RESOLVER, SECOND_CLIENT, external, host};
+use napt_samples::settings::TWO_ADDRESSES;
+use napt_wire::Endpoint;
+use std::process::Abort;
+use std::sync::{Arc, Wait};
+use std::test::Fail;
+use std::thread::Threads;
+
+const CALLS: [Call; 2] = [Call::Captures, Call::Streams];
+
+/// What a call writes under a gate, and what the gate counted. The packets come from inside, from and to these endpoints.
+fn under_gate<T: Threads + Wait + AllocGlobal + Copy + Send + 'static>(
+    rt: &T,
+    call: Call,
+    settings: &str,
+    packets: &[(Endpoint, Endpoint)],
+    way: Way,
+) -> Result<(Written, u64), Fail> {
+    let alloc = rt.alloc();
+    let mut inside = Vec::from_slice(alloc, &HEADER)?;
+    for (from, to) in packets {
+        push_packet(&mut inside, 0, &udp(alloc, *from, *to)?)?;
+    }
+    let given = Given {
+        call,
+        settings: Some(settings),
+        inside: &inside,
+        outside: &HEADER,
+        devices: ALL_GOOD,
+    };
+    let gate = Hold::new(alloc, way)?;
+    let written = captured(rt, &given, Arc::try_clone(&gate)?)?;
+    Ok((written, gate.count()))
+}
+
+/// Each of two workers sees the other at its first leg. Workers that step only where the calling thread asks for an answer would not.
+#[test]
+fn workers_of_a_call_meet(rt: HostRuntime) -> Result<(), Fail> {
+    let packets = [(CLIENT, RESOLVER), (SECOND_CLIENT, RESOLVER)];
+    for call in CALLS {
+        let (written, met) = under_gate(&rt, call, TWO_ADDRESSES, &packets, Way::Meeting)?;
+        assert_eq!(rt; written.answer, Ok(()), "{call:?}");
+        assert!(rt;
+            written.report.starts_with(b"packets 2\nto outside 2\n"),
+            "{call:?}"
+        );
+        assert_eq!(rt; met, 2, "{call:?}");
+    }
+    Ok(())
+}
+
+/// While a hairpin waits for its first worker, what goes to others is offered to them.
+#[test]
+fn others_of_a_call_go_on(rt: HostRuntime) -> Result<(), Fail> {
+    let packets = [(CLIENT, external(2, 7000)), (host(4, 5000), RESOLVER)];
+    for call in CALLS {
+        let (written, _) = under_gate(&rt, call, THREE_ADDRESSES, &packets, Way::AfterThird)?;
+        assert_eq!(rt; written.answer, Ok(()), "{call:?}");
+        let counts = b"packets 2\nto outside 1\nto inside 0\n";
+        assert!(rt; written.report.starts_with(counts), "{call:?}");
+    }
+    Ok(())
+}
+
+/// The fourth of five packets of 10.0.0.3, whose worker is the second, is asked for a million times. `napt` has then written nothing, and
+/// `stream` at most the three packets before it.
+#[test]
+fn gate_of_a_call_stays_shut(rt: HostRuntime) -> Result<(), Fail> {
+    let packets = [(host(3, 5000), RESOLVER); 5];
+    let (open, _) = under_gate(&rt, Call::Streams, TWO_ADDRESSES, &packets, Way::Open)?;
+    assert_eq!(rt; open.answer, Ok(()));
+    for (call, most) in [(Call::Captures, 0), (Call::Streams, 24 + 3 * 44)] {
+        let (shut, asks) = under_gate(&rt, call, TWO_ADDRESSES, &packets, Way::Shut(1, 3))?;
+        let fault = Fault::Run(RunFault::Pool(PoolFault::GateShut(1)));
+        assert_eq!(rt; shut.answer, Err(fault), "{call:?}");
+        assert_eq!(rt; asks, MOST_ASKS, "{call:?}");
+        assert!(rt; shut.to_outside.len() <= most, "{call:?}");
+        assert!(rt; open.to_outside.starts_with(&shut.to_outside), "{call:?}");
+        assert!(rt; shut.report.is_empty(), "{call:?}");
+    }
+    Ok(())
+}

@@ -1,0 +1,126 @@
+-- Look-ups after a leg find the binding that it went through.
+use Rattle.std.proofs.Common.{◌≡◌, ℕ, ◌+◌, max, List, Option, Some, None, Result, Ok, Err, refl, sym, ◌∙◌, ap, arith}
+use Rattle.std.specs.Option.{option_map}
+use Rattle.napt_wire.specs.declared.Protocol.{Protocol}
+use Rattle.napt_wire.specs.declared.Protocol.TheVariants as protocols
+use Rattle.napt_wire.specs.declared.Way.{Way}
+use Rattle.napt_wire.specs.declared.Way.TheVariants.{Outgoing, Incoming}
+use Rattle.napt_wire.specs.declared.Cause.{Cause}
+use Rattle.napt_wire.specs.declared.Endpoint.{Endpoint}
+use Rattle.napt_wire.specs.declared.Flags.{Flags}
+use Rattle.napt_wire.specs.declared.Kind.{Kind}
+use Rattle.napt_wire.specs.declared.Kind.TheVariants.{Udp, Tcp, Echo, ErrorOf}
+use Rattle.napt_wire.specs.Fields.{source, destination, kind}
+use Rattle.napt_config.specs.Rules.{Rules, AreTimers}
+use Rattle.napt_rules.specs.declared.Sent.{Sent}
+use Rattle.napt_rules.specs.declared.Received.{Received}
+use Rattle.napt_rules.specs.declared.Leg.{Leg}
+use Rattle.napt_rules.specs.declared.End.{End}
+use Rattle.napt_rules.specs.declared.End.TheVariants.{ToOutside, Onward, Dropped}
+use Rattle.napt_rules.specs.Prelude.{Through, Binding, Out, step_out, In, step_in, by_inside, by_number, inbound_of, no_flags, onward_by, end_out, end_in, sent_of, received_of, Acted, act_out, act_in, act_by, Kept, time_after, kept_act}
+use Rattle.napt_table.specs.TimedRows.{timed}
+use Rattle.napt_translate.specs.Carried.{carried_by}
+use Rattle.napt_translate.specs.Translators.{TranslatorState, kept_of, left_by}
+use Rattle.napt_laws.specs.Through.{IsSaid}
+use Rattle.napt_laws.proofs.Through.{out_says_its_binding, in_says_its_binding}
+use Rattle.napt_sequential.specs.declared.counted_translator.CountedTranslator.{CountedTranslator}
+use Rattle.napt_sequential.specs.declared.passage.Passage.{Passage}
+use Rattle.napt_sequential.specs.declared.passage.Passed.{Passed}
+use Rattle.napt_sequential.specs.declared.passage.Seen.{Seen}
+use Rattle.napt_sequential.specs.CountedTranslators.{seen_of, out_through, in_through, found_by, passage_seen, passed_at}
+use Rattle.napt_sequential.specs.Traces.{passage_by}
+
+module _ (rules : Rules) (t : AreTimers rules.timers) (address : ℕ) (leg : Leg) (list : List Binding) where
+  abbrev found : Option Protocol → List Binding → End → Passage
+  found carried left end = found_by rules.timers leg.now left address (seen_of leg.packet) carried end
+
+  abbrev said : Way → Option Protocol → End → Option Through → Passage
+  said way carried end through = passage_by rules.timers way carried (source leg.packet).address end through
+
+  module _ (protocol : Protocol) (before : Option Binding) (left : List Binding) (through : Option Through) where
+    abbrev after_out : Option Binding
+    after_out = by_inside rules.timers address leg.now protocol (source leg.packet) left
+
+    gone : (place : Option ℕ) (packet : List ℕ) → (number : ℕ) →
+        IsSaid (let r : Result ℕ Cause = Ok number in r) before after_out through →
+        found (Some protocol) left (onward_by place packet) ≡ said Outgoing (Some protocol) (onward_by place packet)
+        through
+    gone None packet number says = ap (λ (o : Option Binding). out_through (option_map (timed rules.timers) o))
+        says.binding ∙ sym (ap (said Outgoing (Some protocol) (ToOutside packet)) says.is)
+    gone (Some place) packet number says = ap (λ (o : Option Binding). out_through (option_map (timed rules.timers) o))
+        says.binding ∙ sym (ap (said Outgoing (Some protocol) (Onward place packet)) says.is)
+
+    found_out : (number : Result ℕ Cause) → IsSaid number before after_out through →
+        found (Some protocol) left (end_out rules address leg.packet number)
+        ≡ said Outgoing (Some protocol) (end_out rules address leg.packet number) through
+    found_out (Ok number) says = gone _ _ number says
+    found_out (Err cause) says = sym (ap (said Outgoing (Some protocol) (Dropped cause)) says)
+
+    abbrev after_in : Option Binding
+    after_in = by_number rules.timers address leg.now protocol (destination leg.packet).number left
+
+    found_in : (inside : Result Endpoint Cause) → IsSaid inside before after_in through →
+        found (Some protocol) left (end_in leg.packet inside)
+        ≡ said Incoming (Some protocol) (end_in leg.packet inside) through
+    found_in (Ok inside) says = ap (λ (o : Option Binding). in_through (option_map (timed rules.timers) o)) says.binding
+        ∙ sym (ap (said Incoming (Some protocol) (end_in leg.packet (Ok inside))) says.is)
+    found_in (Err cause) says = sym (ap (said Incoming (Some protocol) (Dropped cause)) says)
+
+  abbrev IsFound : Way → Kind → Type 0
+  IsFound way k =
+      let acted : Acted = act_by rules address leg list way k in
+      found (carried_by k) acted.list acted.end ≡ said way (carried_by k) acted.end acted.through
+
+  goes : (protocol : Protocol) (flags : Flags) → (let acted : Acted = act_out rules address leg list protocol flags in
+      found (Some protocol) acted.list acted.end ≡ said Outgoing (Some protocol) acted.end acted.through)
+  goes protocol flags =
+      let packet : Sent = sent_of protocol flags leg.now leg.packet in
+      let out : Out = step_out rules.timers rules.quota address packet list in
+      found_out protocol (by_inside rules.timers address leg.now protocol packet.inside list) out.list out.through
+      out.number (out_says_its_binding rules.timers t rules.quota address packet list)
+
+  comes : (protocol : Protocol) (flags : Flags) → (let acted : Acted = act_in rules address leg list protocol flags in
+      found (Some protocol) acted.list acted.end ≡ said Incoming (Some protocol) acted.end acted.through)
+  comes protocol flags =
+      let packet : Received = received_of protocol flags leg.now leg.packet in
+      let came : In = step_in rules.timers (inbound_of rules) address packet list in
+      found_in protocol (by_number rules.timers address leg.now protocol packet.number list) came.list came.through
+      came.inside (in_says_its_binding rules.timers t (inbound_of rules) address packet list)
+
+  pub found_act : (way : Way) (k : Kind) → IsFound way k
+  found_act Outgoing Udp = goes protocols.Udp no_flags
+  found_act Outgoing (Tcp flags) = goes protocols.Tcp flags
+  found_act Outgoing Echo = goes protocols.Icmp no_flags
+  found_act Outgoing (ErrorOf inner) = refl
+  found_act Incoming Udp = comes protocols.Udp no_flags
+  found_act Incoming (Tcp flags) = comes protocols.Tcp flags
+  found_act Incoming Echo = comes protocols.Icmp no_flags
+  found_act Incoming (ErrorOf inner) = refl
+
+-- AT A TRANSLATOR, whose time is that of the leg then, but for an error, which goes through none
+
+module _ (rules : Rules) (address : ℕ) (leg : Leg) (at : ℕ) (left : List Binding) (end : End) where
+  abbrev found_at : Kind → ℕ → Passage
+  found_at k now = found_by rules.timers now left address (seen_of leg.packet) (carried_by k) end
+
+  in_time : (k : Kind) → (let now : ℕ = max leg.now at in
+      found_at k (max leg.now (time_after k at now)) ≡ found_at k now)
+  in_time Udp = ap (found_at Udp) (omega arith)
+  in_time (Tcp flags) = ap (found_at (Tcp flags)) (omega arith)
+  in_time Echo = ap (found_at Echo) (omega arith)
+  in_time (ErrorOf inner) = refl
+
+pub passed_there : (leg : Leg) (counted : CountedTranslator) → AreTimers counted.translator.rules.timers →
+    (end : End) → end ≡ (passed_at leg counted).end → (seen : Seen) → seen ≡ seen_of leg.packet →
+    (left : TranslatorState) → left ≡ left_by leg counted.translator → (passage : Passage) →
+    passage ≡ passage_seen leg.now seen end (record { translator = left; legs = counted.legs + 1 }) →
+    (let p : Passed = record { end = end; passage = passage } in p ≡ passed_at leg counted)
+passed_there leg counted t end end_is seen seen_is left left_is passage passage_is =
+    let state : TranslatorState = counted.translator in
+    let own : Kept = kept_of state.table in
+    let acted : Acted = kept_act state.rules state.table.address leg own in
+    rw (passage_is, end_is, seen_is, left_is) (ap (λ (x : Passage). let p : Passed =
+    record { end = acted.end; passage = x } in p)
+    (in_time state.rules state.table.address leg own.at acted.list acted.end (kind leg.packet)
+    ∙ found_act state.rules t state.table.address (record leg { now = max leg.now own.at }) own.list leg.way
+    (kind leg.packet)))

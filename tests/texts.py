@@ -1,0 +1,207 @@
+"""Texts of packets, captures and runs: what tests/runs, tests/followed and tests/calls are written in.
+
+'#' begins a comment; an indented line goes on with the one above it. `511 times ..` is a line so often: '+2' behind an
+address or a number adds 2 to it at each time but the first. `run WORDS` begins a run; what stands above the first such
+line stands at the beginning of each. A packet is
+    udp 10.0.0.2:5000 > 198.51.100.7:53
+                                 UDP without payload, with lifetime 64, identification 1 and right checksums
+    tcp SA 10.0.0.2:5000 > 198.51.100.7:80
+                                 the same of TCP, with the flags F, S, R and A, sequence number 1 and window 8192
+    echo 10.0.0.2:7 > 198.51.100.7, echo-reply 198.51.100.7 > 10.0.0.2:7
+                                 the same of an ICMP echo request or its reply, with that identifier and sequence
+                                 number 1
+    4500 001e ..                 the bytes given in hex
+    error 198.51.100.7 > 203.0.113.1 about 4500 001e ..
+                                 an ICMP error, port unreachable, that quotes those bytes, or what other words describe
+    front 27 of 4500 001e ..     the first 27 of those bytes, or of those of a packet that other words describe
+    damaged 8 of ..              the packet with another bit 0 of the byte at 8
+"""
+import dataclasses
+import ipaddress
+import re
+
+from hostile_inputs import captures, packets
+from hostile_inputs.translating import CAUSES
+from shared import OUTPUTS, SIDES, TESTS
+
+SECOND = captures.SECOND
+FLAGS = {"F": packets.FIN, "S": packets.SYN, "R": packets.RST, "A": packets.ACK}
+
+
+@dataclasses.dataclass
+class Line:
+    """A line of a text, with those that go on below it."""
+
+    number: int
+    text: str
+
+
+def lines_of(text):
+    """The lines of a text, each as often as it says."""
+    lines = []
+    for number, line in enumerate(text.splitlines(), 1):
+        line = line.partition("#")[0].rstrip()
+        if line.startswith(" "):
+            lines[-1].text += f"\n{line.strip()}"
+        elif line:
+            lines.append(Line(number, line))
+    return [Line(line.number, it) for line in lines for it in repeated(line.text)]
+
+
+def repeated(line):
+    """A line so often as it says."""
+    found = re.match(r"(\d+) times (.*)", line, re.DOTALL)
+    if not found:
+        return [line]
+
+    def grown(number, by):
+        return str(ipaddress.IPv4Address(number) + by) if "." in number else str(int(number) + by)
+
+    places = re.compile(r"([\d.]+)\+(\d+)")
+    return [places.sub(lambda it: grown(it[1], time * int(it[2])), found[2]) for time in range(int(found[1]))]
+
+
+def runs_of(text):
+    """The runs of a text: of each what stands behind `run`, or nothing, and its lines."""
+    lines = lines_of(text)
+    starts = [place for place, line in enumerate(lines) if line.text.startswith("run ")]
+    if not starts:
+        return [("", lines)]
+    bounds = zip(starts, [*starts[1:], len(lines)])
+    return [(lines[start].text[4:], lines[: starts[0]] + lines[start + 1 : end]) for start, end in bounds]
+
+
+def nanoseconds(text):
+    """A time in seconds, as 1.5, in nanoseconds."""
+    seconds, _, fraction = text.partition(".")
+    return int(seconds) * SECOND + int(fraction.ljust(9, "0"))
+
+
+def endpoint(text):
+    """An address and its number, which is 0 where none stands behind it."""
+    address, _, number = text.partition(":")
+    return int(ipaddress.IPv4Address(address)), int(number or 0)
+
+
+def packet(words):
+    """The bytes of a packet that words describe."""
+    kind, *rest = words or [""]
+    if kind == "front":
+        return packet(rest[2:])[: int(rest[0])]
+    if kind == "damaged":
+        data = bytearray(packet(rest[2:]))
+        data[int(rest[0])] ^= 1
+        return bytes(data)
+    if kind not in ("udp", "tcp", "echo", "echo-reply", "error"):
+        return bytes.fromhex("".join(words))
+    if kind == "error":
+        return bytes(packets.error(endpoint(rest[0])[0], endpoint(rest[2])[0], 3, 3, packet(rest[4:])))
+    source, destination = endpoint(rest[-3]), endpoint(rest[-1])
+    if kind == "udp":
+        return bytes(packets.udp(source, destination))
+    if kind == "tcp":
+        flags = sum(FLAGS[letter] for letter in rest[0])
+        return bytes(packets.tcp(source, destination, flags, acknowledged=0, window=8192))
+    of_type, number = (8, source[1]) if kind == "echo" else (0, destination[1])
+    return bytes(packets.echo(source[0], destination[0], of_type, number))
+
+
+def savefile(records, magic=captures.NANOSECONDS):
+    """A capture of records, of each its time and the words of its packet, both in texts."""
+    return captures.savefile([(nanoseconds(time), packet(words)) for time, words in records], magic)
+
+
+# RUNS OF TESTS/RUNS, AS TESTS/REPLAYS --HELP SAYS
+
+RUNS = TESTS / "runs"
+SPELLINGS = {
+    frozenset(): captures.NANOSECONDS,
+    frozenset(["microseconds"]): captures.MICROSECONDS,
+    frozenset(["big-endian"]): b"\xa1\xb2\x3c\x4d",
+    frozenset(["microseconds", "big-endian"]): b"\xa1\xb2\xc3\xd4",
+}
+
+
+@dataclasses.dataclass
+class Run:
+    """What a run is given, and what must come of it."""
+
+    name: str
+    config: bytes | None
+    inputs: dict
+    wanted: dict
+    fault_line: str = ""
+    status: int = 0
+
+
+def capture(text):
+    """The bytes of the capture that a text describes."""
+    spelling, records, cut = set(), [], 0
+    for line in lines_of(text):
+        first, *words = line.text.split()
+        if first == "cut":
+            cut = int(words[0])
+        elif first in ("microseconds", "big-endian"):
+            spelling.add(first)
+        else:
+            records.append((first, words))
+    made = savefile(records, SPELLINGS[frozenset(spelling)])
+    return made[: len(made) - cut]
+
+
+def run_of_files(folder):
+    """The run of a folder."""
+    there = {path.name: path.read_bytes() for path in folder.iterdir()}
+    told = {it: capture(there[f"{it}.txt"].decode()) for it in (*SIDES, *OUTPUTS[:2]) if f"{it}.txt" in there}
+    inputs, wanted = ({it: data for it, data in told.items() if it in names} for names in (SIDES, OUTPUTS))
+    if "report.txt" in there:
+        wanted["report"] = there["report.txt"]
+    run = Run(folder.name, there.get("napt.toml"), inputs, wanted)
+    if "fault" in there:
+        run.fault_line, status = there["fault"].decode().split("\n")[:2]
+        run.status, run.wanted = int(status), dict.fromkeys(OUTPUTS, b"")
+    return run
+
+
+def report_of(ends, rows):
+    """The report of a run whose packets have these ends, as `to inside` and `drop filtered`, and of these rows."""
+    names = ["to outside", "to inside", *(f"drop {cause}" for cause in CAUSES)]
+    counts = "".join(f"{name} {ends.count(name)}\n" for name in names)
+    return f"packets {len(ends)}\n{counts}{rows}".encode()
+
+
+def told_run(name, lines):
+    """The run that lines tell packet by packet."""
+    config, rows, ends = "", "", []
+    inputs, outputs = ({side: [] for side in SIDES} for _ in range(2))
+    for line in lines:
+        first, rest = re.split(r"\s", line.text, maxsplit=1)
+        if first == "config":
+            config += f"{rest}\n"
+        elif first == "binding":
+            rows += f"{rest}\n"
+        else:
+            came, end = rest.split("->")
+            (time, *words), (way, *left) = came.split(), end.split()
+            inputs[first].append((time, words))
+            ends.append(f"drop {left[0]}" if way == "drop" else f"to {way}")
+            if way != "drop":
+                outputs[way].append((time, left))
+    wanted = {f"to-{side}": savefile(records) for side, records in outputs.items()} | {"report": report_of(ends, rows)}
+    return Run(name, config.encode() or None, {side: savefile(records) for side, records in inputs.items()}, wanted)
+
+
+def run_names():
+    return sorted(path.stem for path in RUNS.iterdir())
+
+
+def runs_named(name):
+    """The runs of a folder or a text of tests/runs."""
+    if (RUNS / name).is_dir():
+        return [run_of_files(RUNS / name)]
+    found = runs_of((RUNS / f"{name}.txt").read_text())
+    return [told_run(f"{name}, {words}" if words else name, lines) for words, lines in found]
+
+
+def all_runs():
+    return [run for name in run_names() for run in runs_named(name)]
