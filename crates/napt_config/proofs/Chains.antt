@@ -1,5 +1,5 @@
 -- What a reading that ends well went through.
-use Rattle.std.proofs.Common.{◌≡◌, ℕ, ◌+◌, ◌≤◌, Bool, true, false, List, Option, Some, None, Result, Ok, Err, refl, subst, arith, leb-true}
+use Rattle.std.proofs.Common.{◌≡◌, ℕ, ◌+◌, ◌≤◌, Bool, true, false, List, Option, Some, None, Result, Ok, Err, is_some, refl, subst, arith, leb-true}
 use Rattle.std.specs.Prelude.{nat_le, ok_or}
 use Rattle.std.specs.Option.{option_map_or}
 use Rattle.toml.specs.Data.{Data, Items, no_items, item, Members, get_member}
@@ -34,6 +34,17 @@ pub optional_reads : {A : Type 0} (P : A → Type 0) (key : List ℕ) (default :
     → P default → ((d : Data) (y : A) → reading d ≡ Ok y → P y) → P x
 optional_reads P key default reading table x e at_default at_value =
     option_reads P (get_member key table) default reading x e at_default at_value
+
+absent_reads : {A : Type 0} (o : Option Data) (default : A) (reading : Data → Result A ConfigFault) (x : A) →
+    is_some o ≡ false → option_map_or reading o (Ok default) ≡ Ok x → x ≡ default
+absent_reads None default reading x none e = cc
+absent_reads (Some d) default reading x none e = cc
+
+-- a key that is absent gives the default
+pub optional-absent : {A : Type 0} (key : List ℕ) (default : A) (reading : Data → Result A ConfigFault)
+    (table : Members) (x : A) → is_some (get_member key table) ≡ false → optional key default reading table ≡ Ok x →
+    x ≡ default
+optional-absent key default reading table x none e = absent_reads (get_member key table) default reading x none e
 
 -- a list of at most so many entries has no more
 pub list_up_to-counts : (most : ℕ) (value : Data) (entries : Items) → list_up_to most value ≡ Ok entries →

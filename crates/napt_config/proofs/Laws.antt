@@ -10,15 +10,16 @@ use Rattle.std.proofs.lemmas.List.Elements.{All-push, All-nil}
 use Rattle.std.proofs.lemmas.List.Folds.{list_any_at}
 use Rattle.std.proofs.lemmas.Map.Views.{All-keys-insert_entry, All-values-insert_entry}
 use Rattle.std.proofs.lemmas.Option.{cond_some, option_and_then_some}
-use Rattle.toml.specs.Data.{Data, Items, Members}
-use Rattle.napt_config.specs.declared.fault.ConfigFault.TheVariants.{BadAddress, BadPrefix, BadNumber, DoubleAddress, Missing, PoolInside, NotInside, NotInPool, DoublePair, TimerTooShort, UnknownKey}
+use Rattle.toml.specs.Data.{Data, Items, Members, get_member}
+use Rattle.napt_config.specs.declared.fault.ConfigFault.TheVariants.{BadAddress, BadPrefix, BadNumber, DoubleAddress, Missing, PoolInside, PrefixesOverlap, BlockTooLarge, PairWithBlock, NotInside, NotInPool, DoublePair, TimerTooShort, UnknownKey}
 use Rattle.napt_config.specs.declared.settings.Timers.{Timers}
-use Rattle.napt_config.specs.Network.{Network, IsNetwork, have_address}
+use Rattle.napt_config.specs.Network.{Network, IsNetwork, have_address, are_apart}
 use Rattle.napt_config.specs.Text.{address_of, network_of, network_at, number_of, is_slash}
-use Rattle.napt_config.specs.Rules.{Rules, has, paired_with, paired, IsTimer, AreTimers, IsInside, IsQuota, ArePairs, KeepsRules}
-use Rattle.napt_config.specs.Configured.{item_count, short_list, text_in, number_in, table_in, list_up_to, between, with_address, pool_in, with_prefix, prefixes_in, inside_in, filter_in, refresh_in, timer_at, timers_at, timers_in, default_timers, ring_at, ring_in, quota_at, quota_in, address_in, with_pair, pairs_at, pairs_in, redirects_in, required, optional, configured, knows_all_keys}
+use Rattle.napt_config.specs.Rules.{Rules, has, paired_with, paired, block_in, have_room, IsTimer, AreTimers, IsInside, IsQuota, IsBlock, AreBlocks, ArePairs, KeepsRules}
+use Rattle.napt_config.specs.Configured.{item_count, short_list, text_in, number_in, table_in, list_up_to, between, with_address, pool_in, with_prefix, prefixes_in, inside_in, filter_in, refresh_in, timer_at, timers_at, timers_in, default_timers, ring_at, ring_in, quota_at, quota_in, block_size_at, block_size, block_size_in, address_in, with_pair, pairs_at, pairs_in, redirects_in, required, optional, configured, knows_all_keys}
 use Rattle.napt_config.proofs.Addresses.{address_of-bound}
-use Rattle.napt_config.proofs.Chains.{list_up_to-counts, reads, holds, ok_or_ok, optional_reads, each_keeps, each_adds}
+use Rattle.napt_config.proofs.Chains.{list_up_to-counts, reads, holds, ok_or_ok, optional_reads, optional-absent, each_keeps, each_adds}
+use Rattle.napt_config.proofs.Indices.{block_in-is}
 use Rattle.napt_config.proofs.Numbers.{number_of-range, between-range}
 use Rattle.napt_config.proofs.PairEntries.{Pairs, sorted_inserted, one_more}
 use Rattle.napt_config.proofs.Pools.{AreDistinct, AreDistinct-push}
@@ -244,6 +245,54 @@ quota_in-keeps quota table is =
     optional_reads (λ q. IfSome q IsQuota) (codes "quota") None quota_at table quota is tt (λ value y read.
     quota_at-keeps y value read)
 
+-- ---- blocks
+
+pub record IsSize (size : ℕ) : Type 0 where
+  pub range : (64 ≤ size) × (size ≤ 32256)
+  pub even : size % 2 ≡ 0
+
+block_size_at-keeps : (size : ℕ) (value : Data) → block_size_at value ≡ Ok size → IsSize size
+unfolding block_size_at
+block_size_at-keeps size value is =
+    reads (number_in value) _ size is λ number _ read.
+    reads (ok_or (between 64 32256 number) BadNumber) _ size read λ found ranged ruled.
+    holds (found % 2 == 0) BadNumber _ size ruled λ even last.
+    let same : found ≡ size = cc in
+    subst IsSize same (record {
+      range = between-range 64 32256 found number (ok_or_ok _ _ _ ranged);
+      even = eqb-true _ _ even;
+    })
+
+-- a size of blocks, and what it asks of the rest of the table
+pub record SizeRules (pool : List ℕ) (inside : List Network) (table : Members) (size : ℕ) : Type 0 where
+  pub is_size : IsSize size
+  pub apart : are_apart inside ≡ true
+  pub room : have_room size inside (length pool) ≡ true
+  pub no_pair : is_some (get_member (codes "pair") table) ≡ false
+
+block_size-keeps : (pool : List ℕ) (inside : List Network) (table : Members) (block : Option ℕ) (value : Data) →
+    block_size pool inside table value ≡ Ok block → IfSome block (SizeRules pool inside table)
+unfolding block_size
+block_size-keeps pool inside table block value is =
+    reads (block_size_at value) _ block is λ size sized ruled.
+    holds (are_apart inside) PrefixesOverlap _ block ruled λ apart ruled₁.
+    holds (have_room size inside (length pool)) BlockTooLarge _ block ruled₁ λ room ruled₂.
+    holds (not (is_some (get_member (codes "pair") table))) PairWithBlock _ block ruled₂ λ no_pair last.
+    let same : Some size ≡ block = cc in
+    subst (λ b. IfSome b (SizeRules pool inside table)) same (record {
+      is_size = block_size_at-keeps size value sized;
+      apart = apart;
+      room = room;
+      no_pair = not-true _ no_pair;
+    })
+
+pub block_size_in-keeps : (pool : List ℕ) (inside : List Network) (table : Members) (block : Option ℕ) →
+    block_size_in pool inside table ≡ Ok block → IfSome block (SizeRules pool inside table)
+unfolding block_size_in
+block_size_in-keeps pool inside table block is =
+    optional_reads (λ b. IfSome b (SizeRules pool inside table)) (codes "block") None (block_size pool inside table)
+    table block is tt (λ value y read. block_size-keeps pool inside table y value read)
+
 -- ---- pairs
 
 record PairStep (pool : List ℕ) (inside : List Network) (now next : Pairs) : Type 0 where
@@ -327,7 +376,46 @@ pairs_in-keeps pool inside table pairs is =
     optional_reads (ArePairs pool inside) (codes "pair") [] (pairs_at pool inside) table pairs is
     (none_are_pairs pool inside) (λ value y read. pairs_at-keeps pool inside value y read)
 
+unpaired : (pool : List ℕ) (inside : List Network) (table : Members) (pairs : Pairs) →
+    is_some (get_member (codes "pair") table) ≡ false → pairs_in pool inside table ≡ Ok pairs → pairs ≡ []
+unfolding pairs_in
+unpaired pool inside table pairs none is =
+    optional-absent (codes "pair") [] (pairs_at pool inside) table pairs none is
+
+are_blocks : (pool : List ℕ) (inside : List Network) (table : Members) (block : Option ℕ) (pairs : Pairs) →
+    IfSome block (SizeRules pool inside table) → pairs_in pool inside table ≡ Ok pairs
+    → IfSome block (AreBlocks inside pool pairs)
+are_blocks pool inside table None pairs kept is = tt
+are_blocks pool inside table (Some size) pairs kept is = record {
+  low = kept.is_size.range.0;
+  high = kept.is_size.range.1;
+  even = kept.is_size.even;
+  apart = kept.apart;
+  room = kept.room;
+  unpaired = unpaired pool inside table pairs kept.no_pair is;
+}
+
+without_pairs : (pool : List ℕ) (inside : List Network) (table : Members) (block : Option ℕ) →
+    IfSome block (SizeRules pool inside table) → IfSome block (AreBlocks inside pool [])
+without_pairs pool inside table None kept = tt
+without_pairs pool inside table (Some size) kept = record {
+  low = kept.is_size.range.0;
+  high = kept.is_size.range.1;
+  even = kept.is_size.even;
+  apart = kept.apart;
+  room = kept.room;
+  unpaired = refl;
+}
+
 -- ---- the whole
+
+-- the blocks that a table gives are blocks
+pub blocks-keep : (table : Members) (pool : List ℕ) (inside : List Network) (block : Option ℕ) → 1 ≤ length pool →
+    block_size_in pool inside table ≡ Ok block
+    → (host : ℕ) → IfSome (block_in block inside (length pool) host) IsBlock
+blocks-keep table pool inside block some is =
+    block_in-is block inside pool [] some (without_pairs pool inside table block (block_size_in-keeps pool inside table
+    block is))
 
 -- what a table configures keeps the rules
 pub configured-keeps : (table : Members) (rules : Rules) → configured table ≡ Ok rules → KeepsRules rules
@@ -341,8 +429,10 @@ configured-keeps table rules is =
     reads (timers_in table) _ rules rest₄ λ timers timers_is rest₅.
     reads (ring_in table) _ rules rest₅ λ ring ring_is rest₆.
     reads (quota_in table) _ rules rest₆ λ quota quota_is rest₇.
-    reads (pairs_in pool inside table) _ rules rest₇ λ pairs pairs_is rest₈.
-    reads (redirects_in inside (paired pool pairs) table) _ rules rest₈ λ redirects redirects_are last.
+    reads (block_size_in pool inside table) _ rules rest₇ λ block block_is rest₈.
+    reads (pairs_in pool inside table) _ rules rest₈ λ pairs pairs_is rest₉.
+    reads (redirects_in inside (paired block inside pool pairs) (block_in block inside (length pool)) table) _ rules
+    rest₉ λ redirects redirects_are last.
     let made : Rules = record {
       pool = pool;
       inside = inside;
@@ -351,6 +441,7 @@ configured-keeps table rules is =
       timers = timers;
       ring = ring;
       quota = quota;
+      block = block;
       pairs = pairs;
       redirects = redirects;
     } in
@@ -358,7 +449,10 @@ configured-keeps table rules is =
     let of_pool = pool_in-keeps table pool pool_is in
     let (of_inside, outside) = inside_in-keeps pool table inside inside_is in
     let of_ring = ring_in-keeps ring table ring_is in
-    let of_redirects = redirects_in-keeps inside (paired pool pairs) table redirects redirects_are in
+    let of_blocks = are_blocks pool inside table block pairs (block_size_in-keeps pool inside table block block_is)
+    pairs_is in
+    let of_redirects = redirects_in-keeps inside (paired block inside pool pairs) (block_in block inside (length pool))
+    table redirects redirects_are in
     subst KeepsRules same (record {
       pool = record {
         some = of_pool.some;
@@ -373,8 +467,11 @@ configured-keeps table rules is =
       ring_low = of_ring.0;
       ring_high = of_ring.1;
       quota = quota_in-keeps quota table quota_is;
+      block = of_blocks;
+      blocks = block_in-is block inside pool pairs of_pool.some of_blocks;
       pairs = pairs_in-keeps pool inside table pairs pairs_is;
       redirects_few = of_redirects.few;
       redirects = of_redirects.kept.redirects;
+      in_blocks = of_redirects.kept.in_blocks;
       single = of_redirects.kept.single;
     })

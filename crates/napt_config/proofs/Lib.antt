@@ -8,5 +8,6 @@ pub mod Pools
 pub mod PairEntries
 pub mod Chains
 pub mod RedirectEntries
+pub mod Indices
 pub mod Laws
 pub mod Spellings

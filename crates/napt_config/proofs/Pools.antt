@@ -9,6 +9,7 @@ use Rattle.std.proofs.lemmas.List.Folds.{list_any_at}
 use Rattle.std.proofs.Math.Seq.{get_or-append_seam}
 use Rattle.std.proofs.lemmas.List.{get_or_append_left}
 use Rattle.std.proofs.lemmas.Map.Views.{IfSome-lookup_from_All}
+use Rattle.napt_config.specs.Network.{Network, index_of}
 use Rattle.napt_config.specs.Rules.{has, paired, paired_with}
 
 first_or_later : (b later : Bool) (n m : ℕ) → (b || later) ≡ true → (later ≡ true → n < m) → cond (not b) (1 + n) 0
@@ -65,9 +66,13 @@ has_either pool None other of_own of_other = of_other
 has_either pool (Some external) other of_own of_other = of_own
 
 -- the external address of a host is in the pool
-pub paired_in_pool : (pool : List ℕ) (pairs : List (ℕ × ℕ)) (host : ℕ) → 1 ≤ length pool →
-    All (λ external. has pool external ≡ true) (values_of pairs) → has pool (paired pool pairs host) ≡ true
-paired_in_pool pool pairs host some externals =
+pub paired_in_pool : (block : Option ℕ) (inside : List Network) (pool : List ℕ) (pairs : List (ℕ × ℕ)) (host : ℕ) →
+    1 ≤ length pool → All (λ external. has pool external ≡ true) (values_of pairs)
+    → has pool (paired block inside pool pairs host) ≡ true
+unfolding paired
+paired_in_pool None inside pool pairs host some externals =
     has_either pool (paired_with pairs host) _ (IfSome-lookup_from_All (λ external. has pool external ≡ true)
     (is_at (nat_cmp host)) pairs externals)
     (has-at pool (host % length pool) 0 (omega (arith, some)))
+paired_in_pool (Some size) inside pool pairs host some externals =
+    has-at pool (unwrap_or (index_of inside host) host % length pool) 0 (omega (arith, some))

@@ -1,5 +1,5 @@
 -- Redirects that are read keep their rules.
-use Rattle.std.proofs.Common.{◌≡◌, ℕ, ◌+◌, ◌<◌, ◌≤◌, false, not, List, [], ◌∷◌, ◌++◌, length, Some, Ok, refl, sym, ap, subst, ◌∙◌, length-append, arith}
+use Rattle.std.proofs.Common.{◌≡◌, ℕ, ◌+◌, ◌<◌, ◌≤◌, true, false, not, List, [], ◌∷◌, ◌++◌, length, Option, Some, Ok, refl, sym, ap, subst, ◌∙◌, length-append, arith}
 use Rattle.std.specs.Prelude.{All, codes}
 use Rattle.std.specs.List.{before_first, after_first}
 use Rattle.std.proofs.lemmas.Bool.{not-true, or_parts, or_from}
@@ -7,16 +7,21 @@ use Rattle.std.proofs.lemmas.List.Elements.{All-push, All-nil}
 use Rattle.std.proofs.lemmas.List.Folds.{list_any-append}
 use Rattle.std.proofs.lemmas.Option.{option_and_then_some}
 use Rattle.toml.specs.Data.{Data, Members}
-use Rattle.napt_config.specs.declared.fault.ConfigFault.TheVariants.{NotInside, DoubleRedirect}
+use Rattle.napt_config.specs.declared.fault.ConfigFault.TheVariants.{NotInside, RedirectInBlock, DoubleRedirect}
 use Rattle.napt_config.specs.declared.settings.Redirect.{Redirect}
+use Rattle.napt_config.specs.declared.settings.Block.{Block}
 use Rattle.napt_config.specs.Network.{Network, Socket, have_address}
 use Rattle.napt_config.specs.Text.{address_of, number_of, socket_of, socket_at, is_colon}
-use Rattle.napt_config.specs.Rules.{IsRedirect, is_double, AreSingle}
+use Rattle.napt_config.specs.Rules.{IsRedirect, may_redirect, is_double, AreSingle}
 use Rattle.napt_config.specs.Configured.{text_in, number_in, table_in, list_up_to, required, is_tcp_in, transport_address_in, port_in, redirect_in, have_double, with_redirect, redirects_at, redirects_in}
 use Rattle.napt_config.proofs.Chains.{list_up_to-counts, reads, holds, ok_or_ok, optional_reads, each_keeps, each_adds}
 use Rattle.napt_config.proofs.Numbers.{number_of-range, between-range}
 
 -- ---- one entry
+
+-- its external port is below 1024, or in its host's block
+abbrev pub IsInBlock : (ℕ → Option Block) → Redirect → Type 0
+IsInBlock block redirect = may_redirect (block redirect.address) redirect.external ≡ true
 
 socket_of-port : (text : List ℕ) (socket : Socket) → socket_of text ≡ Some socket → 0 < socket.port
 unfolding socket_of
@@ -44,22 +49,26 @@ port_in-some key keys port is =
     reads (number_in value) _ port read λ number _ ranged.
     omega (arith, (between-range 1 65535 port number (ok_or_ok _ _ _ ranged)).0)
 
-redirect_in-is : (inside : List Network) (entry : Data) (redirect : Redirect) → redirect_in inside entry ≡ Ok redirect →
-    IsRedirect inside redirect
+redirect_in-is : (inside : List Network) (block : ℕ → Option Block) (entry : Data) (redirect : Redirect) →
+    redirect_in inside block entry ≡ Ok redirect → IsRedirect inside redirect × IsInBlock block redirect
 unfolding redirect_in
-redirect_in-is inside entry redirect is =
+redirect_in-is inside block entry redirect is =
     reads (table_in entry) _ redirect is λ keys _ rest.
     reads (is_tcp_in keys) _ redirect rest λ tcp _ rest₁.
     reads (transport_address_in (codes "inside") keys) _ redirect rest₁ λ host host_is ruled.
     holds (have_address inside host.address) NotInside _ redirect ruled λ host_inside rest₂.
-    reads (port_in (codes "external") keys) _ redirect rest₂ λ external external_is last.
+    reads (port_in (codes "external") keys) _ redirect rest₂ λ external external_is ruled₁.
+    holds (may_redirect (block host.address) external) RedirectInBlock _ redirect ruled₁ λ in_block last.
     let made : Redirect = record { tcp = tcp; address = host.address; port = host.port; external = external } in
     let same : made ≡ redirect = cc in
-    subst (IsRedirect inside) same (record {
-      host = host_inside;
-      port = transport_address_in-port (codes "inside") keys host host_is;
-      external = port_in-some (codes "external") keys external external_is;
-    })
+    subst (λ r. IsRedirect inside r × IsInBlock block r) same (
+      record {
+        host = host_inside;
+        port = transport_address_in-port (codes "inside") keys host host_is;
+        external = port_in-some (codes "external") keys external external_is;
+      },
+      in_block,
+    )
 
 -- ---- all entries
 
@@ -72,35 +81,39 @@ AreSingle-push pair (redirect ∷ redirects) last single new =
     let with_last = list_any-append (is_double pair redirect) redirects (last ∷ []) in
     (with_last ∙ or_from _ _ single.0 (or_from _ _ apart refl), AreSingle-push pair redirects last single.1 later)
 
-module _ (inside : List Network) (pair : ℕ → ℕ) where
+module _ (inside : List Network) (pair : ℕ → ℕ) (block : ℕ → Option Block) where
   record RedirectStep (now next : List Redirect) : Type 0 where
     pub redirect : Redirect
     pub fine : IsRedirect inside redirect
+    pub in_block : IsInBlock block redirect
     pub new : have_double pair now redirect ≡ false
     pub is : next ≡ now ++ redirect ∷ []
 
-  redirect_step : (now next : List Redirect) (entry : Data) → with_redirect inside pair now entry ≡ Ok next →
+  redirect_step : (now next : List Redirect) (entry : Data) → with_redirect inside pair block now entry ≡ Ok next →
       RedirectStep now next
   unfolding with_redirect
   redirect_step now next entry is =
-      reads (redirect_in inside entry) _ next is λ redirect read ruled.
+      reads (redirect_in inside block entry) _ next is λ redirect read ruled.
       holds (not (have_double pair now redirect)) DoubleRedirect _ next ruled λ new last.
-      record { redirect = redirect; fine = redirect_in-is inside entry redirect read; new = not-true _ new; is = cc }
+      let (fine, in_block) = redirect_in-is inside block entry redirect read in
+      record { redirect = redirect; fine = fine; in_block = in_block; new = not-true _ new; is = cc }
 
   pub record RedirectsSoFar (read : List Redirect) : Type 0 where
     pub redirects : All (IsRedirect inside) read
+    pub in_blocks : All (IsInBlock block) read
     pub single : AreSingle pair read
 
-  redirects_keep : (now next : List Redirect) (entry : Data) → RedirectsSoFar now → with_redirect inside pair now entry
-      ≡ Ok next → RedirectsSoFar next
+  redirects_keep : (now next : List Redirect) (entry : Data) → RedirectsSoFar now →
+      with_redirect inside pair block now entry ≡ Ok next → RedirectsSoFar next
   redirects_keep now next entry start is =
       let step = redirect_step now next entry is in
       subst RedirectsSoFar (sym step.is) (record {
         redirects = All-push (IsRedirect inside) now step.redirect start.redirects step.fine;
+        in_blocks = All-push (IsInBlock block) now step.redirect start.in_blocks step.in_block;
         single = AreSingle-push pair now step.redirect start.single step.new;
       })
 
-  redirects_add : (now next : List Redirect) (entry : Data) → with_redirect inside pair now entry ≡ Ok next →
+  redirects_add : (now next : List Redirect) (entry : Data) → with_redirect inside pair block now entry ≡ Ok next →
       length next ≡ length now + 1
   redirects_add now next entry is =
       let step = redirect_step now next entry is in
@@ -111,24 +124,25 @@ module _ (inside : List Network) (pair : ℕ → ℕ) where
     pub kept : RedirectsSoFar redirects
 
   no_redirects : RedirectsSoFar []
-  no_redirects = record { redirects = All-nil _; single = tt }
+  no_redirects = record { redirects = All-nil _; in_blocks = All-nil _; single = tt }
 
-  redirects_at-keeps : (value : Data) (redirects : List Redirect) → redirects_at inside pair value ≡ Ok redirects →
-      RedirectRules redirects
+  redirects_at-keeps : (value : Data) (redirects : List Redirect) →
+      redirects_at inside pair block value ≡ Ok redirects → RedirectRules redirects
   unfolding redirects_at
   redirects_at-keeps value redirects is =
       reads (list_up_to 256 value) _ redirects is λ entries counted more.
       let most = list_up_to-counts 256 value entries counted in
-      let long = each_adds (with_redirect inside pair) length redirects_add [] redirects entries more in
+      let long = each_adds (with_redirect inside pair block) length redirects_add [] redirects entries more in
       record {
         few = omega (arith, most, long);
         kept =
-            each_keeps (with_redirect inside pair) RedirectsSoFar redirects_keep [] redirects entries no_redirects more;
+            each_keeps (with_redirect inside pair block) RedirectsSoFar redirects_keep [] redirects entries
+            no_redirects more;
       }
 
-  pub redirects_in-keeps : (table : Members) (redirects : List Redirect) → redirects_in inside pair table
+  pub redirects_in-keeps : (table : Members) (redirects : List Redirect) → redirects_in inside pair block table
       ≡ Ok redirects → RedirectRules redirects
   unfolding redirects_in
   redirects_in-keeps table redirects is =
-      optional_reads RedirectRules (codes "redirect") [] (redirects_at inside pair) table redirects is
+      optional_reads RedirectRules (codes "redirect") [] (redirects_at inside pair block) table redirects is
       (record { few = omega arith; kept = no_redirects }) (λ value y read. redirects_at-keeps value y read)

@@ -1,6 +1,6 @@
 -- What the table of a configuration's text configures: its rules, or the fault of the first rule of a
 -- configuration that it breaks. Each function below reads from top to bottom, a rule a line.
-use Rattle.std.specs.Prelude.{ℕ, ◌+◌, ◌++◌, ◌&&◌, Bool, true, false, not, ℤ, pos, negsuc, List, [], ◌∷◌, codes, bytes_eq, if◌then◌else◌, nat_lt, nat_le, Option, Some, None, ok_or, is_some, Result, Ok}
+use Rattle.std.specs.Prelude.{ℕ, ◌+◌, ◌%◌, ◌==◌, ◌++◌, ◌&&◌, Bool, true, false, not, ℤ, pos, negsuc, List, [], ◌∷◌, codes, length, bytes_eq, if◌then◌else◌, nat_lt, nat_le, Option, Some, None, ok_or, is_some, Result, Ok}
 use Rattle.std.specs.List.{list_any}
 use Rattle.std.specs.Option.{option_map_or}
 use Rattle.std.specs.Ordering.{nat_cmp}
@@ -8,18 +8,19 @@ use Rattle.std.specs.BTreeMap.{insert_entry}
 use Rattle.std.specs.Str.{is_utf8}
 use Rattle.toml.specs.Data.{Data, Items, no_items, item, Members, no_members, member, get_member, as_str, as_integer, as_array, as_table}
 use Rattle.toml.specs.Parse.{parse_document}
-use Rattle.napt_config.specs.Network.{Network, Socket, have_address, private_networks}
+use Rattle.napt_config.specs.Network.{Network, Socket, have_address, are_apart, private_networks}
 use Rattle.napt_config.specs.Text.{address_of, network_of, socket_of}
 use Rattle.napt_config.specs.Fault.{◌>>=◌, ◌>>◌, must}
-use Rattle.napt_config.specs.Rules.{Rules, has, paired_with, paired, is_double}
+use Rattle.napt_config.specs.Rules.{Rules, has, paired_with, paired, block_in, may_redirect, have_room, is_double}
 use Rattle.napt_config.specs.declared.settings.Filter.{Filter}
 use Rattle.napt_config.specs.declared.settings.Filter.TheVariants.{Independent, Address, AddressPort}
 use Rattle.napt_config.specs.declared.settings.Refresh.{Refresh}
 use Rattle.napt_config.specs.declared.settings.Refresh.TheVariants.{Outbound, Both}
 use Rattle.napt_config.specs.declared.settings.Timers.{Timers}
 use Rattle.napt_config.specs.declared.settings.Redirect.{Redirect}
+use Rattle.napt_config.specs.declared.settings.Block.{Block}
 use Rattle.napt_config.specs.declared.fault.ConfigFault.{ConfigFault}
-use Rattle.napt_config.specs.declared.fault.ConfigFault.TheVariants.{NotToml, UnknownKey, Missing, BadShape, TooMany, BadAddress, BadPrefix, BadNumber, BadWord, DoubleAddress, PoolInside, DoublePair, NotInPool, NotInside, DoubleRedirect, TimerTooShort}
+use Rattle.napt_config.specs.declared.fault.ConfigFault.TheVariants.{NotToml, UnknownKey, Missing, BadShape, TooMany, BadAddress, BadPrefix, BadNumber, BadWord, DoubleAddress, PoolInside, PrefixesOverlap, BlockTooLarge, PairWithBlock, DoublePair, NotInPool, NotInside, RedirectInBlock, DoubleRedirect, TimerTooShort}
 
 -- ---- keys
 
@@ -39,7 +40,7 @@ only_keys_in_each names (item entry rest) = only_keys_in names entry && only_key
 
 abbrev pub top_keys : List (List ℕ)
 top_keys = codes "pool" ∷ codes "inside" ∷ codes "filter" ∷ codes "refresh" ∷ codes "timers" ∷ codes "ring"
-    ∷ codes "quota" ∷ codes "pair" ∷ codes "redirect" ∷ []
+    ∷ codes "quota" ∷ codes "block" ∷ codes "pair" ∷ codes "redirect" ∷ []
 
 abbrev pub timer_keys : List (List ℕ)
 timer_keys = codes "udp" ∷ codes "tcp-established" ∷ codes "tcp-transitory" ∷ codes "icmp" ∷ []
@@ -246,6 +247,27 @@ quota_at value = do
 unfoldable pub quota_in : Members → Result (Option ℕ) ConfigFault
 quota_in table = optional (codes "quota") None quota_at table
 
+-- ---- block
+
+-- how many numbers a block has: an even number
+unfoldable pub block_size_at : Data → Result ℕ ConfigFault
+block_size_at value = do
+  number ← number_in value
+  size ← ok_or (between 64 32256 number) BadNumber
+  must (size % 2 == 0) BadNumber
+  Ok size
+
+unfoldable pub block_size : List ℕ → List Network → Members → Data → Result (Option ℕ) ConfigFault
+block_size pool inside table value = do
+  size ← block_size_at value
+  must (are_apart inside) PrefixesOverlap
+  must (have_room size inside (length pool)) BlockTooLarge
+  must (not (is_some (get_member (codes "pair") table))) PairWithBlock
+  Ok (Some size)
+
+unfoldable pub block_size_in : List ℕ → List Network → Members → Result (Option ℕ) ConfigFault
+block_size_in pool inside table = optional (codes "block") None (block_size pool inside table) table
+
 -- ---- pair
 
 -- the address at a required key
@@ -306,38 +328,43 @@ port_in key keys = do
   number ← number_in value
   ok_or (between 1 65535 number) BadNumber
 
-unfoldable pub redirect_in : List Network → Data → Result Redirect ConfigFault
-redirect_in inside entry = do
+unfoldable pub redirect_in : List Network → (ℕ → Option Block) → Data → Result Redirect ConfigFault
+redirect_in inside block entry = do
   keys ← table_in entry
   tcp ← is_tcp_in keys
   host ← transport_address_in (codes "inside") keys
   must (have_address inside host.address) NotInside
   external ← port_in (codes "external") keys
+  must (may_redirect (block host.address) external) RedirectInBlock
   Ok (record { tcp = tcp; address = host.address; port = host.port; external = external })
 
 -- whether one of the redirects is double with a later one
 unfoldable pub have_double : (ℕ → ℕ) → List Redirect → Redirect → Bool
 have_double pair earlier later = list_any (λ redirect. is_double pair redirect later) earlier
 
-unfoldable pub with_redirect : List Network → (ℕ → ℕ) → List Redirect → Data → Result (List Redirect) ConfigFault
-with_redirect inside pair redirects entry = do
-  redirect ← redirect_in inside entry
+unfoldable pub with_redirect : List Network → (ℕ → ℕ) → (ℕ → Option Block) → List Redirect → Data
+    → Result (List Redirect) ConfigFault
+with_redirect inside pair block redirects entry = do
+  redirect ← redirect_in inside block entry
   must (not (have_double pair redirects redirect)) DoubleRedirect
   Ok (redirects ++ redirect ∷ [])
 
-unfoldable pub redirects_at : List Network → (ℕ → ℕ) → Data → Result (List Redirect) ConfigFault
-redirects_at inside pair value = do
+unfoldable pub redirects_at : List Network → (ℕ → ℕ) → (ℕ → Option Block) → Data
+    → Result (List Redirect) ConfigFault
+redirects_at inside pair block value = do
   entries ← list_up_to 256 value
-  each_in_order (with_redirect inside pair) [] entries
+  each_in_order (with_redirect inside pair block) [] entries
 
-unfoldable pub redirects_first : List Network → (ℕ → ℕ) → Data → Result (List Redirect) ConfigFault
-redirects_first inside pair value = do
+unfoldable pub redirects_first : List Network → (ℕ → ℕ) → (ℕ → Option Block) → Data
+    → Result (List Redirect) ConfigFault
+redirects_first inside pair block value = do
   entries ← list_up_to 256 value
-  first_in_order (with_redirect inside pair) [] entries
+  first_in_order (with_redirect inside pair block) [] entries
 
--- the redirects, where hosts have the external addresses of `pair`
-unfoldable pub redirects_in : List Network → (ℕ → ℕ) → Members → Result (List Redirect) ConfigFault
-redirects_in inside pair table = optional (codes "redirect") [] (redirects_at inside pair) table
+-- the redirects, where hosts have the external addresses of `pair`, and the blocks of `block`
+unfoldable pub redirects_in : List Network → (ℕ → ℕ) → (ℕ → Option Block) → Members
+    → Result (List Redirect) ConfigFault
+redirects_in inside pair block table = optional (codes "redirect") [] (redirects_at inside pair block) table
 
 -- ---- the whole
 
@@ -352,8 +379,9 @@ configured table = do
   timers ← timers_in table
   ring ← ring_in table
   quota ← quota_in table
+  block ← block_size_in pool inside table
   pairs ← pairs_in pool inside table
-  redirects ← redirects_in inside (paired pool pairs) table
+  redirects ← redirects_in inside (paired block inside pool pairs) (block_in block inside (length pool)) table
   Ok (record {
     pool = pool;
     inside = inside;
@@ -363,6 +391,7 @@ configured table = do
     ring = ring;
     quota =
         quota;
+    block = block;
     pairs = pairs;
     redirects = redirects;
   })
@@ -395,6 +424,7 @@ built_in = record {
   timers = default_timers;
   ring = 64;
   quota = None;
+  block = None;
   pairs = [];
   redirects = [];
 }

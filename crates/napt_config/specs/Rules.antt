@@ -1,19 +1,20 @@
 -- What a configuration says, and the rules that each one keeps.
-use Rattle.std.specs.Prelude.{◌≡◌, ℕ, ◌%◌, ◌^◌, ◌<◌, ◌≤◌, ◌==◌, Bool, true, false, ◌&&◌, ◌||◌, List, [], ◌∷◌, All, length, slice_index, position, Option, unwrap_or, IfSome}
+use Rattle.std.specs.Prelude.{◌≡◌, ℕ, ◌+◌, ◌-◌, ◌*◌, ◌/◌, ◌%◌, ◌^◌, ◌<◌, ◌≤◌, ◌==◌, Bool, true, false, ◌&&◌, ◌||◌, if◌then◌else◌, nat_lt, nat_le, List, [], ◌∷◌, All, length, slice_index, position, Option, Some, None, option_map, option_and_then, unwrap_or, IfSome}
 use Rattle.std.specs.Bool.{beq}
 use Rattle.std.specs.List.{list_any}
 use Rattle.std.specs.List.Sorted.{IsStrictlySortedBy}
 use Rattle.std.specs.Map.{keys_of, values_of, lookup}
 use Rattle.std.specs.Ordering.{nat_cmp}
 use Rattle.std.specs.BTreeMap.{is_at}
-use Rattle.napt_config.specs.Network.{Network, IsNetwork, have_address}
+use Rattle.napt_config.specs.Network.{Network, IsNetwork, have_address, host_count, are_apart, index_of, address_at}
 use Rattle.napt_config.specs.declared.settings.Filter.{Filter}
 use Rattle.napt_config.specs.declared.settings.Refresh.{Refresh}
 use Rattle.napt_config.specs.declared.settings.Timers.{Timers}
 use Rattle.napt_config.specs.declared.settings.Redirect.{Redirect}
+use Rattle.napt_config.specs.declared.settings.Block.{Block}
 
--- what a configuration says; the pairs are hosts with their external addresses, by ascending host, and the
--- redirects are in the order of its text
+-- what a configuration says; the block is how many numbers each inside host has, the pairs are hosts with their
+-- external addresses, by ascending host, and the redirects are in the order of its text
 pub record Rules : Type 0 where
   pub pool : List ℕ
   pub inside : List Network
@@ -22,6 +23,7 @@ pub record Rules : Type 0 where
   pub timers : Timers
   pub ring : ℕ
   pub quota : Option ℕ
+  pub block : Option ℕ
   pub pairs : List (ℕ × ℕ)
   pub redirects : List Redirect
 
@@ -29,14 +31,44 @@ pub record Rules : Type 0 where
 abbrev pub paired_with : List (ℕ × ℕ) → ℕ → Option ℕ
 paired_with pairs host = lookup (is_at (nat_cmp host)) pairs
 
--- the external address of a host, of a pool and pairs: its entry's, else the pool's at the host's number modulo
--- the pool's size
-abbrev pub paired : List ℕ → List (ℕ × ℕ) → ℕ → ℕ
-paired pool pairs host = unwrap_or (paired_with pairs host) (slice_index pool (host % length pool))
+-- the address of the pool at a number modulo the pool's size
+abbrev pub pooled : List ℕ → ℕ → ℕ
+pooled pool number = slice_index pool (number % length pool)
+
+-- the external address of a host, of a block size, prefixes, a pool and pairs: without blocks its entry's, else the
+-- pool's at the host's number; with blocks the pool's at the host's index
+unfoldable pub paired : Option ℕ → List Network → List ℕ → List (ℕ × ℕ) → ℕ → ℕ
+paired None inside pool pairs host = unwrap_or (paired_with pairs host) (pooled pool host)
+paired (Some size) inside pool pairs host = pooled pool (unwrap_or (index_of inside host) host)
 
 -- the external address of a host (RFC 4787, section 4.1, "paired" pooling)
 abbrev pub pair_of : Rules → ℕ → ℕ
-pair_of rules = paired rules.pool rules.pairs
+pair_of rules = paired rules.block rules.inside rules.pool rules.pairs
+
+-- ---- port blocks (RFC 7422, section 2)
+
+-- the block of this number from 0, where blocks have this size: the numbers behind those below 1024
+abbrev pub nth_block : ℕ → ℕ → Block
+nth_block size nth = record { first = 1024 + size * nth; size = size }
+
+-- whether the number is in the block
+abbrev pub has_number : Block → ℕ → Bool
+has_number block number = nat_le block.first number && nat_lt number (block.first + block.size)
+
+-- the block of a host, of a block size, prefixes and a pool's size: hosts get the first block of each address in
+-- turn, then the second
+unfoldable pub block_in : Option ℕ → List Network → ℕ → ℕ → Option Block
+block_in size inside addresses host =
+    option_and_then (λ size. option_map (λ index. nth_block size (index / addresses)) (index_of inside host)) size
+
+-- the block of a host, where the configuration has blocks and the host is inside
+abbrev pub block_of : Rules → ℕ → Option Block
+block_of rules = block_in rules.block rules.inside (length rules.pool)
+
+-- whether a host with this block may have the number by a redirect: it is below 1024, or in the block
+abbrev pub may_redirect : Option Block → ℕ → Bool
+may_redirect None external = true
+may_redirect (Some block) external = nat_lt external 1024 || has_number block external
 
 -- whether the address is of an inside host
 abbrev pub is_inside : Rules → ℕ → Bool
@@ -49,6 +81,19 @@ has addresses address = list_any (λ other. other == address) addresses
 -- the place of the address in the pool, from 0
 abbrev pub place_of : Rules → ℕ → Option ℕ
 place_of rules address = position (λ other. other == address) rules.pool
+
+-- the inside host whose block has the number, at the address at this place of a pool of so many, where blocks have
+-- this size
+unfoldable pub host_at : ℕ → List Network → ℕ → ℕ → ℕ → Option ℕ
+host_at size inside addresses number place = if nat_lt number 1024 then None
+    else address_at inside ((number - 1024) / size * addresses + place)
+
+-- the inside host whose block has this external endpoint, where the configuration has blocks and one has it
+abbrev pub host_of : Rules → ℕ → ℕ → Option ℕ
+host_of rules address number =
+    option_and_then
+    (λ size. option_and_then (host_at size rules.inside (length rules.pool) number) (place_of rules address))
+    rules.block
 
 -- seconds that a timer may have
 pub record IsTimer (least seconds : ℕ) : Type 0 where
@@ -78,6 +123,27 @@ pub record IsInside (inside : List Network) : Type 0 where
 -- bindings that a host may have
 abbrev pub IsQuota : ℕ → Type 0
 IsQuota bindings = (1 ≤ bindings) × (bindings ≤ 65535)
+
+-- an even number of numbers from an even one on, behind those below 1024
+pub record IsBlock (block : Block) : Type 0 where
+  pub first_even : block.first % 2 ≡ 0
+  pub low : 1024 ≤ block.first
+  pub size_even : block.size % 2 ≡ 0
+  pub some : 64 ≤ block.size
+  pub high : block.first + block.size ≤ 65536
+
+-- whether the hosts of the prefixes have blocks of this size, over so many addresses
+abbrev pub have_room : ℕ → List Network → ℕ → Bool
+have_room size inside addresses = nat_le ((host_count inside + (addresses - 1)) / addresses * size) 64512
+
+-- blocks of an even size, for hosts of prefixes that are apart, without pairs
+pub record AreBlocks (inside : List Network) (pool : List ℕ) (pairs : List (ℕ × ℕ)) (size : ℕ) : Type 0 where
+  pub low : 64 ≤ size
+  pub high : size ≤ 32256
+  pub even : size % 2 ≡ 0
+  pub apart : are_apart inside ≡ true
+  pub room : have_room size inside (length pool) ≡ true
+  pub unpaired : pairs ≡ []
 
 -- at most 256 inside hosts, none twice, each with a pool address
 pub record ArePairs (pool : List ℕ) (inside : List Network) (pairs : List (ℕ × ℕ)) : Type 0 where
@@ -118,7 +184,11 @@ pub record KeepsRules (rules : Rules) : Type 0 where
   pub ring_low : 1 ≤ rules.ring
   pub ring_high : rules.ring ≤ 4096
   pub quota : IfSome rules.quota IsQuota
+  pub block : IfSome rules.block (AreBlocks rules.inside rules.pool rules.pairs)
+  pub blocks : (host : ℕ) → IfSome (block_of rules host) IsBlock
   pub pairs : ArePairs rules.pool rules.inside rules.pairs
   pub redirects_few : length rules.redirects ≤ 256
   pub redirects : All (IsRedirect rules.inside) rules.redirects
+  pub in_blocks : All (λ redirect. may_redirect (block_of rules redirect.address) redirect.external ≡ true)
+      rules.redirects
   pub single : AreSingle (pair_of rules) rules.redirects

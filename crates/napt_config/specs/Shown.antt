@@ -12,6 +12,7 @@ shown config = record {
   timers = config.timers;
   ring = config.ring;
   quota = config.quota;
+  block = config.block;
   pairs = config.pairs.entries;
   redirects = config.redirects.items;
 }

@@ -8,7 +8,8 @@ ghost use Rattle.napt_config.specs.Configured.{document_of, read_first};
 ghost use Rattle.napt_config.specs.declared.fault.ConfigFault.TheVariants.{NotToml};
 
 use crate::{
-    ConfigFault, Filter, Prefix, Redirect, Refresh, Timers, keys, pairing, reading, redirects,
+    Block, ConfigFault, Filter, Prefix, Redirect, Refresh, Timers, blocks, keys, pairing, reading,
+    redirects,
 };
 use std::alloc::{AllocError, Global};
 use std::collections::BTreeMap;
@@ -23,9 +24,11 @@ use toml::Table;
 ///   most 1,000,000,000;
 /// - a ring has 1 to 4096 slots;
 /// - a quota, if there is one, allows 1 to 65535 bindings;
+/// - a block, if there is one, has an even number of external numbers from 64 to 32256; then no two prefixes have an
+///   address in common, every inside host has a block, and no host has an entry of `pair`;
 /// - at most 256 inside hosts are paired by an entry of their own, each once, with a pool address;
-/// - at most 256 redirects, each of an inside host and with ports that are not 0; no two of one protocol share an
-///   inside or an external endpoint.
+/// - at most 256 redirects, each of an inside host and with ports that are not 0; where there are blocks, an external
+///   port above 1023 is in the host's block; no two of one protocol share an inside or an external endpoint.
 #[derive(Debug, Drop)]
 pub struct Config {
     pool: Vec<u32>,
@@ -35,6 +38,7 @@ pub struct Config {
     timers: Timers,
     ring: usize,
     quota: Option<u16>,
+    block: Option<u16>,
     pairs: BTreeMap<u32, u32>,
     redirects: Vec<Redirect>,
 }
@@ -52,7 +56,8 @@ impl Model for Config {
 }
 
 impl Config {
-    ghost use Rattle.napt_config.specs.Rules.{KeepsRules, pair_of, is_inside, place_of};
+    ghost use Rattle.napt_config.specs.Network.{host_count};
+    ghost use Rattle.napt_config.specs.Rules.{KeepsRules, pair_of, is_inside, place_of, block_of, host_of};
     ghost use Rattle.napt_config.specs.Configured.{configured, configuration_of, built_in};
 
     /// Reads a configuration's text. Returns the configuration, or the fault of the first rule that the text breaks, or
@@ -85,8 +90,9 @@ impl Config {
         let timers = reading::timers(table)?;
         let ring = reading::ring(table)?;
         let quota = reading::quota(table)?;
+        let block = reading::block(table, &pool, &inside)?;
         let pairs = reading::pairs(alloc, table, &pool, &inside)?;
-        let redirects = redirects::redirects(alloc, table, &inside, &pool, &pairs)?;
+        let redirects = redirects::redirects(alloc, table, block, &inside, &pool, &pairs)?;
         Ok(Config {
             pool,
             inside,
@@ -95,6 +101,7 @@ impl Config {
             timers,
             ring,
             quota,
+            block,
             pairs,
             redirects,
         })
@@ -102,6 +109,7 @@ impl Config {
 
     /// The configuration if no text is given: the pool is 203.0.113.1, the private networks of RFC 1918 are inside, and
     /// all else is default.
+    #[tactic(auto, unfolding(crate::specs::Rules::block_in))]
     pub fn built_in(alloc: Global) -> Result<Config, AllocError>
         ensures exact { IfOk result (λ config. config ≡ built_in) }
         ensures kept { IfOk result KeepsRules }
@@ -116,6 +124,7 @@ impl Config {
             timers: Timers::DEFAULT,
             ring: reading::DEFAULT_SLOTS,
             quota: None,
+            block: None,
             pairs: BTreeMap::new(alloc),
             redirects: Vec::new(alloc),
         })
@@ -133,20 +142,33 @@ impl Config {
             timers: self.timers,
             ring: self.ring,
             quota: self.quota,
+            block: self.block,
             pairs: self.pairs.clone()?,
             redirects: Vec::from_slice(alloc, &self.redirects)?,
         })
     }
 
     /// The external address of a host (RFC 4787, section 4.1, "paired" pooling): that of its own entry, else the pool's
-    /// address at the host's number modulo the pool's size. The search takes time logarithmic in the number of entries,
-    /// and no memory.
+    /// address at the host's number modulo the pool's size; where there are blocks, the pool's at the inside host's index
+    /// modulo that size. It takes no memory, and time logarithmic in the number of entries, or linear in that of
+    /// prefixes.
     pub fn pair(&self, host: u32) -> u32
         ensures address { result ≡ pair_of self.now host }
         ensures in_pool { IsSome (place_of self.now result) }
         ensures kept { KeepsRules self.now }
     {
-        pairing::pair(&self.pool, &self.pairs, host)
+        pairing::pair(self.block, &self.inside, &self.pool, &self.pairs, host)
+    }
+
+    /// The external numbers of an inside host, for each protocol, if each host has a block of them (RFC 7422, section
+    /// 2): of its external address. An inside host's index is its place among the addresses of the prefixes, prefix
+    /// after prefix in the order of the text, from 0. The hosts of one address have their blocks by ascending index,
+    /// from 1024 on.
+    pub fn block_of(&self, host: u32) -> Option<Block>
+        ensures block { result ≡ block_of self.now host }
+        ensures kept { KeepsRules self.now }
+    {
+        blocks::block_of(self.block, &self.inside, self.pool.len(), host)
     }
 
     /// Whether the address is in one of the inside prefixes.
@@ -197,6 +219,34 @@ impl Config {
         ensures kept { KeepsRules self.now }
     {
         self.quota
+    }
+
+    /// How many external numbers each inside host has for itself: an even number from 64 to 32256. None if hosts have no
+    /// blocks.
+    pub fn block(&self) -> Option<u16>
+        ensures size { result ≡ self.now.block }
+        ensures kept { KeepsRules self.now }
+    {
+        self.block
+    }
+
+    /// The inside host whose block has this external endpoint, if hosts have blocks and one has it: who had it, at any
+    /// time. The search takes time linear in the numbers of addresses and of prefixes, and no memory.
+    pub fn host_of(&self, address: u32, number: u16) -> Option<u32>
+        ensures host { result ≡ host_of self.now address number }
+        ensures kept { KeepsRules self.now }
+    {
+        let size = self.block?;
+        let place = self.pool_index(address)?;
+        blocks::host_at(size, &self.inside, self.pool.len(), number, place)
+    }
+
+    /// How many addresses the prefixes have together.
+    pub fn host_count(&self) -> u64
+        ensures count { result ≡ host_count self.now.inside }
+        ensures kept { KeepsRules self.now }
+    {
+        blocks::host_count(&self.inside)
     }
 
     /// Which remotes may reach a binding from outside.

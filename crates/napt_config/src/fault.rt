@@ -13,7 +13,7 @@ pub enum ConfigFault {
     #[error("expected TOML in UTF-8")]
     NotToml,
     /// An unknown key, at the top, in `timers` or in an entry of `pair` or `redirect`.
-    #[error("unknown key: expected `pool`, `inside`, `filter`, `refresh`, `timers`, `ring`, `quota`, `pair` or `redirect`; in `timers` `udp`, `tcp-established`, `tcp-transitory` or `icmp`; in a `pair` `host` or `external`; in a `redirect` `protocol`, `inside` or `external`")]
+    #[error("unknown key: expected `pool`, `inside`, `filter`, `refresh`, `timers`, `ring`, `quota`, `block`, `pair` or `redirect`; in `timers` `udp`, `tcp-established`, `tcp-transitory` or `icmp`; in a `pair` `host` or `external`; in a `redirect` `protocol`, `inside` or `external`")]
     UnknownKey,
     /// A required key is absent, or its list is empty.
     #[error("expected `pool` and `inside` with at least one entry each, `host` and `external` in each `pair`, and `protocol`, `inside` and `external` in each `redirect`")]
@@ -30,8 +30,8 @@ pub enum ConfigFault {
     /// A text is not a prefix, or has bits set past its length.
     #[error("expected an IPv4 prefix, as `10.0.0.0/8`, whose bits past its length are 0")]
     BadPrefix,
-    /// A number is out of range.
-    #[error("expected a timer of 0 to 1000000000 seconds, a `ring` of 1 to 4096, a `quota` of 1 to 65535, or an `external` port of 1 to 65535")]
+    /// A number is out of range, or an odd one is a block's size.
+    #[error("expected a timer of 0 to 1000000000 seconds, a `ring` of 1 to 4096, a `quota` of 1 to 65535, an even `block` of 64 to 32256, or an `external` port of 1 to 65535")]
     BadNumber,
     /// A text is not a word its key allows.
     #[error("expected `independent`, `address` or `address-port` as `filter`, `outbound` or `both` as `refresh`, or `udp` or `tcp` as `protocol`")]
@@ -42,6 +42,15 @@ pub enum ConfigFault {
     /// A pool address is in one of the inside prefixes.
     #[error("expected no address of `pool` in a prefix of `inside`")]
     PoolInside,
+    /// Two prefixes have an address in common, and there are blocks.
+    #[error("expected, with a `block`, prefixes of `inside` that have no address in common")]
+    PrefixesOverlap,
+    /// The blocks of the hosts that share an address have more than 64,512 numbers together.
+    #[error("expected a `block` that every host can have: the hosts of `inside` by the addresses of `pool`, rounded up, times `block`, at most 64512")]
+    BlockTooLarge,
+    /// There are blocks and pairs.
+    #[error("expected no `pair` with a `block`")]
+    PairWithBlock,
     /// A host has two entries of `pair`.
     #[error("expected at most one `pair` for each host")]
     DoublePair,
@@ -51,6 +60,9 @@ pub enum ConfigFault {
     /// A host is in none of the inside prefixes.
     #[error("expected a host that is in a prefix of `inside`")]
     NotInside,
+    /// The external port of a redirect is above 1023, and not in its host's block.
+    #[error("expected, with a `block`, an `external` port below 1024, or in the block of the host")]
+    RedirectInBlock,
     /// Two redirects of one protocol share an inside or an external endpoint.
     #[error("expected at most one `redirect` of a protocol for each inside endpoint and for each external endpoint")]
     DoubleRedirect,

@@ -89,7 +89,8 @@ fn knows_top_keys(table: &Table) -> bool
     only_keys(
         table,
         &[
-            "pool", "inside", "filter", "refresh", "timers", "ring", "quota", "pair", "redirect",
+            "pool", "inside", "filter", "refresh", "timers", "ring", "quota", "block", "pair",
+            "redirect",
         ],
     )
 }

@@ -5,6 +5,7 @@
 #![tactic(auto)]
 
 mod address;
+mod blocks;
 mod config;
 mod fault;
 mod keys;
@@ -21,5 +22,5 @@ pub use address::Address;
 pub use config::Config;
 pub use fault::ConfigFault;
 pub use prefix::Prefix;
-pub use settings::{Filter, Redirect, Refresh, Timers};
+pub use settings::{Block, Filter, Redirect, Refresh, Timers};
 pub use transport_address::TransportAddress;

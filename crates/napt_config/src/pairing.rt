@@ -1,17 +1,58 @@
 //! The external address that a host is paired with.
-ghost use Rattle.std.specs.Prelude.{◌≡◌, ◌≤◌, length};
-ghost use Rattle.napt_config.specs.Rules.{paired};
+ghost use Rattle.std.specs.Prelude.{◌≡◌, ◌≤◌, length, unwrap_or};
+ghost use Rattle.napt_config.specs.Network.{index_of};
+ghost use Rattle.napt_config.specs.Rules.{paired, paired_with, pooled};
 
+use crate::{Prefix, blocks};
 use std::collections::BTreeMap;
 
-/// The external address of a host: that of its own entry, else the pool's address at the host's number modulo
-/// the pool's size.
-pub(crate) fn pair(pool: &[u32], pairs: &BTreeMap<u32, u32>, host: u32) -> u32
+/// The pool's address at a number modulo the pool's size.
+fn pooled(pool: &[u32], number: u64) -> u32
     requires some { 1 ≤ length pool.now }
-    ensures { result ≡ paired pool.now pairs.now.entries host }
+    ensures { result ≡ pooled pool.now number }
+{
+    pool[(number % pool.len() as u64) as usize]
+}
+
+/// The external address of a host with a block: the pool's at its index.
+fn pair_by_index(inside: &[Prefix], pool: &[u32], host: u32) -> u32
+    requires some { 1 ≤ length pool.now }
+    requires few { length inside.now ≤ 16 }
+    ensures { result ≡ pooled pool.now (unwrap_or (index_of inside.now host) host) }
+{
+    match blocks::index_of(inside, host) {
+        Some(index) => pooled(pool, index),
+        None => pooled(pool, u64::from(host)),
+    }
+}
+
+/// The external address of a host without a block: that of its own entry, else the pool's at the host's number.
+fn pair_by_entry(pool: &[u32], pairs: &BTreeMap<u32, u32>, host: u32) -> u32
+    requires some { 1 ≤ length pool.now }
+    ensures { result ≡ unwrap_or (paired_with pairs.now.entries host) (pooled pool.now host) }
 {
     match pairs.get(&host) {
         Some(external) => *external,
-        None => pool[host as usize % pool.len()],
+        None => pooled(pool, u64::from(host)),
+    }
+}
+
+/// The external address of a host: without blocks that of its own entry, else the pool's address at the host's
+/// number modulo the pool's size; with blocks the pool's at the host's index modulo that size.
+#[tactic(auto, unfolding(crate::specs::Rules::paired))]
+pub(crate) fn pair(
+    block: Option<u16>,
+    inside: &[Prefix],
+    pool: &[u32],
+    pairs: &BTreeMap<u32, u32>,
+    host: u32,
+) -> u32
+    requires some { 1 ≤ length pool.now }
+    requires few { length inside.now ≤ 16 }
+    ensures { result ≡ paired block inside.now pool.now pairs.now.entries host }
+{
+    match block {
+        Some(_) => pair_by_index(inside, pool, host),
+        None => pair_by_entry(pool, pairs, host),
     }
 }

@@ -1,6 +1,6 @@
 //! Prefixes of addresses.
-ghost use Rattle.std.specs.Prelude.{◌≡◌, ◌≤◌, Some, IfOk};
-ghost use Rattle.napt_config.specs.Network.{IsNetwork, has_address, private_networks};
+ghost use Rattle.std.specs.Prelude.{◌≡◌, ◌≤◌, ◌<◌, ◌+◌, ◌^◌, ◌%◌, Some, IfOk};
+ghost use Rattle.napt_config.specs.Network.{IsNetwork, has_address, network_size, do_meet, private_networks};
 ghost use Rattle.napt_config.specs.Text.{network_of, network_at, network_text, IsReadBack};
 ghost use Rattle.napt_config.specs.declared.fault.ConfigFault.TheVariants.{BadPrefix};
 
@@ -79,6 +79,38 @@ impl Prefix {
     {
         let free = 32 - self.bits;
         u64::from(address) >> free == u64::from(self.address) >> free
+    }
+
+    /// How many addresses the prefix has.
+    pub(crate) fn size(&self) -> u64
+        ensures size { result ≡ network_size self.now }
+        ensures some { 1 ≤ result }
+        ensures few { result ≤ 2 ^ 32 }
+    {
+        1 << (32 - self.bits)
+    }
+
+    /// The address's place in the prefix, which contains it, from 0.
+    pub(crate) fn place(&self, address: u32) -> u64
+        ensures place { result ≡ address % network_size self.now }
+        ensures bound { result ≤ address }
+    {
+        u64::from(address) % self.size()
+    }
+
+    /// The address at a place in the prefix, from 0.
+    pub(crate) fn address_at(&self, place: u64) -> u32
+        requires within { place < network_size self.now }
+        ensures { result ≡ self.now.address + place }
+    {
+        (u64::from(self.address) + place) as u32
+    }
+
+    /// Whether both have an address in common: then one contains the other.
+    pub(crate) fn meets(&self, other: &Prefix) -> bool
+        ensures { result ≡ do_meet self.now other.now }
+    {
+        self.contains(other.address) || other.contains(self.address)
     }
 }
 

@@ -1,13 +1,13 @@
 //! Reading the keys of a configuration's table, each by its own rules.
-ghost use Rattle.std.specs.Prelude.{◌≡◌, [], codes};
+ghost use Rattle.std.specs.Prelude.{◌≡◌, ◌≤◌, [], codes, length};
 ghost use Rattle.std.specs.List.{list_any};
 ghost use Rattle.toml.specs.View.{view, table_view, items_view};
 ghost use Rattle.napt_config.specs.Fault.{Reads, Gives, TellsFirst};
 ghost use Rattle.napt_config.specs.Network.{have_address};
-ghost use Rattle.napt_config.specs.Configured.{each_in_order, first_in_order, between, list_up_to, short_list, with_address, pool_in, pool_first, with_prefix, prefixes_in, prefixes_first, inside_in, filter_at, filter_in, refresh_at, refresh_in, timer_at, timers_at, timers_in, ring_at, ring_in, quota_at, quota_in, address_in, with_pair, pairs_at, pairs_first, pairs_in, optional};
+ghost use Rattle.napt_config.specs.Configured.{each_in_order, first_in_order, between, list_up_to, short_list, with_address, pool_in, pool_first, with_prefix, prefixes_in, prefixes_first, inside_in, filter_at, filter_in, refresh_at, refresh_in, timer_at, timers_at, timers_in, ring_at, ring_in, quota_at, quota_in, block_size_at, block_size, block_size_in, address_in, with_pair, pairs_at, pairs_first, pairs_in, optional};
 
 use crate::values::{list_in, number_in, required, table_in, text_in, value_at};
-use crate::{ConfigFault, Filter, Prefix, Refresh, Timers, text};
+use crate::{ConfigFault, Filter, Prefix, Refresh, Timers, blocks, text};
 use std::alloc::Global;
 use std::collections::BTreeMap;
 use toml::{Table, Value};
@@ -26,6 +26,11 @@ const MOST_SLOTS: u64 = 4096;
 
 /// The most bindings a quota may allow.
 const MOST_BINDINGS: u64 = 65535;
+
+/// The smallest block, and the largest.
+const LEAST_BLOCK: u64 = 64;
+
+const MOST_BLOCK: u64 = 32256;
 
 /// How many slots a ring has by default.
 pub(crate) const DEFAULT_SLOTS: usize = 64;
@@ -307,6 +312,66 @@ pub(crate) fn quota(table: &Table) -> Result<Option<u16>, ConfigFault>
 {
     match value_at(table, "quota") {
         Some(value) => quota_at(value),
+        None => Ok(None),
+    }
+}
+
+// ---- block
+
+/// How many numbers a block has: an even number.
+#[tactic(auto, unfolding(crate::specs::Configured::block_size_at))]
+fn block_size_at(value: &Value) -> Result<u16, ConfigFault>
+    ensures { Reads (λ size. size) result (block_size_at (view value.now)) }
+{
+    let number = number_in(value)?;
+    let size = between(LEAST_BLOCK, MOST_BLOCK, number).ok_or(ConfigFault::BadNumber)?;
+    if size % 2 != 0 {
+        return Err(ConfigFault::BadNumber);
+    }
+    Ok(size as u16)
+}
+
+#[tactic(auto, unfolding(crate::specs::Configured::block_size))]
+fn block_size(
+    table: &Table,
+    value: &Value,
+    pool: &[u32],
+    inside: &[Prefix],
+) -> Result<Option<u16>, ConfigFault>
+    requires some { 1 ≤ length pool.now }
+    requires few_addresses { length pool.now ≤ 16 }
+    requires few { length inside.now ≤ 16 }
+    ensures { Reads (λ block. block) result
+        (block_size pool.now inside.now (table_view table.now) (view value.now)) }
+{
+    let size = block_size_at(value)?;
+    if !blocks::are_apart(inside) {
+        return Err(ConfigFault::PrefixesOverlap);
+    }
+    if !blocks::have_room(size, inside, pool.len()) {
+        return Err(ConfigFault::BlockTooLarge);
+    }
+    if value_at(table, "pair").is_some() {
+        return Err(ConfigFault::PairWithBlock);
+    }
+    Ok(Some(size))
+}
+
+/// How many numbers each inside host has for itself: so many that all have a block.
+#[tactic(auto, unfolding(crate::specs::Configured::block_size_in))]
+pub(crate) fn block(
+    table: &Table,
+    pool: &[u32],
+    inside: &[Prefix],
+) -> Result<Option<u16>, ConfigFault>
+    requires some { 1 ≤ length pool.now }
+    requires few_addresses { length pool.now ≤ 16 }
+    requires few { length inside.now ≤ 16 }
+    ensures { Reads (λ block. block) result
+        (block_size_in pool.now inside.now (table_view table.now)) }
+{
+    match value_at(table, "block") {
+        Some(value) => block_size(table, value, pool, inside),
         None => Ok(None),
     }
 }

@@ -1,13 +1,13 @@
 //! Reading the redirects of a configuration's table.
-ghost use Rattle.std.specs.Prelude.{◌≡◌, ◌≤◌, [], length, codes};
+ghost use Rattle.std.specs.Prelude.{◌≡◌, ◌≤◌, ℕ, [], length, codes, IfSome};
 ghost use Rattle.toml.specs.View.{view, table_view, items_view};
 ghost use Rattle.napt_config.specs.Fault.{Reads, Gives, TellsFirst};
-ghost use Rattle.napt_config.specs.Rules.{paired, share_inside, share_external, is_double};
+ghost use Rattle.napt_config.specs.Rules.{paired, block_in, may_redirect, share_inside, share_external, is_double, IsBlock};
 ghost use Rattle.napt_config.specs.Configured.{each_in_order, first_in_order, list_up_to, optional, is_tcp_in, transport_address_in, port_in, redirect_in, have_double, with_redirect, redirects_at, redirects_first, redirects_in};
 
 use crate::reading::{between, have_address, list_up_to};
 use crate::values::{number_in, required, table_in, text_in, value_at};
-use crate::{ConfigFault, Prefix, Redirect, TransportAddress, pairing};
+use crate::{ConfigFault, Prefix, Redirect, TransportAddress, blocks, pairing};
 use std::alloc::Global;
 use std::collections::BTreeMap;
 use toml::{Table, Value};
@@ -46,10 +46,36 @@ fn port_in(keys: &Table, key: &str) -> Result<u16, ConfigFault>
     Ok(port as u16)
 }
 
+/// Whether a host may have the external port: if hosts have blocks, it is below 1024, or in the host's block.
+fn may_have(
+    host: u32,
+    external: u16,
+    block: Option<u16>,
+    inside: &[Prefix],
+    addresses: usize,
+) -> bool
+    requires some { 1 ≤ addresses }
+    requires few { length inside.now ≤ 16 }
+    requires blocks { (host : ℕ) → IfSome (block_in block inside.now addresses host) IsBlock }
+    ensures { result ≡ may_redirect (block_in block inside.now addresses host) external }
+{
+    let own = blocks::block_of(block, inside, addresses, host);
+    blocks::may_redirect(own, external)
+}
+
 /// The redirect of an inside host in an entry.
 #[tactic(auto, unfolding(crate::specs::Configured::redirect_in))]
-fn redirect_in(entry: &Value, inside: &[Prefix]) -> Result<Redirect, ConfigFault>
-    ensures { Reads (λ redirect. redirect) result (redirect_in inside.now (view entry.now)) }
+fn redirect_in(
+    entry: &Value,
+    block: Option<u16>,
+    inside: &[Prefix],
+    addresses: usize,
+) -> Result<Redirect, ConfigFault>
+    requires some { 1 ≤ addresses }
+    requires few { length inside.now ≤ 16 }
+    requires blocks { (host : ℕ) → IfSome (block_in block inside.now addresses host) IsBlock }
+    ensures { Reads (λ redirect. redirect) result
+        (redirect_in inside.now (block_in block inside.now addresses) (view entry.now)) }
 {
     let keys = table_in(entry)?;
     let tcp = is_tcp_in(keys)?;
@@ -58,6 +84,9 @@ fn redirect_in(entry: &Value, inside: &[Prefix]) -> Result<Redirect, ConfigFault
         return Err(ConfigFault::NotInside);
     }
     let external = port_in(keys, "external")?;
+    if !may_have(host.address(), external, block, inside, addresses) {
+        return Err(ConfigFault::RedirectInBlock);
+    }
     Ok(Redirect {
         tcp,
         address: host.address(),
@@ -74,21 +103,38 @@ fn share_inside(a: &Redirect, b: &Redirect) -> bool
 }
 
 /// Whether both share an external endpoint.
-fn share_external(a: &Redirect, b: &Redirect, pool: &[u32], pairs: &BTreeMap<u32, u32>) -> bool
+fn share_external(
+    a: &Redirect,
+    b: &Redirect,
+    block: Option<u16>,
+    inside: &[Prefix],
+    pool: &[u32],
+    pairs: &BTreeMap<u32, u32>,
+) -> bool
     requires some { 1 ≤ length pool.now }
-    ensures { result ≡ share_external (paired pool.now pairs.now.entries) a.now b.now }
+    requires few { length inside.now ≤ 16 }
+    ensures { result ≡ share_external (paired block inside.now pool.now pairs.now.entries) a.now
+        b.now }
 {
-    let a_address = pairing::pair(pool, pairs, a.address);
-    let b_address = pairing::pair(pool, pairs, b.address);
+    let a_address = pairing::pair(block, inside, pool, pairs, a.address);
+    let b_address = pairing::pair(block, inside, pool, pairs, b.address);
     a_address == b_address && a.external == b.external
 }
 
 /// Whether both are of one protocol and share an inside or an external endpoint.
-fn is_double(a: &Redirect, b: &Redirect, pool: &[u32], pairs: &BTreeMap<u32, u32>) -> bool
+fn is_double(
+    a: &Redirect,
+    b: &Redirect,
+    block: Option<u16>,
+    inside: &[Prefix],
+    pool: &[u32],
+    pairs: &BTreeMap<u32, u32>,
+) -> bool
     requires some { 1 ≤ length pool.now }
-    ensures { result ≡ is_double (paired pool.now pairs.now.entries) a.now b.now }
+    requires few { length inside.now ≤ 16 }
+    ensures { result ≡ is_double (paired block inside.now pool.now pairs.now.entries) a.now b.now }
 {
-    a.tcp == b.tcp && (share_inside(a, b) || share_external(a, b, pool, pairs))
+    a.tcp == b.tcp && (share_inside(a, b) || share_external(a, b, block, inside, pool, pairs))
 }
 
 /// Whether one of the redirects clashes with a later one.
@@ -96,14 +142,18 @@ fn is_double(a: &Redirect, b: &Redirect, pool: &[u32], pairs: &BTreeMap<u32, u32
 fn have_double(
     earlier: &[Redirect],
     later: &Redirect,
+    block: Option<u16>,
+    inside: &[Prefix],
     pool: &[u32],
     pairs: &BTreeMap<u32, u32>,
 ) -> bool
     requires some { 1 ≤ length pool.now }
-    ensures { result ≡ have_double (paired pool.now pairs.now.entries) earlier.now later.now }
+    requires few { length inside.now ≤ 16 }
+    ensures { result ≡ have_double (paired block inside.now pool.now pairs.now.entries) earlier.now
+        later.now }
 {
     for redirect in earlier {
-        if is_double(redirect, later, pool, pairs) {
+        if is_double(redirect, later, block, inside, pool, pairs) {
             return true;
         }
     }
@@ -114,20 +164,26 @@ fn have_double(
 fn add_redirect(
     redirects: &mut Vec<Redirect>,
     entry: &Value,
+    block: Option<u16>,
     inside: &[Prefix],
     pool: &[u32],
     pairs: &BTreeMap<u32, u32>,
 ) -> Result<(), ConfigFault>
     requires some { 1 ≤ length pool.now }
+    requires few { length inside.now ≤ 16 }
+    requires blocks { (host : ℕ) → IfSome (block_in block inside.now (length pool.now) host)
+        IsBlock }
     ensures exact { Gives (λ _. redirects.new.items) result
-        (with_redirect inside.now (paired pool.now pairs.now.entries) redirects.old.items
+        (with_redirect inside.now (paired block inside.now pool.now pairs.now.entries)
+        (block_in block inside.now (length pool.now)) redirects.old.items
         (view entry.now)) }
     ensures first { TellsFirst
-        (with_redirect inside.now (paired pool.now pairs.now.entries) redirects.old.items
+        (with_redirect inside.now (paired block inside.now pool.now pairs.now.entries)
+        (block_in block inside.now (length pool.now)) redirects.old.items
         (view entry.now)) result }
 {
-    let redirect = redirect_in(entry, inside)?;
-    if have_double(redirects, &redirect, pool, pairs) {
+    let redirect = redirect_in(entry, block, inside, pool.len())?;
+    if have_double(redirects, &redirect, block, inside, pool, pairs) {
         return Err(ConfigFault::DoubleRedirect);
     }
     redirects.push(redirect)?;
@@ -138,21 +194,27 @@ fn add_redirect(
 fn redirects_of(
     alloc: Global,
     entries: &[Value],
+    block: Option<u16>,
     inside: &[Prefix],
     pool: &[u32],
     pairs: &BTreeMap<u32, u32>,
 ) -> Result<Vec<Redirect>, ConfigFault>
     requires some { 1 ≤ length pool.now }
+    requires few { length inside.now ≤ 16 }
+    requires blocks { (host : ℕ) → IfSome (block_in block inside.now (length pool.now) host)
+        IsBlock }
     ensures exact { Gives (λ redirects. redirects.items) result
-        (each_in_order (with_redirect inside.now (paired pool.now pairs.now.entries)) []
+        (each_in_order (with_redirect inside.now (paired block inside.now pool.now pairs.now.entries)
+        (block_in block inside.now (length pool.now))) []
         (items_view entries.now)) }
     ensures first { TellsFirst
-        (first_in_order (with_redirect inside.now (paired pool.now pairs.now.entries)) []
+        (first_in_order (with_redirect inside.now (paired block inside.now pool.now pairs.now.entries)
+        (block_in block inside.now (length pool.now))) []
         (items_view entries.now)) result }
 {
     let mut redirects = Vec::new(alloc);
     for entry in entries {
-        add_redirect(&mut redirects, entry, inside, pool, pairs)?;
+        add_redirect(&mut redirects, entry, block, inside, pool, pairs)?;
     }
     Ok(redirects)
 }
@@ -161,18 +223,24 @@ fn redirects_of(
 fn redirects_at(
     alloc: Global,
     value: &Value,
+    block: Option<u16>,
     inside: &[Prefix],
     pool: &[u32],
     pairs: &BTreeMap<u32, u32>,
 ) -> Result<Vec<Redirect>, ConfigFault>
     requires some { 1 ≤ length pool.now }
+    requires few { length inside.now ≤ 16 }
+    requires blocks { (host : ℕ) → IfSome (block_in block inside.now (length pool.now) host)
+        IsBlock }
     ensures exact { Gives (λ redirects. redirects.items) result
-        (redirects_at inside.now (paired pool.now pairs.now.entries) (view value.now)) }
+        (redirects_at inside.now (paired block inside.now pool.now pairs.now.entries)
+        (block_in block inside.now (length pool.now)) (view value.now)) }
     ensures first { TellsFirst
-        (redirects_first inside.now (paired pool.now pairs.now.entries) (view value.now)) result }
+        (redirects_first inside.now (paired block inside.now pool.now pairs.now.entries)
+        (block_in block inside.now (length pool.now)) (view value.now)) result }
 {
     let entries = list_up_to(MOST_REDIRECTS, value)?;
-    redirects_of(alloc, entries, inside, pool, pairs)
+    redirects_of(alloc, entries, block, inside, pool, pairs)
 }
 
 /// The redirects of the table: at most 256, each of an inside host; no two of one protocol share an inside or
@@ -181,19 +249,25 @@ fn redirects_at(
 pub(crate) fn redirects(
     alloc: Global,
     table: &Table,
+    block: Option<u16>,
     inside: &[Prefix],
     pool: &[u32],
     pairs: &BTreeMap<u32, u32>,
 ) -> Result<Vec<Redirect>, ConfigFault>
     requires some { 1 ≤ length pool.now }
+    requires few { length inside.now ≤ 16 }
+    requires blocks { (host : ℕ) → IfSome (block_in block inside.now (length pool.now) host)
+        IsBlock }
     ensures exact { Gives (λ redirects. redirects.items) result
-        (redirects_in inside.now (paired pool.now pairs.now.entries) (table_view table.now)) }
+        (redirects_in inside.now (paired block inside.now pool.now pairs.now.entries)
+        (block_in block inside.now (length pool.now)) (table_view table.now)) }
     ensures first { TellsFirst
         (optional (codes "redirect") [] (redirects_first inside.now
-        (paired pool.now pairs.now.entries)) (table_view table.now)) result }
+        (paired block inside.now pool.now pairs.now.entries)
+        (block_in block inside.now (length pool.now))) (table_view table.now)) result }
 {
     match value_at(table, "redirect") {
-        Some(value) => redirects_at(alloc, value, inside, pool, pairs),
+        Some(value) => redirects_at(alloc, value, block, inside, pool, pairs),
         None => Ok(Vec::new(alloc)),
     }
 }

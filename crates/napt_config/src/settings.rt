@@ -43,6 +43,15 @@ impl Timers {
     };
 }
 
+/// The external numbers of one inside host, for each protocol: `size` numbers from `first` on (RFC 7422, section 2).
+#[derive(Clone, Copy, Debug, PartialEq, Eq)]
+pub struct Block {
+    /// The first number, even and at least 1024.
+    pub first: u16,
+    /// How many numbers, an even count of at least 64. The last is at most 65535.
+    pub size: u16,
+}
+
 /// A static redirect: a UDP or TCP port of an inside host, mapped to an external port (RFC 3022, section 2.2).
 /// Its external address is the host's paired one.
 #[derive(Clone, Copy, Debug, PartialEq, Eq)]

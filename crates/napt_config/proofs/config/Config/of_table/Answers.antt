@@ -1,13 +1,35 @@
 use Rattle.std.proofs.Common.{◌≡◌, Ok, rules}
 use Rattle.toml.specs.View.{table_view}
-use Rattle.napt_config.specs.Configured.{configured, pool_in}
-use Rattle.napt_config.proofs.Laws.{configured-keeps, pool_in-keeps}
+use Rattle.napt_config.specs.Configured.{configured, pool_in, inside_in, block_size_in}
+use Rattle.napt_config.proofs.Laws.{configured-keeps, pool_in-keeps, inside_in-keeps, blocks-keep}
 use Rattle.napt_config.proofs.config.Config.of_table.Goals as goal
+
+pub block-requires : goal.block-requires
+block-requires c =
+    let table = table_view c.args.table.now in
+    let pool_is : pool_in table ≡ Ok c.in_ok-pool.pool.items = search rules in
+    let inside_is : inside_in c.in_ok-pool.pool.items table ≡ Ok c.in_ok-inside.inside.items = search rules in
+    let of_pool = pool_in-keeps table _ pool_is in
+    record {
+      some = rw c.deref-2.ensures.value of_pool.some;
+      few_addresses = rw c.deref-2.ensures.value of_pool.few;
+      few = rw c.deref-3.ensures.value (inside_in-keeps _ table _ inside_is).0.few;
+    }
 
 pub redirects-requires : goal.redirects-requires
 redirects-requires c =
-    let is : pool_in (table_view c.args.table.now) ≡ Ok c.in_ok-pool.pool.items = search rules in
-    record { some = rw c.deref-5.ensures.value (pool_in-keeps (table_view c.args.table.now) _ is).some }
+    let table = table_view c.args.table.now in
+    let pool_is : pool_in table ≡ Ok c.in_ok-pool.pool.items = search rules in
+    let inside_is : inside_in c.in_ok-pool.pool.items table ≡ Ok c.in_ok-inside.inside.items = search rules in
+    let block_is : block_size_in c.in_ok-pool.pool.items c.in_ok-inside.inside.items table ≡ Ok c.in_ok-block.block =
+    search rules in
+    let of_pool = pool_in-keeps table _ pool_is in
+    record {
+      some = rw c.deref-7.ensures.value of_pool.some;
+      few = rw c.deref-6.ensures.value (inside_in-keeps _ table _ inside_is).0.few;
+      blocks = rw (c.deref-6.ensures.value, c.deref-7.ensures.value)
+          (blocks-keep table _ _ _ of_pool.some block_is);
+    }
 
 pub invariant_of-result : goal.invariant_of-result
 unfolding configured
