@@ -1,5 +1,5 @@
 -- What the candidates of a number are: those that may stand for it, each once, itself first.
-use Rattle.std.proofs.Common.{◌≡◌, ◌≢◌, ℕ, zero, suc, ◌+◌, ◌%◌, ◌<◌, ◌≤◌, ◌==◌, Bool, true, false, ◌&&◌, cond, nat_lt, nat_le, List, [], ◌∷◌, ◌++◌, slice_index_or, refl, sym, ◌∙◌, ap, subst, arith, ◌↔◌}
+use Rattle.std.proofs.Common.{◌≡◌, ◌≢◌, ℕ, zero, suc, ◌+◌, ◌%◌, ◌<◌, ◌≤◌, ◌==◌, Bool, true, false, ◌&&◌, cond, nat_lt, nat_le, List, [], ◌∷◌, ◌++◌, slice_index_or, None, refl, sym, ◌∙◌, ap, subst, arith, ◌↔◌}
 use Rattle.std.specs.Prelude.{filter}
 use Rattle.std.specs.Bool.{beq}
 use Rattle.std.specs.Cmp.{booleans_Decides}
@@ -82,7 +82,7 @@ Contains-filter {X} p (y ∷ xs) x (suc k, h, is) passes =
     elim (p y) as (λ v. Contains (cond v (y ∷ filter p xs) (filter p xs)) x)
     [ true ↦ (suc j, omega (arith, in'), is') | false ↦ (j, in', is') ]
 
-AllPairs-append : {X : Type 0} (R : X → X → Type 0) (xs ys : List X) → AllPairs R xs → AllPairs R ys →
+pub AllPairs-append : {X : Type 0} (R : X → X → Type 0) (xs ys : List X) → AllPairs R xs → AllPairs R ys →
     All (λ x. All (R x) ys) xs → AllPairs R (xs ++ ys)
 AllPairs-append R [] ys a b across = b
 AllPairs-append R (x ∷ xs) ys a b across =
@@ -102,7 +102,7 @@ least_first (y ∷ xs) x rise least (suc k, h, is) =
     let first : x ≤ y = least 0 x (omega arith) in
     absurd (omega (arith, later, first, is))
 
-each_from : (P : ℕ → Type 0) (xs : List ℕ) → All P xs → Each P xs
+pub each_from : (P : ℕ → Type 0) (xs : List ℕ) → All P xs → Each P xs
 each_from P [] all = tt
 each_from P (x ∷ xs) all = (all 0 x (omega arith), each_from P xs (λ k d h. all (suc k) d (omega (arith, h))))
 
@@ -129,7 +129,7 @@ module _ (protocol : Protocol) (number : ℕ) where
       (All-filter (is_number_for protocol number) (λ n. n < 65536) (numbers_below 65536) (below_small 65536) k d h)
       (filter_passes (is_number_for protocol number) (numbers_below 65536) k d h)
 
-  pub candidates_are : All (λ n. IsNumberFor protocol number n) (candidates protocol number)
+  pub candidates_are : All (λ n. IsNumberFor protocol number n) (candidates None protocol number)
   candidates_are =
       All-append (λ n. IsNumberFor protocol number n) from_it before_it
       (All-filter (nat_le number) (λ n. IsNumberFor protocol number n) fitting fitting_are)
@@ -140,15 +140,16 @@ module _ (protocol : Protocol) (number : ℕ) where
       Contains-filter (is_number_for protocol number) (numbers_below 65536) n
       (below_all 65536 n (small_number protocol number n is)) (test_from_number protocol number n is)
 
-  all_candidates : (n : ℕ) → IsNumberFor protocol number n → Contains (candidates protocol number) n
-  all_candidates n is = elim (nat_le number n) as (λ v. nat_le number n ≡ v → Contains (candidates protocol number) n) [
-    | true ↦ λ e. Contains-append_left from_it before_it n
-        (Contains-filter (nat_le number) fitting n (all_fitting n is) e)
-    | false ↦ λ e.
-        let less : nat_lt n number ≡ true = lt-ltb n number (leb-false number n e) in
-        Contains-append_right from_it before_it n
-        (Contains-filter (λ other. nat_lt other number) fitting n (all_fitting n is) less)
-  ] refl
+  all_candidates : (n : ℕ) → IsNumberFor protocol number n → Contains (candidates None protocol number) n
+  all_candidates n is = elim (nat_le number n) as (λ v. nat_le number n ≡ v →
+      Contains (candidates None protocol number) n) [
+        | true ↦ λ e. Contains-append_left from_it before_it n
+            (Contains-filter (nat_le number) fitting n (all_fitting n is) e)
+        | false ↦ λ e.
+            let less : nat_lt n number ≡ true = lt-ltb n number (leb-false number n e) in
+            Contains-append_right from_it before_it n
+            (Contains-filter (λ other. nat_lt other number) fitting n (all_fitting n is) less)
+      ] refl
 
   fitting_rise : AllPairs (λ m n. m < n) fitting
   fitting_rise = AllPairs-filter (λ m n. m < n) (is_number_for protocol number) (numbers_below 65536) (below_rise 65536)
@@ -166,14 +167,15 @@ module _ (protocol : Protocol) (number : ℕ) where
   before_below k d h =
       ltb-true (slice_index_or before_it k d) number (filter_passes (λ other. nat_lt other number) fitting k d h)
 
-  itself_first : IsNumberFor protocol number number → (others : List ℕ) × (candidates protocol number ≡ number ∷ others)
+  itself_first : IsNumberFor protocol number number → (others : List ℕ)
+      × (candidates None protocol number ≡ number ∷ others)
   itself_first is =
       let e : nat_le number number ≡ true = le-leb number number (omega arith) in
       let (rest, starts) = least_first from_it number from_rise from_above
       (Contains-filter (nat_le number) fitting number (all_fitting number is) e) in
       (rest ++ before_it, ap (λ (l : List ℕ). l ++ before_it) starts)
 
-  each_once : AllPairs (λ m n. m ≢ n) (candidates protocol number)
+  each_once : AllPairs (λ m n. m ≢ n) (candidates None protocol number)
   each_once =
       AllPairs-append (λ m n. m ≢ n) from_it before_it (rising_differ from_it from_rise)
       (rising_differ before_it before_rise)
@@ -182,24 +184,24 @@ module _ (protocol : Protocol) (number : ℕ) where
 
 -- what holds of each number that may stand for one holds of its candidates
 pub each_candidate : (P : ℕ → Type 0) (protocol : Protocol) (number : ℕ) →
-    ((n : ℕ) → IsNumberFor protocol number n → P n) → Each P (candidates protocol number)
-each_candidate P protocol number holds = each_from P (candidates protocol number) (λ k d h.
-    holds (slice_index_or (candidates protocol number) k d) (candidates_are protocol number k d h))
+    ((n : ℕ) → IsNumberFor protocol number n → P n) → Each P (candidates None protocol number)
+each_candidate P protocol number holds = each_from P (candidates None protocol number) (λ k d h.
+    holds (slice_index_or (candidates None protocol number) k d) (candidates_are protocol number k d h))
 
 -- THE LAW
 
 pub candidates_begin : (protocol : Protocol) (number : ℕ) → IsNumberFor protocol number number →
-    (others : List ℕ) × (candidates protocol number ≡ number ∷ others)
+    (others : List ℕ) × (candidates None protocol number ≡ number ∷ others)
 candidates_begin protocol number is = itself_first protocol number is
 
 pub candidates_are_those : (protocol : Protocol) (number : ℕ) → IsNumberFor protocol number number →
-    (n : ℕ) → Contains (candidates protocol number) n ↔ IsNumberFor protocol number n
+    (n : ℕ) → Contains (candidates None protocol number) n ↔ IsNumberFor protocol number n
 candidates_are_those protocol number is n = (
-  λ h. All-contains (λ n. IsNumberFor protocol number n) (candidates protocol number) n
+  λ h. All-contains (λ n. IsNumberFor protocol number n) (candidates None protocol number) n
       (candidates_are protocol number) h,
   λ h. all_candidates protocol number n h,
 )
 
 pub candidates_differ : (protocol : Protocol) (number : ℕ) → IsNumberFor protocol number number →
-    AllPairs (λ m n. m ≢ n) (candidates protocol number)
+    AllPairs (λ m n. m ≢ n) (candidates None protocol number)
 candidates_differ protocol number is = each_once protocol number

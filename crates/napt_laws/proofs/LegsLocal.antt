@@ -31,7 +31,7 @@ module _ (rules : Rules) (address : ℕ) (leg : Leg) (own list : List Binding) (
   alike_out : (protocol : Protocol) (flags : Flags) → ActsAlike rules address leg.now
       (act_out rules address leg own protocol flags) (act_out rules address leg list protocol flags)
   alike_out protocol flags =
-      let packet : Sent = sent_of protocol flags leg.now leg.packet in
+      let packet : Sent = sent_of rules protocol flags leg.now leg.packet in
       let whole : Out = step_out rules.timers rules.quota address packet list in
       let e : step_out rules.timers rules.quota address packet own
       ≡ record { number = whole.number; through = whole.through; list = of address whole.list } =
@@ -113,7 +113,7 @@ module _ (rules : Rules) (address : ℕ) (leg : Leg) (list : List Binding) (othe
 
   kept_out : (protocol : Protocol) (flags : Flags) → IsKept (act_out rules address leg list protocol flags)
   kept_out protocol flags = kept_from _ (out_other rules.quota address
-      (sent_of protocol flags leg.now leg.packet) other differ (purge rules.timers leg.now list))
+      (sent_of rules protocol flags leg.now leg.packet) other differ (purge rules.timers leg.now list))
 
   kept_in : (protocol : Protocol) (flags : Flags) → IsKept (act_in rules address leg list protocol flags)
   kept_in protocol flags = kept_from _ (in_other (inbound_of rules) address

@@ -7,6 +7,7 @@ pub mod Finds
 pub mod Purges
 pub mod Fresh
 pub mod Classes
+pub mod Blocks
 pub mod Endpoints
 -- STEPS: how a list of bindings begins, and what a packet does to it
 
@@ -38,9 +39,11 @@ pub mod RunsLocal
 pub mod Alone
 pub mod RunsSound
 pub mod RunsQuota
+pub mod RunsBlocks
 pub mod Rows
 pub mod Grown
 pub mod EachLeg
 pub mod Dispatched
 pub mod OneInput
 pub mod Places
+pub mod Holders

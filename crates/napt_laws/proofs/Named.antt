@@ -3,6 +3,7 @@ use Rattle.std.proofs.Common.{◌≡◌, ℕ, Bool, true, false, List, [], ◌�
 use Rattle.std.specs.Prelude.{find, IfOk, IfSome}
 use Rattle.std.specs.Option.{option_map}
 use Rattle.std.proofs.lemmas.Bool.{and_parts}
+use Rattle.napt_config.specs.Rules.{IsBlock}
 use Rattle.napt_wire.specs.declared.Protocol.{Protocol}
 use Rattle.napt_wire.specs.declared.Protocol.TheVariants.{Icmp, Tcp, Udp}
 use Rattle.napt_wire.specs.declared.Cause.{Cause}
@@ -15,7 +16,7 @@ use Rattle.napt_rules.specs.declared.Row.{Row}
 use Rattle.napt_laws.proofs.Passes.{in_passed}
 use Rattle.napt_laws.proofs.Quotas.{granted_is_chosen}
 use Rattle.napt_laws.proofs.Lists.{find_passes}
-use Rattle.napt_laws.proofs.StepsSound.{chosen}
+use Rattle.napt_laws.proofs.StepsSound.{chosen_number}
 
 number_of : (p q : Protocol) (n : ℕ) → same_protocol p q ≡ true → IsNumber q n → IsNumber p n
 number_of Icmp q n e h = tt
@@ -100,12 +101,13 @@ module _ (pair : ℕ → ℕ) (address : ℕ) where
         IsNumber packet.protocol inside.number)
     in_named = found_named (find (of_destination address packet) list) refl
 
-  module _ (quota : Option ℕ) (packet : Sent) (list : List Binding) (s : IsSound pair list) where
+  module _ (quota : Option ℕ) (packet : Sent) (keeps : IfSome packet.block IsBlock) (list : List Binding)
+      (s : IsSound pair list) where
     made_named : (number : Result ℕ Cause) → granted quota list address packet ≡ number →
         IfOk (out_made list address packet number).number (IsNumber packet.protocol)
     made_named (Err cause) e = tt
-    made_named (Ok n) e = (chosen list packet.protocol address packet.inside.number n
-        (granted_is_chosen quota list address packet n e)).1
+    made_named (Ok n) e = chosen_number packet.block list packet.protocol address packet.inside.number n
+        (granted_is_chosen quota list address packet n e) keeps
 
     left_named : (found : Option Binding) → find (of_source address packet) list ≡ found →
         IfOk (out_found quota list address packet found).number (IsNumber packet.protocol)

@@ -17,7 +17,7 @@ use Rattle.napt_wire.specs.Reading.{reading}
 -- a host's external address is in the pool
 pair_in_pool : (rules : Rules) → KeepsRules rules → (host : ℕ) → IsSome (place_of rules (pair_of rules host))
 pair_in_pool rules keeps host = position_of_member rules.pool (pair_of rules host)
-    (paired_in_pool rules.pool rules.pairs host keeps.pool.some keeps.pairs.externals)
+    (paired_in_pool rules.block rules.inside rules.pool rules.pairs host keeps.pool.some keeps.pairs.externals)
 
 no_cause : (a b c : Bool) → cond a (Some Spoofed) (cond b (Some NotOurs) (cond c (Some Unsupported) None)) ≡ None →
     b ≡ false

@@ -139,7 +139,7 @@ module _ (rules : Rules) (address : ℕ) (leg : Leg) (list : List Binding) where
 
     dropped_none : (way : Way) (k : Kind) → IsNone (act_by rules address leg list way k)
     dropped_none = of_act rules address leg list IsNone
-        (λ protocol flags. let packet : Sent = sent_of protocol flags leg.now leg.packet in
+        (λ protocol flags. let packet : Sent = sent_of rules protocol flags leg.now leg.packet in
         let live : List Binding = purge rules.timers leg.now list in
         sent_none packet live (find (of_source address packet) live))
         (λ protocol flags. let packet : Received = received_of protocol flags leg.now leg.packet in

@@ -1,4 +1,5 @@
 pub mod Agreeing
 pub mod Dispatching
+pub mod Hosts
 pub mod Places
 pub mod Through

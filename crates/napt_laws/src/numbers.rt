@@ -1,11 +1,15 @@
 //! A law of external numbers.
 
-ghost use Rattle.napt_rules.specs.Prelude.{CandidatesBegin, CandidatesAreThose, CandidatesDiffer};
+ghost use Rattle.napt_rules.specs.Prelude.{CandidatesBegin, CandidatesAreThose, CandidatesDiffer, BlockBegins, BlockIsThose, BlockDiffers};
 
 /// The candidates of a number are those that it may be mapped to, each once, itself first: a port keeps its side of
-/// 1024 and its parity (RFC 4787, REQ-3 (a) and REQ-4), an identifier may become any (RFC 5508, section 3.1).
+/// 1024 and its parity (RFC 4787, REQ-3 (a) and REQ-4), an identifier may become any (RFC 5508, section 3.1). Those of
+/// a host with a block are the numbers of the block, each once, that at the number's place first (RFC 7422, section 2).
 pub fn candidates_are_the_class()
     ensures begin { CandidatesBegin }
     ensures those { CandidatesAreThose }
     ensures differ { CandidatesDiffer }
+    ensures block_begins { BlockBegins }
+    ensures block_is_those { BlockIsThose }
+    ensures block_differs { BlockDiffers }
 {}

@@ -1,6 +1,6 @@
 //! Laws of runs.
 
-ghost use Rattle.napt_rules.specs.Prelude.{RunsAreSound, RunsStayApart, RunsKeepQuota, TranslatorsAnswerAlone, TranslatorsKeepTheirOwn};
+ghost use Rattle.napt_rules.specs.Prelude.{RunsAreSound, RunsStayApart, RunsKeepQuota, RunsKeepToBlocks, TranslatorsAnswerAlone, TranslatorsKeepTheirOwn};
 
 use crate::steps::{no_host_exceeds_its_quota, opening_is_sound, steps_stay_sound};
 use napt_wire::packets_carry_numbers;
@@ -21,6 +21,12 @@ pub fn runs_keep_the_quota()
 {
     no_host_exceeds_its_quota();
 }
+
+/// After any inputs each binding that is no redirect has an external number of its inside host's block, where the host has
+/// one (RFC 7422, section 2): so the configuration alone tells who had a number.
+pub fn runs_keep_to_blocks()
+    ensures { RunsKeepToBlocks }
+{}
 
 /// A translator of one external address answers as the sequential one does, and is left with its bindings there.
 pub fn translators_are_local()

@@ -1,6 +1,9 @@
--- LAW: the candidates of a number are those that may stand for it, each once, and the number itself comes first.
-use Rattle.std.specs.Prelude.{◌≡◌, ◌≢◌, ℕ, ◌<◌, ◌%◌, nat_lt, List, ◌∷◌, ◌↔◌}
+-- LAWS: the candidates of a number are those that may stand for it, each once, and the number itself comes first; in a
+-- block they are the numbers of the block, each once, and the one at the number's place comes first.
+use Rattle.std.specs.Prelude.{◌≡◌, ◌≢◌, ℕ, ◌+◌, ◌<◌, ◌≤◌, ◌%◌, nat_lt, List, ◌∷◌, Some, None, ◌↔◌}
 use Rattle.std.specs.List.{AllPairs, Contains}
+use Rattle.napt_config.specs.Rules.{IsBlock}
+use Rattle.napt_config.specs.declared.settings.Block.{Block}
 use Rattle.napt_wire.specs.declared.Protocol.{Protocol}
 use Rattle.napt_wire.specs.declared.Protocol.TheVariants.{Icmp, Tcp, Udp}
 use Rattle.napt_rules.specs.Candidates.{candidates}
@@ -21,14 +24,36 @@ IsNumberFor Udp port number = IsPortFor port number
 -- the candidates begin with the number itself, which is preserved where it is free
 abbrev pub CandidatesBegin : Type 0
 CandidatesBegin = (protocol : Protocol) (number : ℕ) → IsNumberFor protocol number number →
-    (others : List ℕ) × (candidates protocol number ≡ number ∷ others)
+    (others : List ℕ) × (candidates None protocol number ≡ number ∷ others)
 
 -- they are exactly the numbers that may stand for it
 abbrev pub CandidatesAreThose : Type 0
 CandidatesAreThose = (protocol : Protocol) (number : ℕ) → IsNumberFor protocol number number →
-    (n : ℕ) → Contains (candidates protocol number) n ↔ IsNumberFor protocol number n
+    (n : ℕ) → Contains (candidates None protocol number) n ↔ IsNumberFor protocol number n
 
 -- each once
 abbrev pub CandidatesDiffer : Type 0
 CandidatesDiffer = (protocol : Protocol) (number : ℕ) → IsNumberFor protocol number number →
-    AllPairs (λ m n. m ≢ n) (candidates protocol number)
+    AllPairs (λ m n. m ≢ n) (candidates None protocol number)
+
+-- IN A BLOCK
+
+pub record IsOfBlock (block : Block) (number : ℕ) : Type 0 where
+  pub first : block.first ≤ number
+  pub last : number < block.first + block.size
+
+-- the candidates begin with the number of the block that is as far from its first as the number is past a multiple of
+-- the block's size
+abbrev pub BlockBegins : Type 0
+BlockBegins = (block : Block) → IsBlock block → (protocol : Protocol) (number : ℕ) →
+    (others : List ℕ) × (candidates (Some block) protocol number ≡ (block.first + number % block.size) ∷ others)
+
+-- they are exactly the numbers of the block
+abbrev pub BlockIsThose : Type 0
+BlockIsThose = (block : Block) → IsBlock block → (protocol : Protocol) (number n : ℕ) →
+    Contains (candidates (Some block) protocol number) n ↔ IsOfBlock block n
+
+-- each once
+abbrev pub BlockDiffers : Type 0
+BlockDiffers = (block : Block) → IsBlock block → (protocol : Protocol) (number : ℕ) →
+    AllPairs (λ m n. m ≢ n) (candidates (Some block) protocol number)

@@ -63,5 +63,6 @@ pub mod OwnTime
 pub mod LegEnds
 pub mod SoundRuns
 pub mod QuotaRuns
+pub mod BlockRuns
 pub mod LocalRuns
 pub mod Prelude

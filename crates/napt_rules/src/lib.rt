@@ -4,7 +4,7 @@
 //! The sources are RFC 3022, RFC 4787, RFC 5382, RFC 5508 and RFC 6888; each file names its sections.
 #![tactic(auto)]
 
-use napt_config::{Filter, Refresh};
+use napt_config::{Block, Filter, Refresh};
 use napt_wire::{Cause, Endpoint, Flags, Packet, Protocol, Way};
 
 /// What a TCP flow was seen to do: a SYN and a FIN of each side, and a reset (RFC 5382, REQ-2 and REQ-5).
@@ -68,6 +68,8 @@ pub struct Sent {
     pub flags: Flags,
     /// The time, in ns.
     pub now: u64,
+    /// The external numbers that are for its host alone, where the configuration gives each host some (RFC 7422, section 2).
+    pub block: Option<Block>,
 }
 
 /// A packet that comes in, and when.

@@ -1,0 +1,5 @@
+use Rattle.napt_laws.proofs.RunsBlocks.{runs_keep_to_blocks}
+use Rattle.napt_laws.proofs.runs.runs_keep_to_blocks.Goals as goal
+
+pub returns : goal.returns
+returns c = runs_keep_to_blocks
