@@ -1,9 +1,12 @@
 -- The times of flows in slots.
-use Rattle.std.proofs.Common.{◌≡◌, ℕ, zero, suc, ◌<◌, ◌≤◌, Bool, true, false, ◌||◌, cond, List, [], ◌∷◌, map, Option, Some, None, nat_lt, slice_get, refl, sym, ◌∙◌, ap, arith}
+use Rattle.std.proofs.Common.{◌≡◌, ℕ, zero, suc, ◌<◌, ◌≤◌, Bool, true, false, ◌||◌, cond, List, [], ◌∷◌, map, set, Option, Some, None, not, nat_lt, slice_get, refl, sym, ◌∙◌, ap, arith, eqb, eqb-true}
 use Rattle.std.specs.Prelude.{IfSome, IfNone}
 use Rattle.std.specs.List.{list_any}
+use Rattle.std.specs.Option.{option_eq}
+use Rattle.std.proofs.lemmas.Bool.{not-false, true≢false}
+use Rattle.std.proofs.lemmas.List.{set-get_or}
 use Rattle.std.proofs.lemmas.Bool.Decides.{nat_tests}
-use Rattle.std.proofs.lemmas.Option.{same_Some}
+use Rattle.std.proofs.lemmas.Option.{same_Some, get_or_from_slice_get}
 use Rattle.napt_config.specs.declared.settings.Timers.{Timers}
 use Rattle.napt_rules.specs.declared.Flow.{Flow}
 use Rattle.napt_rules.specs.Prelude.{is_established, is_recent, is_live_flow}
@@ -12,6 +15,20 @@ use Rattle.napt_binding.proofs.Slots.{any_live}
 use Rattle.napt_rules.proofs.Lists.{any_weaker}
 use Rattle.napt_rules.proofs.Life.{lived_flow}
 use Rattle.napt_collections.specs.Bounds.{IsLatest, HasNoTime}
+
+-- CHANGES OF TIMES
+
+same_time : (a b : Option ℕ) → not (option_eq eqb a b) ≡ false → a ≡ b
+same_time (Some x) (Some y) e = ap (λ (n : ℕ). Some n) (eqb-true x y (not-false (eqb x y) e))
+same_time (Some x) None e = absurd (true≢false e)
+same_time None (Some y) e = absurd (true≢false e)
+same_time None None e = refl
+
+pub set_same_time : (times : List (Option ℕ)) (place : ℕ) (before time : Option ℕ) →
+    slice_get times place ≡ Some before → not (option_eq eqb before time) ≡ false → times ≡ set times place time
+set_same_time times place before time h e =
+    sym (ap (λ (o : Option ℕ). set times place o)
+    (sym (get_or_from_slice_get times place before None h ∙ same_time before time e)) ∙ set-get_or times place None)
 
 -- ANY
 

@@ -3,4 +3,5 @@ pub mod Rows
 pub mod Least
 pub mod Same
 pub mod Trees
+pub mod Raises
 pub mod Bounded

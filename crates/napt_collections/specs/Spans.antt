@@ -37,3 +37,11 @@ joined_at times spans i =
 -- the span at the place is that of its own time and of the spans under it
 abbrev pub IsRight : List (Option ℕ) → List Span → ℕ → Type 0
 IsRight times spans i = span_at spans i ≡ joined_at times spans i
+
+-- the span with one time more, which is not its earliest
+abbrev pub raised : Option ℕ → Span → Span
+raised time span = record { earliest = span.earliest; latest = later span.latest time }
+
+-- the time became later: what is at the place and under it has one more time
+abbrev pub IsRaised : List (Option ℕ) → List Span → ℕ → Option ℕ → Type 0
+IsRaised times spans i time = (joined_at times spans i).latest ≡ later (span_at spans i).latest time

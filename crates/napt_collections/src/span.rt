@@ -2,8 +2,8 @@
 //!
 //! The places are the nodes of a binary tree: under place `i` are the places `2 i + 1` and `2 i + 2`, if they exist.
 
-ghost use Rattle.std.specs.Prelude.{◌≡◌, ◌≢◌, ℕ, ◌+◌, ◌*◌, ◌<◌, length, slice_set, false};
-ghost use Rattle.napt_collections.specs.Spans.{earlier, later, no_times, span_at, joined, joined_at, IsRight};
+ghost use Rattle.std.specs.Prelude.{◌≡◌, ◌≢◌, ℕ, ◌+◌, ◌*◌, ◌<◌, length, slice_set, slice_index_or, None, true, false};
+ghost use Rattle.napt_collections.specs.Spans.{earlier, later, no_times, span_at, joined, joined_at, raised, IsRight, IsRaised};
 
 /// An earliest time, with its place, and the latest time, of a place and all places under it.
 #[derive(Clone, Copy, PartialEq, Eq)]
@@ -85,9 +85,41 @@ fn mend_at(times: &[Option<u64>], spans: &mut [Span], place: usize) -> bool
     changes
 }
 
+/// Puts a time into the latest one of the span at a place, which is what it has under it. Returns whether it changed.
+fn raise_at(spans: &mut [Span], place: usize, time: Option<u64>) -> bool
+    requires { place < length spans.old }
+    ensures raised { spans.new ≡ slice_set spans.old place (raised time (span_at spans.old place)) }
+    ensures unchanged { result ≡ false →
+        raised time (span_at spans.old place) ≡ span_at spans.old place }
+{
+    let span = spans[place];
+    let latest = later(span.latest, time);
+    spans[place] = Span {
+        earliest: span.earliest,
+        latest,
+    };
+    latest != span.latest
+}
+
+/// Makes the spans over the place `from` right, and the latest time of its own, when the time there became later. It
+/// looks at nothing beside its way up, and goes only to the first span that does not change.
+fn raise(times: &[Option<u64>], spans: &mut [Span], from: usize)
+    requires lengths { length times.now ≡ length spans.old }
+    requires within { from < length times.now }
+    requires others { (i : ℕ) → i ≢ from → IsRight times.now spans.old i }
+    requires later { IsRaised times.now spans.old from (slice_index_or times.now from None) }
+    ensures { (i : ℕ) → i ≢ from → IsRight times.now spans.new i }
+{
+    let time = times[from];
+    let mut place = from;
+    while raise_at(spans, place, time) && place > 0 {
+        place = (place - 1) / 2;
+    }
+}
+
 /// Makes all spans right when at most the one at `from` is wrong. It goes up only to the first span that does not
 /// change.
-pub(crate) fn mend(times: &[Option<u64>], spans: &mut [Span], from: usize)
+fn mend(times: &[Option<u64>], spans: &mut [Span], from: usize)
     requires lengths { length times.now ≡ length spans.old }
     requires within { from < length times.now }
     requires others { (i : ℕ) → i ≢ from → IsRight times.now spans.old i }
@@ -97,4 +129,31 @@ pub(crate) fn mend(times: &[Option<u64>], spans: &mut [Span], from: usize)
     while mend_at(times, spans, place) && place > 0 {
         place = (place - 1) / 2;
     }
+}
+
+/// Whether a time is not before the one that it replaces.
+fn is_raised(before: Option<u64>, time: Option<u64>) -> bool
+    ensures { result ≡ true → later before time ≡ time }
+{
+    later(before, time) == time
+}
+
+/// Makes all spans right when the time at a place was `before`. A later time takes the short way up.
+pub(crate) fn mend_after(
+    times: &[Option<u64>],
+    spans: &mut [Span],
+    place: usize,
+    before: Option<u64>,
+)
+    requires lengths { length times.now ≡ length spans.old }
+    requires within { place < length times.now }
+    requires others { (i : ℕ) → i ≢ place → IsRight times.now spans.old i }
+    requires was { span_at spans.old place ≡ joined place before
+        (span_at spans.old (2 * place + 1)) (span_at spans.old (2 * place + 2)) }
+    ensures { (i : ℕ) → IsRight times.now spans.new i }
+{
+    if is_raised(before, times[place]) {
+        raise(times, spans, place);
+    }
+    mend(times, spans, place);
 }

@@ -3,7 +3,7 @@
 ghost use Rattle.std.specs.Prelude.{◌≡◌, ◌<◌, ◌≤◌, ◌+◌, [], ◌∷◌, ◌++◌, length, slice_set, OnOk, OnErr};
 ghost use Rattle.napt_collections.specs.Bounds.{IsEarliest, IsLatest};
 
-use crate::span::{Span, mend, no_times, span_at};
+use crate::span::{Span, mend_after, no_times, span_at};
 use std::alloc::{AllocError, Global};
 use std::marker::Model;
 
@@ -60,7 +60,7 @@ impl Times {
         let place = self.times.len();
         self.times.push_reserved(time);
         self.spans.push_reserved(no_times());
-        mend(&self.times, &mut self.spans, place);
+        mend_after(&self.times, &mut self.spans, place, None);
     }
 
     /// Appends a time; `AllocError`, and no time changed, if memory is refused.
@@ -79,8 +79,9 @@ impl Times {
         ensures times { self.new.times ≡ slice_set self.old.times place time }
         ensures room { self.new.room ≡ self.old.room }
     {
+        let before = self.times[place];
         self.times[place] = time;
-        mend(&self.times, &mut self.spans, place);
+        mend_after(&self.times, &mut self.spans, place, before);
     }
 
     /// An earliest time and its place; `None` if no place has a time. It takes constant time, and no memory.

@@ -1,6 +1,6 @@
 //! The flows of a binding in slots, with the times of their last use at hand.
 
-ghost use Rattle.std.specs.Prelude.{◌≡◌, ◌<◌, ◌≤◌, ◌+◌, ◌++◌, ◌^◌, ℕ, [], ◌∷◌, Some, true, false, nat_lt, length, slice_set, filter, OnOk, IfSome, IfNone};
+ghost use Rattle.std.specs.Prelude.{◌≡◌, ◌<◌, ◌≤◌, ◌+◌, ◌++◌, ◌^◌, ℕ, [], ◌∷◌, Some, true, false, nat_lt, length, slice_get, slice_set, filter, OnOk, IfSome, IfNone};
 ghost use Rattle.std.specs.List.{list_any};
 ghost use Rattle.napt_rules.specs.declared.Flow.{Flow};
 ghost use Rattle.napt_rules.specs.Life as life;
@@ -56,6 +56,17 @@ fn other_time(slot: Option<Flow>) -> Option<u64>
     match slot {
         Some(flow) if !is_established(flow.marks) => Some(flow.last),
         _ => None,
+    }
+}
+
+/// Changes the time at a place from `before`, if it is another one.
+fn set_time(times: &mut Times, place: usize, before: Option<u64>, time: Option<u64>)
+    requires { slice_get times.old.times place ≡ Some before }
+    ensures times { times.new.times ≡ slice_set times.old.times place time }
+    ensures room { times.new.room ≡ times.old.room }
+{
+    if before != time {
+        times.set(place, time);
     }
 }
 
@@ -176,11 +187,20 @@ impl Slots {
         ensures slots { self.new.slots ≡ slice_set self.old.slots place slot }
         ensures room { self.new.room ≡ self.old.room }
     {
+        let before = self.flows[place];
         self.flows[place] = slot;
-        let established = &mut self.established;
-        established.set(place, established_time(slot));
-        let others = &mut self.others;
-        others.set(place, other_time(slot));
+        set_time(
+            &mut self.established,
+            place,
+            established_time(before),
+            established_time(slot),
+        );
+        set_time(
+            &mut self.others,
+            place,
+            other_time(before),
+            other_time(slot),
+        );
     }
 
     /// A place of a dead TCP flow. It takes two looks.

@@ -3,8 +3,8 @@ use Rattle.std.proofs.lemmas.List.{with_items_is}
 use Rattle.napt_collections.proofs.Trees.{pushed}
 use Rattle.napt_collections.proofs.times.Times.put.Goals as goal
 
-pub mend-requires-clause-others : goal.mend-requires-clause-others
-mend-requires-clause-others c =
+pub mend_after-requires-clause-others : goal.mend_after-requires-clause-others
+mend_after-requires-clause-others c =
     let place : length c.self.inside.times.items ≡ c.len-place.result =
     omega (arith, c.len-place.ensures, c.self.inside.times.ok.0) in
     rw (
@@ -19,9 +19,9 @@ mend-requires-clause-others c =
 
 pub invariant_of-self : goal.invariant_of-self
 invariant_of-self c =
-    let kept : length c.mend.new.spans ≡ c.push_reserved-2.new.self.len =
-    omega (arith, c.mend.auto.spans, c.deref_mut.ensures.len) in record {
-      lengths = rw (with_items_is c.push_reserved-2.new.self c.mend.new.spans kept)
+    let kept : length c.mend_after.new.spans ≡ c.push_reserved-2.new.self.len =
+    omega (arith, c.mend_after.auto.spans, c.deref_mut.ensures.len) in record {
+      lengths = rw (with_items_is c.push_reserved-2.new.self c.mend_after.new.spans kept)
           (omega (
             arith,
             kept,
@@ -32,6 +32,6 @@ invariant_of-self c =
             c.self.inside.spans.ok.0,
             c.self.invariant.lengths,
           ));
-      right = λ i. rw (with_items_is c.push_reserved-2.new.self c.mend.new.spans kept, ← c.deref.ensures.value)
-          (c.mend.ensures i);
+      right = λ i. rw (with_items_is c.push_reserved-2.new.self c.mend_after.new.spans kept, ← c.deref.ensures.value)
+          (c.mend_after.ensures i);
     }
