@@ -1,15 +1,14 @@
 -- The first free place from a number's own on, else before it, is that of its first free candidate.
-use Rattle.std.proofs.Common.{◌≡◌, ℕ, zero, suc, ◌+◌, ◌-◌, ◌*◌, ◌/◌, ◌^◌, ◌<◌, ◌≤◌, Bool, true, false, not, cond, List, [], ◌∷◌, ◌++◌, map, Option, Some, None, refl, sym, ◌∙◌, ap, subst, arith}
+use Rattle.std.proofs.Common.{◌≡◌, ℕ, zero, suc, ◌+◌, ◌-◌, ◌*◌, ◌/◌, ◌<◌, ◌≤◌, Bool, true, false, not, cond, List, [], ◌∷◌, ◌++◌, map, Option, Some, None, ◌⊎◌, inl, inr, refl, sym, ◌∙◌, ap, subst, arith}
 use Rattle.std.specs.Prelude.{find}
 use Rattle.std.specs.List.{range_with_len}
-use Rattle.std.proofs.lemmas.Bool.Decides.{nat_tests}
 use Rattle.napt_collections.specs.Sets.{IsFirstAbsent}
 use Rattle.napt_wire.specs.declared.Protocol.{Protocol}
 use Rattle.napt_wire.specs.declared.Protocol.TheVariants.{Icmp, Tcp, Udp}
-use Rattle.napt_rules.specs.Prelude.{candidates}
+use Rattle.napt_rules.specs.Prelude.{candidates_in_class}
 use Rattle.napt_table.specs.declared.class.Class.{Class}
-use Rattle.napt_table.specs.Classes.{port_class, class_of, member}
-use Rattle.napt_table.specs.Places.{port_place, place_of}
+use Rattle.napt_table.specs.Classes.{port_class, class_of, member, from_place}
+use Rattle.napt_table.specs.Places.{place_of}
 use Rattle.napt_table.proofs.Ports.{by_class}
 use Rattle.napt_table.proofs.Classes.{candidates_by_class}
 
@@ -49,53 +48,31 @@ module _ (free : ℕ → Bool) (at : ℕ → ℕ) where
       ap (λ n. free (at n)) f ∙ none (suc i) (omega arith))
 
 module _ (p : ℕ → Bool) where
-  find_front : (xs ys : List ℕ) (x : ℕ) → find p xs ≡ Some x → find p (xs ++ ys) ≡ Some x
+  pub find_front : (xs ys : List ℕ) (x : ℕ) → find p xs ≡ Some x → find p (xs ++ ys) ≡ Some x
   find_front [] ys x e = cc
   find_front (y ∷ xs) ys x e = elim (p y) as (λ v. cond v (Some y) (find p xs) ≡ Some x →
       cond v (Some y) (find p (xs ++ ys)) ≡ Some x) [ true ↦ λ h. h | false ↦ λ h. find_front xs ys x h ] e
 
-  find_rest : (xs ys : List ℕ) → find p xs ≡ None → find p (xs ++ ys) ≡ find p ys
+  pub find_rest : (xs ys : List ℕ) → find p xs ≡ None → find p (xs ++ ys) ≡ find p ys
   find_rest [] ys e = refl
   find_rest (y ∷ xs) ys e = elim (p y) as (λ v. cond v (Some y) (find p xs) ≡ None →
       cond v (Some y) (find p (xs ++ ys)) ≡ find p ys) [ true ↦ λ h. cc | false ↦ λ h. find_rest xs ys h ] e
 
--- CLASSES
+-- THE FIRST FREE ONE OF A CLASS, whose numbers stand at a run of places, from a place of it on
 
--- a class whose numbers stand at the places from `start` on
-pub record Stands (place : ℕ → ℕ) (class : Class) (p : ℕ) : Type 0 where
-  pub within : (p - class.least) / class.apart < class.many
-  pub place_is : (q : ℕ) → q < class.many → place (class.least + class.apart * q) ≡ place class.least + q
-
-port_stands : (p : ℕ) → p < 2 ^ 16 → Stands port_place (port_class p) p
-port_stands p lt = by_class (λ class. Stands port_place class p) p
-    (λ e f. let low : p < 1024 = grind (arith, nat_tests, e) in
-    record { within = omega arith; place_is = λ q l. omega arith })
-    (λ e f. let low : p < 1024 = grind (arith, nat_tests, e) in
-    record { within = omega arith; place_is = λ q l. omega arith })
-    (λ e f. record { within = omega arith; place_is = λ q l. omega arith })
-    (λ e f. record { within = omega arith; place_is = λ q l. omega arith })
-
-pub stands : (protocol : Protocol) (p : ℕ) → p < 2 ^ 16 → Stands (place_of protocol) (class_of protocol p) p
-stands Icmp p lt = record { within = omega arith; place_is = λ q l. omega arith }
-stands Tcp p lt = port_stands p lt
-stands Udp p lt = port_stands p lt
-
--- THE CHOICE
-
-module _ (used : ℕ → Bool) (place : ℕ → ℕ) (class : Class) (p : ℕ) (s : Stands place class p) where
-  abbrev k : ℕ
-  k = (p - class.least) / class.apart
-
+module _ (used : ℕ → Bool) (place : ℕ → ℕ) (class : Class)
+    (place_is : (q : ℕ) → q < class.many → place (class.least + class.apart * q) ≡ place class.least + q) (k : ℕ)
+    (within : k ≤ class.many) where
   abbrev end : ℕ
   end = place class.least + class.many
 
   abbrev first : ℕ
-  first = place class.least + (p - class.least) / class.apart
+  first = place class.least + k
 
   abbrev free : ℕ → Bool
   free n = not (used (place n))
 
-  -- the numbers from p on, and those before it
+  -- the numbers from the place on, and those before it
   abbrev upper : List ℕ
   upper = map (member class) (range_with_len k (class.many - k))
 
@@ -103,7 +80,7 @@ module _ (used : ℕ → Bool) (place : ℕ → ℕ) (class : Class) (p : ℕ) (
   lower = map (member class) (range_with_len 0 k)
 
   free_at : (q : ℕ) → q < class.many → free (member class q) ≡ not (used (place class.least + q))
-  free_at q lt = ap (λ (n : ℕ). not (used n)) (s.place_is q lt)
+  free_at q lt = ap (λ (n : ℕ). not (used n)) (place_is q lt)
 
   found_among : (from many a b x : ℕ) → from + many ≤ class.many → a ≡ place class.least + from → b ≡ a + many →
       IsFirstAbsent used a b (Some x) → find free (map (member class) (range_with_len from many))
@@ -125,14 +102,12 @@ module _ (used : ℕ → Bool) (place : ℕ → ℕ) (class : Class) (p : ℕ) (
 
   none_near : IsFirstAbsent used first end None → find free upper ≡ None
   none_near none =
-      let within : k < class.many = s.within in
       none_among k (class.many - k) first end (omega arith) refl (omega arith) none
 
   -- it is at or after the number's own place
   pub found_near : (x : ℕ) → IsFirstAbsent used first end (Some x) →
       find free (upper ++ lower) ≡ Some (member class (x - place class.least))
   found_near x h =
-      let within : k < class.many = s.within in
       find_front free upper lower (member class (x - place class.least))
       (found_among k (class.many - k) first end x (omega arith) refl (omega arith) h)
 
@@ -140,66 +115,107 @@ module _ (used : ℕ → Bool) (place : ℕ → ℕ) (class : Class) (p : ℕ) (
   pub found_far : (x : ℕ) → IsFirstAbsent used first end None → IsFirstAbsent used (place class.least) first (Some x) →
       find free (upper ++ lower) ≡ Some (member class (x - place class.least))
   found_far x none h =
-      let within : k < class.many = s.within in
       find_rest free upper lower (none_near none)
       ∙ found_among 0 k (place class.least) first x (omega arith) (omega arith) refl h
 
   pub found_nowhere : IsFirstAbsent used first end None → IsFirstAbsent used (place class.least) first None →
       find free (upper ++ lower) ≡ None
   found_nowhere none before =
-      let within : k < class.many = s.within in
       find_rest free upper lower (none_near none)
       ∙ none_among 0 k (place class.least) first (omega arith) (omega arith) refl before
 
--- by a start that is the place of the class's least number, and how far the number is from that
-module _ (used : ℕ → Bool) (protocol : Protocol) (p : ℕ) (lt : p < 2 ^ 16) (class : Class)
-    (is : class ≡ class_of protocol p) (start off : ℕ) (starts : start ≡ place_of protocol class.least) (offs : off ≡ p
-    - class.least) where
-  there : Stands (place_of protocol) class p
-  there = subst (λ (c : Class). Stands (place_of protocol) c p) (sym is) (stands protocol p lt)
+-- a class of numbers that are two apart stands at a run of places
+pub two_apart : (class : Class) → class.apart ≡ 2 → (q : ℕ) →
+    place_of (class.least + class.apart * q) ≡ place_of class.least + q
+two_apart class apart q =
+    let twice : class.apart * q ≡ 2 * q = ap (λ (n : ℕ). n * q) apart in
+    ap (λ (n : ℕ). place_of (class.least + n)) twice ∙ omega arith
 
-  all : upper used (place_of protocol) class p there ++ lower used (place_of protocol) class p there
-      ≡ candidates protocol p
-  all = ap (λ (c : Class). map (member c) (range_with_len ((p - c.least) / c.apart)
-      (c.many - (p - c.least) / c.apart)) ++ map (member c) (range_with_len 0 ((p - c.least) / c.apart))) is
-      ∙ sym (candidates_by_class protocol p lt)
+-- by a start that is the place of its least number
+module _ (used : ℕ → Bool) (class : Class) (apart : class.apart ≡ 2) (k : ℕ) (within : k ≤ class.many) (start : ℕ)
+    (starts : start ≡ place_of class.least) where
+  abbrev run_is : (q : ℕ) → q < class.many → place_of (class.least + class.apart * q) ≡ place_of class.least + q
+  run_is = λ q lt. two_apart class apart q
 
-  moved : (o : Option ℕ) → IsFirstAbsent used (start + off / class.apart) (start + class.many) o →
-      IsFirstAbsent used (place_of protocol class.least + (p - class.least) / class.apart)
-      (place_of protocol class.least + class.many) o
-  moved o h =
-      subst (λ (n : ℕ). IsFirstAbsent used (place_of protocol class.least + n / class.apart)
-      (place_of protocol class.least + class.many) o) offs
-      (subst (λ (s : ℕ). IsFirstAbsent used (s + off / class.apart) (s + class.many) o) starts h)
+  abbrev free_number : ℕ → Bool
+  free_number n = not (used (place_of n))
 
-  moved_before : (o : Option ℕ) → IsFirstAbsent used start (start + off / class.apart) o →
-      IsFirstAbsent used (place_of protocol class.least) (place_of protocol class.least
-      + (p - class.least) / class.apart) o
-  moved_before o h =
-      subst (λ (n : ℕ). IsFirstAbsent used (place_of protocol class.least) (place_of protocol class.least
-      + n / class.apart) o) offs
-      (subst (λ (s : ℕ). IsFirstAbsent used s (s + off / class.apart) o) starts h)
+  moved : (from many : ℕ) (o : Option ℕ) → IsFirstAbsent used (start + from) (start + many) o →
+      IsFirstAbsent used (place_of class.least + from) (place_of class.least + many) o
+  moved from many o h = subst (λ (s : ℕ). IsFirstAbsent used (s + from) (s + many) o) starts h
 
-  pub near_choice : (x : ℕ) → IsFirstAbsent used (start + off / class.apart) (start + class.many) (Some x) →
-      Some (class.least + class.apart * (x - start)) ≡ find (λ n. not (used (place_of protocol n)))
-      (candidates protocol p)
+  moved_first : (o : Option ℕ) → IsFirstAbsent used start (start + k) o →
+      IsFirstAbsent used (place_of class.least) (place_of class.least + k) o
+  moved_first o h = subst (λ (s : ℕ). IsFirstAbsent used s (s + k) o) starts h
+
+  number_is : (x : ℕ) → Some (class.least + 2 * (x - start)) ≡ Some (member class (x - place_of class.least))
+  number_is x = ap (λ (s : ℕ). Some (class.least + 2 * (x - s))) starts
+      ∙ ap (λ (n : ℕ). Some (class.least + n * (x - place_of class.least))) (sym apart)
+
+  pub near_choice : (x : ℕ) → IsFirstAbsent used (start + k) (start + class.many) (Some x) →
+      Some (class.least + 2 * (x - start)) ≡ find free_number (from_place class k)
   near_choice x h =
-      ap (λ (s : ℕ). Some (class.least + class.apart * (x - s))) starts
-      ∙ (sym (found_near used (place_of protocol) class p there x (moved (Some x) h))
-      ∙ ap (find (λ n. not (used (place_of protocol n)))) all)
+      number_is x ∙ sym (found_near used place_of class run_is k within x (moved k class.many (Some x) h))
 
-  pub far_choice : IsFirstAbsent used (start + off / class.apart) (start + class.many) None → (x : ℕ) →
-      IsFirstAbsent used start (start + off / class.apart) (Some x) →
-      Some (class.least + class.apart * (x - start)) ≡ find (λ n. not (used (place_of protocol n)))
-      (candidates protocol p)
+  pub far_choice : IsFirstAbsent used (start + k) (start + class.many) None → (x : ℕ) →
+      IsFirstAbsent used start (start + k) (Some x) →
+      Some (class.least + 2 * (x - start)) ≡ find free_number (from_place class k)
   far_choice none x h =
-      ap (λ (s : ℕ). Some (class.least + class.apart * (x - s))) starts
-      ∙ (sym (found_far used (place_of protocol) class p there x (moved None none) (moved_before (Some x) h))
-      ∙ ap (find (λ n. not (used (place_of protocol n)))) all)
+      number_is x
+      ∙ sym (found_far used place_of class run_is k within x (moved k class.many None none) (moved_first (Some x) h))
 
-  pub no_choice : IsFirstAbsent used (start + off / class.apart) (start + class.many) None →
-      IsFirstAbsent used start (start + off / class.apart) None → None ≡ find (λ n. not (used (place_of protocol n)))
-      (candidates protocol p)
+  pub no_choice : IsFirstAbsent used (start + k) (start + class.many) None →
+      IsFirstAbsent used start (start + k) None → None ≡ find free_number (from_place class k)
   no_choice none h =
-      sym (found_nowhere used (place_of protocol) class p there (moved None none) (moved_before None h))
-      ∙ ap (find (λ n. not (used (place_of protocol n)))) all
+      sym (found_nowhere used place_of class run_is k within (moved k class.many None none) (moved_first None h))
+
+-- IDENTIFIERS
+
+module _ (used : ℕ → Bool) (p : ℕ) (small : p ≤ 65536) where
+  abbrev all : Class
+  all = record { least = 0; many = 65536; apart = 1 }
+
+  all_is : (q : ℕ) → q < 65536 → 0 + 1 * q ≡ 0 + q
+  all_is q lt = omega arith
+
+  from_p : (o : Option ℕ) → IsFirstAbsent used p 65536 o → IsFirstAbsent used (0 + p) 65536 o
+  from_p o h = let z : 0 + p ≡ p = omega arith in subst (λ (n : ℕ). IsFirstAbsent used n 65536 o) (sym z) h
+
+  before_p : (o : Option ℕ) → IsFirstAbsent used 0 p o → IsFirstAbsent used 0 (0 + p) o
+  before_p o h = let z : 0 + p ≡ p = omega arith in subst (λ (n : ℕ). IsFirstAbsent used 0 n o) (sym z) h
+
+  pub near_identifier : (x : ℕ) → IsFirstAbsent used p 65536 (Some x) →
+      Some x ≡ find (λ n. not (used n)) (from_place all p)
+  near_identifier x h =
+      let same : x ≡ 0 + 1 * (x - 0) = omega arith in
+      ap (λ (n : ℕ). Some n) same ∙ sym (found_near used (λ n. n) all all_is p small x (from_p (Some x) h))
+
+  pub far_identifier : IsFirstAbsent used p 65536 None → (o : Option ℕ) → IsFirstAbsent used 0 p o →
+      o ≡ find (λ n. not (used n)) (from_place all p)
+  far_identifier none (Some x) h =
+      let same : x ≡ 0 + 1 * (x - 0) = omega arith in
+      ap (λ (n : ℕ). Some n) same ∙ sym (found_far used (λ n. n) all all_is p small x (from_p None none)
+      (before_p (Some x) h))
+  far_identifier none None h = sym (found_nowhere used (λ n. n) all all_is p small (from_p None none)
+      (before_p None h))
+
+pub identifier_class : (p : ℕ) → p < 65536 → candidates_in_class Icmp p ≡ from_place (class_of Icmp p) p
+identifier_class p lt =
+    let place : (p - 0) / 1 ≡ p = omega arith in
+    candidates_by_class Icmp p lt ∙ ap (from_place (class_of Icmp p)) place
+
+-- PORTS
+
+by_two : (p : ℕ) → from_place (port_class p) ((p - (port_class p).least) / (port_class p).apart)
+    ≡ from_place (port_class p) ((p - (port_class p).least) / 2)
+by_two p = by_class (λ class. from_place class ((p - class.least) / class.apart)
+    ≡ from_place class ((p - class.least) / 2)) p (λ e f. refl) (λ e f. refl) (λ e f. refl) (λ e f. refl)
+
+pub port_candidates : (protocol : Protocol) → (protocol ≡ Tcp) ⊎ (protocol ≡ Udp) → (p : ℕ) → p < 65536 →
+    (class : Class) → class ≡ port_class p → from_place class ((p - class.least) / 2) ≡ candidates_in_class protocol p
+port_candidates Tcp which p lt class is =
+    ap (λ (c : Class). from_place c ((p - c.least) / 2)) is ∙ (sym (by_two p) ∙ sym (candidates_by_class Tcp p lt))
+port_candidates Udp which p lt class is =
+    ap (λ (c : Class). from_place c ((p - c.least) / 2)) is ∙ (sym (by_two p) ∙ sym (candidates_by_class Udp p lt))
+port_candidates Icmp (inl e) p lt class is = cc
+port_candidates Icmp (inr e) p lt class is = cc

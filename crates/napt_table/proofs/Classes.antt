@@ -5,10 +5,10 @@ use Rattle.std.specs.List.{range_with_len}
 use Rattle.std.proofs.lemmas.Bool.{and_parts, and_from, cases_lt, true≢false, ltb-true, ltb-false, lt-ltb, le-ltb, leb-true, le-leb}
 use Rattle.napt_wire.specs.declared.Protocol.{Protocol}
 use Rattle.napt_wire.specs.declared.Protocol.TheVariants.{Icmp, Tcp, Udp}
-use Rattle.napt_rules.specs.Prelude.{is_port_for, is_number_for, numbers_below, candidates}
+use Rattle.napt_rules.specs.Prelude.{is_port_for, is_number_for, numbers_below, candidates_in_class}
 use Rattle.napt_laws.proofs.Classes.{port_from_test, test_from_port}
 use Rattle.napt_table.specs.declared.class.Class.{Class}
-use Rattle.napt_table.specs.Classes.{port_class, class_of, member}
+use Rattle.napt_table.specs.Classes.{port_class, class_of, member, from_place}
 use Rattle.napt_table.proofs.Ports.{by_class}
 
 -- WHAT A FILTER KEEPS OF A RANGE
@@ -254,8 +254,7 @@ is_class_of Udp number small = is_port_class number small
 pub candidates_by_class : (protocol : Protocol) (number : ℕ) → number < 65536 →
     let class = class_of protocol number in
     let place = (number - class.least) / class.apart in
-    candidates protocol number ≡ map (member class) (range_with_len place (class.many - place))
-    ++ map (member class) (range_with_len 0 place)
+    candidates_in_class protocol number ≡ from_place class place
 candidates_by_class protocol number small =
     let class = class_of protocol number in
     let place = (number - class.least) / class.apart in

@@ -1,10 +1,12 @@
 -- What is held stays found by both its ends, and counted, when a binding comes, goes or changes.
 use Rattle.std.proofs.Common.{◌≡◌, ◌≢◌, ℕ, ◌+◌, ◌*◌, ◌<◌, ◌≤◌, ◌^◌, Bool, true, false, not, ◌&&◌, cond, List, [], ◌∷◌, Option, Some, None, refl, sym, ◌∙◌, ap, subst, arith, eqb}
-use Rattle.std.specs.Prelude.{find}
+use Rattle.std.specs.Prelude.{find, IfSome}
 use Rattle.std.specs.Option.{is_some, option_map}
 use Rattle.std.specs.Map.{lookup}
 use Rattle.std.proofs.lemmas.Bool.{true≢false}
 use Rattle.std.proofs.lemmas.Option.{same_Some}
+use Rattle.napt_config.specs.Rules.{IsBlock}
+use Rattle.napt_config.specs.declared.settings.Block.{Block}
 use Rattle.napt_wire.specs.declared.Protocol.{Protocol}
 use Rattle.napt_wire.specs.declared.Protocol.TheVariants.{Icmp, Tcp, Udp}
 use Rattle.napt_wire.specs.declared.Endpoint.{Endpoint}
@@ -21,7 +23,7 @@ use Rattle.napt_table.specs.Holdings.{Holdings, held, held_at, count_all, IsNumb
 use Rattle.napt_table.specs.HeldShown.{holdings_of, number_at, IsHeld}
 use Rattle.napt_table.specs.InUse.{is_in_use, AreByProtocol}
 use Rattle.napt_table.specs.Keys.{key_eq, inside_eq, external_key, inside_key}
-use Rattle.napt_laws.proofs.Classes.{small_number, each_candidate}
+use Rattle.napt_table.proofs.InBlock.{each_small}
 use Rattle.napt_table.proofs.Hosts.{count_same, count_changed, count_none, count_few}
 use Rattle.napt_table.proofs.Seen.{seen_is}
 use Rattle.napt_table.proofs.Keys.{by_key, at_key, past_key, by_inside, inside_same}
@@ -239,14 +241,14 @@ find_agree_each p q (x ∷ xs) same =
     ∙ ap (λ (o : Option ℕ). cond (q x) (Some x) o) (find_agree_each p q xs same.1)
 
 -- a number is in use where a binding has it
-pub choice_held : (it : Inside) → IsHeld it → (protocol : Protocol) (number : ℕ) →
-    find (λ n. not (is_in_use it.numbers (external_key protocol n))) (candidates protocol number)
-    ≡ find (λ n. not (is_some (held_at (holdings_of it) protocol n))) (candidates protocol number)
-choice_held it is protocol number =
+pub choice_held : (it : Inside) → IsHeld it → (block : Option Block) → IfSome block IsBlock → (protocol : Protocol)
+    (number : ℕ) → find (λ n. not (is_in_use it.numbers (external_key protocol n))) (candidates block protocol number)
+    ≡ find (λ n. not (is_some (held_at (holdings_of it) protocol n))) (candidates block protocol number)
+choice_held it is block keeps protocol number =
     let p = λ (n : ℕ). not (is_in_use it.numbers (external_key protocol n)) in
     let q = λ (n : ℕ). not (is_some (held_at (holdings_of it) protocol n)) in
-    find_agree_each p q (candidates protocol number) (each_candidate (λ n. p n ≡ q n) protocol number
-    (λ n fits. ap not (is.used_is (external_key protocol n) (small_number protocol number n fits))))
+    find_agree_each p q (candidates block protocol number) (each_small block keeps (λ n. p n ≡ q n) protocol number
+    (λ n small. ap not (is.used_is (external_key protocol n) small)))
 
 -- A BINDING CHANGES, and keeps its ends
 

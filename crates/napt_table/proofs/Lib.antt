@@ -1,6 +1,7 @@
 pub mod Ports
 pub mod Classes
 mod Choices
+pub mod InBlock
 pub mod LeastFree
 pub mod QuotaKept
 pub mod Tables

@@ -1,5 +1,7 @@
 -- The classes in which a free number is searched for: the candidates of a number, from the least on.
-use Rattle.std.specs.Prelude.{ℕ, ◌+◌, ◌*◌, ◌%◌, ◌==◌, nat_lt, cond}
+use Rattle.std.specs.Prelude.{ℕ, ◌+◌, ◌-◌, ◌*◌, ◌/◌, ◌%◌, ◌==◌, nat_lt, cond, List, ◌++◌, map}
+use Rattle.std.specs.List.{range_with_len}
+use Rattle.napt_config.specs.declared.settings.Block.{Block}
 use Rattle.napt_wire.specs.declared.Protocol.{Protocol}
 use Rattle.napt_wire.specs.declared.Protocol.TheVariants.{Icmp, Tcp, Udp}
 use Rattle.napt_table.specs.declared.class.Class.{Class}
@@ -23,3 +25,12 @@ class_of Udp port = port_class port
 -- the number at a place of the class, from 0 on
 abbrev pub member : Class → ℕ → ℕ
 member class place = class.least + class.apart * place
+
+-- the numbers of a class from a place on, then those before it
+abbrev pub from_place : Class → ℕ → List ℕ
+from_place class place =
+    map (member class) (range_with_len place (class.many - place)) ++ map (member class) (range_with_len 0 place)
+
+-- the numbers of a block of a parity, 0 or 1
+abbrev pub class_in_block : Block → ℕ → Class
+class_in_block block parity = record { least = block.first + parity; many = block.size / 2; apart = 2 }

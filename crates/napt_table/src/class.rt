@@ -1,10 +1,10 @@
-//! The classes of external numbers (RFC 4787, REQ-3 (a) and REQ-4; RFC 5508, section 3.1).
+//! The classes of external numbers (RFC 4787, REQ-3 (a) and REQ-4; RFC 5508, section 3.1; RFC 7422, section 2).
 
-ghost use Rattle.std.specs.Prelude.{◌≡◌, ◌+◌, ◌-◌, ◌*◌, ◌^◌, ◌<◌, ◌≤◌};
-ghost use Rattle.napt_table.specs.Classes.{class_of};
-ghost use Rattle.napt_table.specs.Places.{place_of};
+ghost use Rattle.std.specs.Prelude.{◌≡◌, ◌+◌, ◌-◌, ◌*◌, ◌/◌, ◌<◌, ◌≤◌};
+ghost use Rattle.napt_config.specs.Rules.{IsBlock};
+ghost use Rattle.napt_table.specs.Classes.{port_class, class_in_block};
 
-use napt_wire::Protocol;
+use napt_config::Block;
 
 /// A class of external numbers: the least one, how many, and how far apart.
 #[derive(Clone, Copy)]
@@ -14,21 +14,36 @@ pub struct Class {
     pub apart: u32,
 }
 
-/// The class that an inside endpoint's number is mapped in: a port keeps its parity and its side of 1024.
-pub(crate) fn class_of(protocol: Protocol, number: u16) -> Class
-    ensures value { result ≡ class_of protocol number }
-    ensures some { (0 < result.many) × (0 < result.apart) }
-    ensures fits { result.least + result.apart * (result.many - 1) < 2 ^ 16 }
-    ensures places { place_of protocol result.least + result.many ≤ 2 ^ 16 }
+/// The class that a port is mapped in: it keeps its parity and its side of 1024.
+pub(crate) fn class_of_port(port: u16) -> Class
+    ensures value { result ≡ port_class port }
+    ensures apart { result.apart ≡ 2 }
+    ensures some { 0 < result.many }
+    ensures fits { result.least + 2 * result.many ≤ 65537 }
+    ensures within { (port - result.least) / 2 < result.many }
 {
-    let (least, many, apart) = match protocol {
-        Protocol::Icmp => (0, 65_536, 1),
-        Protocol::Tcp | Protocol::Udp => match (number < 1024, number % 2 == 1) {
-            (true, true) => (1, 512, 2),
-            (true, false) => (2, 511, 2),
-            (false, true) => (1025, 32_256, 2),
-            (false, false) => (1024, 32_256, 2),
-        },
+    let (least, many) = match (port < 1024, port % 2 == 1) {
+        (true, true) => (1, 512),
+        (true, false) => (2, 511),
+        (false, true) => (1025, 32_256),
+        (false, false) => (1024, 32_256),
     };
-    Class { least, many, apart }
+    Class {
+        least,
+        many,
+        apart: 2,
+    }
+}
+
+/// The numbers of a block of a parity, 0 or 1.
+pub(crate) fn class_in_block(block: Block, parity: u16) -> Class
+    requires block { IsBlock block }
+    requires parity { parity < 2 }
+    ensures { result ≡ class_in_block block parity }
+{
+    Class {
+        least: u32::from(block.first) + u32::from(parity),
+        many: u32::from(block.size / 2),
+        apart: 2,
+    }
 }

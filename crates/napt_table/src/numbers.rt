@@ -1,13 +1,17 @@
 //! Which external numbers of a protocol are in use, and the choice of a free one (RFC 4787, REQ-3 and REQ-4; RFC 5508,
-//! section 3.1).
+//! section 3.1; RFC 7422, section 2).
 
-ghost use Rattle.std.specs.Prelude.{◌≡◌, ℕ, ◌+◌, ◌-◌, ◌*◌, ◌^◌, ◌<◌, ◌≤◌, ◌==◌, false, not, ◌&&◌, ◌||◌, find, IfOk, IfSome, Bool};
-ghost use Rattle.napt_rules.specs.Prelude.{candidates};
+ghost use Rattle.std.specs.Prelude.{◌≡◌, ℕ, ◌+◌, ◌-◌, ◌*◌, ◌/◌, ◌^◌, ◌<◌, ◌≤◌, ◌==◌, false, not, ◌&&◌, ◌||◌, find, IfOk, IfSome, Bool};
+ghost use Rattle.napt_config.specs.Rules.{IsBlock};
+ghost use Rattle.napt_rules.specs.Prelude.{candidates, candidates_in_class, candidates_in_block};
+ghost use Rattle.napt_wire.specs.declared.Protocol.TheVariants.{Icmp};
 ghost use Rattle.napt_collections.specs.Sets.{IsFirstAbsent};
-ghost use Rattle.napt_table.specs.Places.{port_place, place_of, is_used};
+ghost use Rattle.napt_table.specs.Classes.{class_of, from_place};
+ghost use Rattle.napt_table.specs.Places.{place_of, is_used};
 
-use crate::class::class_of;
+use crate::class::{Class, class_in_block, class_of_port};
 use napt_collections::Bits;
+use napt_config::Block;
 use napt_wire::Protocol;
 use std::alloc::{AllocError, Global};
 use std::marker::Model;
@@ -15,7 +19,8 @@ use std::marker::Model;
 /// The external numbers of one protocol that are in use: UDP and TCP ports, ICMP identifiers. Contracts see the
 /// protocol, and which they are.
 ///
-/// Each class of numbers is a run of bits, so that a choice looks at a few words, however many numbers are in use.
+/// The even numbers are one run of bits and the odd ones another, and so are those of a class of ports or of a block: a
+/// choice looks at a few words, however many numbers are in use.
 #[derive(Drop)]
 pub struct Numbers {
     protocol: Protocol,
@@ -30,24 +35,23 @@ impl Model for Numbers {
     ghost view = { λ numbers. record { protocol = numbers.protocol; places = numbers.places } };
 }
 
-/// The place of a number among the bits: even ports first, then odd ones.
-fn place_of(protocol: Protocol, number: u16) -> u16
-    ensures { result ≡ place_of protocol number }
+/// The place of a number among the bits: even numbers first, then odd ones.
+fn place_of(number: u16) -> u16
+    ensures { result ≡ place_of number }
 {
-    match protocol {
-        Protocol::Icmp => number,
-        Protocol::Tcp | Protocol::Udp => (number % 2) * 32_768 + number / 2,
-    }
+    (number % 2) * 32_768 + number / 2
 }
 
-/// The lesser of two ports: that at a place of the even ports, and that at a place of the odd ones.
-fn least_port(even: Option<u32>, odd: Option<u32>) -> Option<u16>
+/// The least number from `from` on and below `end` that is free, by the first free places of even numbers and of odd ones.
+fn least_of(from: u32, end: u32, even: Option<u32>, odd: Option<u32>) -> Option<u16>
+    requires end { end ≤ 65536 }
     requires even { IfSome even (λ place. place < 32768) }
     requires odd { IfSome odd (λ place. (32768 ≤ place) × (place < 65536)) }
-    ensures { (used : ℕ → Bool) → IsFirstAbsent used 1 32768 even →
-        IsFirstAbsent used 32768 65536 odd →
-        IsFirstAbsent (λ port. used (port_place port)) 1 65536 result }
+    ensures { (used : ℕ → Bool) → IsFirstAbsent used ((from + 1) / 2) ((end + 1) / 2) even →
+        IsFirstAbsent used (32768 + from / 2) (32768 + end / 2) odd →
+        IsFirstAbsent (λ number. used (place_of number)) from end result }
 {
+    let _ = (from, end);
     match (even, odd) {
         (Some(even), Some(odd)) => Some((2 * even).min(2 * (odd - 32_768) + 1) as u16),
         (Some(even), None) => Some((2 * even) as u16),
@@ -76,35 +80,93 @@ impl Numbers {
         self.protocol
     }
 
-    /// The external number for an inside endpoint with this number: itself if it is free, else the next free one of its
-    /// class, wrapping around (RFC 4787, REQ-3 and REQ-4); `None` if the class is full.
-    pub fn choose(&self, number: u16) -> Option<u16>
+    /// The external number for an inside endpoint with this number, of a host with this block or none: the first of its
+    /// candidates that is free; `None` if all are in use. Without a block that is the number itself, else the next free
+    /// one of its class, wrapping around (RFC 4787, REQ-3 and REQ-4).
+    pub fn choose(&self, block: Option<Block>, number: u16) -> Option<u16>
+        requires { IfSome block IsBlock }
         ensures { result ≡ find (λ n. not (is_used self.now n))
-            (candidates self.now.protocol number) }
+            (candidates block self.now.protocol number) }
     {
-        let class = class_of(self.protocol, number);
-        let start = u32::from(place_of(self.protocol, class.least as u16));
-        let first = start + u32::from(number).saturating_sub(class.least) / class.apart;
-        let end = start + class.many;
-        if let Some(place) = self.places.first_absent(first, end) {
-            return Some((class.least + class.apart * (place - start)) as u16);
+        match block {
+            None => self.choose_in_class(number),
+            Some(block) => self.choose_in_block(block, number),
         }
-        let place = self.places.first_absent(start, first)?;
-        Some((class.least + class.apart * (place - start)) as u16)
+    }
+
+    /// The first free number of the class of a number, from the number on.
+    fn choose_in_class(&self, number: u16) -> Option<u16>
+        ensures { result ≡ find (λ n. not (is_used self.now n))
+            (candidates_in_class self.now.protocol number) }
+    {
+        match self.protocol {
+            Protocol::Icmp => self.first_identifier(number),
+            Protocol::Tcp | Protocol::Udp => {
+                let class = class_of_port(number);
+                self.first_of(class, u32::from(number).saturating_sub(class.least) / 2)
+            }
+        }
+    }
+
+    /// The first free number of a block, from the place of a number on: of the number's parity, else of the other.
+    fn choose_in_block(&self, block: Block, number: u16) -> Option<u16>
+        requires { IsBlock block }
+        ensures { result ≡ find (λ n. not (is_used self.now n))
+            (candidates_in_block block number) }
+    {
+        let place = number % block.size;
+        let next = place + 1;
+        match self.first_of(class_in_block(block, place % 2), u32::from(place / 2)) {
+            Some(number) => Some(number),
+            None => self.first_of(class_in_block(block, next % 2), u32::from(next / 2)),
+        }
+    }
+
+    /// The first free number of a class of ports or of a block, from a place of it on, then before that.
+    fn first_of(&self, class: Class, place: u32) -> Option<u16>
+        requires apart { class.apart ≡ 2 }
+        requires some { 0 < class.many }
+        requires fits { class.least + 2 * class.many ≤ 65537 }
+        requires within { place ≤ class.many }
+        ensures { result ≡ find (λ n. not (is_used self.now n)) (from_place class place) }
+    {
+        let start = u32::from(place_of(class.least as u16));
+        let places = &self.places;
+        if let Some(found) = places.first_absent(start + place, start + class.many) {
+            return Some((class.least + 2 * (found - start)) as u16);
+        }
+        let found = places.first_absent(start, start + place)?;
+        Some((class.least + 2 * (found - start)) as u16)
+    }
+
+    /// The first free identifier from one on, then before that.
+    fn first_identifier(&self, number: u16) -> Option<u16>
+        ensures { result ≡ find (λ n. not (is_used self.now n))
+            (from_place (class_of Icmp number) number) }
+    {
+        match self.first_from(u32::from(number), 65_536) {
+            Some(found) => Some(found),
+            None => self.first_from(0, u32::from(number)),
+        }
+    }
+
+    /// The least number from one on and below an end that is free; `None` if there is none.
+    fn first_from(&self, from: u32, end: u32) -> Option<u16>
+        requires from { from ≤ 65536 }
+        requires end { end ≤ 65536 }
+        ensures { IsFirstAbsent (is_used self.now) from end result }
+    {
+        let places = &self.places;
+        let even = places.first_absent((from + 1) / 2, (end + 1) / 2);
+        let odd = places.first_absent(32_768 + from / 2, 32_768 + end / 2);
+        least_of(from, end, even, odd)
     }
 
     /// The least number from 1 on that is free; `None` if there is none.
     pub fn least_free(&self) -> Option<u16>
         ensures { IsFirstAbsent (is_used self.now) 1 (2 ^ 16) result }
     {
-        let places = &self.places;
-        match self.protocol {
-            Protocol::Icmp => Some(places.first_absent(1, 65_536)? as u16),
-            Protocol::Tcp | Protocol::Udp => least_port(
-                places.first_absent(1, 32_768),
-                places.first_absent(32_768, 65_536),
-            ),
-        }
+        self.first_from(1, 65_536)
     }
 
     /// Marks the number as in use, if it is free.
@@ -113,7 +175,7 @@ impl Numbers {
         ensures used { (n : ℕ) → n < 2 ^ 16 → is_used self.new n
             ≡ ((n == number) || is_used self.old n) }
     {
-        let place = place_of(self.protocol, number);
+        let place = place_of(number);
         let places = &mut self.places;
         places.put(place);
     }
@@ -124,7 +186,7 @@ impl Numbers {
         ensures used { (n : ℕ) → n < 2 ^ 16 → is_used self.new n
             ≡ (not (n == number) && is_used self.old n) }
     {
-        let place = place_of(self.protocol, number);
+        let place = place_of(number);
         let places = &mut self.places;
         places.take(place);
     }

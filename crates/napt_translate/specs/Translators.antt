@@ -1,11 +1,13 @@
 -- What contracts see of a translator: its place in the pool, its configuration, and the table of its external address.
-use Rattle.std.specs.Prelude.{◌≡◌, ℕ, ◌<◌, List, length, slice_index}
+use Rattle.std.specs.Prelude.{◌≡◌, ℕ, ◌<◌, List, length, slice_index, Result}
 use Rattle.napt_wire.specs.declared.Protocol.{Protocol}
 use Rattle.napt_wire.specs.declared.Flags.{Flags}
+use Rattle.napt_wire.specs.declared.Cause.{Cause}
 use Rattle.napt_rules.specs.Prelude.{inbound_of, Out, step_out, In, step_in, sent_of, received_of, Kept, kept_after}
-use Rattle.napt_config.specs.Rules.{Rules, KeepsRules}
+use Rattle.napt_config.specs.Rules.{Rules, KeepsRules, block_of}
 use Rattle.napt_table.specs.Tables.{TableState, opened}
 use Rattle.napt_rules.specs.declared.Leg.{Leg}
+use Rattle.napt_rules.specs.declared.Sent.{Sent}
 
 pub record TranslatorState : Type 0 where
   -- the place of its external address in the pool, from 0
@@ -39,8 +41,18 @@ left_by leg state = with_kept state (kept_after state.rules state.table.address 
 -- a packet's step out at a time, and in
 abbrev pub out_at : TranslatorState → ℕ → Protocol → Flags → List ℕ → Out
 out_at state now protocol flags packet = step_out state.rules.timers state.rules.quota state.table.address
-    (sent_of protocol flags now packet) state.table.list
+    (sent_of state.rules protocol flags now packet) state.table.list
 
 abbrev pub in_at : TranslatorState → ℕ → Protocol → Flags → List ℕ → In
 in_at state now protocol flags packet = step_in state.rules.timers (inbound_of state.rules) state.table.address
     (received_of protocol flags now packet) state.table.list
+
+-- a packet went out under the block of its host: its answer, and what it leaves
+pub record GoneOut (packet : Sent) (old new : TranslatorState) (answer : Result ℕ Cause) : Type 0 where
+  pub answered : answer ≡ (step_out old.rules.timers old.rules.quota old.table.address
+      (record packet { block = block_of old.rules packet.inside.address }) old.table.list).number
+  pub left : new ≡ with_kept old (record {
+    list = (step_out old.rules.timers old.rules.quota old.table.address
+        (record packet { block = block_of old.rules packet.inside.address }) old.table.list).list;
+    at = packet.now;
+  })

@@ -1,8 +1,9 @@
 //! What is held of the bindings of one external address: those that live, and those that have ended and are not removed
 //! yet.
 
-ghost use Rattle.std.specs.Prelude.{◌≡◌, ◌<◌, ◌^◌, not, Some, None, Ok, Err, OnOk, OnErr, IfOk, cond, find};
+ghost use Rattle.std.specs.Prelude.{◌≡◌, ◌<◌, ◌^◌, not, Some, None, Ok, Err, OnOk, OnErr, IfOk, IfSome, cond, find};
 ghost use Rattle.std.specs.Option.{option_copied, is_some};
+ghost use Rattle.napt_config.specs.Rules.{IsBlock};
 ghost use Rattle.napt_wire.specs.declared.Cause.TheVariants.{NoBinding};
 ghost use Rattle.napt_binding.specs.Entering.{entered, left_by};
 
@@ -10,6 +11,7 @@ use crate::bindings::keys::{ExternalKey, InsideKey, inside_key, key_of};
 use crate::bindings::numbers_in_use::NumbersInUse;
 use crate::host_counts::HostCounts;
 use napt_binding::{Binding, IdleTimers, is_live, send, take_in};
+use napt_config::Block;
 use napt_rules::{Inbound, Received, Row, Sent};
 use napt_wire::{Cause, Endpoint, Protocol};
 use std::alloc::{AllocError, Global};
@@ -104,12 +106,19 @@ impl Held {
         }
     }
 
-    /// The first number for an inside endpoint with this number that no binding has; `None` if each has one.
-    pub(crate) fn choose(&self, protocol: Protocol, number: u16) -> Option<u16>
+    /// The first candidate for an inside endpoint with this number, of a host with this block or none, that no binding
+    /// has; `None` if each has one.
+    pub(crate) fn choose(
+        &self,
+        block: Option<Block>,
+        protocol: Protocol,
+        number: u16,
+    ) -> Option<u16>
+        requires { IfSome block IsBlock }
         ensures { result ≡ find (λ n. not (is_some (held_at self.now protocol n)))
-            (candidates protocol number) }
+            (candidates block protocol number) }
     {
-        self.numbers.choose(protocol, number)
+        self.numbers.choose(block, protocol, number)
     }
 
     /// The least number of the protocol from 1 on that no binding has; `None` if each has one.

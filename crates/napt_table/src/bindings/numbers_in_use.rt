@@ -1,9 +1,11 @@
 //! Which external numbers of an address are in use, under each protocol.
 
-ghost use Rattle.std.specs.Prelude.{◌≡◌, ◌^◌, ◌<◌, false, not, ◌&&◌, ◌||◌, find, IfOk};
+ghost use Rattle.std.specs.Prelude.{◌≡◌, ◌^◌, ◌<◌, false, not, ◌&&◌, ◌||◌, find, IfOk, IfSome};
+ghost use Rattle.napt_config.specs.Rules.{IsBlock};
 
 use crate::bindings::keys::ExternalKey;
 use crate::numbers::Numbers;
+use napt_config::Block;
 use napt_wire::Protocol;
 use std::alloc::{AllocError, Global};
 
@@ -34,17 +36,23 @@ impl NumbersInUse {
         })
     }
 
-    /// The external number for an inside endpoint with this number: the first of its candidates that is not in use;
-    /// `None` if all are.
-    pub(crate) fn choose(&self, protocol: Protocol, number: u16) -> Option<u16>
-        requires { AreByProtocol self.now }
+    /// The external number for an inside endpoint with this number, of a host with this block or none: the first of its
+    /// candidates that is not in use; `None` if all are.
+    pub(crate) fn choose(
+        &self,
+        block: Option<Block>,
+        protocol: Protocol,
+        number: u16,
+    ) -> Option<u16>
+        requires by_protocol { AreByProtocol self.now }
+        requires block { IfSome block IsBlock }
         ensures { result ≡ find (λ n. not (is_in_use self.now (external_key protocol n)))
-            (candidates protocol number) }
+            (candidates block protocol number) }
     {
         match protocol {
-            Protocol::Icmp => self.icmp.choose(number),
-            Protocol::Tcp => self.tcp.choose(number),
-            Protocol::Udp => self.udp.choose(number),
+            Protocol::Icmp => self.icmp.choose(block, number),
+            Protocol::Tcp => self.tcp.choose(block, number),
+            Protocol::Udp => self.udp.choose(block, number),
         }
     }
 

@@ -1,6 +1,7 @@
 //! Bindings that begin, and packets that go out through them.
 
-ghost use Rattle.std.specs.Prelude.{◌≡◌, ◌≤◌, true, false, Some, None, OnOk, OnErr, IfOk, cond};
+ghost use Rattle.std.specs.Prelude.{◌≡◌, ◌≤◌, true, false, Some, None, Ok, OnOk, OnErr, IfOk, IfSome, cond};
+ghost use Rattle.napt_config.specs.Rules.{IsBlock};
 
 use crate::bindings::Bindings;
 use crate::bindings::keys::key_of;
@@ -58,7 +59,7 @@ impl Bindings {
     ghost use Rattle.napt_table.specs.Keys.{external_key, key_eq};
     ghost use Rattle.napt_table.specs.declared.bindings.keys.ExternalKey.{ExternalKey as Key};
     ghost use Rattle.napt_table.specs.Holdings.{held, IsSamePlace, IsAbsent, WentOut};
-    ghost use Rattle.napt_table.specs.Bindings.{HasRoom, Stands, Begins, Sends};
+    ghost use Rattle.napt_table.specs.Bindings.{HasRoom, Stands, Begins, Sends, SendsKnown};
 
     /// Adds a redirect whose ends are free. It never expires, so it has no queue entry. If memory is refused nothing
     /// that is held changes.
@@ -114,6 +115,30 @@ impl Bindings {
         Ok(sent)
     }
 
+    /// Sends a packet out through the live binding of its inside endpoint, if there is one; returns its number. Else, or
+    /// if memory is refused, nothing that is held changes.
+    pub(crate) fn send_known(
+        &mut self,
+        alloc: Global,
+        packet: Sent,
+    ) -> Result<Option<u16>, AllocError>
+        requires later { self.old.at ≤ packet.now }
+        ensures timers { self.new.timers ≡ self.old.timers }
+        ensures known { IfOk result (λ found. IfSome found (λ number.
+            SendsKnown packet self.old self.new number)) }
+        ensures unknown { result ≡ Ok None → Stands self.old self.new }
+        ensures refused { OnErr result (Stands self.old self.new) }
+    {
+        self.keep_names();
+        match self.send_held(alloc, packet)? {
+            Some(number) => {
+                self.at = packet.now;
+                Ok(Some(number))
+            }
+            None => Ok(None),
+        }
+    }
+
     /// Takes the memory for a new binding for the outgoing packet, and begins its flows. What is held does not change.
     fn prepare(&mut self, alloc: Global, packet: Sent) -> Result<Flows, AllocError>
         ensures same { Stands self.old self.new }
@@ -134,6 +159,7 @@ impl Bindings {
         requires live { (key : Key) (b : Binding) → held self.old.held key ≡ Some b →
             is_live self.old.timers packet.now b ≡ true }
         requires absent { IsAbsent self.old.held packet.protocol packet.inside }
+        requires block { IfSome packet.block IsBlock }
         requires flows { live_flows self.old.timers packet.now packet.protocol flows ≡
             change_first (is_flow_of packet.remote) (used packet.protocol WayOut packet.flags packet.now)
             (with_flow packet.remote packet.now []) }
@@ -143,7 +169,10 @@ impl Bindings {
         ensures begins { Begins packet self.old self.new result }
     {
         self.timers.keep_limits();
-        let Some(number) = self.held.choose(packet.protocol, packet.inside.number) else {
+        let chosen = self
+            .held
+            .choose(packet.block, packet.protocol, packet.inside.number);
+        let Some(number) = chosen else {
             return Err(Cause::NoPort);
         };
         let binding = Binding {
@@ -171,6 +200,7 @@ impl Bindings {
         packet: Sent,
     ) -> Result<Result<u16, Cause>, AllocError>
         requires later { self.old.at ≤ packet.now }
+        requires block { IfSome packet.block IsBlock }
         ensures timers { self.new.timers ≡ self.old.timers }
         ensures place { IsSamePlace self.old.held self.new.held }
         ensures at { OnOk result (self.new.at ≡ packet.now) }

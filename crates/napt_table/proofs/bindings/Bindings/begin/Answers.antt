@@ -47,7 +47,7 @@ insert-requires-clause-free c =
     let number = c.in-Some.number in
     let free : held_at s.held p.protocol number ≡ None = none_from (held_at s.held p.protocol number)
     (not-true (is_some (held_at s.held p.protocol number))
-    (passes (λ n. not (is_some (held_at s.held p.protocol n))) (candidates p.protocol p.inside.number) number
+    (passes (λ n. not (is_some (held_at s.held p.protocol n))) (candidates p.block p.protocol p.inside.number) number
     (sym c.in-Some.ensures))) in
     rw c.new.ensures (subst (λ (x : BindingsState). held_at x.held p.protocol number ≡ None) c.self.view_is free)
 
@@ -58,7 +58,7 @@ returns-clause-begins c =
     let number = c.in-Some.number in
     let free : held_at s.held p.protocol number ≡ None = none_from (held_at s.held p.protocol number)
     (not-true (is_some (held_at s.held p.protocol number))
-    (passes (λ n. not (is_some (held_at s.held p.protocol n))) (candidates p.protocol p.inside.number) number
+    (passes (λ n. not (is_some (held_at s.held p.protocol n))) (candidates p.block p.protocol p.inside.number) number
     (sym c.in-Some.ensures))) in
     let row : Row = record {
       protocol = p.protocol;

@@ -1,0 +1,109 @@
+-- The candidates of a number in a block are the numbers of one parity, then those of the other: each a class, from a
+-- place of it on, then before it.
+use Rattle.std.proofs.Common.{◌≡◌, ℕ, zero, suc, ◌+◌, ◌-◌, ◌*◌, ◌/◌, ◌%◌, ◌<◌, ◌≤◌, ◌^◌, Bool, List, ◌∷◌, ◌++◌, map, Option, Some, None, refl, sym, ◌∙◌, ap, arith}
+use Rattle.std.specs.Prelude.{find, IfSome}
+use Rattle.std.specs.List.{range_with_len}
+use Rattle.std.proofs.lemmas.List.{map-append}
+use Rattle.std.proofs.lemmas.Nat.{mod_below}
+use Rattle.std.proofs.Math.Nat.{mod-eq_of_lt, add-mod_left}
+use Rattle.napt_config.specs.Rules.{IsBlock}
+use Rattle.napt_config.specs.declared.settings.Block.{Block}
+use Rattle.napt_wire.specs.declared.Protocol.{Protocol}
+use Rattle.napt_rules.specs.Prelude.{Each, numbers_below, every_other, candidates_in_block, candidates}
+use Rattle.napt_laws.proofs.Blocks.{each_of_block}
+use Rattle.napt_laws.proofs.Classes.{small_number, each_candidate}
+use Rattle.napt_table.specs.Classes.{member, from_place, class_in_block}
+use Rattle.napt_table.proofs.Choices.{find_front, find_rest}
+
+-- RANGES
+
+range_split : (a m n : ℕ) → range_with_len a (m + n) ≡ range_with_len a m ++ range_with_len (a + m) n
+range_split a zero n =
+    let z : a + 0 ≡ a = omega arith in
+    let y : 0 + n ≡ n = omega arith in
+    ap (range_with_len a) y ∙ ap (λ b. range_with_len b n) (sym z)
+range_split a (suc m) n =
+    let e : (a + 1) + m ≡ a + suc m = omega arith in
+    let y : suc m + n ≡ suc (m + n) = omega arith in
+    ap (range_with_len a) y
+    ∙ ap (λ (l : List ℕ). a ∷ l)
+    (range_split (a + 1) m n ∙ ap (λ b. range_with_len (a + 1) m ++ range_with_len b n) e)
+
+map_alike : (f g : ℕ → ℕ) (a b m : ℕ) → ((k : ℕ) → k < m → f (a + k) ≡ g (b + k)) →
+    map f (range_with_len a m) ≡ map g (range_with_len b m)
+map_alike f g a b zero same = refl
+map_alike f g a b (suc m) same =
+    let x : a + 0 ≡ a = omega arith in
+    let y : b + 0 ≡ b = omega arith in
+    let first : f a ≡ g b = sym (ap f x) ∙ (same 0 (omega arith) ∙ ap g y) in
+    let rest : map f (range_with_len (a + 1) m) ≡ map g (range_with_len (b + 1) m) =
+    map_alike f g (a + 1) (b + 1) m (λ k lt.
+    let p : (a + 1) + k ≡ a + suc k = omega arith in
+    let q : (b + 1) + k ≡ b + suc k = omega arith in
+    ap f p ∙ (same (suc k) (omega (arith, lt)) ∙ sym (ap g q))) in
+    ap (λ (n : ℕ). n ∷ map f (range_with_len (a + 1) m)) first ∙ ap (λ (l : List ℕ). g b ∷ l) rest
+
+-- a range that wraps
+map_wraps : (f g : ℕ → ℕ) (many j : ℕ) → j ≤ many → ((k : ℕ) → k < many - j → f (0 + k) ≡ g (j + k)) →
+    ((k : ℕ) → k < j → f ((0 + (many - j)) + k) ≡ g (0 + k)) →
+    map f (range_with_len 0 many) ≡ map g (range_with_len j (many - j)) ++ map g (range_with_len 0 j)
+map_wraps f g many j le before after =
+    let whole : many ≡ (many - j) + j = omega (arith, le) in
+    ap (λ n. map f (range_with_len 0 n)) whole
+    ∙ (ap (map f) (range_split 0 (many - j) j)
+    ∙ (map-append f (range_with_len 0 (many - j)) (range_with_len (0 + (many - j)) j)
+    ∙ (ap (λ (l : List ℕ). l ++ map f (range_with_len (0 + (many - j)) j)) (map_alike f g 0 j (many - j) before)
+    ∙ ap (λ (l : List ℕ). map g (range_with_len j (many - j)) ++ l) (map_alike f g (0 + (many - j)) 0 j after))))
+
+-- ONE PARITY
+
+module _ (block : Block) (is : IsBlock block) where
+  pub turn_is : (place : ℕ) → place ≤ block.size →
+      every_other block place ≡ from_place (class_in_block block (place % 2)) (place / 2)
+  unfolding numbers_below
+  turn_is place on =
+      map_wraps (λ k. block.first + (place + 2 * k) % block.size) (member (class_in_block block (place % 2)))
+      (block.size / 2) (place / 2) (omega (arith, on))
+      (λ k lt.
+      let less : place + 2 * (0 + k) < block.size = omega (arith, on, lt, is.size_even) in
+      ap (λ n. block.first + n) (mod-eq_of_lt less) ∙ omega arith)
+      (λ k lt.
+      let over : place + 2 * ((0 + (block.size / 2 - place / 2)) + k) ≡ block.size + (place % 2 + 2 * k) =
+      omega (arith, on, lt, is.size_even) in
+      let less : place % 2 + 2 * k < block.size = omega (arith, on, lt, is.size_even) in
+      ap (λ n. block.first + n % block.size) over
+      ∙ (ap (λ n. block.first + n) (add-mod_left block.size (place % 2 + 2 * k) ∙ mod-eq_of_lt less) ∙ omega arith))
+
+  module _ (free : ℕ → Bool) (number : ℕ) where
+    abbrev own : ℕ
+    own = number % block.size
+
+    abbrev alike : List ℕ
+    alike = from_place (class_in_block block (own % 2)) (own / 2)
+
+    abbrev unlike : List ℕ
+    unlike = from_place (class_in_block block ((own + 1) % 2)) ((own + 1) / 2)
+
+    both : candidates_in_block block number ≡ alike ++ unlike
+    both =
+        let some : 0 < block.size = omega (arith, is.some) in
+        let within : own < block.size = mod_below number block.size some in
+        ap (λ (l : List ℕ). l ++ every_other block (own + 1)) (turn_is own (omega (arith, within)))
+        ∙ ap (λ (l : List ℕ). alike ++ l) (turn_is (own + 1) (omega (arith, within)))
+
+    -- a number of its parity is free
+    pub found_alike : (n : ℕ) → find free alike ≡ Some n → Some n ≡ find free (candidates_in_block block number)
+    found_alike n e = sym (ap (find free) both ∙ find_front free alike unlike n e)
+
+    -- none is
+    pub found_unlike : find free alike ≡ None → find free unlike ≡ find free (candidates_in_block block number)
+    found_unlike e = sym (ap (find free) both ∙ find_rest free alike unlike e)
+
+-- EACH CANDIDATE has 16 bits
+
+pub each_small : (block : Option Block) → IfSome block IsBlock → (P : ℕ → Type 0) (protocol : Protocol) (number : ℕ) →
+    ((n : ℕ) → n < 2 ^ 16 → P n) → Each P (candidates block protocol number)
+each_small None is P protocol number holds =
+    each_candidate P protocol number (λ n fits. holds n (small_number protocol number n fits))
+each_small (Some block) is P protocol number holds =
+    each_of_block block is protocol number P (λ n of. holds n (omega (arith, of.last, is.high)))

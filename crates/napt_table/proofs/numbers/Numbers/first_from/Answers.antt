@@ -1,0 +1,6 @@
+use Rattle.napt_collections.specs.Sets.{has}
+use Rattle.napt_table.proofs.numbers.Numbers.first_from.Goals as goal
+
+pub returns : goal.returns
+returns c = rw (← c.self.view_is) (c.least_of.ensures (has c.self.inside.places) c.first_absent-even.ensures
+    c.first_absent-odd.ensures)

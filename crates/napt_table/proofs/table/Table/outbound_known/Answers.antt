@@ -1,0 +1,65 @@
+use Rattle.std.proofs.Common.{◌≤◌, ◌∙◌, ℕ, Option, Result, ap, refl, sym, subst}
+use Rattle.std.specs.Prelude.{IfOk, IfSome}
+use Rattle.napt_wire.specs.declared.Cause.{Cause}
+use Rattle.napt_rules.specs.Prelude.{Out, IsNumber}
+use Rattle.napt_table.specs.declared.event.Event.TheVariants.{Sent}
+use Rattle.napt_table.specs.Bindings.{SendsKnown}
+use Rattle.napt_table.specs.Shown.{shown}
+use Rattle.napt_table.specs.Tables.{TableState}
+use Rattle.napt_table.proofs.TableSteps.{live, live_sound, show_now, shown_after, keeps_after, keeps_same}
+use Rattle.napt_laws.proofs.Named.{out_named}
+use Rattle.napt_table.proofs.Tables.{table_out}
+use Rattle.napt_table.proofs.table.Table.outbound_known.Goals as goal
+
+pub invariant_of-self : goal.invariant_of-self
+invariant_of-self c = keeps_same c.self.inside _ refl c.in_err-number.ensures.refused refl c.self.invariant
+
+pub invariant_of-self-in-Some : goal.invariant_of-self-in-Some
+invariant_of-self-in-Some c =
+    let t = c.self.inside in
+    let packet = c.args.packet in
+    let le : t.bindings.at ≤ packet.now =
+    subst (λ (s : TableState). s.at ≤ packet.now) (sym c.self.view_is) c.requires.later in
+    let k : SendsKnown packet t.bindings c.send_known.new.self c.in-Some.number =
+    subst (λ (found : Option ℕ). IfSome found (λ number.
+    SendsKnown packet t.bindings c.send_known.new.self number)) c.in-Some.is c.in_ok-number.ensures.known in
+    keeps_after t _ packet.now (Sent packet) refl c.in_ok-number.ensures.timers k.place k.at c.and-self-inside.ensures
+    (table_out (shown t) c.self.invariant.state packet c.requires.number c.requires.block)
+    (k.sends (live t c.self.invariant packet.now le) (live_sound t c.self.invariant packet.now le).apart
+    (show_now t c.self.invariant packet.now le)).1
+
+pub returns-in-Some-clause-known : goal.returns-in-Some-clause-known
+returns-in-Some-clause-known c block =
+    let t = c.self.inside in
+    let packet = c.args.packet in
+    let le : t.bindings.at ≤ packet.now =
+    subst (λ (s : TableState). s.at ≤ packet.now) (sym c.self.view_is) c.requires.later in
+    let k : SendsKnown packet t.bindings c.send_known.new.self c.in-Some.number =
+    subst (λ (found : Option ℕ). IfSome found (λ number.
+    SendsKnown packet t.bindings c.send_known.new.self number)) c.in-Some.is c.in_ok-number.ensures.known in
+    let list = live t c.self.invariant packet.now le in
+    let apart = (live_sound t c.self.invariant packet.now le).apart in
+    let shows = show_now t c.self.invariant packet.now le in
+    let same = sym (k.any_block list apart shows block) in
+    rw (← c.self.view_is) (record {
+      answered = (k.sends list apart shows).0 ∙ ap (λ (o : Out). o.number) same;
+      left = shown_after t (record t { past = c.and-self-inside.result; bindings = c.send_known.new.self }) packet.now
+          (Sent packet) refl c.in_ok-number.ensures.timers k.place k.at c.and-self-inside.ensures
+          ∙ ap (λ (o : Out). let s : TableState = record (shown t) { list = o.list; at = packet.now } in s) same;
+    })
+
+pub returns-in-Some-clause-named : goal.returns-in-Some-clause-named
+returns-in-Some-clause-named c =
+    let t = c.self.inside in
+    let packet = c.args.packet in
+    let le : t.bindings.at ≤ packet.now =
+    subst (λ (s : TableState). s.at ≤ packet.now) (sym c.self.view_is) c.requires.later in
+    let k : SendsKnown packet t.bindings c.send_known.new.self c.in-Some.number =
+    subst (λ (found : Option ℕ). IfSome found (λ number.
+    SendsKnown packet t.bindings c.send_known.new.self number)) c.in-Some.is c.in_ok-number.ensures.known in
+    let sound = live_sound t c.self.invariant packet.now le in
+    let list = live t c.self.invariant packet.now le in
+    subst (λ (r : Result ℕ Cause). IfOk r (IsNumber packet.protocol))
+    (sym (k.sends list sound.apart (show_now t c.self.invariant packet.now le)).0)
+    (out_named (λ host. t.bindings.held.address) t.bindings.held.address t.bindings.held.quota packet c.requires.block
+    list sound)

@@ -1,0 +1,52 @@
+use Rattle.std.proofs.Common.{◌≤◌, refl, sym, subst}
+use Rattle.napt_table.specs.declared.event.Event.TheVariants.{Sent}
+use Rattle.napt_table.specs.Shown.{shown}
+use Rattle.napt_table.specs.Tables.{TableState}
+use Rattle.napt_table.proofs.TableSteps.{live, live_sound, show_now, shown_after, keeps_after, keeps_same}
+use Rattle.napt_laws.proofs.Named.{out_named}
+use Rattle.napt_table.proofs.Tables.{table_out}
+use Rattle.napt_table.proofs.table.Table.outbound_of.Goals as goal
+
+pub invariant_of-self : goal.invariant_of-self
+invariant_of-self c = keeps_same c.self.inside _ refl c.in_err-answer.ensures.refused refl c.self.invariant
+
+pub invariant_of-self-2 : goal.invariant_of-self-2
+invariant_of-self-2 c =
+    let t = c.self.inside in
+    let packet = c.args.packet in
+    let le : t.bindings.at ≤ packet.now =
+    subst (λ (s : TableState). s.at ≤ packet.now) (sym c.self.view_is) c.requires.later in
+    let k = c.in_ok-answer.ensures in
+    keeps_after t _ packet.now (Sent packet) refl k.timers k.place k.at c.and-self-inside.ensures
+    (table_out (shown t) c.self.invariant.state packet c.requires.number c.requires.block)
+    (k.sends (live t c.self.invariant packet.now le) (live_sound t c.self.invariant packet.now le).apart
+    (show_now t c.self.invariant packet.now le)).1
+
+pub returns-clause-answer : goal.returns-clause-answer
+returns-clause-answer c =
+    let t = c.self.inside in
+    let packet = c.args.packet in
+    let le : t.bindings.at ≤ packet.now =
+    subst (λ (s : TableState). s.at ≤ packet.now) (sym c.self.view_is) c.requires.later in
+    rw (← c.self.view_is) (c.in_ok-answer.ensures.sends (live t c.self.invariant packet.now le)
+    (live_sound t c.self.invariant packet.now le).apart (show_now t c.self.invariant packet.now le)).0
+
+pub returns-clause-left : goal.returns-clause-left
+returns-clause-left c =
+    let packet = c.args.packet in
+    let k = c.in_ok-answer.ensures in
+    rw (← c.self.view_is) (shown_after c.self.inside
+    (record c.self.inside { past = c.and-self-inside.result; bindings = c.send.new.self }) packet.now (Sent packet) refl
+    k.timers k.place k.at c.and-self-inside.ensures)
+
+pub returns-clause-named : goal.returns-clause-named
+returns-clause-named c =
+    let t = c.self.inside in
+    let packet = c.args.packet in
+    let le : t.bindings.at ≤ packet.now =
+    subst (λ (s : TableState). s.at ≤ packet.now) (sym c.self.view_is) c.requires.later in
+    let sound = live_sound t c.self.invariant packet.now le in
+    rw (c.in_ok-answer.ensures.sends (live t c.self.invariant packet.now le) sound.apart
+    (show_now t c.self.invariant packet.now le)).0
+    (out_named (λ host. t.bindings.held.address) t.bindings.held.address t.bindings.held.quota packet c.requires.block
+    (live t c.self.invariant packet.now le) sound)
