@@ -1,5 +1,5 @@
 -- What the log keeps: an open entry is the latest of its external endpoint, and so the only open one.
-use Rattle.std.proofs.Common.{◌≡◌, ℕ, zero, suc, ◌+◌, ◌<◌, ◌≤◌, inl, inr, Bool, true, false, ◌&&◌, ◌||◌, cond, List, [], ◌∷◌, ◌++◌, length, map, set, drop, get_or, Option, Some, None, refl, sym, ◌∙◌, ap, subst, arith, eqb, length-append}
+use Rattle.std.proofs.Common.{◌≡◌, ℕ, zero, suc, ◌+◌, ◌<◌, ◌≤◌, inl, inr, Bool, true, false, ◌&&◌, ◌||◌, cond, List, [], ◌∷◌, ◌++◌, length, map, set, Option, Some, None, refl, sym, ◌∙◌, ap, subst, arith, eqb, length-append}
 use Rattle.std.specs.Prelude.{IfNone}
 use Rattle.std.specs.Option.{option_map}
 use Rattle.std.specs.List.{list_any, fold, slice_get}
@@ -97,11 +97,6 @@ pub fold_joined : {X Y : Type 0} (f : Y → X → Y) (xs ys : List X) (y : Y) �
     ≡ fold f (fold f y xs) ys
 fold_joined f [] ys y = refl
 fold_joined f (x ∷ xs) ys y = fold_joined f xs ys (f y x)
-
-pub drop_at : {X : Type 0} (xs : List X) (n : ℕ) (d : X) → n < length xs → drop n xs ≡ get_or xs n d ∷ drop (suc n) xs
-drop_at [] n d lt = absurd (omega arith)
-drop_at (x ∷ xs) zero d lt = refl
-drop_at (x ∷ xs) (suc n) d lt = drop_at xs n d (omega arith)
 
 pub any_at : {X : Type 0} (p : X → Bool) (xs : List X) (i : ℕ) (x : X) → slice_get xs i ≡ Some x → p x ≡ true →
     list_any p xs ≡ true

@@ -8,3 +8,5 @@ pub mod Begun
 pub mod Latest
 pub mod Told
 pub mod Lists
+pub mod LoggedRuns
+pub mod Ended

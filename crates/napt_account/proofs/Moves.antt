@@ -24,7 +24,7 @@ use Rattle.napt_laws.proofs.Lists.{any_none}
 use Rattle.napt_laws.proofs.Endpoints.{has_it}
 use Rattle.napt_laws.proofs.Fresh.{IsFresh, sent_fresh, no_flows, received_fresh}
 use Rattle.napt_laws.proofs.Quotas.{granted_is_chosen}
-use Rattle.napt_laws.proofs.StepsSound.{chosen}
+use Rattle.napt_laws.proofs.StepsSound.{chosen_free}
 
 -- two rows of one protocol have not one external endpoint
 abbrev pub Differ : Row → Row → Type 0
@@ -55,19 +55,19 @@ module _ (rules : Rules) (t : AreTimers rules.timers) (address : ℕ) (leg : Leg
       P (Some (record { binding = new; made = true })) (own ++ new ∷ [])) where
     module _ (out : leg.way ≡ Outgoing) (protocol : Protocol) (flags : Flags) where
       abbrev packet : Sent
-      packet = sent_of protocol flags leg.now leg.packet
+      packet = sent_of rules protocol flags leg.now leg.packet
 
       moves_made : (number : Result ℕ Cause) → granted rules.quota own address packet ≡ number →
           P (out_made own address packet number).through (out_made own address packet number).list
       moves_made (Err cause) e = refused
       moves_made (Ok n) e =
           let new : Binding = fresh address packet n in
-          let c = chosen own protocol address packet.inside.number n
+          let unused = chosen_free packet.block own protocol address packet.inside.number n
           (granted_is_chosen rules.quota own address packet n e) in
           let taken : Binding → Bool = λ b. has_number address protocol n b.row in
           made (sent_by packet new) out
           (sent_fresh rules.timers t packet.remote flags leg.now new (no_flows protocol rules.timers leg.now))
-          (free_differ (row new) own (any_none taken own (not-true (list_any taken own) c.0)))
+          (free_differ (row new) own (any_none taken own (not-true (list_any taken own) unused)))
 
       moves_found : (o : Option Binding) → find (of_source address packet) own ≡ o →
           P (out_found rules.quota own address packet o).through (out_found rules.quota own address packet o).list

@@ -32,7 +32,6 @@ use Rattle.napt_account.specs.declared.account.Use.{Use}
 use Rattle.napt_account.specs.declared.log.Entry.{Entry}
 use Rattle.napt_account.specs.declared.log.Shortage.{Shortage}
 use Rattle.napt_account.specs.Book as books
-use Rattle.napt_account.specs.Kept.{AreInTime}
 use Rattle.napt_account.specs.Log.{begun, shares, is_of, counted, place_of, through, logged_by, logged, shortage_by, shortage_at, shortages, entries_of, log_of}
 use Rattle.napt_account.specs.Uses.{no_use, used, first_note, use_by, both_uses, use_of, uses_from}
 use Rattle.napt_account.proofs.Books.{fold_joined, no_place, any_at}
@@ -398,25 +397,6 @@ module _ (ends : EndsAreFirst) (rules : Rules) (t : AreTimers rules.timers) wher
             ∙ (ap (λ (xs : List Shortage). shortages course.acts ++ xs) rest.shortages_are
             ∙ sym (flat_joined (λ (a : Act). shortage_at a.leg a.end) course.acts acts));
       }
-
--- TRACES
-
-pub in_time : (rules : Rules) (number clock : ℕ) (inputs : List Arrival) (list : List Binding) →
-    AreInTime clock (traces_from rules number clock inputs list)
-in_time rules number clock [] list = tt
-in_time rules number clock (input ∷ inputs) list =
-    let now : ℕ = max clock input.clock in
-    let course : Course = step rules number now input list in
-    (omega arith, in_time rules (number + 1) now inputs course.list)
-
-pub traces_long : (rules : Rules) (number clock : ℕ) (inputs : List Arrival) (list : List Binding) →
-    length (traces_from rules number clock inputs list) ≡ length inputs
-traces_long rules number clock [] list = refl
-traces_long rules number clock (input ∷ inputs) list =
-    let now : ℕ = max clock input.clock in
-    let course : Course = step rules number now input list in
-    let rest = traces_long rules (number + 1) now inputs course.list in
-    omega (arith, rest)
 
 -- THE LOG
 

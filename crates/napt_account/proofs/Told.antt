@@ -89,7 +89,8 @@ at_the_pool rules keeps list sound =
     (each_weaker (IsPaired (pair_of rules))
     (λ (r : Row). list_any (λ address. r.external.address == address) rules.pool ≡ true)
     (λ r paired. any_turned rules.pool r.external.address ∙ (ap (has rules.pool) paired.paired
-    ∙ paired_in_pool rules.pool rules.pairs r.inside.address keeps.pool.some keeps.pairs.externals))
+    ∙ paired_in_pool rules.block rules.inside rules.pool rules.pairs r.inside.address keeps.pool.some
+    keeps.pairs.externals))
     (map row list) sound.each)
 
 -- AN INPUT WITH NO BYTES CHANGES NOTHING BUT THE TIME

@@ -1,10 +1,9 @@
 -- What holds of the log as it is written.
-use Rattle.std.specs.Prelude.{◌≡◌, ℕ, ◌≤◌, true, List, [], ◌∷◌, Some}
+use Rattle.std.specs.Prelude.{◌≡◌, ℕ, ◌≤◌, true, List, Some}
 use Rattle.std.specs.List.{slice_get}
 use Rattle.napt_binding.specs.Ends.{is_before}
 use Rattle.napt_wire.specs.declared.Protocol.{Protocol}
 use Rattle.napt_wire.specs.declared.Endpoint.{Endpoint}
-use Rattle.napt_sequential.specs.declared.passage.Trace.{Trace}
 use Rattle.napt_account.specs.declared.log.Entry.{Entry}
 use Rattle.napt_account.specs.declared.book.Book.{Book}
 use Rattle.napt_account.specs.declared.places.Places.{Places}
@@ -32,8 +31,3 @@ IsBook now most book = AreKept now most book.log.entries.items book.latest
 -- the entry at a place is this one, has not ended and has the external endpoint of a row
 abbrev pub StandsAt : ℕ → Row → ℕ → Entry → List Entry → Type 0
 StandsAt now wanted place entry entries = (slice_get entries place ≡ Some entry) × (is_of now wanted entry ≡ true)
-
--- the times of the traces never decrease, from a clock on
-abbrev pub AreInTime : ℕ → List Trace → Type 0
-AreInTime clock [] = Unit {0}
-AreInTime clock (trace ∷ traces) = (clock ≤ trace.now) × AreInTime trace.now traces

@@ -3,8 +3,10 @@ pub mod Book
 pub mod Kept
 pub mod Latest
 pub mod Places
+pub mod Ended
 pub mod Fronts
 pub mod Log
+pub mod LoggedRuns
 pub mod Questions
 pub mod Uses
 pub use Rattle.napt_rules.specs.Prelude

@@ -8,12 +8,11 @@ ghost use Rattle.napt_account.specs.Latest.{latest_of};
 ghost use Rattle.napt_account.specs.Log.{log_of};
 ghost use Rattle.napt_account.specs.Uses.{uses_of};
 
-use crate::book::Book;
 use crate::log::{Entry, Log};
+use crate::logged_run::LoggedRun;
 use crate::places::Places;
 use napt_config::Config;
-use napt_sequential::{Input, Outcome, Run, RunFault, run_traced};
-use napt_table::opening_is_sound;
+use napt_sequential::{Input, MOST_INPUTS, Outcome, Run, RunFault};
 use napt_wire::{Endpoint, Protocol};
 use std::alloc::Global;
 
@@ -72,15 +71,22 @@ pub fn account_of(alloc: Global, config: &Config, inputs: &[Input]) -> Result<Ac
     ensures too_many { (result ≡ Err RunFault.TooMany) ↔ (2 ^ 32 ≤ length inputs.now) }
     ensures never_pool { IfErr result IsOneThreadFault }
 {
-    opening_is_sound();
-    let told = run_traced(alloc, config, inputs)?;
-    let mut book = Book::begin(alloc, config)?;
-    let uses = book.tell_all(alloc, &told.traces)?;
+    if inputs.len() > MOST_INPUTS {
+        return Err(RunFault::TooMany);
+    }
+    let mut logged = LoggedRun::begin(alloc, config)?;
+    let told = logged.step_all(alloc, config, inputs)?;
+    let bindings = logged.run.bindings(alloc)?;
+    let legs = logged.run.legs(alloc)?;
     Ok(Account {
-        run: told.run,
-        log: book.log,
-        uses,
-        latest: book.latest,
+        run: Run {
+            outcomes: told.outcomes,
+            bindings,
+            legs,
+        },
+        log: logged.book.log,
+        uses: told.uses,
+        latest: logged.book.latest,
     })
 }
 

@@ -1,14 +1,13 @@
 //! The log as it is written, input by input.
 
-ghost use Rattle.std.specs.Prelude.{◌≡◌, ◌+◌, ◌<◌, ◌≤◌, ◌^◌, ◌++◌, ℕ, [], ◌∷◌, false, length, map, flat_map, Some, IfOk, OnOk, IfSome, IfNone};
-ghost use Rattle.std.specs.List.{list_any, fold};
+ghost use Rattle.std.specs.Prelude.{◌≡◌, ◌+◌, ◌<◌, ◌≤◌, ◌^◌, ◌++◌, ℕ, [], ◌∷◌, false, length, map, Some, IfOk, OnOk, IfSome, IfNone};
+ghost use Rattle.std.specs.List.{list_any};
 ghost use Rattle.napt_config.specs.Rules.{pair_of};
 ghost use Rattle.napt_rules.specs.Prelude.{same_protocol, same_endpoint, redirected, opening, row};
 ghost use Rattle.napt_binding.specs.Ends.{is_before};
 ghost use Rattle.napt_account.specs.Log.{begun, is_of, is_shortage};
 ghost use Rattle.napt_account.specs.Book as books;
 ghost use Rattle.napt_account.specs.Uses as uses;
-ghost use Rattle.napt_account.specs.Kept.{IsIndex, AreInTime};
 
 use crate::account::{Note, Use};
 use crate::log::{Entry, Log, Shortage};
@@ -292,7 +291,7 @@ impl Book {
     }
 
     /// Enters the legs of an input; returns what they did to the bindings.
-    fn tell(&mut self, trace: Trace) -> Result<Use, AllocError>
+    pub(crate) fn tell(&mut self, trace: Trace) -> Result<Use, AllocError>
         requires { (most : ℕ) × IsBook trace.now most self.old × (most + 2 < 2 ^ 64) }
         ensures entries { OnOk result (self.new.log.entries.items
             ≡ books.after_trace self.old.log.entries.items trace) }
@@ -306,31 +305,5 @@ impl Book {
         let first = self.pass(trace.now, trace.first)?;
         let second = self.pass(trace.now, trace.second)?;
         Ok(both_uses(first, second))
-    }
-
-    /// Records the legs of all inputs; returns what they did, input by input.
-    pub(crate) fn tell_all(
-        &mut self,
-        alloc: Global,
-        traces: &[Trace],
-    ) -> Result<Vec<Use>, AllocError>
-        requires kept { IsBook 0 0 self.old }
-        requires in_time { AreInTime 0 traces.now }
-        requires few { length traces.now < 2 ^ 32 }
-        ensures entries { OnOk result (self.new.log.entries.items
-            ≡ fold books.after_trace self.old.log.entries.items traces.now) }
-        ensures shortages { OnOk result (self.new.log.shortages.items
-            ≡ self.old.log.shortages.items ++ flat_map books.lost_by traces.now) }
-        ensures latest { OnOk result
-            (IsIndex self.new.log.entries.items self.new.latest) }
-        ensures uses { IfOk result (λ uses. uses.items
-            ≡ books.uses_told self.old.log.entries.items traces.now) }
-    {
-        let mut uses = Vec::new(alloc);
-        for trace in traces {
-            let used = self.tell(*trace)?;
-            uses.push(used)?;
-        }
-        Ok(uses)
     }
 }

@@ -5,11 +5,13 @@
 mod account;
 mod book;
 mod log;
+mod logged_run;
 mod places;
 mod question;
 mod who;
 
 pub use crate::account::{Account, Note, Use, account_of};
-pub use crate::log::{Entry, Log, Shortage, log_attributes, log_of};
+pub use crate::log::{Entry, Log, Shortage, ended_entries_stay, log_attributes, log_of};
+pub use crate::logged_run::{LoggedRun, LoggedStep};
 pub use crate::question::{Party, Question};
 pub use crate::who::holders;

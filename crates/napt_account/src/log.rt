@@ -4,6 +4,7 @@ ghost use Rattle.std.specs.Prelude.{◌≡◌, ◌↔◌, ◌≤◌, ◌^◌, If
 ghost use Rattle.napt_sequential.specs.Faults.{IsOneThreadFault};
 ghost use Rattle.napt_account.specs.Log.{log_of};
 ghost use Rattle.napt_account.specs.Attribution.{LogNamesTheHolders, LogListsTheLiving};
+ghost use Rattle.napt_account.specs.Ended.{EndedEntriesStay};
 ghost use Rattle.napt_binding.specs.Ends.{EndsAreFirst};
 
 use crate::account::account_of;
@@ -98,3 +99,9 @@ pub fn log_attributes()
 {
     opening_is_sound();
 }
+
+/// An entry whose end is not after the time of the next input is final: the log of each longer run has it, unchanged, at
+/// its place. So it can be told then, and forgotten.
+pub fn ended_entries_stay()
+    ensures { EndedEntriesStay }
+{}

@@ -74,7 +74,7 @@ module _ (rules : Rules) (t : AreTimers rules.timers) (address : ℕ) (leg : Leg
   goes : (protocol : Protocol) (flags : Flags) → (let acted : Acted = act_out rules address leg list protocol flags in
       found (Some protocol) acted.list acted.end ≡ said Outgoing (Some protocol) acted.end acted.through)
   goes protocol flags =
-      let packet : Sent = sent_of protocol flags leg.now leg.packet in
+      let packet : Sent = sent_of rules protocol flags leg.now leg.packet in
       let out : Out = step_out rules.timers rules.quota address packet list in
       found_out protocol (by_inside rules.timers address leg.now protocol packet.inside list) out.list out.through
       out.number (out_says_its_binding rules.timers t rules.quota address packet list)

@@ -6,17 +6,10 @@ use std::marker::Model;
 
 /// The result of one input.
 #[derive(Drop)]
-pub(crate) struct Stepped {
-    pub(crate) outcome: Outcome,
-    pub(crate) trace: Trace,
-}
-
-/// A run, and what the legs of each input did.
-#[derive(Drop)]
-pub struct Traced {
-    pub run: Run,
-    /// One for each input, in their order.
-    pub traces: Vec<Trace>,
+pub struct Stepped {
+    pub outcome: Outcome,
+    /// What its legs did.
+    pub trace: Trace,
 }
 
 /// The result of a run over a list of inputs.

@@ -1,9 +1,11 @@
-use Rattle.std.proofs.Common.{◌≡◌, true, take}
-use Rattle.napt_sequential.specs.Traces.{traces}
-use Rattle.napt_sequential.proofs.SoFar.{RunSoFar}
+use Rattle.std.proofs.Common.{◌≡◌, take}
+use Rattle.napt_rules.specs.Prelude.{opening, run}
+use Rattle.napt_sequential.specs.SequentialRuns.{StandsAfter}
 use Rattle.napt_sequential.proofs.run.step_all.Given as goal
 
 -- what holds after the inputs so far
 abbrev pub invariant-loop-input : goal.invariant-loop-input
-invariant-loop-input l = RunSoFar l.config (take l.input-index l.inputs) l.last l.outcomes.items l.translators
-    × (l.traced ≡ true → l.traces.items ≡ traces l.config (take l.input-index l.inputs))
+invariant-loop-input l = record {
+  stands : StandsAfter l.config (take l.input-index l.inputs) l.run;
+  outcomes : l.outcomes.items ≡ (run l.config (take l.input-index l.inputs) (opening l.config)).outcomes;
+}

@@ -1,0 +1,5 @@
+use Rattle.napt_account.proofs.Ended.{ended_stay}
+use Rattle.napt_account.proofs.log.ended_entries_stay.Goals as goal
+
+pub returns : goal.returns
+returns c = ended_stay

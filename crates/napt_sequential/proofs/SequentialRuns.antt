@@ -1,0 +1,77 @@
+-- A run whose inputs come one at a time: one more of them, and what is left after all.
+use Rattle.std.proofs.Common.{◌≡◌, ℕ, ◌+◌, ◌*◌, ◌^◌, ◌<◌, ◌≤◌, max, List, [], ◌∷◌, ◌++◌, length, map, refl, sym, ◌∙◌, ap, arith}
+use Rattle.std.specs.Prelude.{flat_map}
+use Rattle.napt_config.specs.Rules.{Rules}
+use Rattle.napt_rules.specs.declared.Outcome.{Outcome}
+use Rattle.napt_rules.specs.declared.Row.{Row}
+use Rattle.napt_rules.specs.Prelude.{Binding, opening, Arrival, step, run, last_clock, Ran, ran}
+use Rattle.napt_sequential.specs.declared.counted_translator.CountedTranslator.{CountedTranslator}
+use Rattle.napt_sequential.specs.declared.outcome.Stepped.{Stepped}
+use Rattle.napt_sequential.specs.declared.passage.Trace.{Trace}
+use Rattle.napt_sequential.specs.declared.sequential_run.SequentialRun.{SequentialRun}
+use Rattle.napt_sequential.specs.CountedTranslators.{CanTake, Steps, rows_at, state_of}
+use Rattle.napt_sequential.specs.SequentialRuns.{StandsAfter, TellsLast}
+use Rattle.napt_sequential.specs.Traces.{trace_of, traces}
+use Rattle.napt_sequential.proofs.Passed.{traces_grow}
+use Rattle.napt_sequential.proofs.Shown.{run_shown}
+use Rattle.napt_sequential.proofs.SoFar.{RunSoFar, after_one}
+use Rattle.napt_laws.proofs.Grown.{acts_few}
+
+-- ONE MORE INPUT
+
+module _ (rules : Rules) (before : List Arrival) (input : Arrival) (it : SequentialRun)
+    (stands : StandsAfter rules before it) (now : ℕ) (clock : now ≡ max it.clock input.clock) where
+  pub is_later : last_clock 0 before ≤ now
+  is_later = let was = stands.clock in omega arith
+
+  pub has_room : length before + 1 < 2 ^ 32 → CanTake rules now 2 it.translators.items
+  has_room few =
+      let acts : length (run rules before (opening rules)).acts ≤ 2 * length before =
+      acts_few rules 0 0 before (opening rules) in
+      (state_of rules before, stands.translators, is_later, omega arith)
+
+  module _ (translators : List CountedTranslator) (told : Stepped)
+      (steps : Steps rules now (step rules it.many now input (state_of rules before).list) (state_of rules before)
+      translators told) where
+    at : now ≡ max (last_clock 0 before) input.clock
+    at = clock ∙ ap (λ (t : ℕ). max t input.clock) stands.clock
+
+    pub goes_on : RunSoFar rules (before ++ input ∷ []) now
+        ((run rules before (opening rules)).outcomes ++ told.outcome ∷ []) translators
+    goes_on = after_one rules before input it.many now stands.many at (run rules before (opening rules)).outcomes
+        translators told.outcome refl steps.0
+
+    pub tells_last : TellsLast rules before input told
+    tells_last =
+        let list : List Binding = (state_of rules before).list in
+        let first : List Trace = traces rules before in
+        record {
+          outcome = sym goes_on.outcomes;
+          time = ap (λ (x : Trace). x.now) steps.1 ∙ goes_on.clock;
+          trace = traces_grow rules 0 0 before input (opening rules) it.many
+              (let many = stands.many in omega arith)
+              ∙ (ap (λ (t : ℕ). first ++ trace_of rules.timers t (step rules it.many t input list) ∷ []) (sym at)
+              ∙ ap (λ (x : Trace). first ++ x ∷ []) (sym steps.1));
+        }
+
+-- AFTER ALL
+
+module _ (rules : Rules) (inputs : List Arrival) (it : SequentialRun) (stands : StandsAfter rules inputs it) where
+  pub bindings_shown : (bindings : List Row) → bindings ≡ flat_map (rows_at it.clock) it.translators.items →
+      bindings ≡ (ran rules inputs).bindings
+  bindings_shown bindings shown = ap (λ (r : Ran). r.bindings)
+      (run_shown rules inputs (run rules inputs (opening rules)).outcomes it.clock it.translators.items bindings
+      (map (λ (s : CountedTranslator). s.legs) it.translators.items) refl stands.clock stands.translators shown refl)
+
+  pub legs_shown : (legs : List ℕ) → legs ≡ map (λ (s : CountedTranslator). s.legs) it.translators.items →
+      legs ≡ (ran rules inputs).legs
+  legs_shown legs shown = ap (λ (r : Ran). r.legs)
+      (run_shown rules inputs (run rules inputs (opening rules)).outcomes it.clock it.translators.items
+      (flat_map (rows_at it.clock) it.translators.items) legs refl stands.clock stands.translators refl shown)
+
+pub is_ran : (rules : Rules) (inputs : List Arrival) (outcomes : List Outcome) (bindings : List Row) (legs : List ℕ) →
+    outcomes ≡ (run rules inputs (opening rules)).outcomes → bindings ≡ (ran rules inputs).bindings →
+    legs ≡ (ran rules inputs).legs →
+    (let r : Ran = record { outcomes = outcomes; bindings = bindings; legs = legs } in r ≡ ran rules inputs)
+unfolding ran
+is_ran rules inputs outcomes bindings legs told shown counts = rw (told, shown, counts) refl

@@ -1,0 +1,11 @@
+use Rattle.std.proofs.Common.{◌∙◌, ap}
+use Rattle.std.specs.Prelude.{flat_map}
+use Rattle.napt_sequential.specs.CountedTranslators.{rows_at}
+use Rattle.napt_sequential.proofs.Results.{if_ok}
+use Rattle.napt_sequential.proofs.SequentialRuns.{bindings_shown}
+use Rattle.napt_sequential.proofs.sequential_run.SequentialRun.bindings.Goals as goal
+
+pub returns : goal.returns
+returns c = λ rules inputs stands. if_ok _ _ c.bindings.result (λ made shown.
+    bindings_shown rules inputs c.args.self.now stands made.items
+    (shown ∙ ap (flat_map (rows_at c.args.self.now.clock)) c.deref.ensures.value)) c.bindings.ensures

@@ -1,0 +1,112 @@
+//! A sequential run, one input at a time.
+
+ghost use Rattle.std.specs.Prelude.{◌≡◌, ◌↔◌, ◌+◌, ◌^◌, ◌<◌, ◌≤◌, ◌++◌, [], ◌∷◌, List, length, IfOk, IfErr, OnOk, Err};
+ghost use Rattle.napt_config.specs.Rules.{Rules, KeepsRules};
+ghost use Rattle.napt_rules.specs.Prelude.{Arrival};
+ghost use Rattle.napt_rules.specs.Sequential as model;
+ghost use Rattle.napt_sequential.specs.Faults.{IsOneThreadFault};
+
+use crate::counted_translator::CountedTranslator;
+use crate::outcome::Stepped;
+use crate::run::{begin, bindings, legs, step};
+use crate::{Input, MOST_INPUTS, RunFault};
+use napt_config::Config;
+use napt_rules::Row;
+use std::alloc::{AllocError, Global};
+
+/// A run on one thread after some inputs. It keeps the translators of all external addresses, and nothing of the
+/// inputs, so its memory is that of the bindings.
+#[derive(Drop)]
+pub struct SequentialRun {
+    /// How many inputs it took.
+    many: u64,
+    /// The latest clock so far, in ns; 0 before the first input.
+    clock: u64,
+    /// In the order of the pool.
+    translators: Vec<CountedTranslator>,
+}
+
+impl SequentialRun {
+    ghost use Rattle.napt_sequential.specs.SequentialRuns.{StandsAfter, TellsLast};
+
+    /// A run before its first input, with the bindings that the configuration opens with.
+    pub fn begin(alloc: Global, config: &Config) -> Result<SequentialRun, AllocError>
+        ensures kept { KeepsRules config.now }
+        ensures begun { IfOk result (StandsAfter config.now []) }
+    {
+        let translators = begin(alloc, config)?;
+        Ok(SequentialRun {
+            many: 0,
+            clock: 0,
+            translators,
+        })
+    }
+
+    /// Passes the next input through the translators, at the latest clock so far, its own included; returns its outcome
+    /// and what its legs did. After each input these are the last of the run over all inputs so far. The bytes of the
+    /// input are copied once. After a fault the run does not go on.
+    ///
+    /// Fails with `RunFault::TooMany` exactly if it took `MOST_INPUTS` inputs before, with `RunFault::Memory` only if
+    /// memory is refused, and never with `RunFault::Pool`.
+    pub fn step(
+        &mut self,
+        alloc: Global,
+        config: &Config,
+        input: &Input,
+    ) -> Result<Stepped, RunFault>
+        requires { (before : List Arrival) × StandsAfter config.now before self.old }
+        ensures tells { (before : List Arrival) → StandsAfter config.now before self.old →
+            IfOk result (TellsLast config.now before input.now) }
+        ensures stands { (before : List Arrival) → StandsAfter config.now before self.old →
+            OnOk result (StandsAfter config.now (before ++ input.now ∷ []) self.new) }
+        ensures too_many { (before : List Arrival) → StandsAfter config.now before self.old →
+            (result ≡ Err RunFault.TooMany) ↔ (2 ^ 32 ≤ length before + 1) }
+        ensures never_pool { IfErr result IsOneThreadFault }
+    {
+        // called for its clause alone: a configuration keeps its rules
+        let _pool = config.pool();
+        if self.many >= MOST_INPUTS as u64 {
+            return Err(RunFault::TooMany);
+        }
+        Ok(self.advance(alloc, config, input)?)
+    }
+
+    /// Passes the next of at most `MOST_INPUTS` inputs through the translators.
+    pub(crate) fn advance(
+        &mut self,
+        alloc: Global,
+        config: &Config,
+        input: &Input,
+    ) -> Result<Stepped, AllocError>
+        requires keeps { KeepsRules config.now }
+        requires few { (before : List Arrival) × StandsAfter config.now before self.old
+            × (length before + 1 < 2 ^ 32) }
+        ensures tells { (before : List Arrival) → StandsAfter config.now before self.old →
+            IfOk result (TellsLast config.now before input.now) }
+        ensures stands { (before : List Arrival) → StandsAfter config.now before self.old →
+            OnOk result (StandsAfter config.now (before ++ input.now ∷ []) self.new) }
+    {
+        let now = self.clock.max(input.clock);
+        let stepped = step(alloc, config, &mut self.translators, self.many, now, input)?;
+        self.many += 1;
+        self.clock = now;
+        Ok(stepped)
+    }
+
+    /// The bindings that are live at the latest clock: by external address in the order of the pool, then by protocol
+    /// (ICMP, TCP, UDP) and external number.
+    pub fn bindings(&self, alloc: Global) -> Result<Vec<Row>, AllocError>
+        ensures { (rules : Rules) (inputs : List Arrival) → StandsAfter rules inputs self.now →
+            IfOk result (λ made. made.items ≡ (model.ran rules inputs).bindings) }
+    {
+        bindings(alloc, &self.translators, self.clock)
+    }
+
+    /// How many legs acted at each external address, in the order of the pool.
+    pub fn legs(&self, alloc: Global) -> Result<Vec<u64>, AllocError>
+        ensures { (rules : Rules) (inputs : List Arrival) → StandsAfter rules inputs self.now →
+            IfOk result (λ made. made.items ≡ (model.ran rules inputs).legs) }
+    {
+        legs(alloc, &self.translators)
+    }
+}
