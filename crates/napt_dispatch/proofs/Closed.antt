@@ -131,10 +131,3 @@ both_ended (Ok made) (Ok left) done ended is =
     (ap (λ both. Ok both.0) (sym same), ap (λ both. Ok both.1) (sym same))
 both_ended (Ok made) (Err fault) done ended is = absurd (cc (is))
 both_ended (Err fault) closed done ended is = absurd (cc (is))
-
--- what holds where the pool was closed without a fault holds where there was none at all
-pub closed_ok : {D C : Type 0} (dispatched : Result D RunFault) (closed : Result C PoolFault) (P : C → Type 0) →
-    IfOk closed P → IfOk (first_fault dispatched closed) (λ both. P both.1)
-closed_ok (Err fault) closed P holds = tt
-closed_ok (Ok made) (Err fault) P holds = tt
-closed_ok (Ok made) (Ok ended) P holds = holds

@@ -10,9 +10,11 @@ use Rattle.napt_rules.specs.declared.Answer.{Answer}
 use Rattle.napt_rules.specs.Prelude.{kept_answer, kept_replies}
 use Rattle.napt_translate.specs.Translators.{TranslatorState, begun, kept_of, left_by}
 use Rattle.napt_pool.specs.declared.machine.Machine.{Ghosts}
-use Rattle.napt_pool.specs.Histories.{replies}
+use Rattle.napt_pool.specs.Histories.{replies, AllBegin}
 use Rattle.napt_pool.specs.Pools.{zip_with}
+use Rattle.napt_laws.specs.Dispatching.{IsFront}
 use Rattle.napt_dispatch.specs.Dispatch.{started, of_worker, fresh, Right}
+use Rattle.napt_dispatch.proofs.Lanes.{fronts_both}
 
 -- LISTS
 
@@ -46,12 +48,12 @@ zip_long f [] (y ∷ ys) e = absurd (omega arith)
 zip_long f (x ∷ xs) [] e = absurd (omega arith)
 zip_long f (x ∷ xs) (y ∷ ys) e = ap suc (zip_long f xs ys (omega arith))
 
-zip_joined : {X : Type 0} (xs ys : List (List X)) (w : ℕ) → w < length (zip_with (λ x y. x ++ y) xs ys) →
-    of_worker (zip_with (λ x y. x ++ y) xs ys) w ≡ of_worker xs w ++ of_worker ys w
-zip_joined [] ys w lt = absurd (omega arith)
-zip_joined (x ∷ xs) [] w lt = absurd (omega arith)
-zip_joined (x ∷ xs) (y ∷ ys) zero lt = refl
-zip_joined (x ∷ xs) (y ∷ ys) (suc w) lt = zip_joined xs ys w (omega arith)
+begin_at : {X : Type 0} (xs ys : List (List X)) (w : ℕ) → w < length ys → AllBegin xs ys →
+    IsFront (of_worker xs w) (of_worker ys w)
+begin_at xs [] w lt all = absurd (omega arith)
+begin_at [] (y ∷ ys) w lt all = absurd all
+begin_at (x ∷ xs) (y ∷ ys) zero lt all = all.0
+begin_at (x ∷ xs) (y ∷ ys) (suc w) lt all = begin_at xs ys w (omega arith) all.1
 
 -- WORKERS
 
@@ -100,22 +102,14 @@ module _ (g : Ghosts TranslatorState Leg Answer) (stepped_is : (s : TranslatorSt
       (replies_kept (begun w rules) (of_worker offered w)) in
       ([], append-nil (of_worker taken w) ∙ is)
 
-  -- so is a front of it
-  pub right_front : (rules : Rules) (starts : List TranslatorState) (offered : List (List Leg))
-      (taken rests : List (List Answer)) → starts ≡ started rules (length rules.pool) → length offered
-      ≡ length rules.pool → zip_with (λ t rest. t ++ rest) taken rests ≡ zip_with (replies g) starts offered →
-      Right rules offered taken
-  right_front rules starts offered taken rests began many is = λ w lt.
+  -- so is what begins it
+  pub right_begin : (rules : Rules) (starts : List TranslatorState) (offered : List (List Leg))
+      (taken : List (List Answer)) → starts ≡ started rules (length rules.pool) → length offered ≡ length rules.pool →
+      AllBegin taken (zip_with (replies g) starts offered) → Right rules offered taken
+  right_begin rules starts offered taken began many begin = λ w lt.
       let long : length starts ≡ length offered = ap length began ∙ (length_started rules (length rules.pool)
       ∙ sym many) in
       let all : length (zip_with (replies g) starts offered) ≡ length offered = zip_long
       (replies g) starts offered long in
-      let same : length (zip_with (λ t rest. t ++ rest) taken rests) ≡ length (zip_with (replies g) starts offered) =
-      ap length is in
-      let right = right_since rules starts offered (zip_with (replies g) starts offered) began many refl w lt in
-      let joined : of_worker taken w ++ of_worker rests w ≡ of_worker (zip_with (replies g) starts offered) w =
-      sym (zip_joined taken rests w (omega (arith, lt, many, all, same))) ∙ ap (λ l. of_worker l w) is in (
-        of_worker rests w ++ right.0,
-        sym (append_assoc (of_worker taken w) (of_worker rests w) right.0)
-            ∙ (ap (λ l. l ++ right.0) joined ∙ right.1),
-      )
+      fronts_both _ _ _ (begin_at taken (zip_with (replies g) starts offered) w (omega (arith, lt, many, all)) begin)
+      (right_since rules starts offered (zip_with (replies g) starts offered) began many refl w lt)

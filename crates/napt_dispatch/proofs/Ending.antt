@@ -1,8 +1,12 @@
 -- What a run from arrivals to departures comes to.
-use Rattle.std.proofs.Common.{◌≡◌, ℕ, List, [], ◌++◌, length, map, replicate, Option, Some, None, MatchOption, refl, sym, ◌∙◌, ap, subst, arith, append-nil}
+use Rattle.std.proofs.Common.{◌≡◌, ℕ, Bool, false, inr, List, [], ◌++◌, length, map, replicate, Option, Some, None, MatchOption, refl, sym, ◌∙◌, ap, subst, arith, append-nil}
 use Rattle.std.proofs.lemmas.List.{length-map}
 use Rattle.napt_config.specs.Rules.{Rules}
-use Rattle.napt_rules.specs.Prelude.{Arrival}
+use Rattle.napt_rules.specs.Prelude.{Arrival, opening, run}
+use Rattle.napt_laws.specs.Dispatching.{IsFront}
+use Rattle.napt_laws.proofs.Grown.{outcomes_long}
+use Rattle.napt_sequential.specs.declared.fault.RunFault.{RunFault}
+use Rattle.napt_sequential.specs.declared.fault.RunFault.TheVariants.{Memory}
 use Rattle.napt_rules.specs.declared.Leg.{Leg}
 use Rattle.napt_rules.specs.declared.Answer.{Answer}
 use Rattle.napt_pool.specs.declared.pool.Pool.{Pool}
@@ -18,11 +22,12 @@ use Rattle.napt_dispatch.specs.Dispatch.{of_worker}
 use Rattle.napt_dispatch.specs.QueueStates.{unused, counts_in}
 use Rattle.napt_dispatch.specs.Windows.{progress_in}
 use Rattle.napt_dispatch.specs.Standing.{IsSizedFor, state_of, Stands}
-use Rattle.napt_dispatch.specs.Passing.{Reads, ReadsAll, ReadsSome, EndsWith, EndsEarly, EndsBy}
+use Rattle.napt_dispatch.specs.Passing.{timed, HasCome, Reads, ReadsAll, ReadsSome, ReadsToHalt, EndsWith, EndsEarly, EndsHalted, EndsBy}
 use Rattle.napt_dispatch.proofs.Ended.{same_lengths}
 use Rattle.napt_dispatch.proofs.Passing.{many_read}
-use Rattle.napt_dispatch.proofs.Windows.{length_all}
-use Rattle.napt_dispatch.proofs.Standing.{begin_stands, all_taken, dispatched, left_right}
+use Rattle.napt_dispatch.proofs.Lanes.{grows_none}
+use Rattle.napt_dispatch.proofs.Windows.{length_all, left_front_of}
+use Rattle.napt_dispatch.proofs.Standing.{begin_stands, all_taken, dispatched, left_right, right_before}
 
 -- before the first input
 pub begun : {M G : Type 0} (rules : Rules) (pool : Pool M G Leg Answer) (d : Dispatcher) (workers : ℕ) →
@@ -101,6 +106,58 @@ module _ {A F S B M G : Type 0} (rules : Rules) (hands : A → List Arrival → 
         (left_right rules r.inputs (accepts later_pool) (of_worker (taken later_pool)) later
         (stand_now r.inputs r.went r.reads) r.reads.times_are right);
   }
+
+-- and where there was a fault of dispatching
+pub ends_halted : {A F S B M G : Type 0} (rules : Rules) (hands : A → List Arrival → A → Type 0)
+    (ends : A → Option F → A → Type 0) (takes : S → List (ℕ × Outcome) → S → Type 0)
+    (fails : S → List (ℕ × Outcome) → B → S → Type 0) (is_settled : S → Type 0) (pool : Pool M G Leg Answer)
+    (d : Dispatcher) (from : A) (before : S) (later_pool : Pool M G Leg Answer) (later : Dispatcher) (left : A)
+    (after : S) (open_gate : Bool) (fault : RunFault) →
+    ((inputs : List Arrival) → Stands rules [] inputs (state_of pool d)) →
+    ReadsToHalt rules hands ends takes fails is_settled pool d from before later_pool later left after open_gate fault →
+    EndsHalted rules hands ends takes fails is_settled from before later_pool left after
+ends_halted rules hands ends takes fails is_settled pool d from before later_pool later left after open_gate fault begun
+    r =
+    let all : List Arrival = r.inputs ++ r.unread in
+    let s : Stands rules r.inputs all (state_of r.last_pool r.last) = r.reads.served r.unread (begun all) in
+    record {
+      inputs = all;
+      went = r.went;
+      come = r.come;
+      took = r.took;
+      offered_many = length-map _ accepted_of ∙ (sym (length-map _ machine_of)
+          ∙ (ap length r.halted.grows.starts_stay ∙ (sym r.reads.sized ∙ s.many)));
+      right = λ right.
+          let known = (s.reaches (right_before rules r.inputs all r.last_pool later_pool r.last s r.halted.grows
+          right)).known in
+          subst (λ went. IsFront went (timed all (run rules all (opening rules)).outcomes)) r.reads.left_is
+          (left_front_of (run rules all (opening rules)) r.last.progress r.inputs r.unread r.reads.times_are known
+          (outcomes_long rules 0 0 all (opening rules)));
+    }
+
+-- also where all left before it
+pub ends_after : {A F S B M G : Type 0} (rules : Rules) (hands : A → List Arrival → A → Type 0)
+    (ends : A → Option F → A → Type 0) (takes : S → List (ℕ × Outcome) → S → Type 0)
+    (fails : S → List (ℕ × Outcome) → B → S → Type 0) (is_settled : S → Type 0) (pool : Pool M G Leg Answer)
+    (d : Dispatcher) (from : A) (before : S) (later_pool : Pool M G Leg Answer) (later : Dispatcher) (left : A)
+    (after : S) → ((inputs : List Arrival) → Stands rules [] inputs (state_of pool d)) → (end : EndOfInputs F) →
+    ReadsAll rules hands ends takes fails is_settled pool d from before later_pool later left after end →
+    EndsHalted rules hands ends takes fails is_settled from before later_pool left after
+ends_after rules hands ends takes fails is_settled pool d from before later_pool later left after begun end r =
+    ends_halted rules hands ends takes fails is_settled pool d from before later_pool later left after false Memory
+    begun
+    (record {
+      inputs = r.to_end.inputs;
+      unread = [];
+      went = r.to_end.went;
+      come = subst (λ all. HasCome hands ends from all left) (sym (append-nil r.to_end.inputs))
+          (inr (end.fault, r.to_end.came));
+      last_pool = later_pool;
+      last = later;
+      reads = r.to_end.reads;
+      took = r.to_end.took;
+      halted = record { grows = grows_none later_pool; fault_is = tt };
+    })
 
 pub ends_by : {A F S B M G : Type 0} (rules : Rules) (hands : A → List Arrival → A → Type 0)
     (ends : A → Option F → A → Type 0) (takes : S → List (ℕ × Outcome) → S → Type 0)

@@ -1,10 +1,29 @@
 -- The lists of all workers, by the number of the worker.
-use Rattle.std.proofs.Common.{◌≡◌, ◌≢◌, ℕ, zero, suc, ◌<◌, ◌==◌, true, false, cond, List, [], ◌∷◌, ◌++◌, length, Some, refl, sym, ◌∙◌, ap, arith, inl, inr, append-nil, append_assoc}
+use Rattle.std.proofs.Common.{◌≡◌, ◌≢◌, ℕ, zero, suc, ◌<◌, ◌==◌, Bool, true, false, cond, subst, List, [], ◌∷◌, ◌++◌, length, Some, refl, sym, ◌∙◌, ap, arith, inl, inr, append-nil, append_assoc}
 use Rattle.std.specs.Prelude.{slice_index, slice_set, slice_get}
 use Rattle.std.proofs.lemmas.Bool.{cases_eq, eq-eqb, ne_eqb}
-use Rattle.std.proofs.lemmas.List.{get_or-set_same, get_or-set_other}
+use Rattle.std.proofs.lemmas.List.{get_or-set_same, get_or-set_other, length-map}
+use Rattle.napt_rules.specs.declared.Leg.{Leg}
+use Rattle.napt_rules.specs.declared.Answer.{Answer}
+use Rattle.napt_pool.specs.declared.pool.Pool.{Pool}
+use Rattle.napt_pool.specs.Pools.{starts, accepts, takes}
+use Rattle.napt_laws.specs.Dispatching.{IsFront}
+use Rattle.napt_sequential.specs.declared.fault.RunFault.{RunFault}
 use Rattle.napt_dispatch.specs.Dispatch.{of_worker}
-use Rattle.napt_dispatch.specs.Standing.{added}
+use Rattle.napt_dispatch.specs.Standing.{added, Grows, HaltsBy}
+
+-- FRONTS
+
+pub front_none : {X : Type 0} (xs : List X) → IsFront xs xs
+front_none xs = ([], append-nil xs)
+
+pub front_empty : {X : Type 0} (xs : List X) → IsFront [] xs
+front_empty xs = (xs, refl)
+
+pub fronts_both : {X : Type 0} (xs ys zs : List X) → IsFront xs ys → IsFront ys zs → IsFront xs zs
+fronts_both xs ys zs a b = (a.0 ++ b.0, sym (append_assoc xs a.0 b.0) ∙ (ap (λ l. l ++ b.0) a.1 ∙ b.1))
+
+-- EACH WORKER
 
 -- functions are one where they agree everywhere
 pub everywhere : {X Y : Type 0} {f g : X → Y} → ((x : X) → f x ≡ g x) → f ≡ g
@@ -16,6 +35,10 @@ module _ {X : Type 0} (w : ℕ) (xs : List X) (lists : ℕ → List X) where
 
   pub added_other : (v : ℕ) → v ≢ w → added w xs lists v ≡ lists v
   added_other v n = rw (ne_eqb v w n) refl
+
+  pub added_front : (v : ℕ) → IsFront (lists v) (added w xs lists v)
+  added_front v = elim (v == w) as (λ b. IsFront (lists v) (cond b (lists v ++ xs) (lists v)))
+      [ true ↦ (xs, refl) | false ↦ front_none (lists v) ]
 
   pub added_more : (ys : List X) → added w (xs ++ ys) lists ≡ added w ys (added w xs lists)
   added_more ys = everywhere (λ v. elim (v == w) as (λ b. cond b (lists v ++ (xs ++ ys)) (lists v)
@@ -34,6 +57,59 @@ set_added lists w xs lt = everywhere (λ v. elim (cases_eq v w) [
   | inr n ↦ rw (added_other w xs (of_worker lists) v n)
       (get_or-set_other lists w v (of_worker lists w ++ xs) [] n)
 ])
+
+-- A POOL THAT GROWS
+
+module _ {M G : Type 0} where
+  pub grows_not : {pool later_pool : Pool M G Leg Answer} → starts later_pool ≡ starts pool →
+      accepts later_pool ≡ accepts pool → takes later_pool ≡ takes pool → Grows pool later_pool
+  grows_not {pool} began offered taken = record {
+    starts_stay = began;
+    offered = λ w. rw offered (front_none (of_worker (accepts pool) w));
+    taken = λ w. rw taken (front_none (of_worker (takes pool) w));
+  }
+
+  pub grows_none : (pool : Pool M G Leg Answer) → Grows pool pool
+  grows_none pool = grows_not refl refl refl
+
+  pub grows_both : {pool mid_pool later_pool : Pool M G Leg Answer} → Grows pool mid_pool →
+      Grows mid_pool later_pool → Grows pool later_pool
+  grows_both a b = record {
+    starts_stay = b.starts_stay ∙ a.starts_stay;
+    offered = λ w. fronts_both _ _ _ (a.offered w) (b.offered w);
+    taken = λ w. fronts_both _ _ _ (a.taken w) (b.taken w);
+  }
+
+  module _ (w : ℕ) (pool later_pool : Pool M G Leg Answer) (within : w < length (starts pool))
+      (began : starts later_pool ≡ starts pool) where
+    pub grows_offered : (legs : List Leg) → takes later_pool ≡ takes pool →
+        accepts later_pool ≡ slice_set (accepts pool) w (of_worker (accepts pool) w ++ legs) → Grows pool later_pool
+    grows_offered legs same more =
+        let now : of_worker (accepts later_pool) ≡ added w legs (of_worker (accepts pool)) =
+        ap of_worker more ∙ set_added (accepts pool) w legs (rw length-map (rw length-map at within)) in
+        record {
+          starts_stay = began;
+          offered = λ v. subst (λ (lists : ℕ → List Leg). IsFront (of_worker (accepts pool) v) (lists v)) (sym now)
+              (added_front w legs (of_worker (accepts pool)) v);
+          taken = λ v. rw same (front_none (of_worker (takes pool) v));
+        }
+
+    pub grows_taken : (answers : List Answer) → accepts later_pool ≡ accepts pool →
+        takes later_pool ≡ slice_set (takes pool) w (of_worker (takes pool) w ++ answers) → Grows pool later_pool
+    grows_taken answers same more =
+        let now : of_worker (takes later_pool) ≡ added w answers (of_worker (takes pool)) =
+        ap of_worker more ∙ set_added (takes pool) w answers (rw length-map (rw length-map at within)) in
+        record {
+          starts_stay = began;
+          offered = λ v. rw same (front_none (of_worker (accepts pool) v));
+          taken = λ v. subst (λ (lists : ℕ → List Answer). IsFront (of_worker (takes pool) v) (lists v)) (sym now)
+              (added_front w answers (of_worker (takes pool)) v);
+        }
+
+  -- a fault after that
+  pub halts_after : {open_gate : Bool} {fault : RunFault} {pool mid_pool later_pool : Pool M G Leg Answer} →
+      Grows pool mid_pool → HaltsBy open_gate mid_pool later_pool fault → HaltsBy open_gate pool later_pool fault
+  halts_after a b = record { grows = grows_both a b.grows; fault_is = b.fault_is }
 
 -- a place that the pool has
 pub place_within : (pool : List ℕ) (w address : ℕ) → slice_get pool w ≡ Some address → (w < length pool)

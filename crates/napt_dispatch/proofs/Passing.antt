@@ -15,15 +15,16 @@ use Rattle.napt_dispatch.specs.declared.dispatcher.Dispatcher.{Dispatcher}
 use Rattle.napt_dispatch.specs.Windows.{Window, IsHandedOver, times_in, progress_in, expecting}
 use Rattle.napt_dispatch.specs.QueueStates.{queue_of, many_held}
 use Rattle.napt_dispatch.specs.Dispatch.{of_worker}
-use Rattle.napt_dispatch.specs.Standing.{journal_of, state_of, IsSizedFor, Stands, Keeps, Continues, ContinuesUnlessFault, Admits, HasRoom, IsDone}
+use Rattle.napt_dispatch.specs.Standing.{journal_of, state_of, IsSizedFor, Stands, Keeps, Continues, ContinuesUnlessFault, HaltsBy, Admits, HasRoom, IsDone}
 use Rattle.napt_dispatch.proofs.QueueStates.{held_none}
+use Rattle.napt_dispatch.proofs.Lanes.{grows_none, grows_both, halts_after}
 use Rattle.napt_dispatch.proofs.Standing.{known_keeps}
 use Rattle.napt_dispatch.proofs.Windows.{known_push, times_long, expecting_times, expecting_progress}
 use Rattle.napt_dispatch.specs.declared.stopped.Halted.{Halted}
 use Rattle.napt_dispatch.specs.declared.stopped.Halted.TheVariants as halts
 use Rattle.napt_dispatch.specs.declared.dispatcher.reading.EndOfInputs.{EndOfInputs}
 use Rattle.napt_dispatch.specs.declared.dispatcher.progress.Progress.TheVariants.{Awaited}
-use Rattle.napt_dispatch.specs.Passing.{Fails, GoesOn, LetsGo, StopsAt, HaltsAt, Serves, Reads, HasCome, ReadsToEnd, ReadsHalted}
+use Rattle.napt_dispatch.specs.Passing.{Fails, GoesOn, LetsGo, StopsAt, HaltsIn, HaltsAt, Serves, Reads, HasCome, ReadsToEnd, ReadsHalted}
 
 pub many_read : (d : Dispatcher) (inputs : List Arrival) → times_in d.progress ≡ map (λ i. i.time) inputs →
     length inputs ≡ length (progress_in d.progress)
@@ -43,8 +44,9 @@ clock_on inputs input clock own now was same is =
 module _ {M G : Type 0} where
   -- nothing was done
   pub goes_none : {pool : Pool M G Leg Answer} {d : Dispatcher} → IsSizedFor pool d → GoesOn pool d [] pool d
-  goes_none {d = d} sized = record {
+  goes_none {pool} {d} sized = record {
     starts_stay = refl;
+    grows = grows_none pool;
     sized = sized;
     times_stay = refl;
     left_is = sym (append-nil d.progress.left);
@@ -57,6 +59,7 @@ module _ {M G : Type 0} where
       GoesOn pool d went pool later
   goes_over pool d later went sized queues over = record {
     starts_stay = refl;
+    grows = grows_none pool;
     sized = rw queues sized;
     times_stay = over.times_stay;
     left_is = over.left_is;
@@ -72,6 +75,7 @@ module _ {M G : Type 0} where
         Continues pool d later_pool later
     continues_both a b = record {
       starts_stay = b.starts_stay ∙ a.starts_stay;
+      grows = grows_both a.grows b.grows;
       sized = b.sized;
       journal_stays = b.journal_stays ∙ a.journal_stays;
       keeps = λ rules done all s. b.keeps rules done all (a.keeps rules done all s);
@@ -81,6 +85,7 @@ module _ {M G : Type 0} where
         GoesOn mid_pool mid ys later_pool later → GoesOn pool d (xs ++ ys) later_pool later
     goes_more {xs} {ys} a b = record {
       starts_stay = b.starts_stay ∙ a.starts_stay;
+      grows = grows_both a.grows b.grows;
       sized = b.sized;
       times_stay = b.times_stay ∙ a.times_stay;
       left_is = b.left_is ∙ (ap (λ l. l ++ ys) a.left_is ∙ append_assoc d.progress.left xs ys);
@@ -92,6 +97,7 @@ module _ {M G : Type 0} where
         Continues mid_pool mid later_pool later → GoesOn pool d xs later_pool later
     goes_then a b = record {
       starts_stay = b.starts_stay ∙ a.starts_stay;
+      grows = grows_both a.grows b.grows;
       sized = b.sized;
       times_stay = ap (λ j. j.times) b.journal_stays ∙ a.times_stay;
       left_is = ap (λ j. j.left) b.journal_stays ∙ a.left_is;
@@ -103,7 +109,7 @@ module _ {M G : Type 0} where
       (result : Result X RunFault) → ContinuesUnlessFault open_gate mid_pool mid later_pool later result →
       ContinuesUnlessFault open_gate pool d later_pool later result
   continues_then a open_gate later_pool later (Ok done) b = continues_both a b
-  continues_then a open_gate later_pool later (Err fault) b = (b.0 ∙ a.starts_stay, b.1)
+  continues_then a open_gate later_pool later (Err fault) b = halts_after a.grows b
 
   -- WHAT IS READ
 
@@ -116,6 +122,7 @@ module _ {M G : Type 0} where
       Serves rules now input pool d later_pool later
   serves_as rules now number input pool d admitted window later_pool later is at admits journal goes = record {
     starts_stay = goes.starts_stay;
+    grows = goes.grows;
     sized = goes.sized;
     times_are = ap (λ j. j.times) (goes.journal_stays ∙ journal)
         ∙ (ap times_in is ∙ expecting_times input.time d.progress);
@@ -138,6 +145,7 @@ module _ {M G : Type 0} where
       d.progress.left ≡ [] → d.progress.under_way ≡ [] → Reads rules pool d [] [] pool d
   reads_none rules pool d sized left none = record {
     starts_stay = refl;
+    grows = grows_none pool;
     sized = sized;
     times_are = rw (left, none) refl;
     left_is = left;
@@ -150,6 +158,7 @@ module _ {M G : Type 0} where
         GoesOn mid_pool mid ys later_pool later → Reads rules pool d inputs (xs ++ ys) later_pool later
     reads_on {ys = ys} a b = record {
       starts_stay = b.starts_stay ∙ a.starts_stay;
+      grows = grows_both a.grows b.grows;
       sized = b.sized;
       times_are = b.times_stay ∙ a.times_are;
       left_is = b.left_is ∙ ap (λ l. l ++ ys) a.left_is;
@@ -163,6 +172,7 @@ module _ {M G : Type 0} where
         Reads rules pool d (inputs ++ input ∷ []) went later_pool later
     reads_more {input = input} a clock b = record {
       starts_stay = b.starts_stay ∙ a.starts_stay;
+      grows = grows_both a.grows b.grows;
       sized = b.sized;
       times_are = b.times_are ∙ (ap (λ ts. ts ++ input.time ∷ []) a.times_are
           ∙ sym (map-append (λ (i : Arrival). i.time) inputs (input ∷ [])));
@@ -207,15 +217,35 @@ module _ {S F : Type 0} {takes : S → List (ℕ × Outcome) → S → Type 0} (
       took = more before between after a.went b.went a.took b.took;
     }
 
-    pub lets_halt : (open_gate : Bool) (e : Halted F) → LetsGo takes pool d before mid_pool mid between →
-        HaltsAt open_gate takes fails mid_pool mid between later_pool later after e →
-        HaltsAt open_gate takes fails pool d before later_pool later after e
-    lets_halt open_gate (halts.Departure fault) a b = record {
-      went = a.went ++ b.went;
-      goes = goes_more a.goes b.goes;
-      failed = fails_after a.took b.failed;
-    }
-    lets_halt open_gate (halts.Run fault) a b = (b.0 ∙ a.goes.starts_stay, b.1)
+  pub lets_halt : {M G : Type 0} {pool mid_pool : Pool M G Leg Answer} (later_pool : Pool M G Leg Answer)
+      {d mid : Dispatcher} (later : Dispatcher) {before between : S} (after : S) (open_gate : Bool) (e : Halted F) →
+      LetsGo takes pool d before mid_pool mid between →
+      HaltsAt open_gate takes fails mid_pool mid between later_pool later after e →
+      HaltsAt open_gate takes fails pool d before later_pool later after e
+  lets_halt later_pool later after open_gate (halts.Departure fault) a b = record {
+    went = a.went ++ b.went;
+    goes = goes_more a.goes b.goes;
+    failed = fails_after a.took b.failed;
+  }
+  lets_halt later_pool later after open_gate (halts.Run fault) a b = record {
+    last_pool = b.last_pool;
+    last = b.last;
+    lets = lets_more b.last_pool b.last after a b.lets;
+    halted = b.halted;
+  }
+
+  -- outcomes left, and then there was a fault of dispatching
+  pub lets_stop : {M G : Type 0} {pool mid_pool later_pool : Pool M G Leg Answer} {d mid handed : Dispatcher}
+      {before between after : S} {open_gate : Bool} {fault : RunFault} →
+      LetsGo takes pool d before mid_pool mid between →
+      LetsGo takes mid_pool mid between mid_pool handed after → HaltsBy open_gate mid_pool later_pool fault →
+      HaltsIn open_gate takes pool d before later_pool after fault
+  lets_stop {mid_pool = mid_pool} {handed = handed} {after = after} a b stop = record {
+    last_pool = mid_pool;
+    last = handed;
+    lets = lets_more mid_pool handed after a b;
+    halted = stop;
+  }
 
   -- outcomes left, and then answers were taken and legs offered
   pub lets_turn : {M G : Type 0} {pool mid_pool later_pool : Pool M G Leg Answer} {d mid handed later : Dispatcher}
@@ -248,7 +278,17 @@ module _ {S F : Type 0} {takes : S → List (ℕ × Outcome) → S → Type 0} (
       reads = reads_on reads b.goes;
       failed = fails_after took b.failed;
     }
-    reads_halt open_gate (halts.Run fault) reads took come b = (b.0 ∙ reads.starts_stay, b.1)
+    reads_halt open_gate (halts.Run fault) reads took come b = record {
+      inputs = inputs;
+      unread = [];
+      went = went ++ b.lets.went;
+      come = subst (λ all. HasCome hands ends from all left) (sym (append-nil inputs)) come;
+      last_pool = b.last_pool;
+      last = b.last;
+      reads = reads_on reads b.lets.goes;
+      took = more before between after went b.lets.went took b.lets.took;
+      halted = b.halted;
+    }
 
     -- the end was told, or a fault
     pub reads_over : (end : EndOfInputs B) → Reads rules pool d inputs went mid_pool mid → takes before went between →

@@ -1,5 +1,6 @@
 -- What a run passes on, by what dispatching came to and the answers that the workers were right to give.
-use Rattle.std.proofs.Common.{◌≡◌, ℕ, List, [], ◌++◌, length, map, Option, None, refl, sym, ◌∙◌, ap, subst}
+use Rattle.std.proofs.Common.{◌≡◌, ℕ, List, [], ◌++◌, length, map, Option, None, Some, Result, Ok, Err, refl, sym, ◌∙◌, ap, subst, append-nil, inl, inr}
+use Rattle.std.specs.Prelude.{IfOk, OnErr}
 use Rattle.napt_config.specs.Rules.{Rules}
 use Rattle.napt_rules.specs.declared.Row.{Row}
 use Rattle.napt_rules.specs.declared.Leg.{Leg}
@@ -13,12 +14,15 @@ use Rattle.napt_sequential.proofs.Inputs.{came_whole}
 use Rattle.napt_laws.proofs.Grown.{ran_long}
 use Rattle.napt_dispatch.specs.declared.collected.Collected.{Collected}
 use Rattle.napt_dispatch.specs.declared.dispatcher.Dispatched.{Dispatched}
+use Rattle.napt_dispatch.specs.declared.dispatcher.Ending.{Ending}
+use Rattle.napt_dispatch.specs.declared.dispatcher.Ending.TheVariants as endings
+use Rattle.napt_sequential.specs.declared.fault.RunFault.{RunFault}
 use Rattle.napt_dispatch.specs.declared.workers.Passed.{Passed}
 use Rattle.napt_dispatch.specs.declared.workers.TimedRun.{TimedRun}
 use Rattle.napt_dispatch.specs.Collecting.{outcome_of, Collects}
 use Rattle.napt_dispatch.specs.Dispatch.{IsDispatched, Right}
 use Rattle.napt_dispatch.specs.Windows.{time_in}
-use Rattle.napt_dispatch.specs.Passing.{timed, EndsWith, EndsEarly, PassesTo, PassesWell, PassesEarly, RunsAll}
+use Rattle.napt_dispatch.specs.Passing.{timed, EndsWith, EndsEarly, EndsHalted, EndsBy, PassesTo, PassesWell, PassesEarly, PassesHalted, RunsAll}
 use Rattle.napt_dispatch.proofs.Windows.{timed_outcomes, timed_times}
 
 -- the outcomes of a run are those of its course
@@ -72,6 +76,64 @@ module _ {A F S B M G : Type 0} (rules : Rules) (hands : A → List Arrival → 
     front = subst (λ (pairs : List (ℕ × Outcome)). IsFront e.went pairs) (timed_ran rules e.inputs) (e.right right);
     failed = e.failed;
   }
+
+  -- where the run itself failed
+  passes_halt : EndsHalted rules hands ends takes fails is_settled from before pool left after →
+      PassesHalted rules hands ends takes fails is_settled from before left after
+  passes_halt e = record {
+    inputs = e.inputs;
+    went = e.went;
+    come = e.come;
+    front = subst (λ (pairs : List (ℕ × Outcome)). IsFront e.went pairs) (timed_ran rules e.inputs) (e.right right);
+    took = inl e.took;
+  }
+
+  passes_late : (end : Option F) (done : Dispatched F B) →
+      EndsWith rules hands ends takes fails is_settled from before pool left after end done →
+      PassesHalted rules hands ends takes fails is_settled from before left after
+  passes_late end done e = record {
+    inputs = e.inputs;
+    went = e.went;
+    come = inr (end, e.came);
+    front = ([], append-nil e.went ∙ ((e.right right).0 ∙ timed_ran rules e.inputs));
+    took = inl e.took;
+  }
+
+  passes_failed : (fault : B) → EndsEarly rules hands ends takes fails is_settled from before pool left after fault →
+      PassesHalted rules hands ends takes fails is_settled from before left after
+  passes_failed fault e = record {
+    inputs = e.inputs;
+    went = e.went;
+    come = e.come;
+    front = subst (λ (pairs : List (ℕ × Outcome)). IsFront e.went pairs) (timed_ran rules e.inputs) (e.right right);
+    took = inr (fault, e.failed);
+  }
+
+-- the run itself failed, however dispatching ended
+module _ {A F S B M G : Type 0} (rules : Rules) (hands : A → List Arrival → A → Type 0)
+    (ends : A → Option F → A → Type 0) (takes : S → List (ℕ × Outcome) → S → Type 0)
+    (fails : S → List (ℕ × Outcome) → B → S → Type 0) (is_settled : S → Type 0) (from : A) (before : S)
+    (pool : Pool M G Leg Answer) (left : A) (after : S)
+    (right : length (accepts pool) ≡ length rules.pool → Right rules (accepts pool) (taken pool)) where
+  pub passes_ended : (done : Dispatched F B) (ending : Ending F B) →
+      EndsBy rules hands ends takes fails is_settled from before pool left after done ending →
+      PassesHalted rules hands ends takes fails is_settled from before left after
+  passes_ended done endings.Whole e =
+      passes_late rules hands ends takes fails is_settled from before pool left after (right e.offered_many) None done e
+  passes_ended done (endings.Arrival fault) e =
+      passes_late rules hands ends takes fails is_settled from before pool left after (right e.offered_many)
+      (Some fault) done e
+  passes_ended done (endings.Departure fault) e =
+      passes_failed rules hands ends takes fails is_settled from before pool left after (right e.offered_many) fault e
+
+  pub passes_closed : (result : Result (Dispatched F B) RunFault) →
+      IfOk result (λ done. EndsBy rules hands ends takes fails is_settled from before pool left after done
+      done.ending) →
+      OnErr result (EndsHalted rules hands ends takes fails is_settled from before pool left after) →
+      PassesHalted rules hands ends takes fails is_settled from before left after
+  passes_closed (Ok done) ended halted = passes_ended done done.ending ended
+  passes_closed (Err fault) ended halted =
+      passes_halt rules hands ends takes fails is_settled from before pool left after (right halted.offered_many) halted
 
 -- WHAT WAS COLLECTED
 

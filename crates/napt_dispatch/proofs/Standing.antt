@@ -1,5 +1,5 @@
 -- What stands while a dispatcher hands out the legs of a run.
-use Rattle.std.proofs.Common.{◌≡◌, ◌≢◌, ℕ, suc, ◌+◌, ◌<◌, ◌≤◌, ◌==◌, max, Bool, true, false, cond, List, [], ◌∷◌, ◌++◌, length, map, replicate, Option, Some, None, Ok, Err, refl, sym, ◌∙◌, ap, arith, inl, inr, append_assoc, append-nil, length-append}
+use Rattle.std.proofs.Common.{◌≡◌, ◌≢◌, ℕ, suc, ◌+◌, ◌<◌, ◌≤◌, ◌==◌, max, Bool, true, false, cond, List, [], ◌∷◌, ◌++◌, length, map, replicate, Option, Some, None, Ok, Err, refl, sym, ◌∙◌, ap, subst, arith, inl, inr, append_assoc, append-nil, length-append}
 use Rattle.std.specs.Prelude.{IfSome, MatchOption, flat_map, slice_index, slice_index_or, slice_get, slice_set}
 use Rattle.std.proofs.lemmas.Bool.{cases_eq, eq-eqb, ne_eqb}
 use Rattle.std.proofs.lemmas.List.{length_push, map-append, length-replicate, length-map, get_or-map, set-get_or}
@@ -33,14 +33,16 @@ use Rattle.napt_laws.proofs.Grown.{outcomes_long}
 use Rattle.napt_laws.proofs.OneInput.{acts_begin, outcomes_begin, get_at, grown}
 use Rattle.napt_laws.proofs.Places.{legs_append, answers_fill, cond_map, place_stands, acts_grow}
 use Rattle.napt_laws.proofs.Pools.{stands_at}
-use Rattle.napt_dispatch.specs.Dispatch.{of_worker, fresh, Distinct, IsDispatched}
+use Rattle.napt_pool.specs.declared.pool.Pool.{Pool}
+use Rattle.napt_pool.specs.Pools.{accepts, takes}
+use Rattle.napt_dispatch.specs.Dispatch.{of_worker, fresh, Distinct, IsDispatched, Right}
 use Rattle.napt_dispatch.specs.Collecting.{outcome_of}
 use Rattle.napt_dispatch.specs.Passing.{timed}
 use Rattle.napt_dispatch.specs.QueueStates.{QueueState, unused, queue_of, counts_in, with_last, with_first, with_offer, with_oldest, with_queue}
 use Rattle.napt_dispatch.specs.Windows.{Window, progress_in, times_in, next_leg, IsKnown, AllKnown}
-use Rattle.napt_dispatch.specs.Standing.{Lane, DispatchState, state_with, added, owed_of, IsOwed, LaneStands, resolved, lane_legs, IsRight, AreRight, Reaches, Stands, Keeps, ended, IsToldBy, Admits, IsDone}
+use Rattle.napt_dispatch.specs.Standing.{Grows, Lane, DispatchState, state_with, state_of, added, owed_of, IsOwed, LaneStands, resolved, lane_legs, IsRight, AreRight, Reaches, Stands, Keeps, ended, IsToldBy, Admits, IsDone}
 use Rattle.napt_dispatch.proofs.Ended.{map_at}
-use Rattle.napt_dispatch.proofs.Lanes.{added_own, added_other, place_within}
+use Rattle.napt_dispatch.proofs.Lanes.{added_own, added_other, fronts_both, place_within}
 use Rattle.napt_dispatch.proofs.QueueStates.{queue_own, queue_other, length_with, of_replicate}
 use Rattle.napt_dispatch.proofs.Windows.{known_set, known_push, left_front, left_whole, timed_outcomes}
 
@@ -68,6 +70,33 @@ length_replies : (rules : Rules) (address : ℕ) (legs : List Leg) (kept : Kept)
 length_replies rules address [] kept = refl
 length_replies rules address (l ∷ legs) kept =
     ap suc (length_replies rules address legs (kept_after rules address l kept))
+
+replies_more : (rules : Rules) (address : ℕ) (legs more : List Leg) (kept : Kept) → (others : List Answer)
+    × (kept_replies rules address (legs ++ more) kept ≡ kept_replies rules address legs kept ++ others)
+replies_more rules address [] more kept = (kept_replies rules address more kept, refl)
+replies_more rules address (l ∷ legs) more kept =
+    let rest = replies_more rules address legs more (kept_after rules address l kept) in
+    (rest.0, ap (λ (xs : List Answer). kept_answer rules address l kept ∷ xs) rest.1)
+
+-- answers that are right at last were right before
+pub right_before : {M G : Type 0} (rules : Rules) (done all : List Arrival) (pool last_pool : Pool M G Leg Answer)
+    (d : Dispatcher) → Stands rules done all (state_of pool d) → Grows pool last_pool →
+    Right rules (accepts last_pool) (takes last_pool) → AreRight rules (state_of pool d)
+right_before rules done all pool last_pool d s grows right = λ w lt.
+    let address : ℕ = slice_index rules.pool w in
+    let lane : Lane = (state_of pool d).lane w in
+    let o = s.lanes w lt in
+    let more = grows.offered w in
+    let others = replies_more rules address lane.offered more.0 (fresh rules address) in
+    let whole : IsFront lane.taken (kept_replies rules address lane.offered (fresh rules address) ++ others.0) =
+    subst (λ l. IsFront lane.taken l) (ap (λ legs. kept_replies rules address legs (fresh rules address)) (sym more.1)
+    ∙ others.1) (fronts_both _ _ _ (grows.taken w) (right w lt)) in
+    let long : length (kept_replies rules address lane.offered (fresh rules address)) ≡ length lane.offered =
+    length_replies rules address lane.offered (fresh rules address) in
+    let parts : length lane.offered ≡ length o.before + length o.rest =
+    ap length o.parts ∙ length-append o.before o.rest in
+    short_front lane.taken (kept_replies rules address lane.offered (fresh rules address)) others.0
+    (omega (arith, long, parts, o.long)) whole
 
 -- a front of a front
 front_less : {X : Type 0} (xs ys zs : List X) → IsFront (xs ++ ys) zs → IsFront xs zs

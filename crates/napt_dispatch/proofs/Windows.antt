@@ -311,6 +311,17 @@ left_front course window inputs times known long =
     front_by window.left (map arrived window.under_way) inputs course.outcomes long times
     (λ i pair g. known i (ended_in pair) (get_left window.left (map known_in window.under_way) i pair g))
 
+-- the same where more inputs came than were read
+pub left_front_of : (course : Course) (window : Window) (inputs unread : List Arrival) →
+    times_in window ≡ map (λ i. i.time) inputs → AllKnown course (progress_in window) →
+    length course.outcomes ≡ length (inputs ++ unread) → IsFront window.left (timed (inputs ++ unread) course.outcomes)
+left_front_of course window inputs unread times known long =
+    let more : List ℕ = map (λ (i : Arrival). i.time) unread in
+    front_by window.left (map arrived window.under_way ++ more) (inputs ++ unread) course.outcomes long
+    (sym (append_assoc (map time_in window.left) (map arrived window.under_way) more)
+    ∙ (ap (λ ts. ts ++ more) times ∙ sym (map-append (λ (i : Arrival). i.time) inputs unread)))
+    (λ i pair g. known i (ended_in pair) (get_left window.left (map known_in window.under_way) i pair g))
+
 no_more : {X : Type 0} (xs ys zs : List X) → xs ++ ys ≡ zs → length xs ≡ length zs → xs ≡ zs
 no_more [] [] zs e long = e
 no_more [] (y ∷ ys) zs e long = absurd (let h : suc (length ys) ≡ length zs = ap length e in omega arith)

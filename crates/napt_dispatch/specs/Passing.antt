@@ -21,9 +21,10 @@ use Rattle.napt_dispatch.specs.declared.stopped.Stopped.TheVariants as stops
 use Rattle.napt_dispatch.specs.declared.workers.Passed.{Passed}
 use Rattle.napt_dispatch.specs.declared.workers.TimedRun.{TimedRun}
 use Rattle.napt_dispatch.specs.Collecting.{outcome_of}
-use Rattle.napt_dispatch.specs.Dispatch.{IsDispatchFault, IsFaultUnder, IsDispatched, Right}
+use Rattle.napt_dispatch.specs.Dispatch.{IsFaultUnder, IsDispatched, Right}
 use Rattle.napt_dispatch.specs.Windows.{Window, progress_in, times_in, IsHandedOver}
-use Rattle.napt_dispatch.specs.Standing.{state_of, IsSizedFor, Stands, KeepsAt, IsDone}
+use Rattle.napt_dispatch.specs.Standing.{state_of, IsSizedFor, Stands, KeepsAt, IsDone, Grows, HaltsBy}
+use Rattle.napt_sequential.specs.declared.fault.RunFault.{RunFault}
 
 -- OUTCOMES THAT LEAVE
 
@@ -63,6 +64,7 @@ pub record FailsOver {S F : Type 0} (takes : S → List (ℕ × Outcome) → S �
 pub record GoesOn {M G : Type 0} (pool : Pool M G Leg Answer) (d : Dispatcher) (went : List (ℕ × Outcome))
     (later_pool : Pool M G Leg Answer) (later : Dispatcher) : Type 0 where
   pub starts_stay : starts later_pool ≡ starts pool
+  pub grows : Grows pool later_pool
   pub sized : IsSizedFor later_pool later
   pub times_stay : times_in later.progress ≡ times_in d.progress
   pub left_is : later.progress.left ≡ d.progress.left ++ went
@@ -83,14 +85,22 @@ pub record StopsAt {M G S F : Type 0} (takes : S → List (ℕ × Outcome) → S
   pub goes : GoesOn pool d went later_pool later
   pub failed : Fails takes fails before went fault after
 
--- after a fault of the run, the pool has the same workers, and the fault is one of dispatching
+-- or there was a fault of dispatching, after these outcomes were taken
+pub record HaltsIn {M G S : Type 0} (open_gate : Bool) (takes : S → List (ℕ × Outcome) → S → Type 0)
+    (pool : Pool M G Leg Answer) (d : Dispatcher) (before : S) (later_pool : Pool M G Leg Answer) (after : S)
+    (fault : RunFault) : Type 0 where
+  pub last_pool : Pool M G Leg Answer
+  pub last : Dispatcher
+  pub lets : LetsGo takes pool d before last_pool last after
+  pub halted : HaltsBy open_gate last_pool later_pool fault
+
 abbrev pub HaltsAt : {M G S F : Type 0} → Bool → (S → List (ℕ × Outcome) → S → Type 0) →
     (S → List (ℕ × Outcome) → F → S → Type 0) → Pool M G Leg Answer → Dispatcher → S → Pool M G Leg Answer →
     Dispatcher → S → Halted F → Type 0
 HaltsAt open_gate takes fails pool d before later_pool later after (halts.Departure fault) =
     StopsAt takes fails pool d before later_pool later after fault
 HaltsAt open_gate takes fails pool d before later_pool later after (halts.Run fault) =
-    (starts later_pool ≡ starts pool) × IsDispatchFault open_gate fault
+    HaltsIn open_gate takes pool d before later_pool after fault
 
 abbrev pub LetsGoUnlessFault : {M G S F X : Type 0} → Bool → (S → List (ℕ × Outcome) → S → Type 0) →
     (S → List (ℕ × Outcome) → F → S → Type 0) → Pool M G Leg Answer → Dispatcher → S → Pool M G Leg Answer →
@@ -113,6 +123,7 @@ pub record Begins {M G : Type 0} (rules : Rules) (pool : Pool M G Leg Answer) (d
 pub record Serves {M G : Type 0} (rules : Rules) (now : ℕ) (input : Arrival) (pool : Pool M G Leg Answer)
     (d : Dispatcher) (later_pool : Pool M G Leg Answer) (later : Dispatcher) : Type 0 where
   pub starts_stay : starts later_pool ≡ starts pool
+  pub grows : Grows pool later_pool
   pub sized : IsSizedFor later_pool later
   pub times_are : times_in later.progress ≡ times_in d.progress ++ input.time ∷ []
   pub left_stays : later.progress.left ≡ d.progress.left
@@ -125,6 +136,7 @@ pub record Serves {M G : Type 0} (rules : Rules) (now : ℕ) (input : Arrival) (
 pub record Reads {M G : Type 0} (rules : Rules) (pool : Pool M G Leg Answer) (d : Dispatcher) (inputs : List Arrival)
     (went : List (ℕ × Outcome)) (later_pool : Pool M G Leg Answer) (later : Dispatcher) : Type 0 where
   pub starts_stay : starts later_pool ≡ starts pool
+  pub grows : Grows pool later_pool
   pub sized : IsSizedFor later_pool later
   pub times_are : times_in later.progress ≡ map (λ i. i.time) inputs
   pub left_is : later.progress.left ≡ went
@@ -167,9 +179,21 @@ module _ {A F S B : Type 0} (rules : Rules) (hands : A → List Arrival → A �
       pub reads : Reads rules pool d inputs went later_pool later
       pub failed : Fails takes fails before went fault after
 
+    -- there was a fault of dispatching after some inputs, of which the last may not have been read
+    pub record ReadsToHalt (open_gate : Bool) (fault : RunFault) : Type 0 where
+      pub inputs : List Arrival
+      pub unread : List Arrival
+      pub went : List (ℕ × Outcome)
+      pub come : HasCome hands ends from (inputs ++ unread) left
+      pub last_pool : Pool M G Leg Answer
+      pub last : Dispatcher
+      pub reads : Reads rules pool d inputs went last_pool last
+      pub took : takes before went after
+      pub halted : HaltsBy open_gate last_pool later_pool fault
+
     abbrev pub ReadsHalted : Bool → Halted B → Type 0
     ReadsHalted open_gate (halts.Departure fault) = ReadsSome fault
-    ReadsHalted open_gate (halts.Run fault) = (starts later_pool ≡ starts pool) × IsDispatchFault open_gate fault
+    ReadsHalted open_gate (halts.Run fault) = ReadsToHalt open_gate fault
 
   -- THE RESULT OF DISPATCHING
 
@@ -195,6 +219,16 @@ module _ {A F S B : Type 0} (rules : Rules) (hands : A → List Arrival → A �
       pub went : List (ℕ × Outcome)
       pub come : HasCome hands ends from inputs left
       pub failed : Fails takes fails before went fault after
+      pub offered_many : length (accepts pool) ≡ length rules.pool
+      pub right : Right rules (accepts pool) (taken pool) →
+          IsFront went (timed inputs (run rules inputs (opening rules)).outcomes)
+
+    -- there was a fault of dispatching
+    pub record EndsHalted : Type 0 where
+      pub inputs : List Arrival
+      pub went : List (ℕ × Outcome)
+      pub come : HasCome hands ends from inputs left
+      pub took : takes before went after
       pub offered_many : length (accepts pool) ≡ length rules.pool
       pub right : Right rules (accepts pool) (taken pool) →
           IsFront went (timed inputs (run rules inputs (opening rules)).outcomes)
@@ -228,11 +262,20 @@ module _ {A F S B : Type 0} (rules : Rules) (hands : A → List Arrival → A �
       pub front : IsFront went (timed inputs (ran rules inputs).outcomes)
       pub failed : Fails takes fails before went fault after
 
+    -- the run itself failed, and what left before are the first outcomes of the sequential run. Taking them may have
+    -- failed too
+    pub record PassesHalted : Type 0 where
+      pub inputs : List Arrival
+      pub went : List (ℕ × Outcome)
+      pub come : HasCome hands ends from inputs left
+      pub front : IsFront went (timed inputs (ran rules inputs).outcomes)
+      pub took : takes before went after ⊎ ((fault : B) × Fails takes fails before went fault after)
+
     abbrev pub Passes : Result Passed (Stopped F B) → Type 0
     Passes (Ok passed) = PassesWell passed
     Passes (Err (stops.Arrival fault)) = PassesTo (Some fault)
     Passes (Err (stops.Departure fault)) = PassesEarly fault
-    Passes (Err (stops.Run fault)) = ⊤
+    Passes (Err (stops.Run fault)) = PassesHalted
 
 -- a fault of a run that has started. A gate that promises yes is never reported as shut
 abbrev pub IsStoppedUnder : {F B : Type 0} → Bool → Stopped F B → Type 0

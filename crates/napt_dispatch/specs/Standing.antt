@@ -147,20 +147,33 @@ abbrev pub KeepsAt : {M G : Type 0} → Pool M G Leg Answer → Dispatcher → P
 KeepsAt pool d later_pool later = (rules : Rules) (done all : List Arrival) → StandsAt rules done all pool d →
     StandsAt rules done all later_pool later
 
+-- the pool has the same workers, and what they were offered and what was taken from them stays: there may be more
+pub record Grows {M G : Type 0} (pool later_pool : Pool M G Leg Answer) : Type 0 where
+  pub starts_stay : starts later_pool ≡ starts pool
+  pub offered : (w : ℕ) → IsFront (of_worker (accepts pool) w) (of_worker (accepts later_pool) w)
+  pub taken : (w : ℕ) → IsFront (of_worker (takes pool) w) (of_worker (takes later_pool) w)
+
+-- a fault of dispatching
+pub record HaltsBy {M G : Type 0} (open_gate : Bool) (pool later_pool : Pool M G Leg Answer) (fault : RunFault) : Type 0
+  where
+    pub grows : Grows pool later_pool
+    pub fault_is : IsDispatchFault open_gate fault
+
 -- the pool has the same workers, and the dispatcher's invariant still holds
 pub record Continues {M G : Type 0} (pool : Pool M G Leg Answer) (d : Dispatcher) (later_pool : Pool M G Leg Answer)
     (later : Dispatcher) : Type 0 where
   pub starts_stay : starts later_pool ≡ starts pool
+  pub grows : Grows pool later_pool
   pub sized : IsSizedFor later_pool later
   pub journal_stays : journal_of later.progress ≡ journal_of d.progress
   pub keeps : KeepsAt pool d later_pool later
 
--- or there was a fault of dispatching, and the pool has the same workers
+-- or there was a fault of dispatching
 abbrev pub ContinuesUnlessFault : {M G X : Type 0} → Bool → Pool M G Leg Answer → Dispatcher → Pool M G Leg Answer →
     Dispatcher → Result X RunFault → Type 0
 ContinuesUnlessFault open_gate pool d later_pool later result =
     MatchResult result (λ done. Continues pool d later_pool later)
-    (λ fault. (starts later_pool ≡ starts pool) × IsDispatchFault open_gate fault)
+    (HaltsBy open_gate pool later_pool)
 
 -- STEPS
 

@@ -4,11 +4,11 @@
 //! second leg at the worker of that address, if the answer to the first leg is onward (RFC 4787, REQ-9). As soon as the input
 //! is read, a placeholder for the second leg is held for that worker. Everything behind it waits for that answer; nothing
 //! else does.
-ghost use Rattle.std.specs.Prelude.{◌≡◌, ◌<◌, ◌^◌, [], length, map, replicate, IfOk, IfErr, OnOk};
+ghost use Rattle.std.specs.Prelude.{◌≡◌, ◌<◌, ◌^◌, [], length, map, replicate, IfOk, IfErr, OnOk, OnErr};
 ghost use Rattle.napt_pool.specs.Pools.{starts, accepts, takes, zip_with};
 ghost use Rattle.napt_pool.specs.Histories.{replies};
 ghost use Rattle.napt_dispatch.specs.Dispatch.{started, IsDispatchFault, IsDispatched};
-ghost use Rattle.napt_dispatch.specs.Passing.{EndsBy};
+ghost use Rattle.napt_dispatch.specs.Passing.{EndsBy, EndsHalted};
 ghost use Rattle.napt_dispatch.specs.QueueStates.{unused};
 
 mod holding;
@@ -138,6 +138,8 @@ pub(crate) fn dispatch_to<R: Wait, G: Gate, A: Arrivals, D: Departures>(
     ensures ends { IfOk result (λ done. EndsBy config.now A.hands A.ends D.takes D.fails
         D.is_settled arrivals.old departures.old pool.new arrivals.new departures.new done
         done.ending) }
+    ensures halts { OnErr result (EndsHalted config.now A.hands A.ends D.takes D.fails
+        D.is_settled arrivals.old departures.old pool.new arrivals.new departures.new) }
     ensures fault { IfErr result (IsDispatchFault G.is_open) }
 {
     let workers = config.pool().len() as u32;

@@ -1,8 +1,8 @@
 //! Runs over workers on threads of their own.
 
-ghost use Rattle.std.specs.Prelude.{◌≡◌, ◌↔◌, ◌^◌, ◌≤◌, ◌++◌, [], length, map, flat_map, replicate, vec_len, AllPairs, IfOk, IfErr, OnOk, Ok, Err, true, false};
+ghost use Rattle.std.specs.Prelude.{◌≡◌, ◌↔◌, ◌^◌, ◌≤◌, [], length, map, flat_map, replicate, vec_len, AllPairs, IfOk, IfErr, OnOk, Ok, Err, true, false};
 ghost use Rattle.napt_config.specs.Rules.{KeepsRules};
-ghost use Rattle.napt_pool.specs.Histories.{after, replies};
+ghost use Rattle.napt_pool.specs.Histories.{after, replies, AllBegin};
 ghost use Rattle.napt_pool.specs.Pools.{starts, accepts, takes, zip_with};
 ghost use Rattle.napt_rules.specs.Sequential as model;
 ghost use Rattle.napt_dispatch.specs.Dispatch.{first_fault, started, rows_after, IsDispatchFault, IsFaultUnder};
@@ -92,8 +92,7 @@ fn close<R: Threads, G: Gate, D: Drop>(
     ensures given { IfOk result (λ both. dispatched ≡ Ok both.0) }
     ensures machines { IfOk result (λ both. map (λ e. e.machine) both.1.items
         ≡ zip_with (after ⟦<Worker as Machine>⟧) (starts pool) (accepts pool)) }
-    ensures answers { IfOk result (λ both. zip_with (λ t rest. t ++ rest) (takes pool)
-        (map (λ e. e.answers.items) both.1.items) ≡ zip_with (replies ⟦<Worker as Machine>⟧)
+    ensures taken { AllBegin (takes pool) (zip_with (replies ⟦<Worker as Machine>⟧)
         (starts pool) (accepts pool)) }
     ensures settled { map length (takes pool) ≡ map length (accepts pool) →
         OnOk result (takes pool ≡ zip_with (replies ⟦<Worker as Machine>⟧)
@@ -153,7 +152,8 @@ pub struct Passed {
 ///
 /// Before a device is asked for an input, the outcome of every input before it has left and is settled. The same holds at
 /// the end, and if the arrivals fail. The workers are closed and joined before an error is returned. A fault of the run is
-/// reported before one of the departures, and that before one of the arrivals.
+/// reported before one of the departures, and that before one of the arrivals. After either, the outcomes that left are the
+/// first of the run over the inputs that came.
 pub fn run_through<
     R: Threads + Wait + Copy + Send + 'static,
     G: Gate + Send + Sync + Drop + 'static,

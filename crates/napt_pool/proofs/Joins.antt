@@ -13,7 +13,7 @@ use Rattle.napt_pool.specs.declared.message.Reply.TheVariants.{Stopped}
 use Rattle.napt_pool.specs.declared.pool.Pool.{Pool}
 use Rattle.napt_pool.specs.declared.thread_state.ThreadState.{ThreadState}
 use Rattle.napt_pool.specs.Faults.{is_shut, is_gate_shut, fault_of, IsFaultOf, IsFaultUpTo, IsLeastFault}
-use Rattle.napt_pool.specs.Histories.{after, replies}
+use Rattle.napt_pool.specs.Histories.{after, replies, AllBegin}
 use Rattle.napt_pool.specs.Workers.{IsEnd, AreEnds, closing_machine, closing_thread_state, closing_accepted, closing_taken, closing_heard}
 use Rattle.napt_pool.specs.Pools.{starts, accepts, takes, heard, thread_states, zip_with, HasTold, HaveReceived, IsLeastStop}
 use Rattle.napt_pool.proofs.Ending.{length-replies}
@@ -74,6 +74,20 @@ module _ {M G I A : Type 0} (g : Ghosts M I A) (open_gate : Bool) where
       ap (λ r. r ∷ zip_with (λ t rest. t ++ rest) (map closing_taken ws) (map (λ d. d.answers.items) es))
       h.0.answers_are
       ∙ ap (λ rs. replies g (closing_machine w) (closing_accepted w) ∷ rs) (answers_are ws es h.1)
+
+  -- what was taken is the first of them, also where a worker stopped
+  pub taken_are : (ws : List (Closing M G I A)) (es : List (Result (Ended M I A) Stop)) → AreEnds g open_gate ws es
+      → AllBegin (map closing_taken ws) (zip_with (replies g) (map closing_machine ws) (map closing_accepted ws))
+  taken_are [] [] h = tt
+  taken_are [] (e ∷ es) h = absurd h
+  taken_are (w ∷ ws) [] h = absurd h
+  taken_are (w ∷ ws) (e ∷ es) h = (h.0.taken_are, taken_are ws es h.1)
+
+  pub taken_at : (ws : List (Closing M G I A)) (es : List (Result (Ended M I A) Stop)) (ms : List M)
+      (xs : List (List I))
+      (ts : List (List A)) → AreEnds g open_gate ws es → map closing_machine ws ≡ ms → map closing_accepted ws ≡ xs
+      → map closing_taken ws ≡ ts → AllBegin ts (zip_with (replies g) ms xs)
+  taken_at ws es ms xs ts ends began accepted taken = rw (← began, ← accepted, ← taken) (taken_are ws es ends)
 
   -- where no answer is owed, nothing is handed back
   pub settled : (ts : List (List A)) (ws : List (Closing M G I A)) (es : List (Ended M I A)) →

@@ -1,6 +1,6 @@
 //! Offering legs to the workers, many in one message.
 
-ghost use Rattle.std.specs.Prelude.{◌≡◌, ◌⊎◌, ◌+◌, ◌<◌, ◌≤◌, [], ◌∷◌, ◌++◌, Bool, true, length, slice_set, vec_len, IfOk, IfErr, OnOk, MatchBool};
+ghost use Rattle.std.specs.Prelude.{◌≡◌, ◌⊎◌, ◌+◌, ◌<◌, ◌≤◌, [], ◌∷◌, ◌++◌, Bool, true, length, slice_set, vec_len, IfOk, IfErr, OnOk, OnErr, MatchBool};
 ghost use Rattle.napt_pool.specs.Pools.{starts, accepts, takes, capacity_of};
 ghost use Rattle.napt_dispatch.specs.Dispatch.{of_worker, IsDispatchFault};
 ghost use Rattle.napt_dispatch.specs.QueueStates.{queue_of, with_offer, with_queue};
@@ -141,6 +141,7 @@ fn send<G: Gate>(
     ensures takes { takes pool.new ≡ takes pool.old }
     ensures accepted { OnOk result (accepts pool.new ≡ slice_set (accepts pool.old) w
         (of_worker (accepts pool.old) w ++ legs.items)) }
+    ensures refused { OnErr result (accepts pool.new ≡ accepts pool.old) }
     ensures fault { IfErr result (IsDispatchFault G.is_open) }
 {
     let mut room = room;

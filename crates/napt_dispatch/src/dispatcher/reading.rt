@@ -4,9 +4,8 @@ ghost use Rattle.std.specs.Prelude.{◌≡◌, ◌<◌, ◌≤◌, ◌/◌, ◌%
 ghost use Rattle.napt_config.specs.Rules.{KeepsRules};
 ghost use Rattle.napt_pool.specs.Pools.{starts};
 ghost use Rattle.napt_sequential.specs.Inputs.{Hands};
-ghost use Rattle.napt_dispatch.specs.Dispatch.{IsDispatchFault};
 ghost use Rattle.napt_dispatch.specs.Passing.{LetsGoUnlessFault, Serves, Begins, ReadsToEnd, ReadsAll, ReadsHalted};
-ghost use Rattle.napt_dispatch.specs.Standing.{IsSizedFor, ContinuesUnlessFault, HasRoom};
+ghost use Rattle.napt_dispatch.specs.Standing.{IsSizedFor, ContinuesUnlessFault, HasRoom, HaltsBy};
 
 use crate::Worker;
 use crate::departures::Departures;
@@ -70,8 +69,7 @@ impl Dispatcher {
         requires room { HasRoom self.old }
         ensures serves { OnOk result (Serves config.now now input pool.old self.old
             pool.new self.new) }
-        ensures fault { IfErr result (λ fault. (starts pool.new ≡ starts pool.old)
-            × IsDispatchFault G.is_open fault) }
+        ensures fault { IfErr result (HaltsBy G.is_open pool.old pool.new) }
     {
         let number = self.progress.expect(input.time)?;
         let place = self.admit(config, number, now, input)?;

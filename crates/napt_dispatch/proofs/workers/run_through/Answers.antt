@@ -1,27 +1,64 @@
-use Rattle.std.proofs.Common.{◌≡◌, ◌∙◌, ◌++◌, List, length, map, None, Some, refl, subst}
-use Rattle.std.proofs.lemmas.Result.{IfOk-at_ok}
+use Rattle.std.proofs.Common.{◌≡◌, ◌∙◌, [], inl, List, length, map, None, Some, refl, subst}
+use Rattle.std.proofs.lemmas.Result.{IfOk-at_ok, err_from_is_err_and}
 use Rattle.napt_config.specs.Rules.{Rules}
 use Rattle.napt_rules.specs.declared.Leg.{Leg}
 use Rattle.napt_rules.specs.declared.Answer.{Answer}
 use Rattle.napt_translate.specs.Translators.{TranslatorState}
-use Rattle.napt_pool.specs.Histories.{replies}
+use Rattle.napt_pool.specs.Histories.{replies, AllBegin}
 use Rattle.napt_pool.specs.Pools.{starts, accepts, takes, zip_with}
 use Rattle.napt_dispatch.specs.Collecting.{outcome_of}
 use Rattle.napt_dispatch.specs.Dispatch.{started, Right}
 use Rattle.napt_dispatch.specs.Passing.{EndsWith, EndsBy}
 use Rattle.napt_dispatch.specs.contracts.worker.WorkerMachine.TheImpl.{ghosts}
 use Rattle.napt_dispatch.proofs.Closed.{rows_shown, workers_shown}
-use Rattle.napt_dispatch.proofs.Ended.{right_front}
-use Rattle.napt_dispatch.proofs.RunsThrough.{passes_to, passes_well, passes_early}
+use Rattle.napt_dispatch.proofs.Ended.{right_begin}
+use Rattle.napt_dispatch.proofs.Lanes.{front_empty}
+use Rattle.napt_dispatch.proofs.RunsThrough.{passes_to, passes_well, passes_early, passes_ended, passes_closed}
 use Rattle.napt_dispatch.proofs.workers.run_through.Goals as goal
 
 -- the answers that were taken are right, since all of them are the workers' own
-right_taken : (rules : Rules) (states : List TranslatorState) (offered : List (List Leg))
-    (taken rests : List (List Answer)) → states ≡ started rules (length rules.pool) →
-    zip_with (λ t rest. t ++ rest) taken rests ≡ zip_with (replies ghosts) states offered →
+right_taken : (rules : Rules) (states : List TranslatorState) (offered : List (List Leg)) (taken : List (List Answer)) →
+    states ≡ started rules (length rules.pool) → AllBegin taken (zip_with (replies ghosts) states offered) →
     length offered ≡ length rules.pool → Right rules offered taken
-right_taken rules states offered taken rests began answers many =
-    right_front ghosts (λ s leg. refl) (λ s leg. refl) rules states offered taken rests began many answers
+right_taken rules states offered taken began begin many =
+    right_begin ghosts (λ s leg. refl) (λ s leg. refl) rules states offered taken began many begin
+
+pub returns-in_err-pool-clause-passes : goal.returns-in_err-pool-clause-passes
+returns-in_err-pool-clause-passes g c =
+    let p = err_from_is_err_and c.from_residual.result c.from_residual.ensures.1 in
+    rw (p.1, p.2)
+    (record {
+      inputs = [];
+      went = [];
+      come = inl (g.met.A.Arrivals.hands_none c.args.arrivals.now);
+      front = front_empty _;
+      took = inl (g.met.D.Departures.takes_none c.args.departures.now);
+    })
+
+pub returns-in_err-dispatched-clause-passes : goal.returns-in_err-dispatched-clause-passes
+returns-in_err-dispatched-clause-passes g c =
+    let rules : Rules = c.args.config.now in
+    let pool = c.dispatch_to-dispatched.new.pool in
+    let p = err_from_is_err_and c.from_residual-in_err-dispatched.result c.from_residual-in_err-dispatched.ensures.1 in
+    rw (p.1, p.2)
+    (passes_closed rules g.A.Arrivals.hands g.A.Arrivals.ends g.D.Departures.takes g.D.Departures.fails
+    g.D.Departures.is_settled c.args.arrivals.now c.args.departures.now pool c.dispatch_to-dispatched.new.arrivals
+    c.dispatch_to-dispatched.new.departures
+    (right_taken rules (starts pool) (accepts pool) (takes pool)
+    (c.dispatch_to-dispatched.ensures.starts ∙ c.in_ok-pool.ensures.started) c.in_err-dispatched.ensures.taken)
+    c.dispatch_to-dispatched.result c.dispatch_to-dispatched.ensures.ends c.dispatch_to-dispatched.ensures.halts)
+
+pub returns-in-Whole-clause-passes : goal.returns-in-Whole-clause-passes
+returns-in-Whole-clause-passes g c =
+    let rules : Rules = c.args.config.now in
+    let pool = c.dispatch_to-dispatched.new.pool in
+    passes_ended rules g.A.Arrivals.hands g.A.Arrivals.ends g.D.Departures.takes g.D.Departures.fails
+    g.D.Departures.is_settled c.args.arrivals.now c.args.departures.now pool c.dispatch_to-dispatched.new.arrivals
+    c.dispatch_to-dispatched.new.departures
+    (right_taken rules (starts pool) (accepts pool) (takes pool)
+    (c.dispatch_to-dispatched.ensures.starts ∙ c.in_ok-pool.ensures.started) c.in_ok-dispatched.ensures.taken)
+    c.in_ok-dispatched.dispatched c.in_ok-dispatched.dispatched.ending
+    (IfOk-at_ok _ c.in_ok-dispatched.ensures.given c.dispatch_to-dispatched.ensures.ends)
 
 pub returns-in-Ok-clause-passes : goal.returns-in-Ok-clause-passes
 returns-in-Ok-clause-passes g c =
@@ -38,7 +75,7 @@ returns-in-Ok-clause-passes g c =
     let began : starts pool ≡ started rules (length rules.pool) =
     c.dispatch_to-dispatched.ensures.starts ∙ c.in_ok-pool.ensures.started in
     let right : Right rules (accepts pool) (takes pool) =
-    right_taken rules (starts pool) (accepts pool) (takes pool) _ began closed.answers e.offered_many in
+    right_taken rules (starts pool) (accepts pool) (takes pool) began closed.taken e.offered_many in
     passes_well rules g.A.Arrivals.hands g.A.Arrivals.ends g.D.Departures.takes g.D.Departures.fails
     g.D.Departures.is_settled c.args.arrivals.now c.args.departures.now pool c.dispatch_to-dispatched.new.arrivals
     c.dispatch_to-dispatched.new.departures right c.in_ok-dispatched.dispatched _ e
@@ -63,8 +100,8 @@ returns-in-Arrival-clause-passes g c =
     passes_to rules g.A.Arrivals.hands g.A.Arrivals.ends g.D.Departures.takes g.D.Departures.fails
     g.D.Departures.is_settled c.args.arrivals.now c.args.departures.now pool c.dispatch_to-dispatched.new.arrivals
     c.dispatch_to-dispatched.new.departures
-    (right_taken rules (starts pool) (accepts pool) (takes pool) _
-    (c.dispatch_to-dispatched.ensures.starts ∙ c.in_ok-pool.ensures.started) closed.answers e.offered_many)
+    (right_taken rules (starts pool) (accepts pool) (takes pool)
+    (c.dispatch_to-dispatched.ensures.starts ∙ c.in_ok-pool.ensures.started) closed.taken e.offered_many)
     (Some c.in-Arrival.fault) c.in_ok-dispatched.dispatched e
 
 pub returns-clause-passes : goal.returns-clause-passes
@@ -76,6 +113,6 @@ returns-clause-passes g c =
     passes_early rules g.A.Arrivals.hands g.A.Arrivals.ends g.D.Departures.takes g.D.Departures.fails
     g.D.Departures.is_settled c.args.arrivals.now c.args.departures.now pool c.dispatch_to-dispatched.new.arrivals
     c.dispatch_to-dispatched.new.departures
-    (right_taken rules (starts pool) (accepts pool) (takes pool) _
-    (c.dispatch_to-dispatched.ensures.starts ∙ c.in_ok-pool.ensures.started) closed.answers e.offered_many)
+    (right_taken rules (starts pool) (accepts pool) (takes pool)
+    (c.dispatch_to-dispatched.ensures.starts ∙ c.in_ok-pool.ensures.started) closed.taken e.offered_many)
     c.in-Departure.fault e

@@ -1,6 +1,6 @@
 use Rattle.std.proofs.Common.{[]}
 use Rattle.std.proofs.lemmas.Result.{err_from_is_err_and}
-use Rattle.napt_dispatch.proofs.Passing.{goes_none, lets_more, lets_halt, lets_turn}
+use Rattle.napt_dispatch.proofs.Passing.{goes_none, lets_more, lets_halt, lets_turn, lets_stop}
 use Rattle.napt_dispatch.proofs.dispatcher.Dispatcher.go_on_until.Goals as goal
 
 pub loop-init : goal.loop-init
@@ -26,3 +26,10 @@ returns-in_err-hand_over-clause-state g c =
 pub returns-then-has_reached-clause-state : goal.returns-then-has_reached-clause-state
 returns-then-has_reached-clause-state g c =
     lets_more g.D.Departures.fails g.met.D.Departures.takes_more _ _ _ c.loop.invariant c.in_ok-hand_over.ensures
+
+pub returns-in_err-go_on-clause-state : goal.returns-in_err-go_on-clause-state
+returns-in_err-go_on-clause-state g c =
+    let p = err_from_is_err_and c.from_residual-in_err-go_on.result c.from_residual-in_err-go_on.ensures.1 in
+    rw (p.1, p.2)
+    (lets_stop g.D.Departures.fails g.met.D.Departures.takes_more c.loop.invariant c.in_ok-hand_over.ensures
+    c.in_err-go_on.ensures.state)

@@ -2,6 +2,8 @@ use Rattle.std.proofs.Common.{inl, inr, arith}
 use Rattle.std.proofs.lemmas.Bool.{cases_eq}
 use Rattle.napt_dispatch.proofs.Offering.{offered_still}
 use Rattle.napt_dispatch.proofs.Passing.{continues_both}
+use Rattle.std.proofs.lemmas.Result.{err_from_is_err_and}
+use Rattle.napt_dispatch.proofs.Lanes.{halts_after}
 use Rattle.napt_dispatch.proofs.dispatcher.Dispatcher.offer_all.Goals as goal
 
 pub loop-w-preserved : goal.loop-w-preserved
@@ -13,3 +15,8 @@ loop-w-preserved g c = record {
         c.in_ok-offer_held.ensures.alone v n (c.loop-w.invariant.offered v (omega (arith, lt)))
   ];
 }
+
+pub returns-in_err-offer_held-clause-state : goal.returns-in_err-offer_held-clause-state
+returns-in_err-offer_held-clause-state g c =
+    let p = err_from_is_err_and c.from_residual.result c.from_residual.ensures.1 in
+    rw (p.1, p.2) (halts_after c.loop-w.invariant.state.grows c.in_err-offer_held.ensures.state)

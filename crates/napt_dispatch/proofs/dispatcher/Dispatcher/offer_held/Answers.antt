@@ -1,16 +1,20 @@
-use Rattle.std.proofs.Common.{refl, rules}
+use Rattle.std.proofs.Common.{rules}
 use Rattle.std.proofs.lemmas.Result.{err_from_is_err_and}
+use Rattle.napt_dispatch.proofs.Lanes.{grows_none, grows_not, grows_offered}
 use Rattle.napt_dispatch.proofs.Offering.{over_pool, sent_keeps, only_sent, sent_all}
 use Rattle.napt_dispatch.proofs.dispatcher.Dispatcher.offer_held.Goals as goal
 
 pub returns-in_err-legs-clause-state : goal.returns-in_err-legs-clause-state
 returns-in_err-legs-clause-state g c =
     let p = err_from_is_err_and c.from_residual.result c.from_residual.ensures.1 in
-    rw (p.1, p.2) (refl, c.in_err-legs.ensures.fault g.G.Gate.is_open)
+    rw (p.1, p.2)
+    (record { grows = grows_none c.args.pool.now; fault_is = c.in_err-legs.ensures.fault g.G.Gate.is_open })
 
 pub returns-clause-state : goal.returns-clause-state
 returns-clause-state g c = record {
   starts_stay = c.in_ok-send.ensures.starts;
+  grows = grows_offered c.args.w c.args.pool.now c.send.new.pool c.requires.place c.in_ok-send.ensures.starts
+      c.in_ok-legs.legs.items c.in_ok-send.ensures.takes c.in_ok-send.ensures.accepted;
   sized = search rules;
   journal_stays = c.in_ok-legs.ensures.readies.journal_stays;
   keeps = over_pool (sent_keeps c.args.w c.in_ok-legs.legs.items c.args.pool.now

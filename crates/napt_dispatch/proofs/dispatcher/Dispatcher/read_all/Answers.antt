@@ -73,3 +73,25 @@ returns-in-Err g c =
           (sym c.new-in-Err.ensures.1) c.in-Err.ensures.hands;
     })
     (c.new-in-Err.ensures.0 ∙ was.clock))
+
+pub returns-in_err-serve-in-Ok-Some : goal.returns-in_err-serve-in-Ok-Some
+returns-in_err-serve-in-Ok-Some g c =
+    let p = err_from_is_err_and c.from_residual-in_err-serve-in-Ok-Some.result
+    c.from_residual-in_err-serve-in-Ok-Some.ensures.1 in
+    let was = c.loop.invariant in
+    let input : Arrival = c.in-Ok-Some.input in
+    let ready = c.in_ok-make_ready.ensures.state in
+    rw (p.1, p.2)
+    (record {
+      inputs = was.inputs;
+      unread = input ∷ [];
+      went = was.went ++ ready.went;
+      come = inl (g.met.A.Arrivals.hands_more c.args.arrivals.now c.loop.arrivals c.next_input.new.arrivals was.inputs
+          (input ∷ []) was.handed (rw c.in-Ok-Some.field-0-is at c.in-Ok-Some.ensures.hands));
+      last_pool = c.make_ready.new.pool;
+      last = c.make_ready.new.self;
+      reads = reads_on was.reads ready.goes;
+      took = g.met.D.Departures.takes_more c.args.departures.now c.loop.departures c.make_ready.new.departures was.went
+          ready.went was.took ready.took;
+      halted = c.in_err-serve-in-Ok-Some.ensures.fault;
+    })

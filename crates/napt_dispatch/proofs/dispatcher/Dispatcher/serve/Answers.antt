@@ -1,7 +1,8 @@
-use Rattle.std.proofs.Common.{◌≡◌, ◌∙◌, refl, ap}
+use Rattle.std.proofs.Common.{◌≡◌, ◌∙◌, ap}
 use Rattle.std.proofs.lemmas.Result.{err_from_is_err_and}
 use Rattle.napt_rules.specs.Prelude.{Arrival}
 use Rattle.napt_dispatch.specs.Windows.{expecting}
+use Rattle.napt_dispatch.proofs.Lanes.{grows_none, halts_after}
 use Rattle.napt_dispatch.proofs.Passing.{serves_as, continues_both}
 use Rattle.napt_dispatch.proofs.Windows.{expecting_unmarked}
 use Rattle.napt_dispatch.proofs.dispatcher.Dispatcher.serve.Goals as goal
@@ -14,12 +15,14 @@ admit-requires-clause-open g c =
 pub returns-in_err-number-clause-fault : goal.returns-in_err-number-clause-fault
 returns-in_err-number-clause-fault g c =
     let p = err_from_is_err_and c.from_residual.result c.from_residual.ensures.1 in
-    rw (p.1, p.2) (refl, c.in_err-number.ensures.fault g.G.Gate.is_open)
+    rw (p.1, p.2)
+    (record { grows = grows_none c.args.pool.now; fault_is = c.in_err-number.ensures.fault g.G.Gate.is_open })
 
 pub returns-in_err-place-clause-fault : goal.returns-in_err-place-clause-fault
 returns-in_err-place-clause-fault g c =
     let p = err_from_is_err_and c.from_residual-in_err-place.result c.from_residual-in_err-place.ensures.1 in
-    rw (p.1, p.2) (refl, c.in_err-place.ensures.fault g.G.Gate.is_open)
+    rw (p.1, p.2)
+    (record { grows = grows_none c.args.pool.now; fault_is = c.in_err-place.ensures.fault g.G.Gate.is_open })
 
 pub returns-clause-serves : goal.returns-clause-serves
 returns-clause-serves g c =
@@ -29,3 +32,8 @@ returns-clause-serves g c =
     (c.in_ok-number.ensures.expecting ∙ ap (λ t. expecting t c.args.self.now.progress) time)
     c.in_ok-number.ensures.number c.in_ok-place.ensures.admits c.in_ok-place.ensures.journal
     (continues_both c.in_ok-look_if.ensures c.in_ok-look_if-2.ensures)
+
+pub returns-in_err-look_if-2-clause-fault : goal.returns-in_err-look_if-2-clause-fault
+returns-in_err-look_if-2-clause-fault g c =
+    let p = err_from_is_err_and c.from_residual-in_err-look_if-2.result c.from_residual-in_err-look_if-2.ensures.1 in
+    rw (p.1, p.2) (halts_after c.in_ok-look_if.ensures.grows c.in_err-look_if-2.ensures)

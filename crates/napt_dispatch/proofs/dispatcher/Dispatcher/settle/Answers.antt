@@ -1,5 +1,7 @@
 use Rattle.std.proofs.Common.{refl}
 use Rattle.napt_dispatch.proofs.Passing.{room_idle, lets_settle}
+use Rattle.std.proofs.lemmas.Result.{err_from_is_err_and}
+use Rattle.napt_dispatch.proofs.Lanes.{grows_none}
 use Rattle.napt_dispatch.proofs.dispatcher.Dispatcher.settle.Goals as goal
 
 pub returns-in-Ok-clause-state : goal.returns-in-Ok-clause-state
@@ -9,3 +11,14 @@ returns-in-Ok-clause-state g c =
 pub returns-in-Ok-clause-room : goal.returns-in-Ok-clause-room
 returns-in-Ok-clause-room g c = room_idle c.go_on_until.new.self c.in_ok-go_on_until.ensures.reached
     (c.in_ok-check_left.ensures.none.0 refl)
+
+pub returns-in_err-check_left-clause-state : goal.returns-in_err-check_left-clause-state
+returns-in_err-check_left-clause-state g c =
+    let p = err_from_is_err_and c.from_residual-in_err-check_left.result c.from_residual-in_err-check_left.ensures.1 in
+    rw (p.1, p.2)
+    (record {
+      last_pool = c.go_on_until.new.pool;
+      last = c.go_on_until.new.self;
+      lets = c.in_ok-go_on_until.ensures.state;
+      halted = record { grows = grows_none c.go_on_until.new.pool; fault_is = (tt, λ is. refl) };
+    })

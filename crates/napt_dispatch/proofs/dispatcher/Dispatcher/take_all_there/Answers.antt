@@ -2,6 +2,8 @@ use Rattle.std.proofs.Common.{sym, ◌∙◌, ap, ◌||◌}
 use Rattle.napt_dispatch.proofs.Offering.{taken_more}
 use Rattle.napt_dispatch.proofs.Passing.{continues_both}
 use Rattle.napt_dispatch.proofs.dispatcher.Dispatcher.take_all_there.Goals.{then-branch, else-branch}
+use Rattle.std.proofs.lemmas.Result.{err_from_is_err_and}
+use Rattle.napt_dispatch.proofs.Lanes.{halts_after}
 use Rattle.napt_dispatch.proofs.dispatcher.Dispatcher.take_all_there.Goals as goal
 
 pub loop-w-preserved : goal.loop-w-preserved
@@ -16,3 +18,8 @@ loop-w-preserved g c =
             c.in_ok-take_there.ensures.told
       ];
     }
+
+pub returns-in_err-take_there-clause-state : goal.returns-in_err-take_there-clause-state
+returns-in_err-take_there-clause-state g c =
+    let p = err_from_is_err_and c.from_residual.result c.from_residual.ensures.1 in
+    rw (p.1, p.2) (halts_after c.loop-w.invariant.state.grows c.in_err-take_there.ensures.state)

@@ -1,5 +1,7 @@
 use Rattle.napt_dispatch.proofs.Offering.{taken_none}
 use Rattle.napt_dispatch.proofs.Passing.{continues_both}
+use Rattle.std.proofs.lemmas.Result.{err_from_is_err_and}
+use Rattle.napt_dispatch.proofs.Lanes.{halts_after}
 use Rattle.napt_dispatch.proofs.dispatcher.Dispatcher.take_some.Goals as goal
 
 pub returns-then-branch-clause-state : goal.returns-then-branch-clause-state
@@ -11,3 +13,8 @@ loop-preserved g c = record {
   none = taken_none c.args.self.now c.loop.self c.take_all_there.new.self _ c.if-branch.false c.loop.invariant.none
       c.in_ok-take_all_there.ensures.told;
 }
+
+pub returns-in_err-take_all_there-clause-state : goal.returns-in_err-take_all_there-clause-state
+returns-in_err-take_all_there-clause-state g c =
+    let p = err_from_is_err_and c.from_residual.result c.from_residual.ensures.1 in
+    rw (p.1, p.2) (halts_after c.loop.invariant.state.grows c.in_err-take_all_there.ensures.state)

@@ -1,6 +1,8 @@
 use Rattle.std.proofs.Common.{rules}
 use Rattle.napt_dispatch.proofs.Offering.{taken_on}
 use Rattle.napt_dispatch.proofs.Passing.{continues_both}
+use Rattle.std.proofs.lemmas.Result.{err_from_is_err_and}
+use Rattle.napt_dispatch.proofs.Lanes.{halts_after}
 use Rattle.napt_dispatch.proofs.dispatcher.Dispatcher.take_there.Goals as goal
 
 pub returns-then-not-branch-clause-state : goal.returns-then-not-branch-clause-state
@@ -12,3 +14,8 @@ loop-preserved g c = record {
   told = taken_on c.args.self.now c.loop.self c.take_reply.new.self c.loop.any _ (search rules) c.loop.invariant.told
       c.in_ok-take_reply.ensures.told;
 }
+
+pub returns-in_err-take_reply-clause-state : goal.returns-in_err-take_reply-clause-state
+returns-in_err-take_reply-clause-state g c =
+    let p = err_from_is_err_and c.from_residual.result c.from_residual.ensures.1 in
+    rw (p.1, p.2) (halts_after c.loop.invariant.state.grows c.in_err-take_reply.ensures.state)

@@ -1,11 +1,16 @@
 use Rattle.std.proofs.Common.{vec_items}
-use Rattle.napt_pool.proofs.Joins.{machines_if_ok, least_if_err, answers_if_ok, settled_at, fault_if_err, gate_if_err, told_is, received_on_ok}
+use Rattle.napt_pool.proofs.Joins.{machines_if_ok, taken_at, least_if_err, answers_if_ok, settled_at, fault_if_err, gate_if_err, told_is, received_on_ok}
 use Rattle.napt_pool.proofs.pool.Pool.close.Goals as goal
 
 pub returns-clause-machines : goal.returns-clause-machines
 returns-clause-machines g c =
     machines_if_ok g.M.Machine g.G.Gate.is_open vec_items c.all_ended.result _ _ _ _ c.join_all-ends.ensures.ends
     c.close_all-closing.ensures.machines c.close_all-closing.ensures.accepted c.all_ended.ensures.ended
+
+pub returns-clause-taken : goal.returns-clause-taken
+returns-clause-taken g c =
+    taken_at g.M.Machine g.G.Gate.is_open _ _ _ _ _ c.join_all-ends.ensures.ends
+    c.close_all-closing.ensures.machines c.close_all-closing.ensures.accepted c.close_all-closing.ensures.taken
 
 pub returns-clause-answers : goal.returns-clause-answers
 returns-clause-answers g c =

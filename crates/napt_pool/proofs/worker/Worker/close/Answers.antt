@@ -3,8 +3,7 @@ use Rattle.napt_pool.proofs.Grown.{closed-last}
 use Rattle.napt_pool.proofs.worker.Worker.close.Goals as goal
 
 pub invariant_of-result-clause-closed : goal.invariant_of-result-clause-closed
-invariant_of-result-clause-closed g c = λ told.
-    closed-last _ _ c.args.self.open (c.send_close-is_told.ensures.told told)
+invariant_of-result-clause-closed g c = closed-last _ _ c.args.self.open c.send_close.ensures.told
 
 pub invariant_of-result-clause-fits : goal.invariant_of-result-clause-fits
-invariant_of-result-clause-fits g c = let same = ap length c.send_close-is_told.ensures.accepted in omega arith
+invariant_of-result-clause-fits g c = let same = ap length c.send_close.ensures.accepted in omega arith
