@@ -9,7 +9,7 @@ use Rattle.napt_capture.specs.declared.fault.CaptureFault.TheVariants.{NoHeader,
 use Rattle.napt_capture.specs.declared.fault.WriteFault.{WriteFault}
 use Rattle.napt_capture.specs.Reading.{StopsBy}
 use Rattle.napt_config.specs.Rules.{Rules}
-use Rattle.napt_dispatch.specs.Passing.{HasCome, PassesEarly, PassesTo}
+use Rattle.napt_dispatch.specs.Passing.{HasCome, PassesEarly, PassesHalted, PassesTo}
 use Rattle.napt_records.specs.Begun.{AreBegun}
 use Rattle.napt_records.specs.Counts.{AreCountsOf}
 use Rattle.napt_laws.specs.Dispatching.{IsFront}
@@ -28,7 +28,7 @@ use Rattle.napt_run.specs.Leaving.{AreSound, AreTimes, Fails, FailsBy, IsSettled
 use Rattle.napt_run.specs.LeavingLaws.{grows_more, records_text-append, times_first, times_second}
 use Rattle.napt_run.specs.Outputs.{Breaks, Grows}
 use Rattle.napt_run.specs.Passed.{PassesAll, PassesOr}
-use Rattle.napt_run.specs.Runs.{FailsInside, FailsOutside, IfHeld, RunsTo, RunsToFault, RunsWell, Writes, left_of}
+use Rattle.napt_run.specs.Runs.{FailsInside, FailsOutside, Halts, IfHeld, RunsTo, RunsToFault, RunsWell, Writes, left_of, text_behind}
 use Rattle.napt_run.specs.Files.{files_until}
 use Rattle.napt_run.specs.Streams.{AreTaken, IsFaultOf, IsOfRun, IsReading}
 use Rattle.napt_run.specs.declared.leaving.Leaving.{Leaving}
@@ -197,6 +197,29 @@ module _ {R Q W V : Type 0} {G : source.Ghosts R} {H : source.Ghosts Q} {S : sin
     took_inside : Grows old.to_inside (records_text sides.Inside first) middle.to_inside
     failed : FailsBy middle later which fault new
 
+  -- the run itself failed, and no output did
+  halted : (inputs : List Arrival) (went : List Timed) → HasCome HandsOut EndsWith begin inputs end →
+      IsFront went (left_of rules inputs) → Takes old went new → Halts open_gate rules bytes others [] old new
+  halted inputs went come front_is took =
+      let (mid, handed) = came_somehow inputs come in
+      let first = front_of rules inputs went front_is in
+      let all = times_first went front_is.0 (subst AreTimes (sym front_is.1) (times inputs mid handed)) in
+      let front_of_all = front inputs first.first first.later mid first.whole handed in
+      record {
+        to_outside = record {
+          inputs = first.first;
+          front_of_all = front_of_all;
+          left = inl (subst (λ (l : List Timed). Grows old.to_outside (records_text sides.Outside l) new.to_outside)
+              first.went_is (took.to_outside all));
+        };
+        to_inside = record {
+          inputs = first.first;
+          front_of_all = front_of_all;
+          left = inl (subst (λ (l : List Timed). Grows old.to_inside (records_text sides.Inside l) new.to_inside)
+              first.went_is (took.to_inside all));
+        };
+      }
+
   early : (which : Which) (fault : WriteFault) → PassesEarly rules HandsOut EndsWith Takes Fails IsSettled begin old end
       new (record { which = which; fault = fault }) →
       Early which fault
@@ -236,6 +259,13 @@ module _ {R Q W V : Type 0} {G : source.Ghosts R} {H : source.Ghosts Q} {S : sin
   text_of_both side first later inputs is =
       sym (records_text-append side first later) ∙ ap (λ (l : List Timed). records_text side l) is
 
+  inside_kept : (fault : WriteFault) (e : Early Outside fault) →
+      Grows old.to_inside (text_behind [] rules sides.Inside e.first_is) new.to_inside
+  inside_kept fault e = subst (λ (l : List ℕ). Grows old.to_inside l new.to_inside)
+      (append-nil (records_text sides.Inside e.first)
+      ∙ ap (λ (l : List Timed). records_text sides.Inside l) e.first_are)
+      (grows_more old.to_inside e.middle.to_inside new.to_inside _ _ e.took_inside e.failed.1)
+
   fails_outside : (fault : WriteFault) → Early Outside fault →
       FailsOutside open_gate rules bytes others [] old new fault
   fails_outside fault e = record {
@@ -246,10 +276,7 @@ module _ {R Q W V : Type 0} {G : source.Ghosts R} {H : source.Ghosts Q} {S : sin
         (breaks_more old.to_outside e.middle.to_outside new.to_outside _ _ fault e.took_outside e.failed.0);
     before = e.first_is;
     front_before = e.front_first;
-    kept = inl (subst (λ (l : List ℕ). Grows old.to_inside l new.to_inside)
-        (append-nil (records_text sides.Inside e.first)
-        ∙ ap (λ (l : List Timed). records_text sides.Inside l) e.first_are)
-        (grows_more old.to_inside e.middle.to_inside new.to_inside _ _ e.took_inside e.failed.1));
+    kept = inl (inside_kept fault e);
   }
 
   fails_inside : (fault : WriteFault) → Early Inside fault →
@@ -265,6 +292,45 @@ module _ {R Q W V : Type 0} {G : source.Ghosts R} {H : source.Ghosts Q} {S : sin
         (breaks_more old.to_inside e.middle.to_inside new.to_inside _ _ fault e.took_inside e.failed.1);
   }
 
+  -- or one did before
+  failed : (which : Which) (fault : WriteFault) → Early which fault → Halts open_gate rules bytes others [] old new
+  failed Outside fault e = let f = fails_outside fault e in
+      record {
+        to_outside = record {
+          inputs = f.inputs;
+          front_of_all = f.front_of_all;
+          left = inr (fault, f.broke, omega arith);
+        };
+        to_inside = record {
+          inputs = e.first_is;
+          front_of_all = e.front_first;
+          left = inl (inside_kept fault e);
+        };
+      }
+  failed Inside fault e = let f = fails_inside fault e in
+      record {
+        to_outside = record { inputs = f.inputs; front_of_all = f.front_of_all; left = inl f.wrote };
+        to_inside = record {
+          inputs = f.inputs;
+          front_of_all = f.front_of_all;
+          left = inr (fault, f.broke, omega arith);
+        };
+      }
+  failed Report fault e = absurd e.failed
+
+  halts : PassesHalted rules HandsOut EndsWith Takes Fails IsSettled begin old end new →
+      Halts open_gate rules bytes others [] old new
+  halts p = elim p.took [
+    | inl took ↦ halted p.inputs p.went p.come p.front took
+    | inr fails ↦ failed fails.0.which fails.0.fault (early fails.0.which fails.0.fault (record {
+      inputs = p.inputs;
+      went = p.went;
+      come = p.come;
+      front = p.front;
+      failed = fails.1;
+    }))
+  ]
+
   pub runs_to : (result : Result Totals Fault) → PassesOr open_gate rules begin old end new result →
       RunsTo open_gate rules bytes others [] old new result
   runs_to (Ok totals) p = well totals p
@@ -272,7 +338,7 @@ module _ {R Q W V : Type 0} {G : source.Ghosts R} {H : source.Ghosts Q} {S : sin
   runs_to (Err (Write Outside fault)) p = fails_outside fault (early Outside fault p)
   runs_to (Err (Write Inside fault)) p = fails_inside fault (early Inside fault p)
   runs_to (Err (Write Report fault)) p = (early Report fault p).failed
-  runs_to (Err (Run fault)) p = p
+  runs_to (Err (Run fault)) p = (p.0, halts p.1)
 
   -- and how many reads failed
   pub reads_of : (result : Result Totals Fault) → PassesOr open_gate rules begin old end new result →

@@ -1,5 +1,5 @@
 -- A fault behind what was written.
-use Rattle.std.proofs.Common.{◌≡◌, ℕ, ◌+◌, ◌-◌, ◌^◌, min, List, [], ◌++◌, length, take, Result, Ok, Err, IfErr, false, sym, ◌∙◌, ap, subst, arith, append-nil, add_assoc, length-append}
+use Rattle.std.proofs.Common.{◌≡◌, ℕ, ◌≤◌, ◌+◌, ◌-◌, ◌^◌, min, List, [], ◌++◌, length, take, Result, Ok, Err, IfErr, false, sym, ◌∙◌, ap, subst, arith, append-nil, add_assoc, length-append}
 use Rattle.std.specs.Io.KnownBytes.{Appends}
 use Rattle.std.proofs.KnownBytes.{Appends-trans}
 use Rattle.std.proofs.Math.Seq.{take-append-add}
@@ -23,6 +23,11 @@ module _ {W : Type 0} {S : Ghosts W} where
         (Appends-trans _ _ _ first (take two.count second) one.appended two.appended);
     failed_once = two.failed_once ∙ ap (λ (n : ℕ). n + 1) one.kept;
   }
+
+  pub first_within : (x y z : Output W S) (first second : List ℕ) (fault : WriteFault) (one : Grows x first y)
+      (two : Breaks y second fault z) → length first ≤ (breaks_more x y z first second fault one two).count
+  unfolding breaks_more
+  first_within x y z first second fault one two = omega arith
 
   -- a flush failed behind a text
   pub flush_breaks : (x y z : Output W S) (text : List ℕ) (r : Result (Unit {0}) WriteFault) →

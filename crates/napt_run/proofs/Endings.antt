@@ -1,12 +1,13 @@
 -- What a whole run is told to come to, once its report is written or nobody wants one.
 use Rattle.std.specs.Result.{result_and}
-use Rattle.std.proofs.Common.{◌≡◌, ℕ, ◌+◌, Bool, true, false, List, Option, Result, Ok, Err, IfErr, IfOk, OnOk, refl, sym, ◌∙◌, ap, subst}
+use Rattle.std.proofs.Common.{◌≡◌, ◌⊎◌, ℕ, ◌+◌, Bool, true, false, inl, append-nil, List, [], Option, Result, Ok, Err, IfErr, IfOk, OnOk, refl, sym, ◌∙◌, ap, subst}
 use Rattle.napt_wire.specs.declared.Side.TheVariants as sides
 use Rattle.napt_config.specs.Rules.{Rules}
 use Rattle.napt_records.specs.Counts.{AreCountsOf}
 use Rattle.napt_records.specs.Report.{report_of, report_text}
 use Rattle.napt_records.specs.declared.Fault.{Fault}
 use Rattle.napt_records.specs.declared.Fault.TheVariants.{Capture, Run, Write}
+use Rattle.napt_records.specs.declared.Which.{Which}
 use Rattle.napt_records.specs.declared.Which.TheVariants.{Outside, Inside, Report}
 use Rattle.napt_rules.specs.Prelude.{Arrival, ran}
 use Rattle.napt_rules.specs.declared.Outcome.{Outcome}
@@ -14,7 +15,7 @@ use Rattle.napt_records.specs.Faults.{tells_shut_gate}
 use Rattle.napt_run.specs.Captures.{failed_readings, failed_writings}
 use Rattle.napt_sequential.specs.declared.fault.RunFault.TheVariants as faults
 use Rattle.napt_run.specs.Runs.{IfHeld, IsToldOf}
-use Rattle.napt_run.specs.Streams.{Explains, GetsReport, HasRead, IsOfRun, IsReading, IsReportFault, IsSettledBy, IsStopFault, Reports, ReportsAll, Streams, ended}
+use Rattle.napt_run.specs.Streams.{Explains, GetsReport, HasAll, HasPart, HasRead, HasText, IsOfRun, IsReading, IsReportFault, IsSettledBy, IsStopFault, Reports, ReportsAll, Streams, ended}
 use Rattle.napt_run.specs.declared.passing.Totals.{Totals}
 use Rattle.napt_run.proofs.Streamed.{IfHeld-all, IfHeld-map}
 
@@ -50,19 +51,27 @@ module _ (P : Result Totals Fault → Result (Unit {0}) Fault → Type 0)
   at_end (Err fault) result ends = subst (λ (r : Result (Unit {0}) Fault). P (Err fault) r) (sym ends.fault)
       (stopped fault)
 
+-- all of the text, where no report could be made of it
+all_left : (rules : Rules) (which : Which) (inside outside : Option (List ℕ)) (old new : Option (List ℕ)) →
+    IfHeld inside outside (λ all. HasAll rules which all old new) →
+    IfHeld inside outside (λ all. HasText rules which all old new ⊎ HasPart rules which all old new)
+all_left rules which inside outside old new = IfHeld-map (λ all. HasAll rules which all old new)
+    (λ all. HasText rules which all old new ⊎ HasPart rules which all old new) inside outside
+    (λ all text. inl (all.arrivals, ([], append-nil all.arrivals), text.1))
+
 module _ (rules : Rules) (inside outside : Option (List ℕ)) (old new : Option
     (List ℕ)) where
   pub outside_ends : (told : Result Totals Fault) (result : Result (Unit {0}) Fault) → Ends told result →
       Streams rules Outside (ended told) inside outside old new → Streams rules Outside result inside outside old new
   outside_ends = at_end (λ told result. Streams rules Outside (ended told) inside outside old new →
       Streams rules Outside result inside outside old new) (λ totals p. p) (λ totals fault p. p)
-      (λ totals p. IfHeld-all (λ all. Unit {0}) inside outside (λ all. tt)) (λ fault p. p)
+      (λ totals p. all_left rules Outside inside outside old new p) (λ fault p. p)
 
   pub inside_ends : (told : Result Totals Fault) (result : Result (Unit {0}) Fault) → Ends told result →
       Streams rules Inside (ended told) inside outside old new → Streams rules Inside result inside outside old new
   inside_ends = at_end (λ told result. Streams rules Inside (ended told) inside outside old new →
       Streams rules Inside result inside outside old new) (λ totals p. p) (λ totals fault p. p)
-      (λ totals p. IfHeld-all (λ all. Unit {0}) inside outside (λ all. tt)) (λ fault p. p)
+      (λ totals p. all_left rules Inside inside outside old new p) (λ fault p. p)
 
 pub explains_ends : (inside outside : Option (List ℕ)) (told : Result Totals Fault)
     (result : Result (Unit {0}) Fault) → Ends told result → IfErr told (Explains inside outside) →

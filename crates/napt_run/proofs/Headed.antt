@@ -1,5 +1,6 @@
 -- A run behind the headers is one of whole captures.
-use Rattle.std.proofs.Common.{◌≡◌, ◌⊎◌, inl, inr, ℕ, ◌≤◌, Bool, List, [], Option, Result, Ok, Err, refl, sym, subst, arith, append-nil}
+use Rattle.std.proofs.Common.{◌≡◌, ◌⊎◌, inl, inr, ℕ, ◌≤◌, Bool, List, [], length, Option, Result, Ok, Err, refl, sym, subst, arith, append-nil}
+use Rattle.napt_wire.specs.declared.Side.{Side}
 use Rattle.napt_wire.specs.declared.Side.TheVariants as sides
 use Rattle.napt_capture.specs.Text.{file_header}
 use Rattle.napt_capture.specs.declared.device.Sink.{Ghosts}
@@ -13,18 +14,38 @@ use Rattle.napt_rules.specs.Prelude.{Arrival}
 use Rattle.napt_run.specs.Leaving.{Begins, FailsToBegin}
 use Rattle.napt_run.specs.LeavingLaws.{grows_more}
 use Rattle.napt_run.specs.Outputs.{Breaks, Grows}
-use Rattle.napt_run.specs.Runs.{FailsOutside, IfHeld, RunsTo, Writes, text_behind}
+use Rattle.napt_run.specs.Runs.{FailsInside, FailsOutside, Halts, IfHeld, IsLeft, RunsTo, Writes, text_behind}
 use Rattle.napt_run.specs.Files.{files_until}
 use Rattle.napt_run.specs.Streams.{IsReading}
 use Rattle.napt_run.specs.declared.leaving.Leaving.{Leaving}
+use Rattle.napt_run.specs.declared.output.Output.{Output}
 use Rattle.napt_run.specs.declared.passing.Totals.{Totals}
 use Rattle.napt_run.proofs.Behind.{IfHeld-by}
-use Rattle.napt_run.proofs.Breaks.{breaks_more}
+use Rattle.napt_run.proofs.Breaks.{breaks_more, first_within}
 
 none_held : (inside outside : Option (List ℕ)) → IfHeld inside outside
     (λ all. IsFront [] all.arrivals)
 none_held inside outside = IfHeld-by (λ all. IsFront [] all.arrivals) inside outside
     (λ b o is same. ((files_until b o).arrivals, refl))
+
+-- an output whose header was written before
+left_behind : {D : Type 0} {S : Ghosts D} (rules : Rules) (inside outside : Option (List ℕ)) (side : Side)
+    (old mid new : Output D S) → Grows old file_header mid → (inputs : List Arrival) →
+    IfHeld inside outside (λ all. IsFront inputs all.arrivals) →
+    Grows mid (text_behind [] rules side inputs) new
+    ⊎ ((fault : WriteFault) × (broke : Breaks mid (text_behind [] rules side inputs) fault new)
+    × (0 ≤ broke.count)) →
+    IsLeft rules inside outside file_header side old new
+left_behind rules inside outside side old mid new begun inputs front (inl grown) = record {
+  inputs = inputs;
+  front_of_all = front;
+  left = inl (grows_more old mid new _ _ begun grown);
+}
+left_behind rules inside outside side old mid new begun inputs front (inr (fault, broke, some)) = record {
+  inputs = inputs;
+  front_of_all = front;
+  left = inr (fault, breaks_more old mid new _ _ fault begun broke, first_within old mid new _ _ fault begun broke);
+}
 
 module _ {W V : Type 0} {S : Ghosts W} {T : Ghosts V} (open_gate : Bool) (rules : Rules)
     (inside outside : Option (List ℕ)) where
@@ -71,6 +92,23 @@ module _ {W V : Type 0} {S : Ghosts W} {T : Ghosts V} (open_gate : Bool) (rules 
           (subst (λ o. Grows old.to_inside file_header o) (sym same) begins.to_inside));
     }
 
+    fails_inside : (fault : WriteFault) → FailsInside open_gate rules inside outside [] mid new fault →
+        FailsInside open_gate rules inside outside file_header old new fault
+    fails_inside fault p = record {
+      inputs = p.inputs;
+      front_of_all = p.front_of_all;
+      wrote = grows_more old.to_outside mid.to_outside new.to_outside _ _ begins.to_outside p.wrote;
+      broke = breaks_more old.to_inside mid.to_inside new.to_inside _ _ fault begins.to_inside p.broke;
+    }
+
+    halts : Halts open_gate rules inside outside [] mid new → Halts open_gate rules inside outside file_header old new
+    halts p = record {
+      to_outside = left_behind rules inside outside sides.Outside old.to_outside mid.to_outside new.to_outside
+          begins.to_outside p.to_outside.inputs p.to_outside.front_of_all p.to_outside.left;
+      to_inside = left_behind rules inside outside sides.Inside old.to_inside mid.to_inside new.to_inside
+          begins.to_inside p.to_inside.inputs p.to_inside.front_of_all p.to_inside.left;
+    }
+
     pub headed : (result : Result Totals Fault) → To [] mid new result → To file_header old new result
     headed (Ok totals) p = record {
       inputs = p.inputs;
@@ -86,14 +124,9 @@ module _ {W V : Type 0} {S : Ghosts W} {T : Ghosts V} (open_gate : Bool) (rules 
       is_fault = p.is_fault;
     }
     headed (Err (Write Outside fault)) p = fails_outside fault p p.kept
-    headed (Err (Write Inside fault)) p = record {
-      inputs = p.inputs;
-      front_of_all = p.front_of_all;
-      wrote = grows_more old.to_outside mid.to_outside new.to_outside _ _ begins.to_outside p.wrote;
-      broke = breaks_more old.to_inside mid.to_inside new.to_inside _ _ fault begins.to_inside p.broke;
-    }
+    headed (Err (Write Inside fault)) p = fails_inside fault p
     headed (Err (Write Report fault)) p = absurd p
-    headed (Err (Run fault)) p = p
+    headed (Err (Run fault)) p = (p.0, halts p.1)
 
   -- or they could not be written
   pub unheaded : (old new : Leaving W V S T) → old.to_outside.written ≡ 0 → (fault : Fault) →

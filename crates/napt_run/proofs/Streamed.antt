@@ -16,11 +16,12 @@ use Rattle.napt_records.specs.declared.Which.{Which}
 use Rattle.napt_records.specs.declared.Which.TheVariants.{Outside, Inside, Report}
 use Rattle.napt_rules.specs.Prelude.{Arrival}
 use Rattle.napt_run.specs.Captures.{failed_writings}
+use Rattle.napt_sequential.specs.declared.fault.RunFault.{RunFault}
 use Rattle.napt_sequential.specs.declared.fault.RunFault.TheVariants as faults
 use Rattle.napt_run.specs.Outputs.{Breaks, Grows}
-use Rattle.napt_run.specs.Runs.{DeviceGets, FailsOutside, IfHeld, IsToldOf, ResultSays, RunsTo, text_behind}
+use Rattle.napt_run.specs.Runs.{DeviceGets, FailsOutside, IfHeld, IsLeft, IsToldOf, ResultSays, RunsTo, text_behind}
 use Rattle.napt_run.specs.Files.{files_until}
-use Rattle.napt_run.specs.Streams.{AreTaken, Explains, GetsOf, HasAll, HasFront, HasText, HasWritten, IsOfRun, IsSettledBy, IsStopFault, Streams, capture_text, ended, side_of}
+use Rattle.napt_run.specs.Streams.{AreTaken, Explains, GetsOf, HasAll, HasFront, HasPart, HasText, HasWritten, IsOfRun, IsSettledBy, IsStopFault, Streams, capture_text, ended, side_of}
 use Rattle.napt_run.specs.declared.leaving.Leaving.{Leaving}
 use Rattle.napt_run.specs.declared.output.Output.{Output}
 use Rattle.napt_run.specs.declared.passing.Totals.{Totals}
@@ -87,7 +88,7 @@ module _ {W V : Type 0} {S : Ghosts W} {T : Ghosts V} (open_gate : Bool) (rules 
   explains (Ok totals) p = tt
   explains (Err (Capture side fault)) p = p.is_fault
   explains (Err (Write which fault)) p = IfHeld-all (λ all. Unit {0}) inside outside (λ all. tt)
-  explains (Err (Run faults.TooMany)) p = absurd p
+  explains (Err (Run faults.TooMany)) p = absurd p.0
   explains (Err (Run faults.Memory)) p = IfHeld-all (λ all. Unit {0}) inside outside (λ all. tt)
   explains (Err (Run (faults.Pool fault))) p = IfHeld-all (λ all. Unit {0}) inside outside (λ all. tt)
 
@@ -97,7 +98,7 @@ module _ {W V : Type 0} {S : Ghosts W} {T : Ghosts V} (open_gate : Bool) (rules 
   stops (Err (Write Outside fault)) p = tt
   stops (Err (Write Inside fault)) p = tt
   stops (Err (Write Report fault)) p = p
-  stops (Err (Run fault)) p = p
+  stops (Err (Run fault)) p = p.0
 
   tells : (result : Result Totals Fault) → To result → IfOk result (IsToldOf rules inside outside)
   tells (Ok totals) p = record { inputs = p.inputs; all = p.all; counts = p.counts; bindings = p.bindings }
@@ -112,7 +113,8 @@ module _ {W V : Type 0} {S : Ghosts W} {T : Ghosts V} (open_gate : Bool) (rules 
 record At {D : Type 0} {S : Ghosts D} (rules : Rules) (which : Which) (inside outside : Option (List ℕ))
     (result : Result Totals Fault) (old new : Output D S) : Type 0 where
   gets : Streams rules which (ended result) inside outside (S.contents old.device.now) (S.contents new.device.now)
-  counted : Counted old new (failed_writings which (ended result))
+  same : new.device.ghost_name ≡ old.device.ghost_name
+  counted : (¬ IsOfRun result) → Counted old new (failed_writings which (ended result))
   settled : IsSettledBy (ended result) → S.is_flushed new.device.now
 
 module _ {D : Type 0} {S : Ghosts D} (rules : Rules) (which : Which) (inside outside : Option (List ℕ))
@@ -134,7 +136,8 @@ module _ {D : Type 0} {S : Ghosts D} (rules : Rules) (which : Which) (inside out
     gets = IfHeld-map (λ all. all ≡ record { arrivals = inputs; end = Ok totals.cuts })
         (λ all. HasAll rules which all (S.contents old.device.now) (S.contents new.device.now)) inside outside
         (λ all is. rw is (refl, grown_text rules (side_of which) inputs _ _ grown.appended)) all;
-    counted = subst (Counted old new) (sym none) (none_counted _ _ _ grown);
+    same = grown.same;
+    counted = λ not_run. subst (Counted old new) (sym none) (none_counted _ _ _ grown);
     settled = λ done. settled;
   }
 
@@ -149,7 +152,8 @@ module _ {D : Type 0} {S : Ghosts D} (rules : Rules) (which : Which) (inside out
           taken,
           grown_text rules (side_of which) inputs _ _ grown.appended,
         )) taken;
-    counted = subst (Counted old new) (sym none) (none_counted _ _ _ grown);
+    same = grown.same;
+    counted = λ not_run. subst (Counted old new) (sym none) (none_counted _ _ _ grown);
     settled = λ done. settled;
   }
 
@@ -176,6 +180,49 @@ module _ {D : Type 0} {S : Ghosts D} (rules : Rules) (which : Which) (inside out
         broken_text rules (side_of which) inputs old new fault none broke,
       )) front
 
+  -- the run itself failed
+  has_part : (inputs : List Arrival) (fault : WriteFault) →
+      IfHeld inside outside (λ all. IsFront inputs all.arrivals) →
+      (broke : Breaks old (text_behind file_header rules (side_of which) inputs) fault new) →
+      length file_header ≤ broke.count →
+      IfHeld inside outside (λ all. HasPart rules which all (S.contents old.device.now) (S.contents new.device.now))
+  has_part inputs fault front broke headed = IfHeld-map (λ all. IsFront inputs all.arrivals)
+      (λ all. HasPart rules which all (S.contents old.device.now) (S.contents new.device.now)) inside outside
+      (λ all front. (
+        inputs,
+        front,
+        (
+          broke.count,
+          headed,
+          subst (λ (l : List ℕ). broke.count ≤ length l) (capture_is rules (side_of which) inputs) broke.within,
+          subst (λ (l : List ℕ). Appends (S.contents old.device.now) (S.contents new.device.now) (take broke.count l))
+              (capture_is rules (side_of which) inputs) broke.appended,
+        ),
+      )) front
+
+  abbrev Halted : Inputs → Type 0
+  Halted all = HasText rules which all (S.contents old.device.now) (S.contents new.device.now)
+      ⊎ HasPart rules which all (S.contents old.device.now) (S.contents new.device.now)
+
+  at_halt : (fault : RunFault) → IsLeft rules inside outside file_header (side_of which) old new →
+      Was (Err (Run fault))
+  at_halt fault p = elim p.left [
+    | inl grown ↦ record {
+      gets = IfHeld-map (λ all. HasText rules which all (S.contents old.device.now) (S.contents new.device.now))
+          Halted inside outside (λ all text. inl text) (has_text p.inputs p.front_of_all grown);
+      same = grown.same;
+      counted = λ not_run. absurd (not_run tt);
+      settled = λ settled. absurd settled;
+    }
+    | inr broken ↦ record {
+      gets = IfHeld-map (λ all. HasPart rules which all (S.contents old.device.now) (S.contents new.device.now))
+          Halted inside outside (λ all part. inr part) (has_part p.inputs broken.0 p.front_of_all broken.1 broken.2);
+      same = broken.1.same;
+      counted = λ not_run. absurd (not_run tt);
+      settled = λ settled. absurd settled;
+    }
+  ]
+
 module _ {W V : Type 0} {S : Ghosts W} {T : Ghosts V} (open_gate : Bool) (rules : Rules)
     (inside outside : Option (List ℕ))
     (old new : Leaving W V S T) where
@@ -189,26 +236,29 @@ module _ {W V : Type 0} {S : Ghosts W} {T : Ghosts V} (open_gate : Bool) (rules 
   Runs result = RunsTo open_gate rules inside outside file_header old new
       result
 
-  at_outside : old.to_outside.written ≡ 0 → (result : Result Totals Fault) → Runs result → (¬ IsOfRun result) →
-      IsAtOutside result
-  at_outside none (Ok totals) p not_run = at_end rules Outside inside outside
+  -- what the run left when it failed itself
+  at_outside : old.to_outside.written ≡ 0 → (result : Result Totals Fault) → Runs result → IsAtOutside result
+  at_outside none (Ok totals) p = at_end rules Outside inside outside
       old.to_outside new.to_outside totals p.inputs refl p.all p.wrote.to_outside p.wrote.settled.0
-  at_outside none (Err (Capture side fault)) p not_run = at_fault rules Outside inside outside
+  at_outside none (Err (Capture side fault)) p = at_fault rules Outside inside outside
       old.to_outside new.to_outside side fault p.inputs refl p.taken p.wrote.to_outside p.wrote.settled.0
-  at_outside none (Err (Write Outside fault)) p not_run = record {
+  at_outside none (Err (Write Outside fault)) p = record {
     gets = has_front rules Outside inside outside old.to_outside new.to_outside p.inputs fault
         none p.front_of_all p.broke;
-    counted = one_counted _ _ _ fault p.broke;
+    same = p.broke.same;
+    counted = λ not_run. one_counted _ _ _ fault p.broke;
     settled = λ settled. absurd settled;
   }
-  at_outside none (Err (Write Inside fault)) p not_run = record {
+  at_outside none (Err (Write Inside fault)) p = record {
     gets = has_text rules Outside inside outside old.to_outside new.to_outside p.inputs
         p.front_of_all p.wrote;
-    counted = none_counted _ _ _ p.wrote;
+    same = p.wrote.same;
+    counted = λ not_run. none_counted _ _ _ p.wrote;
     settled = λ settled. absurd settled;
   }
-  at_outside none (Err (Write Report fault)) p not_run = absurd p
-  at_outside none (Err (Run fault)) p not_run = absurd (not_run tt)
+  at_outside none (Err (Write Report fault)) p = absurd p
+  at_outside none (Err (Run fault)) p = at_halt rules Outside inside outside old.to_outside new.to_outside fault
+      p.1.to_outside
 
   -- where the output to the outside failed, the one to the inside may not be begun
   kept : (fault : WriteFault) (p : FailsOutside open_gate rules inside
@@ -223,76 +273,53 @@ module _ {W V : Type 0} {S : Ghosts W} {T : Ghosts V} (open_gate : Bool) (rules 
         (T.contents new.to_inside.device.now)) inside outside (λ all text. inl text)
         (has_text rules Inside inside outside old.to_inside new.to_inside p.before p.front_before
         grown);
-    counted = none_counted _ _ _ grown;
+    same = grown.same;
+    counted = λ not_run. none_counted _ _ _ grown;
     settled = λ settled. absurd settled;
   }
   kept fault p (inr (short, same)) = record {
     gets = IfHeld-all (λ all. HasWritten rules Inside Outside fault.written all (T.contents old.to_inside.device.now)
         (T.contents new.to_inside.device.now)) inside outside
         (λ all. inr (short, ap (λ (o : Output V T). T.contents o.device.now) same));
-    counted = record {
+    same = ap (λ (o : Output V T). o.device.ghost_name) same;
+    counted = λ not_run. record {
       same = ap (λ (o : Output V T). o.device.ghost_name) same;
       count = ap (λ (o : Output V T). T.failed o.device.now) same ∙ sym (add-zero (T.failed old.to_inside.device.now));
     };
     settled = λ settled. absurd settled;
   }
 
-  at_inside : old.to_inside.written ≡ 0 → (result : Result Totals Fault) → Runs result → (¬ IsOfRun result) →
-      IsAtInside result
-  at_inside none (Ok totals) p not_run = at_end rules Inside inside outside
+  at_inside : old.to_inside.written ≡ 0 → (result : Result Totals Fault) → Runs result → IsAtInside result
+  at_inside none (Ok totals) p = at_end rules Inside inside outside
       old.to_inside new.to_inside totals p.inputs refl p.all p.wrote.to_inside p.wrote.settled.1
-  at_inside none (Err (Capture side fault)) p not_run = at_fault rules Inside inside outside
+  at_inside none (Err (Capture side fault)) p = at_fault rules Inside inside outside
       old.to_inside new.to_inside side fault p.inputs refl p.taken p.wrote.to_inside p.wrote.settled.1
-  at_inside none (Err (Write Outside fault)) p not_run = kept fault p p.kept
-  at_inside none (Err (Write Inside fault)) p not_run = record {
+  at_inside none (Err (Write Outside fault)) p = kept fault p p.kept
+  at_inside none (Err (Write Inside fault)) p = record {
     gets = has_front rules Inside inside outside old.to_inside new.to_inside p.inputs fault
         none p.front_of_all p.broke;
-    counted = one_counted _ _ _ fault p.broke;
+    same = p.broke.same;
+    counted = λ not_run. one_counted _ _ _ fault p.broke;
     settled = λ settled. absurd settled;
   }
-  at_inside none (Err (Write Report fault)) p not_run = absurd p
-  at_inside none (Err (Run fault)) p not_run = absurd (not_run tt)
+  at_inside none (Err (Write Report fault)) p = absurd p
+  at_inside none (Err (Run fault)) p = at_halt rules Inside inside outside old.to_inside new.to_inside fault
+      p.1.to_inside
 
 -- WHERE THE DEVICES ARE LEFT
-
-run_or_not : (result : Result Totals Fault) → IsOfRun result ⊎ (¬ IsOfRun result)
-run_or_not (Ok totals) = inr (λ r. r)
-run_or_not (Err (Capture side fault)) = inr (λ r. r)
-run_or_not (Err (Write which fault)) = inr (λ r. r)
-run_or_not (Err (Run fault)) = inl tt
-
-settled_not_run : (result : Result Totals Fault) → IsSettledBy (ended result) → ¬ IsOfRun result
-settled_not_run (Ok totals) settled = λ r. r
-settled_not_run (Err (Capture side fault)) settled = λ r. r
-settled_not_run (Err (Write which fault)) settled = λ r. r
-settled_not_run (Err (Run fault)) settled = absurd settled
-
-run_gets : (rules : Rules) (which : Which) (result : Result Totals Fault) (inside outside : Option (List ℕ))
-    (old new : Option (List ℕ)) → IsOfRun result →
-    Streams rules which (ended result) inside outside old new
-run_gets rules which (Ok totals) inside outside old new run = absurd run
-run_gets rules which (Err (Capture side fault)) inside outside old new run = absurd run
-run_gets rules which (Err (Write other fault)) inside outside old new run = absurd run
-run_gets rules which (Err (Run fault)) inside outside old new run =
-    IfHeld-all (λ all. Unit {0}) inside outside (λ all. tt)
 
 -- the device of an output, which is left as the output leaves it
 done : {D : Type 0} {S : Ghosts D} (rules : Rules) (which : Which) (inside outside : Option (List ℕ))
     (result : Result Totals Fault) (old new : Output D S) →
-    ((¬ IsOfRun result) → At rules which inside outside result old new) → (start last : D) →
-    old.device.now ≡ start →
-    ((¬ IsOfRun result) → new.device.ghost_name ≡ old.device.ghost_name → last ≡ new.device.now) →
+    At rules which inside outside result old new → (start last : D) → old.device.now ≡ start →
+    (new.device.ghost_name ≡ old.device.ghost_name → last ≡ new.device.now) →
     DeviceGets S rules which inside outside result start last
 done {D} {S} rules which inside outside result old new is start last from at =
-    let left : (¬ IsOfRun result) → last ≡ new.device.now = λ not_run. at not_run (is not_run).counted.same in
+    let left : last ≡ new.device.now = at is.same in
     record {
-      gets = elim (run_or_not result) [
-        | inl run ↦ run_gets rules which result inside outside (S.contents start) (S.contents last) run
-        | inr not_run ↦ rw (left not_run, sym from) (is not_run).gets
-      ];
-      count = λ not_run. rw (left not_run, sym from) (is not_run).counted.count;
-      settled = λ settled. let not_run = settled_not_run result settled in
-          rw (left not_run) ((is not_run).settled settled);
+      gets = rw (left, sym from) is.gets;
+      count = λ not_run. rw (left, sym from) (is.counted not_run).count;
+      settled = λ settled. rw left (is.settled settled);
     }
 
 module _ {W V : Type 0} {S : Ghosts W} {T : Ghosts V} (open_gate : Bool) (rules : Rules)
@@ -301,15 +328,13 @@ module _ {W V : Type 0} {S : Ghosts W} {T : Ghosts V} (open_gate : Bool) (rules 
     (runs : RunsTo open_gate rules inside outside file_header old new
     result) where
   pub outside_gets : old.to_outside.written ≡ 0 → (start last : W) → old.to_outside.device.now ≡ start →
-      ((¬ IsOfRun result) → new.to_outside.device.ghost_name ≡ old.to_outside.device.ghost_name →
-      last ≡ new.to_outside.device.now) →
+      (new.to_outside.device.ghost_name ≡ old.to_outside.device.ghost_name → last ≡ new.to_outside.device.now) →
       DeviceGets S rules Outside inside outside result start last
   outside_gets none = done rules Outside inside outside result old.to_outside new.to_outside
       (at_outside open_gate rules inside outside old new none result runs)
 
   pub inside_gets : old.to_inside.written ≡ 0 → (start last : V) → old.to_inside.device.now ≡ start →
-      ((¬ IsOfRun result) → new.to_inside.device.ghost_name ≡ old.to_inside.device.ghost_name →
-      last ≡ new.to_inside.device.now) →
+      (new.to_inside.device.ghost_name ≡ old.to_inside.device.ghost_name → last ≡ new.to_inside.device.now) →
       DeviceGets T rules Inside inside outside result start last
   inside_gets none = done rules Inside inside outside result old.to_inside new.to_inside
       (at_inside open_gate rules inside outside old new none result runs)

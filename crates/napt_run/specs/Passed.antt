@@ -4,7 +4,7 @@ use Rattle.napt_capture.specs.declared.device.Sink as sink
 use Rattle.napt_capture.specs.declared.device.Source as source
 use Rattle.napt_config.specs.Rules.{Rules}
 use Rattle.napt_dispatch.specs.Dispatch.{IsFaultUnder}
-use Rattle.napt_dispatch.specs.Passing.{PassesEarly, PassesTo, PassesWell}
+use Rattle.napt_dispatch.specs.Passing.{PassesEarly, PassesHalted, PassesTo, PassesWell}
 use Rattle.napt_records.specs.Merged.{EndsWith, HandsOut, cut_of}
 use Rattle.napt_records.specs.declared.Fault.{Fault}
 use Rattle.napt_records.specs.declared.Fault.TheVariants.{Capture, Run, Write}
@@ -29,4 +29,5 @@ module _ {R Q W V : Type 0} {G : source.Ghosts R} {H : source.Ghosts Q} {S : sin
       (Some (record { side = side; fault = fault }))
   PassesOr (Err (Write which fault)) = PassesEarly rules HandsOut EndsWith Takes Fails IsSettled from before left after
       (record { which = which; fault = fault })
-  PassesOr (Err (Run fault)) = IsFaultUnder open_gate fault
+  PassesOr (Err (Run fault)) =
+      IsFaultUnder open_gate fault × PassesHalted rules HandsOut EndsWith Takes Fails IsSettled from before left after

@@ -22,6 +22,7 @@ use Rattle.napt_run.specs.Outputs.{Breaks, Grows}
 use Rattle.napt_run.specs.Files.{files_until}
 use Rattle.napt_run.specs.Streams.{AreTaken, Explains, IsFaultOf, IsOfRun, IsSettledBy, IsStopFault, Streams, ended}
 use Rattle.napt_run.specs.declared.leaving.Leaving.{Leaving}
+use Rattle.napt_run.specs.declared.output.Output.{Output}
 use Rattle.napt_run.specs.declared.passing.Totals.{Totals}
 
 -- this holds of what the captures give, if their bytes are known
@@ -35,6 +36,15 @@ left_of rules inputs = timed inputs (ran rules inputs).outcomes
 -- the text of it, to a side
 abbrev pub text_behind : List ℕ → Rules → Side → List Arrival → List ℕ
 text_behind front rules side inputs = front ++ records_text side (left_of rules inputs)
+
+-- an output has what left of a front of the inputs; or, where writing it failed, a part of that
+pub record IsLeft {D : Type 0} {S : Ghosts D} (rules : Rules) (inside outside : Option (List ℕ)) (front : List ℕ)
+    (side : Side) (old new : Output D S) : Type 0 where
+  pub inputs : List Arrival
+  pub front_of_all : IfHeld inside outside (λ all. IsFront inputs all.arrivals)
+  pub left : Grows old (text_behind front rules side inputs) new
+      ⊎ ((fault : WriteFault) × (broke : Breaks old (text_behind front rules side inputs) fault new)
+      × (length front ≤ broke.count))
 
 module _ {W V : Type 0} {S : Ghosts W} {T : Ghosts V} (open_gate : Bool) (rules : Rules)
     (inside outside : Option (List ℕ)) (front : List ℕ) (old new : Leaving W V S T) where
@@ -76,13 +86,18 @@ module _ {W V : Type 0} {S : Ghosts W} {T : Ghosts V} (open_gate : Bool) (rules 
     pub wrote : Grows old.to_outside (text_behind front rules sides.Outside inputs) new.to_outside
     pub broke : Breaks old.to_inside (text_behind front rules sides.Inside inputs) fault new.to_inside
 
+  -- the run itself failed
+  pub record Halts : Type 0 where
+    pub to_outside : IsLeft rules inside outside front sides.Outside old.to_outside new.to_outside
+    pub to_inside : IsLeft rules inside outside front sides.Inside old.to_inside new.to_inside
+
   abbrev pub RunsTo : Result Totals Fault → Type 0
   RunsTo (Ok totals) = RunsWell totals
   RunsTo (Err (Capture side fault)) = RunsToFault side fault
   RunsTo (Err (Write Outside fault)) = FailsOutside fault
   RunsTo (Err (Write Inside fault)) = FailsInside fault
   RunsTo (Err (Write Report fault)) = ⊥
-  RunsTo (Err (Run fault)) = IsFaultUnder open_gate fault
+  RunsTo (Err (Run fault)) = IsFaultUnder open_gate fault × Halts
 
 -- what the report says of all inputs
 pub record IsToldOf (rules : Rules) (inside outside : Option (List ℕ)) (totals : Totals) : Type 0 where

@@ -74,14 +74,21 @@ HasWritten rules Outside Inside written all old new = HasText rules Outside all 
 HasWritten rules other Outside written all old new = HasText rules other all old new ⊎ IsUnbegun written old new
 HasWritten rules Report Inside written all old new = HasText rules Report all old new
 
--- by the result of the run. Nothing is claimed after a fault of the run itself.
+-- at least the header, and as much of it as a failed write left
+abbrev pub HasPart : Rules → Which → Inputs → Option (List ℕ) → Option (List ℕ) → Type 0
+HasPart rules which all old new =
+    (inputs : List Arrival) × IsFront inputs all.arrivals × ((count : ℕ) × (length file_header ≤ count)
+    × (count ≤ length (capture_text rules (side_of which) inputs))
+    × Appends old new (take count (capture_text rules (side_of which) inputs)))
+
+-- by the result of the run
 abbrev pub GetsOf : Rules → Which → Result (Unit {0}) Fault → Inputs → Option (List ℕ) → Option (List ℕ) → Type 0
 GetsOf rules which (Ok done) all old new = HasAll rules which all old new
 GetsOf rules which (Err (Capture side fault)) all old new =
     (inputs : List Arrival) × AreTaken side fault all inputs
     × Appends old new (capture_text rules (side_of which) inputs)
 GetsOf rules which (Err (Write other fault)) all old new = HasWritten rules which other fault.written all old new
-GetsOf rules which (Err (Run fault)) all old new = Unit {0}
+GetsOf rules which (Err (Run fault)) all old new = HasText rules which all old new ⊎ HasPart rules which all old new
 
 abbrev pub Streams : Rules → Which → Result (Unit {0}) Fault → Option (List ℕ) → Option (List ℕ) → Option (List ℕ) →
     Option (List ℕ) → Type 0

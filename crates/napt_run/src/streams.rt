@@ -28,8 +28,9 @@ use std::thread::Threads;
 /// be written: it has the first `written` bytes of its text, a number that saturates. The other capture has the text of some
 /// of the packets, or of all of them if the report failed; the inside one is empty if the header of the outside one failed.
 /// A failed read before such a write is not reported. Fails with `Fault::Run`: `Memory` if memory is refused, `Pool` if a
-/// worker could not be started or stopped early (never `GateShut` under a gate that promises yes). The workers are closed and
-/// joined before any fault is returned.
+/// worker could not be started or stopped early (never `GateShut` under a gate that promises yes). Each output has then the
+/// text of some first packets or, if a write of it failed before, the header and a part of such a text; there is no report.
+/// The workers are closed and joined before any fault is returned.
 pub fn run_streams<
     T: Threads + Wait + Copy + Send + 'static,
     R: Source,

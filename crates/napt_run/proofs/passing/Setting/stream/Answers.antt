@@ -8,7 +8,7 @@ returns-clause-to_outside g c =
     c.begin_and_run-told.new.leaving _ c.begin_and_run-told.ensures.runs
     (ap (λ o. o.written) c.into-leaving.ensures.to_outside ∙ c.over-ours.ensures.written) _ _
     (ap (λ o. o.device.now) c.into-leaving.ensures.to_outside ∙ c.over-ours.ensures.device)
-    (λ not_run same. c.to_outside-1.given.1 (sym c.over-ours.ensures.same_reference
+    (λ same. c.to_outside-1.given.1 (sym c.over-ours.ensures.same_reference
     ∙ ap (λ o. o.device.ghost_name) (sym c.into-leaving.ensures.to_outside) ∙ sym same))
 
 pub returns-clause-to_inside : goal.returns-clause-to_inside
@@ -17,7 +17,7 @@ returns-clause-to_inside g c =
     c.begin_and_run-told.new.leaving _ c.begin_and_run-told.ensures.runs
     (ap (λ o. o.written) c.into-leaving.ensures.to_inside ∙ c.over-theirs.ensures.written) _ _
     (ap (λ o. o.device.now) c.into-leaving.ensures.to_inside ∙ c.over-theirs.ensures.device)
-    (λ not_run same. c.to_inside-1.given.1 (sym c.over-theirs.ensures.same_reference
+    (λ same. c.to_inside-1.given.1 (sym c.over-theirs.ensures.same_reference
     ∙ ap (λ o. o.device.ghost_name) (sym c.into-leaving.ensures.to_inside) ∙ sym same))
 
 pub returns-clause-says : goal.returns-clause-says
