@@ -6,6 +6,7 @@
 #![tactic(auto)]
 
 mod against;
+mod blocks;
 mod changes;
 mod digits;
 mod ended;
@@ -17,6 +18,7 @@ mod measures;
 mod names;
 mod objects;
 mod options;
+mod owners;
 mod page;
 mod places;
 mod plan;
@@ -38,6 +40,7 @@ mod warning;
 mod who;
 
 use crate::against::tell_against;
+use crate::blocks::{tell_blocks, tell_needless};
 use crate::ended::Ended;
 use crate::following::write_followed;
 use crate::log_file::write_log;
@@ -50,9 +53,9 @@ use crate::page::Page;
 use crate::places::{Output, tell_unwritten};
 use crate::plan::tell_plan;
 use crate::progress::Progress;
-use crate::reading::{Given, GivenToLog, read_given, read_given_to_log};
+use crate::reading::{Given, GivenToLog, Written, configuration, read_given, read_given_to_log};
 use crate::replies::ends_of;
-use crate::requests::Asked;
+use crate::requests::{Asked, requests_of};
 use crate::saved::{Saved, read_saved};
 use crate::scene::{Shown, scene_of};
 use crate::stop::Stop;
@@ -123,6 +126,47 @@ fn explained_under<R: Files + Input + Print + Eprint + AllocGlobal>(
     if let Some(path) = options.saved {
         return answered(rt, streams, options, path);
     }
+    if let Form::Blocks = options.form {
+        let written = configuration(rt, options)?;
+        return tell_blocks(rt, streams, &written.config);
+    }
+    if !options.asks_without_captures() {
+        return explained_run(rt, streams, options, None);
+    }
+    let written = configuration(rt, options)?;
+    if written.config.block().is_some() {
+        return answered_by_blocks(rt, streams, options, &written.config);
+    }
+    explained_run(rt, streams, options, Some(written))
+}
+
+/// Answers requests from the blocks of a configuration.
+fn answered_by_blocks<R: Files + Input + Print + Eprint + AllocGlobal>(
+    rt: &R,
+    streams: Streams,
+    options: &Options<'_>,
+    config: &Config,
+) -> Result<(), Stop> {
+    let asked = requests_of(rt, options.form)?;
+    if !streams.output {
+        return Err(Stop::NoOutput);
+    }
+    let known = Known {
+        entries: &[],
+        last: 0,
+        config: Some(config),
+        is_run: false,
+    };
+    tell_answers(rt, &asked, known)
+}
+
+/// Reads the captures, and the configuration unless it was read, and prints the run.
+fn explained_run<R: Files + Input + Print + Eprint + AllocGlobal>(
+    rt: &R,
+    streams: Streams,
+    options: &Options<'_>,
+    written: Option<Written>,
+) -> Result<(), Stop> {
     let Given {
         config,
         other,
@@ -130,7 +174,7 @@ fn explained_under<R: Files + Input + Print + Eprint + AllocGlobal>(
         asked,
         inputs,
         cuts,
-    } = read_given(rt, streams, options)?;
+    } = read_given(rt, streams, options, written)?;
     if !streams.output {
         return Err(Stop::NoOutput);
     }
@@ -160,6 +204,7 @@ fn answered<R: Files + Input + Print + Eprint + AllocGlobal>(
         entries: &entries,
         last,
         config: config.as_ref(),
+        is_run: true,
     };
     tell_answers(rt, &asked, known)
 }
@@ -228,6 +273,7 @@ fn tell_form<R: Print + Eprint + AllocGlobal>(
                 entries: &log.entries,
                 last: told.last(),
                 config: Some(config),
+                is_run: true,
             };
             tell_answers(rt, asked, known)
         }
@@ -251,6 +297,7 @@ fn write_files<R: Files + Eprint + AllocGlobal>(
     }
     if let Some(path) = options.log {
         write_log(rt, path, shown.config, &shown.account.log, shown.last())?;
+        tell_needless(rt, shown.config);
     }
     if let Some(path) = options.svg {
         draw(rt, path, shown)?;

@@ -14,6 +14,9 @@ use napt_records::protocol_name;
 /// How many hosts get a line, those with the most bindings first.
 const TOP: usize = 10;
 
+/// How many numbers of an address blocks have together: those from 1024 on.
+const NUMBERS: u64 = 64_512;
+
 /// Prints the figures of a run; `last` is the time of its last packet.
 pub fn tell_sizes<R: Print + AllocGlobal>(
     rt: &R,
@@ -33,6 +36,7 @@ pub fn tell_sizes<R: Print + AllocGlobal>(
         &sizes,
         ranked.first().map_or(0, |host| host.bindings.most),
     )?;
+    tell_blocks(rt, &sizes, config.host_count())?;
     tell_refusals(rt, "over-quota", &sizes.over_quota)?;
     tell_refusals(rt, "no-port", &sizes.no_number)?;
     tell_lifetimes(rt, sizes.lifetimes)
@@ -100,6 +104,20 @@ fn tell_quotas<R: Print>(rt: &R, sizes: &Sizes, greatest: u64) -> Result<(), Sto
             println!(rt; "quota {most}: new bindings refused {refused}, of hosts {hosts}")?;
         }
         is_behind = is_behind || quota.most >= greatest;
+    }
+    Ok(())
+}
+
+/// Prints what blocks of each size would have refused, and how many addresses all hosts of the prefixes would need.
+fn tell_blocks<R: Print>(rt: &R, sizes: &Sizes, all: u64) -> Result<(), Stop> {
+    for block in &sizes.blocks {
+        let (most, refused, hosts) = (block.most, block.refused, block.hosts);
+        let each = (NUMBERS / most.max(1)).max(1);
+        let addresses = all.saturating_add(each.saturating_sub(1)) / each;
+        println!(rt;
+            "block {most}: hosts on one address {each}, new bindings refused {refused}, of hosts {hosts}, \
+addresses for all {all} hosts {addresses}"
+        )?;
     }
     Ok(())
 }

@@ -54,8 +54,12 @@ there is at once (docs/FORMATS.md)";
 const CSV: &str = "Prints the table of --plan in CSV";
 
 const SIZES: &str =
-    "Prints only how many bindings, ports and hosts there were at once, what quotas would have refused, \
-and how long bindings lived (docs/FORMATS.md)";
+    "Prints only how many bindings, ports and hosts there were at once, what quotas and blocks would have \
+refused, and how long bindings lived (docs/FORMATS.md)";
+
+const BLOCKS: &str =
+    "Prints only the block of each inside host, in CSV, as --config alone gives it: host, external address, \
+first and last number";
 
 // The options that take a value: name, kind of value and meaning, in the order of the help text.
 const VALUES: &[(&str, &str, &str)] = &[
@@ -120,6 +124,7 @@ const FLAGS: &[(&str, &str)] = &[
         "Prints only a JSON object for each packet, on a line of its own (docs/FORMATS.md)",
     ),
     ("sizes", SIZES),
+    ("blocks", BLOCKS),
     ("csv", CSV),
 ];
 
@@ -170,6 +175,23 @@ const APART: &[(&str, &str)] = &[
     ("saved-log", "log"),
     ("saved-log", "svg"),
     ("svg", "host"),
+    ("blocks", "inside"),
+    ("blocks", "outside"),
+    ("blocks", "replies"),
+    ("blocks", "to-outside"),
+    ("blocks", "to-inside"),
+    ("blocks", "report"),
+    ("blocks", "svg"),
+    ("blocks", "log"),
+    ("blocks", "who"),
+    ("blocks", "requests"),
+    ("blocks", "only"),
+    ("blocks", "host"),
+    ("blocks", "dropped"),
+    ("blocks", "against"),
+    ("blocks", "plan"),
+    ("blocks", "json"),
+    ("blocks", "sizes"),
 ];
 
 /// What to explain, and which lines to print.
@@ -213,6 +235,14 @@ impl<'m> Options<'m> {
         files.is_stream(Role::Config)
             || files.is_standard(Role::Inside)
             || files.is_stream(Role::Outside)
+    }
+
+    /// Whether requests are asked that need no capture where hosts have blocks: none is named.
+    pub fn asks_without_captures(&self) -> bool {
+        let files = &self.files;
+        matches!(self.form, Form::Holders(_) | Form::Requests(_))
+            && files.inside.is_none()
+            && files.outside.is_none()
     }
 
     /// How many of the other configurations, or of files of requests, are to come from standard input.
@@ -261,6 +291,8 @@ pub enum Form<'m> {
     Requests(&'m str),
     /// How many bindings, ports and hosts there were at once.
     Sizes,
+    /// The block of each inside host.
+    Blocks,
     /// What ends differently under the configuration at this path.
     Differences(&'m str),
     /// A table with a line for each of several configurations.
@@ -283,7 +315,7 @@ impl<'m> Form<'m> {
     pub fn is_for_programs(self) -> bool {
         matches!(
             self,
-            Form::Objects | Form::Holders(_) | Form::Requests(_) | Form::PlansInCsv
+            Form::Objects | Form::Holders(_) | Form::Requests(_) | Form::PlansInCsv | Form::Blocks
         )
     }
 }
@@ -452,6 +484,8 @@ fn form_of<'m, R: Eprint>(rt: &R, matches: &'m ArgMatches<'_>) -> Result<Form<'m
         Form::Objects
     } else if matches.get_flag("sizes") {
         Form::Sizes
+    } else if matches.get_flag("blocks") {
+        Form::Blocks
     } else {
         Form::Lines
     })

@@ -76,7 +76,7 @@ impl Cuts {
     }
 }
 
-/// Reads the configuration and the captures.
+/// Reads the configuration, unless it was read before, and the captures.
 ///
 /// Fails as `napt` would, with the same fault first. The outputs of `napt` are neither created nor emptied: one that
 /// could not be is refused as far as that can be known beforehand (`napt_program::unmade`).
@@ -84,12 +84,16 @@ pub fn read_given<R: Files + Input + Eprint + AllocGlobal>(
     rt: &R,
     streams: Streams,
     options: &Options<'_>,
+    written: Option<Written>,
 ) -> Result<Given, Stop> {
     if let Some(role) = closed_stream(streams, &options.files) {
         return Err(tell_closed(rt, role));
     }
     refuse_shared(rt, options)?;
-    let written = configuration(rt, options)?;
+    let written = match written {
+        Some(written) => written,
+        None => configuration(rt, options)?,
+    };
     let other = other_configuration(rt, options)?;
     let plans = plans(rt, options)?;
     let asked = requests_of(rt, options.form)?;
@@ -185,8 +189,8 @@ fn explain_file<R: Files + Eprint, T: Drop>(
 
 /// A configuration, with its text if it has one.
 #[derive(Drop)]
-struct Written {
-    config: Config,
+pub struct Written {
+    pub config: Config,
     text: Option<Vec<u8>>,
 }
 
@@ -201,7 +205,7 @@ impl Written {
 }
 
 /// The configuration in the file, or the built-in one if none is named. A refusal is explained.
-fn configuration<R: Files + Input + Eprint + AllocGlobal>(
+pub fn configuration<R: Files + Input + Eprint + AllocGlobal>(
     rt: &R,
     options: &Options<'_>,
 ) -> Result<Written, Stop> {

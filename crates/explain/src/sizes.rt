@@ -1,5 +1,6 @@
-//! How many bindings, ports and hosts a run had at once, what quotas would have refused, and how long bindings lived:
-//! figures for sizing a pool and a quota (RFC 6888, REQ-4). docs/FORMATS.md defines each of them.
+//! How many bindings, ports and hosts a run had at once, what quotas and blocks would have refused, and how long
+//! bindings lived: figures for sizing a pool, a quota (RFC 6888, REQ-4) and a block (RFC 7422). docs/FORMATS.md
+//! defines each.
 
 pub mod hosts;
 pub mod lifetimes;
@@ -9,7 +10,7 @@ pub mod spaces;
 use crate::changes::{Change, Event};
 use crate::sizes::hosts::{Hosts, Refusals};
 use crate::sizes::lifetimes::Lifetimes;
-use crate::sizes::quotas::Quota;
+use crate::sizes::quotas::{Holder, Quota};
 use crate::sizes::spaces::Space;
 use napt_account::{Entry, Log, Shortage};
 use napt_config::Config;
@@ -21,6 +22,11 @@ const QUOTAS: usize = 13;
 
 const LEAST_QUOTA: u64 = 8;
 
+/// How many sizes of blocks are tried, each twice the one before, from `LEAST_BLOCK` up.
+const BLOCKS: usize = 7;
+
+const LEAST_BLOCK: u64 = 64;
+
 /// The figures of a run.
 #[derive(Drop)]
 pub struct Sizes {
@@ -30,6 +36,8 @@ pub struct Sizes {
     pub hosts: Hosts,
     /// What each quota would have refused, the lowest first.
     pub quotas: Vec<Quota>,
+    /// What blocks of each size would have refused, the lowest first: quotas of each protocol for itself.
+    pub blocks: Vec<Quota>,
     pub lifetimes: Lifetimes,
     /// All bindings, redirects included.
     pub bindings: Level,
@@ -82,13 +90,16 @@ pub fn sizes_of(
         spaces: spaces_of(alloc, config)?,
         hosts: Hosts::of(alloc, &log.entries)?,
         quotas: Vec::new(alloc),
+        blocks: Vec::new(alloc),
         lifetimes: Lifetimes::NONE,
         bindings: Level::EMPTY,
         refused: Refusals::new(alloc),
         over_quota: Refusals::new(alloc),
         no_number: Refusals::new(alloc),
     };
-    sizes.quotas = quotas_of(alloc, sizes.hosts.many(), log.entries.len())?;
+    let (hosts, bindings) = (sizes.hosts.many(), log.entries.len());
+    sizes.quotas = quotas_of(alloc, hosts, bindings)?;
+    sizes.blocks = blocks_of(alloc, hosts, bindings)?;
     for change in changes {
         sizes.take(config, log, *change)?;
     }
@@ -111,10 +122,21 @@ fn quotas_of(alloc: Global, hosts: usize, bindings: usize) -> Result<Vec<Quota>,
     let mut quotas = Vec::new(alloc);
     let mut most = LEAST_QUOTA;
     for _ in 0..QUOTAS {
-        quotas.push(Quota::new(alloc, most, hosts, bindings)?)?;
+        quotas.push(Quota::new(alloc, most, hosts, 1, bindings)?)?;
         most = most.saturating_mul(2);
     }
     Ok(quotas)
+}
+
+/// The blocks to try, for this many hosts and bindings.
+fn blocks_of(alloc: Global, hosts: usize, bindings: usize) -> Result<Vec<Quota>, AllocError> {
+    let mut blocks = Vec::new(alloc);
+    let mut most = LEAST_BLOCK;
+    for _ in 0..BLOCKS {
+        blocks.push(Quota::new(alloc, most, hosts, 3, bindings)?)?;
+        most = most.saturating_mul(2);
+    }
+    Ok(blocks)
 }
 
 impl Sizes {
@@ -152,7 +174,10 @@ impl Sizes {
             return Ok(());
         };
         for quota in self.quotas.iter_mut() {
-            quota.make(host, place);
+            quota.make(Holder { host, count: host }, place);
+        }
+        for block in self.blocks.iter_mut() {
+            block.make(holder_of(host, entry), place);
         }
         Ok(())
     }
@@ -168,7 +193,10 @@ impl Sizes {
             return;
         };
         for quota in self.quotas.iter_mut() {
-            quota.end(host, place);
+            quota.end(Holder { host, count: host }, place);
+        }
+        for block in self.blocks.iter_mut() {
+            block.end(holder_of(host, entry), place);
         }
     }
 
@@ -189,6 +217,14 @@ impl Sizes {
             .saturating_add(protocol_place(entry.binding.protocol));
         self.spaces.get_mut(place)
     }
+}
+
+/// For whom the binding of an entry counts in a block, by the index of its host.
+fn holder_of(host: usize, entry: &Entry) -> Holder {
+    let count = host
+        .saturating_mul(3)
+        .saturating_add(protocol_place(entry.binding.protocol));
+    Holder { host, count }
 }
 
 fn protocol_place(protocol: Protocol) -> usize {

@@ -1,6 +1,7 @@
 //! Who had an external endpoint, and when (RFC 6888, section 4; RFC 6269, section 12). `napt_log_text` defines the
 //! holders and the lines.
 
+use crate::owners::add_owners;
 use crate::page::Page;
 use crate::requests::Asked;
 use crate::sorted::Sorted;
@@ -19,10 +20,12 @@ pub struct Known<'a> {
     pub last: u64,
     /// The configuration of the run, if it is known.
     pub config: Option<&'a Config>,
+    /// Whether there is a run; else the configuration alone answers, by its blocks.
+    pub is_run: bool,
 }
 
-/// Prints for each request a line for each binding that had the endpoint, in the order in which they were made, or that
-/// nobody had it. Fails with `Nobody` if there is such a request.
+/// Prints for each request the hosts whose blocks it is in, a line for each binding that had the endpoint, in the order
+/// in which they were made, or that nobody had it. Fails with `Nobody` if there is such a request.
 pub fn tell_answers<R: Print + AllocGlobal>(
     rt: &R,
     asked: &[Asked],
@@ -57,6 +60,11 @@ fn tell_answer<R: Print + AllocGlobal>(
     known: Known<'_>,
     page: &mut Page,
 ) -> Result<bool, Stop> {
+    let is_owned = add_owners(asked, known, page)?;
+    page.turn(rt)?;
+    if !known.is_run {
+        return Ok(is_owned);
+    }
     let holders = asked.request.holders_among(rt.alloc(), known.entries)?;
     for entry in &holders {
         mark(asked, &mut page.text)?;
@@ -76,11 +84,11 @@ fn tell_answer<R: Print + AllocGlobal>(
         &mut page.text,
     )?;
     page.turn(rt)?;
-    Ok(false)
+    Ok(is_owned)
 }
 
 /// Begins a line of a request that is one of several.
-fn mark(asked: &Asked, text: &mut String) -> Result<(), AllocError> {
+pub fn mark(asked: &Asked, text: &mut String) -> Result<(), AllocError> {
     match asked.line {
         Some(number) => add_mark(number, text),
         None => Ok(()),

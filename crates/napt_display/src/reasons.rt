@@ -8,6 +8,7 @@ mod expected;
 mod inside;
 mod part;
 mod reason;
+mod room;
 mod spelling;
 
 pub use crate::reasons::capture::{Splitting, capture_reasons};

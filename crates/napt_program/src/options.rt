@@ -49,23 +49,27 @@ words tells where in a file, and what to do):
   2  napt: usage
        an unknown option, one that stands twice, or one without its file
   3  napt: config WORD
-       not-toml         no TOML in UTF-8
-       unknown-key      a key that no configuration has
-       missing          a required key is absent, or its list is empty
-       bad-shape        a value is of another kind than its key asks for
-       too-many         a list has more entries than it may have
-       bad-address      no IPv4 address, or in a redirect no endpoint
-       bad-prefix       no IPv4 prefix, or bits past its length are set
-       bad-number       a number is out of its range
-       bad-word         no word that the key knows
-       double-address   an address stands twice in the pool
-       pool-inside      a pool address is in a prefix of inside
-       double-pair      a host has two pairs
-       not-in-pool      the external address of a pair is not in the pool
-       not-inside       a host is in no prefix of inside
-       double-redirect  two redirects share an inside or an external endpoint
-       timer-too-short  a timer is below what the RFC asks
-       memory           memory ran out
+       not-toml           no TOML in UTF-8
+       unknown-key        a key that no configuration has
+       missing            a required key is absent, or its list is empty
+       bad-shape          a value is of another kind than its key asks for
+       too-many           a list has more entries than it may have
+       bad-address        no IPv4 address, or in a redirect no endpoint
+       bad-prefix         no IPv4 prefix, or bits past its length are set
+       bad-number         a number is out of its range
+       bad-word           no word that the key knows
+       double-address     an address stands twice in the pool
+       pool-inside        a pool address is in a prefix of inside
+       prefixes-overlap   two prefixes have an address in common, with blocks
+       block-too-large    not every host has a block at the pool's addresses
+       pair-with-block    there are pairs and blocks
+       double-pair        a host has two pairs
+       not-in-pool        the external address of a pair is not in the pool
+       not-inside         a host is in no prefix of inside
+       redirect-in-block  its external port is above 1023 and not its host's
+       double-redirect    two redirects share an inside or an external endpoint
+       timer-too-short    a timer is below what the RFC asks
+       memory             memory ran out
   4  napt: capture SIDE WORD, where SIDE is inside or outside
        no-header        fewer than 24 bytes
        bad-magic        no libpcap capture (pcapng is another format)

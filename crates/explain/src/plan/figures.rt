@@ -15,6 +15,10 @@ use std::alloc::{AllocError, Global};
 /// The figures of a run.
 #[derive(Clone, Copy)]
 pub struct Figures {
+    /// How many bindings the configuration allows a host, if it bounds them.
+    pub quota: Option<u64>,
+    /// How many numbers each host has for itself, if there are blocks.
+    pub block: Option<u64>,
     /// Packets that left for the outside.
     pub to_outside: usize,
     /// Packets that left for the inside.
@@ -54,6 +58,8 @@ impl Figures {
         let ranked = sizes.hosts.ranked(alloc)?;
         let outcomes = account.run.outcomes.as_slice();
         Ok(Figures {
+            quota: config.quota().map(u64::from),
+            block: config.block().map(u64::from),
             to_outside: count_to_outside(outcomes),
             to_inside: count_to_inside(outcomes),
             drops: Drops {

@@ -14,6 +14,8 @@ use std::io::Write;
 /// The names of the fields.
 const HEADER: &[&[u8]] = &[
     b"configuration",
+    b"quota",
+    b"block",
     b"to_outside",
     b"to_inside",
     b"no_port",
@@ -35,6 +37,8 @@ const HEADER: &[&[u8]] = &[
 #[derive(Drop, Serialize)]
 struct Record {
     configuration: String,
+    quota: Option<u64>,
+    block: Option<u64>,
     to_outside: u64,
     to_inside: u64,
     no_port: u64,
@@ -88,6 +92,8 @@ fn record_of(alloc: Global, path: &str, figures: Figures) -> Result<Record, Allo
     let (drops, fullest) = (figures.drops, figures.fullest);
     Ok(Record {
         configuration: String::from_str(alloc, path)?,
+        quota: figures.quota,
+        block: figures.block,
         to_outside: figures.to_outside as u64,
         to_inside: figures.to_inside as u64,
         no_port: drops.no_port as u64,

@@ -11,10 +11,12 @@ use std::alloc::{AllocError, Global};
 use std::fmt::Write;
 
 /// How many columns have numbers.
-const NUMBERS: usize = 10;
+const NUMBERS: usize = 12;
 
 /// Their names.
-const NAMES: [&str; 10] = [
+const NAMES: [&str; 12] = [
+    "quota",
+    "block",
     "to-outside",
     "to-inside",
     "no-port",
@@ -82,7 +84,7 @@ impl Widths {
     fn take(&mut self, figures: Figures) {
         let cells = NAMES.iter().zip(numbers_of(figures));
         for (wide, (name, number)) in self.numbers.iter_mut().zip(cells) {
-            *wide = (*wide).max(name.len()).max(digits(number));
+            *wide = (*wide).max(name.len()).max(number.map_or(1, digits));
         }
     }
 
@@ -98,7 +100,7 @@ impl Widths {
     fn add_line(self, text: &mut String, path: &str, figures: Figures) -> Result<(), AllocError> {
         self.add_path(text, path)?;
         for (number, wide) in numbers_of(figures).iter().zip(self.numbers) {
-            add_number_within(text, *number, wide.saturating_add(2))?;
+            add_cell(text, *number, wide.saturating_add(2))?;
         }
         add_fullest(text, figures.fullest)
     }
@@ -113,21 +115,34 @@ impl Widths {
     }
 }
 
-/// The numbers of a line, in the order of the columns.
-fn numbers_of(figures: Figures) -> [u64; NUMBERS] {
+/// The numbers of a line, in the order of the columns; a configuration may have no quota and no block.
+fn numbers_of(figures: Figures) -> [Option<u64>; NUMBERS] {
     let drops = figures.drops;
     [
-        figures.to_outside as u64,
-        figures.to_inside as u64,
-        drops.no_port as u64,
-        drops.over_quota as u64,
-        drops.no_binding as u64,
-        drops.filtered as u64,
-        figures.bindings,
-        figures.median,
-        figures.percentile_99,
-        figures.refused_hosts as u64,
+        figures.quota,
+        figures.block,
+        Some(figures.to_outside as u64),
+        Some(figures.to_inside as u64),
+        Some(drops.no_port as u64),
+        Some(drops.over_quota as u64),
+        Some(drops.no_binding as u64),
+        Some(drops.filtered as u64),
+        Some(figures.bindings),
+        Some(figures.median),
+        Some(figures.percentile_99),
+        Some(figures.refused_hosts as u64),
     ]
+}
+
+/// Appends a number, or a dash for none, padded on the left to this width.
+fn add_cell(text: &mut String, number: Option<u64>, wide: usize) -> Result<(), AllocError> {
+    match number {
+        Some(number) => add_number_within(text, number, wide),
+        None => {
+            add_spaces(text, wide.saturating_sub(1))?;
+            text.push_str("-")
+        }
+    }
 }
 
 /// Appends the last column: the class, and how much of it was used.

@@ -1,17 +1,18 @@
-//! What a quota would have refused: new bindings of hosts that have reached it, without those that it refused before.
+//! What a quota, or a block, would have refused: new bindings of hosts that have reached it, without those that it
+//! refused before.
 
 use std::alloc::{AllocError, Global};
 
 /// A quota tried on a run.
 #[derive(Drop)]
 pub struct Quota {
-    /// How many bindings a host may have at once.
+    /// How many bindings a host may have at once, in all or of each protocol.
     pub most: u64,
     /// How many new bindings it would have refused.
     pub refused: u64,
     /// To how many hosts it would have refused one.
     pub hosts: u64,
-    /// How many live bindings each host has that it allowed.
+    /// How many live bindings each host has that it allowed, in all or of each protocol.
     kept: Vec<u64>,
     /// Whether it refused a binding of each host.
     hurt: Vec<bool>,
@@ -19,27 +20,36 @@ pub struct Quota {
     lets: Vec<bool>,
 }
 
+/// For whom a binding counts: the index of its host, and that of its count.
+#[derive(Clone, Copy)]
+pub struct Holder {
+    pub host: usize,
+    pub count: usize,
+}
+
 impl Quota {
-    /// A quota for this many hosts and bindings, before any is made.
+    /// A quota for this many hosts and bindings, before any is made, where each host has so many counts.
     pub fn new(
         alloc: Global,
         most: u64,
         hosts: usize,
+        counts: usize,
         bindings: usize,
     ) -> Result<Quota, AllocError> {
         Ok(Quota {
             most,
             refused: 0,
             hosts: 0,
-            kept: vec![in alloc; 0; hosts]?,
+            kept: vec![in alloc; 0; hosts.saturating_mul(counts)]?,
             hurt: vec![in alloc; false; hosts]?,
             lets: vec![in alloc; false; bindings]?,
         })
     }
 
-    /// The host at an index makes the binding at an index.
-    pub fn make(&mut self, host: usize, binding: usize) {
-        let (Some(kept), Some(lets)) = (self.kept.get_mut(host), self.lets.get_mut(binding)) else {
+    /// A host makes the binding at an index.
+    pub fn make(&mut self, holder: Holder, binding: usize) {
+        let (Some(kept), Some(lets)) = (self.kept.get_mut(holder.count), self.lets.get_mut(binding))
+        else {
             return;
         };
         if *kept < self.most {
@@ -48,7 +58,7 @@ impl Quota {
             return;
         }
         self.refused = self.refused.saturating_add(1);
-        self.hurt(host);
+        self.hurt(holder.host);
     }
 
     /// The host at an index is refused a binding.
@@ -61,12 +71,12 @@ impl Quota {
         }
     }
 
-    /// The binding at an index, of the host at an index, has expired.
-    pub fn end(&mut self, host: usize, binding: usize) {
+    /// The binding at an index has expired.
+    pub fn end(&mut self, holder: Holder, binding: usize) {
         if self.lets.get(binding) != Some(&true) {
             return;
         }
-        if let Some(kept) = self.kept.get_mut(host) {
+        if let Some(kept) = self.kept.get_mut(holder.count) {
             *kept = kept.saturating_sub(1);
         }
     }

@@ -5,6 +5,7 @@ ghost use Rattle.std.specs.Prelude.{◌≤◌, ◌+◌, IfOk, OnOk, vec_len};
 use crate::reasons::expected::{expected_at, shape_of};
 use crate::reasons::part::{Entry, Place, Refused};
 use crate::reasons::reason::{Reason, add};
+use crate::reasons::room::Room;
 use crate::reasons::spelling::{line_of_name, meant};
 use napt_config::ConfigFault;
 use std::alloc::{AllocError, Global};
@@ -111,9 +112,26 @@ fn add_for_place<'t>(
     let value = value_text(refused.alloc, refused.value(place));
     add(reasons, "value", value)?;
     add_other(reasons, refused, place)?;
+    if let Some(room) = room_of(refused, place)? {
+        return add(reasons, "expected", room.text(refused.alloc));
+    }
     match expected(refused.fault, place) {
         Some(text) => add(reasons, "expected", String::from_str(refused.alloc, text)),
         None => add_why(reasons, refused),
+    }
+}
+
+/// What there is room for, if the fault is a block that is too large.
+fn room_of<'t>(refused: Refused<'t>, place: Place<'t>) -> Result<Option<Room>, AllocError> {
+    if refused.fault != ConfigFault::BlockTooLarge {
+        return Ok(None);
+    }
+    let Some(Value::Integer(size)) = refused.value(place) else {
+        return Ok(None);
+    };
+    match refused.unblocked()? {
+        Some(config) => Ok(Some(Room::of(&config, *size))),
+        None => Ok(None),
     }
 }
 

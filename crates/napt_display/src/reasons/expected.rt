@@ -6,7 +6,7 @@ use napt_config::ConfigFault;
 pub fn shape_of(key: &str, entry: Option<usize>, field: &str) -> &'static str {
     match key {
         "timers" if field.is_empty() => "a table",
-        "timers" | "ring" | "quota" => "a whole number",
+        "timers" | "ring" | "quota" | "block" => "a whole number",
         "pair" | "redirect" if entry.is_some() => shape_in_entry(key, field),
         "pair" => "a list of tables: each begins with a line `[[pair]]`",
         "redirect" => "a list of tables: each begins with a line `[[redirect]]`",
@@ -66,6 +66,7 @@ fn range_of(key: &str) -> &'static str {
     match key {
         "ring" => "1 to 4096",
         "quota" => "1 to 65535",
+        "block" => "an even number, 64 to 32256",
         "redirect" => "a port, 1 to 65535",
         _ => "0 to 1000000000 seconds",
     }
@@ -85,7 +86,7 @@ fn keys_of(key: &str) -> &'static str {
         "pair" => "`host` or `external`",
         "redirect" => "`protocol`, `inside` or `external`",
         _ => {
-            "`pool`, `inside`, `filter`, `refresh`, `timers`, `ring`, `quota`, `pair` or `redirect`"
+            "`pool`, `inside`, `filter`, `refresh`, `timers`, `ring`, `quota`, `block`, `pair` or `redirect`"
         }
     }
 }

@@ -9,8 +9,11 @@ use toml::{Table, Value};
 
 /// The keys in the order they are checked.
 const KEYS: &[&str] = &[
-    "pool", "inside", "filter", "refresh", "timers", "ring", "quota", "pair", "redirect",
+    "pool", "inside", "filter", "refresh", "timers", "ring", "quota", "block", "pair", "redirect",
 ];
+
+/// Those of which blocks are made.
+const BEFORE_BLOCKS: &[&str] = &["pool", "inside"];
 
 /// Precedes a configuration of which only the pool is checked.
 const NO_PREFIX: &str = "inside = [\"255.255.255.255/32\"]\n";
@@ -139,12 +142,13 @@ impl<'t> Refused<'t> {
         })
     }
 
-    /// The field that has the fault of a part. A fault of two entries is in no field.
+    /// The field that has the fault of a part. A fault of two entries, or of a whole key, is in no field.
     fn field(self, part: Part<'_>) -> Result<Option<&'t str>, AllocError> {
         match self.fault {
             ConfigFault::UnknownKey => self.unknown_field(part),
             ConfigFault::Missing => Ok(self.missing_field(part)),
-            ConfigFault::DoublePair | ConfigFault::DoubleRedirect => Ok(None),
+            ConfigFault::DoublePair | ConfigFault::DoubleRedirect | ConfigFault::PairWithBlock =>
+                Ok(None),
             _ => self.known_field(part),
         }
     }
@@ -171,6 +175,18 @@ impl<'t> Refused<'t> {
         match Config::read(self.alloc, text.as_bytes()) {
             Ok(_) => Ok(false),
             Err(fault) => Ok(fault == self.fault),
+        }
+    }
+
+    /// The configuration of its pool and its prefixes alone, if they are allowed.
+    pub fn unblocked(self) -> Result<Option<Config>, AllocError> {
+        let Ok(mut table) = toml::table_from_str(self.alloc, self.text) else {
+            return Err(AllocError);
+        };
+        keep(&mut table, Kept::First(BEFORE_BLOCKS));
+        match toml::table_to_string(self.alloc, &table) {
+            Ok(text) => Ok(Config::read(self.alloc, text.as_bytes()).ok()),
+            Err(_) => Err(AllocError),
         }
     }
 
@@ -209,11 +225,11 @@ impl<'t> Refused<'t> {
         Ok(None)
     }
 
-    /// The entry of the key's list that has the fault: the last of the fewest that have it. A list that is too long has
-    /// no such entry.
+    /// The entry of the key's list that has the fault: the last of the fewest that have it. A list that is too long, or
+    /// that may not be there, has no such entry.
     fn entry(self, part: Part<'_>) -> Result<Option<usize>, AllocError> {
         let many = match self.fault {
-            ConfigFault::TooMany => 0,
+            ConfigFault::TooMany | ConfigFault::PairWithBlock => 0,
             _ => entry_count(self.table, part.key),
         };
         for at in 0..many {
@@ -245,6 +261,7 @@ impl<'t> Refused<'t> {
             ConfigFault::DoubleAddress | ConfigFault::DoublePair | ConfigFault::DoubleRedirect =>
                 Some(key),
             ConfigFault::PoolInside => Some("pool"),
+            ConfigFault::PrefixesOverlap => Some("inside"),
             _ => None,
         }
     }
