@@ -1,9 +1,12 @@
 //! A table for tests, whose calls check what their caller owes.
 
-use napt_config::Config;
+ghost use Rattle.std.specs.Prelude.{◌≡◌, true, IfSome};
+ghost use Rattle.napt_config.specs.Rules.{IsBlock};
+
+use napt_config::{Block, Config};
 use napt_samples::hosts::EXTERNAL;
 use napt_samples::settings::ONE_ADDRESS;
-use napt_table::{Row, Table};
+use napt_table::{Row, Sent, Table};
 use napt_wire::{Cause, Endpoint, Flags, Protocol};
 use std::alloc::Global;
 use std::test::Fail;
@@ -14,8 +17,19 @@ pub(crate) fn settings_of(alloc: Global, settings: &str) -> Result<Config, Fail>
     Ok(Config::read(alloc, text.as_bytes())?)
 }
 
-/// A table that refuses what a caller may not ask: a time before an earlier one, a port 0. It is behind a box: a function that
-/// owns a table as it stands takes minutes to prove.
+/// Whether there is no block, or an even number of numbers from an even one on, behind those below 1024.
+fn keeps_block(block: Option<Block>) -> bool
+    ensures { result ≡ true → IfSome block IsBlock }
+{
+    let Some(Block { first, size }) = block else {
+        return true;
+    };
+    let end = u32::from(first) + u32::from(size);
+    first % 2 == 0 && first >= 1024 && size % 2 == 0 && size >= 64 && end <= 65_536
+}
+
+/// A table that refuses what a caller may not ask: a time before an earlier one, a port 0, a block that breaks its rules.
+/// It is behind a box: a function that owns a table as it stands takes minutes to prove.
 #[derive(Drop)]
 pub(crate) struct CheckedTable {
     alloc: Global,
@@ -40,23 +54,37 @@ impl CheckedTable {
         self.table.at()
     }
 
-    pub(crate) fn send(
-        &mut self,
-        now: u64,
-        protocol: Protocol,
-        inside: Endpoint,
-        remote: Endpoint,
-        flags: Flags,
-    ) -> Result<Result<u16, Cause>, Fail> {
+    pub(crate) fn send(&mut self, sent: Sent) -> Result<Result<u16, Cause>, Fail> {
         let (table, alloc) = (&mut self.table, self.alloc);
-        if now < table.at() {
+        if sent.now < table.at() {
             return Err("a later time".into());
         }
-        let answer = match protocol {
-            Protocol::Icmp => table.outbound(alloc, now, Protocol::Icmp, inside, remote, flags)?,
-            _ if inside.number == 0 => return Err("a port".into()),
-            Protocol::Tcp => table.outbound(alloc, now, Protocol::Tcp, inside, remote, flags)?,
-            Protocol::Udp => table.outbound(alloc, now, Protocol::Udp, inside, remote, flags)?,
+        if !keeps_block(sent.block) {
+            return Err("a block that keeps its rules".into());
+        }
+        let answer = match sent.protocol {
+            Protocol::Icmp => table.outbound_of(
+                alloc,
+                Sent {
+                    protocol: Protocol::Icmp,
+                    ..sent
+                },
+            )?,
+            _ if sent.inside.number == 0 => return Err("a port".into()),
+            Protocol::Tcp => table.outbound_of(
+                alloc,
+                Sent {
+                    protocol: Protocol::Tcp,
+                    ..sent
+                },
+            )?,
+            Protocol::Udp => table.outbound_of(
+                alloc,
+                Sent {
+                    protocol: Protocol::Udp,
+                    ..sent
+                },
+            )?,
         };
         Ok(answer)
     }

@@ -2,7 +2,8 @@
 //! `refused_configurations` and of `tests/configurations`.
 
 use napt_config::{
-    Address, Config, ConfigFault, Filter, Prefix, Redirect, Refresh, Timers, TransportAddress,
+    Address, Block, Config, ConfigFault, Filter, Prefix, Redirect, Refresh, Timers,
+    TransportAddress,
 };
 use napt_samples::settings::TWO_ADDRESSES;
 use std::alloc::{AllocError, Global};
@@ -141,6 +142,128 @@ fn quotas(rt: HostRuntime) -> Result<(), Fail> {
     Ok(())
 }
 
+/// Eight inside hosts on two addresses, each with 64 numbers.
+const EIGHT_HOSTS: &str =
+    "pool = [\"203.0.113.1\", \"203.0.113.2\"]\ninside = [\"10.0.0.0/29\"]\nblock = 64\n";
+
+#[test]
+fn hosts_have_blocks(rt: HostRuntime) -> Result<(), Fail> {
+    let alloc = rt.alloc();
+    let config = read(alloc, EIGHT_HOSTS, "")?.copy(alloc)?;
+    assert_eq!(rt; config.block(), Some(64));
+    assert_eq!(rt; config.host_count(), 8);
+    for (host, external, first) in [
+        (0x0A00_0000, 0xCB00_7101, 1024),
+        (0x0A00_0001, 0xCB00_7102, 1024),
+        (0x0A00_0002, 0xCB00_7101, 1088),
+        (0x0A00_0003, 0xCB00_7102, 1088),
+        (0x0A00_0007, 0xCB00_7102, 1216),
+    ] {
+        assert_eq!(rt; config.pair(host), external, "{host:x}");
+        let block = Block { first, size: 64 };
+        assert_eq!(rt; config.block_of(host), Some(block), "{host:x}");
+        for (number, holder) in [
+            (first, true),
+            (first + 63, true),
+            (first - 1, false),
+            (first + 64, false),
+        ] {
+            let found = config.host_of(external, number) == Some(host);
+            assert_eq!(rt; found, holder, "{host:x} {number}");
+        }
+    }
+    assert_eq!(rt; config.block_of(0x0A00_0008), None);
+    Ok(())
+}
+
+#[test]
+fn endpoints_without_a_host(rt: HostRuntime) -> Result<(), Fail> {
+    let alloc = rt.alloc();
+    let config = read(alloc, EIGHT_HOSTS, "")?;
+    for (address, number) in [
+        (0xCB00_7101, 0),
+        (0xCB00_7101, 1023),
+        (0xCB00_7101, 1280),
+        (0xCB00_7102, 65535),
+        (0xCB00_7103, 1024),
+    ] {
+        assert_eq!(rt;
+            config.host_of(address, number),
+            None,
+            "{address:x} {number}"
+        );
+    }
+    let without = read(alloc, TWO_ADDRESSES, "")?;
+    assert_eq!(rt; without.block(), None);
+    assert_eq!(rt; without.block_of(0x0A00_0001), None);
+    assert_eq!(rt; without.host_of(0xCB00_7101, 1024), None);
+    Ok(())
+}
+
+#[test]
+fn hosts_of_several_prefixes(rt: HostRuntime) -> Result<(), Fail> {
+    let text = r#"
+pool = ["203.0.113.1", "203.0.113.2", "203.0.113.3"]
+inside = ["10.0.0.4/30", "172.16.0.1/32", "10.0.0.0/31"]
+block = 1000
+"#;
+    let config = read(rt.alloc(), "", text)?;
+    for (host, external, first) in [
+        (0x0A00_0004, 0xCB00_7101, 1024),
+        (0x0A00_0007, 0xCB00_7101, 2024),
+        (0xAC10_0001, 0xCB00_7102, 2024),
+        (0x0A00_0000, 0xCB00_7103, 2024),
+        (0x0A00_0001, 0xCB00_7101, 3024),
+    ] {
+        assert_eq!(rt; config.pair(host), external, "{host:x}");
+        let block = Block { first, size: 1000 };
+        assert_eq!(rt; config.block_of(host), Some(block), "{host:x}");
+        assert_eq!(rt; config.host_of(external, first), Some(host), "{host:x}");
+    }
+    assert_eq!(rt; config.host_of(0xCB00_7102, 3024), None);
+    Ok(())
+}
+
+#[test]
+fn largest_blocks(rt: HostRuntime) -> Result<(), Fail> {
+    let alloc = rt.alloc();
+    for (prefix, size, host, first) in [
+        ("10.0.0.0/31", 32256, 0x0A00_0001, 33280),
+        ("10.0.0.0/30", 16128, 0x0A00_0003, 49408),
+        ("10.0.0.0/24", 252, 0x0A00_00FF, 65284),
+    ] {
+        let text = format!(in alloc;
+            "pool = [\"203.0.113.1\"]\ninside = [\"{prefix}\"]\nblock = {size}\n"
+        )?;
+        let config = read(alloc, "", &text)?;
+        let block = Block { first, size };
+        assert_eq!(rt; config.block_of(host), Some(block), "{prefix}");
+        assert_eq!(rt; config.host_of(0xCB00_7101, 65535), Some(host), "{prefix}");
+    }
+    Ok(())
+}
+
+#[test]
+fn redirects_beside_blocks(rt: HostRuntime) -> Result<(), Fail> {
+    let text = r#"
+[[redirect]]
+protocol = "udp"
+inside = "10.0.0.2:80"
+external = 1023
+[[redirect]]
+protocol = "tcp"
+inside = "10.0.0.2:80"
+external = 1088
+[[redirect]]
+protocol = "udp"
+inside = "10.0.0.2:81"
+external = 1151
+"#;
+    let config = read(rt.alloc(), EIGHT_HOSTS, text)?;
+    assert_eq!(rt; config.redirects().len(), 3);
+    Ok(())
+}
+
 #[test]
 fn shortest_timer_and_other_bytes(rt: HostRuntime) -> Result<(), Fail> {
     let config = read(rt.alloc(), TWO_ADDRESSES, "[timers]\nudp = 120\n")?;
@@ -268,6 +391,8 @@ fn built_in_and_copy(rt: HostRuntime) -> Result<(), Fail> {
     ];
     assert_inside(&rt, &config, &hosts);
     assert_eq!(rt; config.pair(7), 0xCB00_7101);
+    assert_eq!(rt; config.block(), None);
+    assert_eq!(rt; config.host_count(), 0x0111_0000);
     let wanted = Settings {
         pool: &[0xCB00_7101],
         filter: Filter::Independent,

@@ -8,6 +8,8 @@ mod bindings;
 #[cfg(test)]
 mod bits;
 #[cfg(test)]
+mod blocks;
+#[cfg(test)]
 mod captures;
 #[cfg(test)]
 mod checked;

@@ -71,7 +71,7 @@ const MESSAGES: &[(Fault, &str)] = &[
     ),
     (
         Fault::Config(ConfigFault::UnknownKey),
-        "unknown key: expected `pool`, `inside`, `filter`, `refresh`, `timers`, `ring`, `quota`, `pair` or `redirect`; in `timers` `udp`, `tcp-established`, `tcp-transitory` or `icmp`; in a `pair` `host` or `external`; in a `redirect` `protocol`, `inside` or `external`",
+        "unknown key: expected `pool`, `inside`, `filter`, `refresh`, `timers`, `ring`, `quota`, `block`, `pair` or `redirect`; in `timers` `udp`, `tcp-established`, `tcp-transitory` or `icmp`; in a `pair` `host` or `external`; in a `redirect` `protocol`, `inside` or `external`",
     ),
     (
         Fault::Config(ConfigFault::Missing),
@@ -95,7 +95,7 @@ const MESSAGES: &[(Fault, &str)] = &[
     ),
     (
         Fault::Config(ConfigFault::BadNumber),
-        "expected a timer of 0 to 1000000000 seconds, a `ring` of 1 to 4096, a `quota` of 1 to 65535, or an `external` port of 1 to 65535",
+        "expected a timer of 0 to 1000000000 seconds, a `ring` of 1 to 4096, a `quota` of 1 to 65535, an even `block` of 64 to 32256, or an `external` port of 1 to 65535",
     ),
     (
         Fault::Config(ConfigFault::BadWord),
@@ -110,6 +110,18 @@ const MESSAGES: &[(Fault, &str)] = &[
         "expected no address of `pool` in a prefix of `inside`",
     ),
     (
+        Fault::Config(ConfigFault::PrefixesOverlap),
+        "expected, with a `block`, prefixes of `inside` that have no address in common",
+    ),
+    (
+        Fault::Config(ConfigFault::BlockTooLarge),
+        "expected a `block` that every host can have: the hosts of `inside` by the addresses of `pool`, rounded up, times `block`, at most 64512",
+    ),
+    (
+        Fault::Config(ConfigFault::PairWithBlock),
+        "expected no `pair` with a `block`",
+    ),
+    (
         Fault::Config(ConfigFault::DoublePair),
         "expected at most one `pair` for each host",
     ),
@@ -120,6 +132,10 @@ const MESSAGES: &[(Fault, &str)] = &[
     (
         Fault::Config(ConfigFault::NotInside),
         "expected a host that is in a prefix of `inside`",
+    ),
+    (
+        Fault::Config(ConfigFault::RedirectInBlock),
+        "expected, with a `block`, an `external` port below 1024, or in the block of the host",
     ),
     (
         Fault::Config(ConfigFault::DoubleRedirect),

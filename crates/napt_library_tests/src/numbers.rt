@@ -6,11 +6,11 @@ use std::test::Fail;
 
 /// What stands for a number while it is free, while it is in use, and when it is free again.
 fn chosen(numbers: &mut Numbers, number: u16) -> [Option<u16>; 3] {
-    let free = numbers.choose(number);
+    let free = numbers.choose(None, number);
     numbers.put(number);
-    let next = numbers.choose(number);
+    let next = numbers.choose(None, number);
     numbers.take(number);
-    [free, next, numbers.choose(number)]
+    [free, next, numbers.choose(None, number)]
 }
 
 #[test]
@@ -38,10 +38,10 @@ fn itself_or_the_next_of_its_class(rt: HostRuntime) -> Result<(), Fail> {
 fn choices(numbers: &Numbers, of: [u16; 4]) -> [Option<u16>; 4] {
     let [first, second, third, fourth] = of;
     [
-        numbers.choose(first),
-        numbers.choose(second),
-        numbers.choose(third),
-        numbers.choose(fourth),
+        numbers.choose(None, first),
+        numbers.choose(None, second),
+        numbers.choose(None, third),
+        numbers.choose(None, fourth),
     ]
 }
 

@@ -1,8 +1,8 @@
 //! A table kept as a plain list.
 
-use napt_config::{Config, Filter, Refresh, Timers};
+use napt_config::{Block, Config, Filter, Refresh, Timers};
 use napt_samples::hosts::SECOND;
-use napt_table::{Marks, Row};
+use napt_table::{Marks, Row, Sent};
 use napt_wire::{Cause, Endpoint, Flags, Protocol, Way};
 use std::alloc::{AllocError, Global};
 
@@ -246,17 +246,40 @@ impl PlainTable {
         None
     }
 
+    /// The number of the block that is as far from its first as the number is past a multiple of the block's size, where
+    /// it is free, else the next free one of its parity, which goes on at the beginning of the block, else one of the
+    /// other parity, from the next number on.
+    fn choose_in(&self, block: Block, protocol: Protocol, number: u16) -> Option<u16> {
+        let size = u32::from(block.size).max(1);
+        let place = u32::from(number) % size;
+        for from in [place, place + 1] {
+            for k in 0..size / 2 {
+                let candidate = u32::from(block.first) + (from + 2 * k) % size;
+                let is_free = !self.list.iter().any(|binding| binding.protocol == protocol
+                    && u32::from(binding.external) == candidate);
+                if is_free {
+                    return u16::try_from(candidate).ok();
+                }
+            }
+        }
+        None
+    }
+
     /// A packet goes out (RFC 3022, section 4.1): the external number of its binding, which is made where there is none, or
     /// `OverQuota`, or `NoPort`. Where memory is refused the packet may have left a part of what it does.
     pub(crate) fn outbound(
         &mut self,
         alloc: Global,
-        now: u64,
-        protocol: Protocol,
-        inside: Endpoint,
-        remote: Endpoint,
-        flags: Flags,
+        sent: Sent,
     ) -> Result<Result<u16, Cause>, AllocError> {
+        let Sent {
+            protocol,
+            inside,
+            remote,
+            flags,
+            now,
+            block,
+        } = sent;
         self.purge(now);
         for binding in self.list.iter_mut() {
             if binding.protocol == protocol && binding.inside == inside {
@@ -267,7 +290,11 @@ impl PlainTable {
         if self.is_over_quota(inside.address) {
             return Ok(Err(Cause::OverQuota));
         }
-        let Some(external) = self.choose(protocol, inside.number) else {
+        let chosen = match block {
+            None => self.choose(protocol, inside.number),
+            Some(block) => self.choose_in(block, protocol, inside.number),
+        };
+        let Some(external) = chosen else {
             return Ok(Err(Cause::NoPort));
         };
         let mut binding = PlainBinding {

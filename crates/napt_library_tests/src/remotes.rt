@@ -2,9 +2,10 @@
 
 ghost use Rattle.std.specs.Prelude.{ℕ, ◌<◌};
 
-use crate::twins::{Counts, Draws, HOSTS, Sent, Twins};
+use crate::twins::{Counts, Draws, HOSTS, Twins};
 use napt_samples::flags::{NO_FLAGS, SYN, SYN_ACK};
 use napt_samples::hosts::{RESOLVER, SECOND, host};
+use napt_table::Sent;
 use napt_wire::{Endpoint, Flags, Protocol};
 use std::alloc::Global;
 use std::test::Fail;
@@ -60,7 +61,7 @@ fn remote(many: u64) -> Endpoint
 }
 
 /// A packet to that remote.
-fn packet(protocol: Protocol, many: u64, flags: Flags) -> Sent
+fn packet(now: u64, protocol: Protocol, many: u64, flags: Flags) -> Sent
     requires { many < 320 }
 {
     Sent {
@@ -68,13 +69,15 @@ fn packet(protocol: Protocol, many: u64, flags: Flags) -> Sent
         inside: host(2, PORT),
         remote: remote(many),
         flags,
+        now,
+        block: None,
     }
 }
 
 /// Each remote of a range is sent a SYN, and each third one answers it.
 fn fill(twins: &mut Twins, now: u64, protocol: Protocol, least: u64) -> Result<bool, Fail> {
     for many in least..REMOTES {
-        if !twins.send(now, packet(protocol, many, SYN))? {
+        if !twins.send(packet(now, protocol, many, SYN))? {
             return Ok(false);
         }
         if many % 3 == 0 && !twins.hear(now, protocol, PORT, remote(many), SYN_ACK)? {
@@ -110,7 +113,7 @@ fn call(twins: &mut Twins, now: u64, protocol: Protocol, draws: &mut Draws) -> R
     let many = draws.below(REMOTES);
     let flags = draws.flags();
     match draws.below(8) {
-        0..=3 => twins.send(now, packet(protocol, many, flags)),
+        0..=3 => twins.send(packet(now, protocol, many, flags)),
         4..=6 => twins.hear(now, protocol, PORT, remote(many), flags),
         _ => look_ahead(twins, now, protocol),
     }
@@ -140,6 +143,7 @@ fn run(alloc: Global, filter: &str, protocol: Protocol) -> Result<Option<Counts>
     let mut draws = Draws {
         state: 7,
         hosts: HOSTS,
+        block: None,
     };
     let mut now = 0;
     for least in [0, 300, 0] {

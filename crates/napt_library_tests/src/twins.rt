@@ -4,8 +4,10 @@ ghost use Rattle.std.specs.Prelude.{ℕ, ◌<◌};
 
 use crate::checked::{CheckedTable, settings_of};
 use crate::plain::PlainTable;
+use napt_config::Block;
 use napt_samples::flags::NO_FLAGS;
 use napt_samples::hosts::{EXTERNAL, RESOLVER, SECOND, host};
+use napt_table::Sent;
 use napt_wire::{Cause, Endpoint, Flags, Protocol};
 use std::alloc::Global;
 use std::test::Fail;
@@ -55,21 +57,14 @@ const JUMPS: [u64; 16] = [
     7440 * SECOND,
 ];
 
-/// A packet that goes out.
-#[derive(Clone, Copy)]
-pub(crate) struct Sent {
-    pub(crate) protocol: Protocol,
-    pub(crate) inside: Endpoint,
-    pub(crate) remote: Endpoint,
-    pub(crate) flags: Flags,
-}
-
 /// Numbers that look like any, the same each time.
 #[derive(Clone, Copy)]
 pub(crate) struct Draws {
     pub(crate) state: u64,
     /// From how many hosts packets go out.
     pub(crate) hosts: u16,
+    /// How many numbers a host's block has, where each has one.
+    pub(crate) block: Option<u16>,
 }
 
 impl Draws {
@@ -125,14 +120,26 @@ impl Draws {
         }
     }
 
-    fn sent(&mut self) -> Sent {
+    fn sent(&mut self, now: u64) -> Sent {
         let protocol = self.protocol();
+        let inside = self.inside(protocol);
         Sent {
             protocol,
-            inside: self.inside(protocol),
+            inside,
             remote: self.remote(),
             flags: self.flags(),
+            now,
+            block: self.block_of(inside.address),
         }
+    }
+
+    /// The block of a host, where each has some of this many numbers: the hosts share a few, so that one is full.
+    fn block_of(&self, host: u32) -> Option<Block> {
+        let size = self.block?;
+        Some(Block {
+            first: (host % 4) as u16 * 64 + 1024,
+            size,
+        })
     }
 
     pub(crate) fn flags(&mut self) -> Flags {
@@ -214,17 +221,9 @@ impl Twins {
         })
     }
 
-    pub(crate) fn send(&mut self, now: u64, sent: Sent) -> Result<bool, Fail> {
-        let Sent {
-            protocol,
-            inside,
-            remote,
-            flags,
-        } = sent;
-        let answer = self.table.send(now, protocol, inside, remote, flags)?;
-        let plain = self
-            .plain
-            .outbound(self.alloc, now, protocol, inside, remote, flags)?;
+    pub(crate) fn send(&mut self, sent: Sent) -> Result<bool, Fail> {
+        let answer = self.table.send(sent)?;
+        let plain = self.plain.outbound(self.alloc, sent)?;
         self.counts.count(answer.err());
         Ok(answer == plain)
     }
@@ -285,7 +284,7 @@ impl Twins {
     fn call(&mut self, now: u64, draws: &mut Draws) -> Result<bool, Fail> {
         let later = now.saturating_add(draws.jump());
         match draws.below(16) {
-            0..=6 => self.send(now, draws.sent()),
+            0..=6 => self.send(draws.sent(now)),
             7..=11 => self.receive(now, draws),
             12..=14 => self.look(later, draws),
             _ => self.list(later),
@@ -304,16 +303,18 @@ impl Twins {
         Ok(Some(now))
     }
 
-    /// More hosts than there are even ports below 1024 send from one of those at one time.
-    fn crowd(&mut self, now: u64) -> Result<bool, Fail> {
+    /// More hosts than there are even ports below 1024, all with one block or none, send from one of those at one time.
+    fn crowd(&mut self, now: u64, block: Option<Block>) -> Result<bool, Fail> {
         for many in 0..520 {
             let sent = Sent {
                 protocol: Protocol::Udp,
                 inside: host(many, 2),
                 remote: RESOLVER,
                 flags: NO_FLAGS,
+                now,
+                block,
             };
-            if !self.send(now, sent)? {
+            if !self.send(sent)? {
                 return Ok(false);
             }
         }
@@ -323,8 +324,23 @@ impl Twins {
 
 /// Calls that are drawn, from that time on, with these settings and so many hosts: what was counted, where all agreed.
 fn drawn(alloc: Global, settings: &str, hosts: u16, from: u64) -> Result<Option<Counts>, Fail> {
+    let draws = Draws {
+        state: from,
+        hosts,
+        block: None,
+    };
+    drawn_by(alloc, settings, draws, from)
+}
+
+/// The same by these draws.
+fn drawn_by(
+    alloc: Global,
+    settings: &str,
+    draws: Draws,
+    from: u64,
+) -> Result<Option<Counts>, Fail> {
     let mut twins = Twins::with(alloc, settings)?;
-    let mut draws = Draws { state: from, hosts };
+    let mut draws = draws;
     let agreed = twins.mix(from, &mut draws)?;
     Ok(agreed.map(|_| twins.counts))
 }
@@ -358,10 +374,11 @@ fn full_classes_agree(rt: HostRuntime) -> Result<(), Fail> {
     let mut draws = Draws {
         state: 1,
         hosts: HOSTS,
+        block: None,
     };
-    assert!(rt; twins.crowd(0)?);
+    assert!(rt; twins.crowd(0, None)?);
     let now = twins.mix(0, &mut draws)?.ok_or("the same answers")?;
-    assert!(rt; twins.crowd(now)?);
+    assert!(rt; twins.crowd(now, None)?);
     assert!(rt; twins.mix(now, &mut draws)?.is_some());
     assert!(rt; twins.counts.no_port > 0);
     Ok(())
@@ -378,5 +395,34 @@ fn hosts_at_their_quota_agree(rt: HostRuntime) -> Result<(), Fail> {
     }
     assert!(rt; all.passed > 500);
     assert!(rt; all.over_quota > 100);
+    Ok(())
+}
+
+#[test]
+fn hosts_with_blocks_agree(rt: HostRuntime) -> Result<(), Fail> {
+    let mut all = NONE;
+    for (block, from) in [(64, 0), (66, 1), (96, 2)] {
+        let draws = Draws {
+            state: from,
+            hosts: HOSTS,
+            block: Some(block),
+        };
+        let counts = drawn_by(rt.alloc(), REDIRECTS, draws, from)?.ok_or("the same answers")?;
+        all = all.and(counts);
+    }
+    assert!(rt; all.passed > 500);
+    Ok(())
+}
+
+#[test]
+fn full_blocks_agree(rt: HostRuntime) -> Result<(), Fail> {
+    let mut twins = Twins::with(rt.alloc(), REDIRECTS)?;
+    let block = Some(Block {
+        first: 1024,
+        size: 64,
+    });
+    assert!(rt; twins.crowd(0, block)?);
+    assert!(rt; twins.counts.passed == 64);
+    assert!(rt; twins.counts.no_port == 456);
     Ok(())
 }
