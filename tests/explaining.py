@@ -5,7 +5,7 @@ import re
 
 from hostile_inputs import captures, packets
 from hostile_inputs.configurations import text_of
-from shared import GATEWAY, SIDES, Wrong, called, content, want
+from shared import GATEWAY, SIDES, Wrong, called, content, files, named, want, write_files
 
 FIELDS = ["number", "time", "side", "outcome", "cause", "binding", "hairpin", "before", "after"]
 ENDS = ["kind", "source", "source_port", "destination", "destination_port", "identifier", "about"]
@@ -53,9 +53,8 @@ def random_captures(dice):
 
 def write_captures(inputs, folder):
     """Writes both captures, and returns the words that name them."""
-    for side in SIDES:
-        (folder / side).write_bytes(captures.savefile([it[1:] for it in inputs if it[0] == side]))
-    return ["--inside", folder / "inside", "--outside", folder / "outside"]
+    write_files(folder, {side: captures.savefile([it[1:] for it in inputs if it[0] == side]) for side in SIDES})
+    return files(SIDES, folder)
 
 
 def write_config(folder, name, changes):
@@ -87,21 +86,12 @@ def objects_of(text):
     return found
 
 
-def counts_and_rows(report):
-    """The counts of a report by name, those that are 0 left out, and its bindings."""
-    lines = [line.split() for line in report.decode().splitlines()]
-    counts = {" ".join(it[:-1]): int(it[-1]) for it in lines if it[0] in ("packets", "to", "drop")}
-    rows = [it for it in lines if it[0] in ("icmp", "tcp", "udp")]
-    return {name: many for name, many in counts.items() if many}, rows
-
-
 def check_all(check, runs, folder):
     """Checks the example, and so many random runs, and yields what each check returns."""
     for seed in ("example", *range(runs)):
-        try:
-            yield check(folder, None if seed == "example" else random.Random(seed))
-        except (Wrong, ValueError, KeyError, IndexError) as wrong:
-            raise Wrong(f"run {seed}: {type(wrong).__name__}: {wrong}") from None
+        with named(f"run {seed}"):
+            found = check(folder, None if seed == "example" else random.Random(seed))
+        yield found
 
 
 def dotted(four):

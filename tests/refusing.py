@@ -4,7 +4,7 @@ import re
 import subprocess
 
 from hostile_inputs.captures import is_whole
-from shared import GATEWAY, OUTPUTS, TESTS, called, content, ran, want
+from shared import GATEWAY, INPUTS, OUTPUTS, TESTS, called, content, ran, want, words_of
 
 MOST_TRIES = 10_000
 MEMORY = {3: "config memory", 4: "capture (inside|outside) memory", 5: "run (memory|no-thread)"}
@@ -12,8 +12,7 @@ CALLS = {"read": ("config", "inside", "outside"), "write": ("to-outside", "to-in
 
 
 EVERY = ("config", "inside", "outside", *OUTPUTS)
-# the inputs of the example by their options
-EXAMPLE = {"config": GATEWAY / "napt.toml", "inside": GATEWAY / "inside.pcap", "outside": GATEWAY / "outside.pcap"}
+EXAMPLE = {option: GATEWAY / name for option, name in INPUTS.items()}
 
 
 def built(name, folder):
@@ -39,7 +38,7 @@ class Sweep:
         for name in ("mark", "left", *OUTPUTS):
             self.at(name).unlink(missing_ok=True)
         given = {"LD_PRELOAD": self.refuser, "REFUSED_MARK": self.at("mark"), "REFUSED_LEFT": self.at("left"), **refusal}
-        words = [word for name in self.named for word in (f"--{name}", self.inputs.get(name, self.at(name)))]
+        words = words_of({name: self.inputs.get(name, self.at(name)) for name in self.named})
         with open(self.inputs["inside"], "rb") as source, open(self.at("standard"), "wb") as target:
             how = {"stdin": source, "stdout": target, "stderr": subprocess.PIPE, "capture_output": False}
             answer = called([self.program, *words], env=given, **how)

@@ -4,7 +4,9 @@ import importlib.machinery
 import importlib.util
 import os
 import pathlib
+import pty
 import re
+import shutil
 import subprocess
 import sys
 import tempfile
@@ -17,6 +19,9 @@ NAME = os.path.basename(sys.argv[0])
 BUILT_IN = b'pool = ["203.0.113.1"]\ninside = ["10.0.0.0/8"]\n'
 SIDES = ("inside", "outside")
 OUTPUTS = ("to-outside", "to-inside", "report")
+# the files of the example by their options
+INPUTS = {"config": "napt.toml", "inside": "inside.pcap", "outside": "outside.pcap"}
+FILES = dict(zip(OUTPUTS, ("to-outside.pcap", "to-inside.pcap", "report.txt")))
 MOST_SECONDS = 120
 
 
@@ -27,6 +32,22 @@ class Wrong(Exception):
 def want(holds, complaint):
     if not holds:
         raise Wrong(complaint)
+
+
+def want_none(wrong):
+    """Wants no line of what is wrong, and says each."""
+    for line in wrong:
+        print(line, file=sys.stderr)
+    want(not wrong, "")
+
+
+@contextlib.contextmanager
+def named(name):
+    """What is wrong inside is told with this name."""
+    try:
+        yield
+    except (Wrong, ValueError, LookupError, StopIteration) as wrong:
+        raise Wrong(f"{name}: {type(wrong).__name__}: {wrong}") from None
 
 
 def want_same(what, found, wanted):
@@ -57,15 +78,19 @@ def ran(words, *statuses, says="", **how):
     return answer.stdout
 
 
+def words_of(named, folder=""):
+    """Words that give each option its file, in a folder where one is given."""
+    return [word for option, name in named.items() for word in (f"--{option}", os.path.join(folder, name))]
+
+
 def files(options, folder):
-    """Words that name a file of each option in a folder."""
-    return [word for option in options for word in (f"--{option}", f"{folder}/{option}")]
+    """Words that give each option the file of its name in a folder."""
+    return words_of(dict(zip(options, options)), folder)
 
 
 def gateway_words(folder=GATEWAY):
     """The words of napt and explain for the three inputs of the example."""
-    captures = [word for side in SIDES for word in (f"--{side}", f"{folder}/{side}.pcap")]
-    return ["--config", f"{folder}/napt.toml", *captures]
+    return words_of(INPUTS, folder)
 
 
 def content(path):
@@ -75,6 +100,65 @@ def content(path):
     return b""
 
 
+def write_files(folder, named):
+    """Writes files into a folder, each by its name."""
+    for name, data in named.items():
+        (pathlib.Path(folder) / name).write_bytes(data)
+
+
+def run_over(program, given, folder, outputs=OUTPUTS):
+    """Runs a program over what is given of its configuration and captures, in files of a folder that are named as the
+    options: its status, its line on standard error, and its outputs."""
+    given = {name: data for name, data in given.items() if data is not None}
+    write_files(folder, given)
+    for name in outputs:
+        (folder / name).unlink(missing_ok=True)
+    answer = called([program, *files(given, folder), *files(outputs, folder)])
+    return answer.returncode, answer.stderr.decode(), {name: content(folder / name) for name in outputs}
+
+
+# starts a program from a process that is small itself, since a child counts the memory of its parent at the fork, and
+# prints the most that it took
+MEASURE = """
+import os, sys
+pid = os.posix_spawn(sys.argv[1], sys.argv[1:], os.environ)
+_, status, usage = os.wait4(pid, 0)
+print(usage.ru_maxrss * 1024)
+sys.exit(os.waitstatus_to_exitcode(status))
+"""
+
+
+def measured(words):
+    """The words of a call that runs these, and ends like them; its last line is the most memory of that, in bytes."""
+    return [sys.executable, "-S", "-c", MEASURE, *words]
+
+
+class Watched:
+    """A run over a pipe, with a terminal as its standard error."""
+
+    def __init__(self, *words):
+        self.terminal, far = pty.openpty()
+        self.process = subprocess.Popen(words, stdin=subprocess.PIPE, stdout=subprocess.DEVNULL, stderr=far)
+        os.close(far)
+
+    def send(self, data):
+        self.process.stdin.write(data)
+        self.process.stdin.flush()
+
+    def end(self, data=b""):
+        """Sends the rest; returns the status and all that the terminal got."""
+        with contextlib.suppress(BrokenPipeError):
+            self.process.stdin.write(data)
+            self.process.stdin.close()
+        told = b""
+        # at its end the far end is closed
+        with contextlib.suppress(OSError):
+            while True:
+                told += os.read(self.terminal, 4096)
+        os.close(self.terminal)
+        return self.process.wait(), told.decode()
+
+
 @contextlib.contextmanager
 def room():
     """A folder that is there for a while."""
@@ -82,9 +166,30 @@ def room():
         yield pathlib.Path(folder)
 
 
+def path_with(folder, *tools):
+    """A path that has these tools of the system alone, in a new folder."""
+    folder.mkdir()
+    for tool in tools:
+        os.symlink(path_of(tool), folder / tool)
+    return str(folder)
+
+
 def left_out(what, reason):
     """Says what cannot be looked at here, and why, as ./test takes it."""
     print(f"skipped: {what} ({reason})")
+
+
+def path_of(tool):
+    """Where a tool of the system is, or None."""
+    return shutil.which(tool, path=f"{os.environ.get('PATH', '')}:/usr/sbin:/sbin")
+
+
+def is_left_out(what, *tools):
+    """Whether something is left out since a tool is missing, and says so."""
+    missing = [tool for tool in tools if not path_of(tool)]
+    if missing:
+        left_out(what, f"missing: {' '.join(missing)}")
+    return bool(missing)
 
 
 def is_no_clone():
@@ -109,6 +214,21 @@ def loaded(path):
     return module
 
 
+ENDS = """
+The last line is '{name}: ..' where all is as expected, and else lines name what is not; a line 'skipped: ..' tells what
+cannot be looked at here. The status is 0 where all is as expected, 1 where something is not, 2 for a mistake in the
+words, and 77 where nothing can be looked at.
+"""
+
+
+def help_text(names):
+    """What this script says of itself: its calls stand behind the first paragraph of its doc."""
+    first, _, rest = sys.modules["__main__"].__doc__.partition("\n\n")
+    usage = f"usage: {' '.join([f'tests/{NAME}', *names])}\n       tests/{NAME} --help\n"
+    parts = [first.rstrip("\n") + "\n", usage, *([rest] if rest else [])]
+    return "\n".join(parts) + ENDS.format(name=NAME)
+
+
 def refuse_words(complaint):
     print(f"{complaint} (see tests/{NAME} --help)", file=sys.stderr)
     sys.exit(2)
@@ -117,11 +237,10 @@ def refuse_words(complaint):
 def run_script(main, *names):
     """Runs a script: `main` takes the paths of the programs that the words name, and after them other words where the
     last name is in brackets. It returns the last line, or None where it left all out; what is wrong it raises, and
-    what is wrong in several places it says and then raises an empty line. Ends with 0, 77, 1, and with 2 for a mistake
-    in the words."""
+    what is wrong in several places it says and then raises an empty line. Ends as its help says."""
     words, programs = sys.argv[1:], [name for name in names if name[0] != "["]
     if words in (["--help"], ["-h"]):
-        print(sys.modules["__main__"].__doc__, end="")
+        print(help_text(names), end="")
         sys.exit(0)
     if len(words) < len(programs) or (len(words) > len(programs) and programs == [*names]):
         refuse_words(" ".join(["usage:", f"tests/{NAME}", *names]))

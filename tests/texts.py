@@ -25,6 +25,8 @@ from hostile_inputs.translating import CAUSES
 from shared import OUTPUTS, SIDES, TESTS
 
 SECOND = captures.SECOND
+# the counts of a report, in their order
+COUNTED = ("packets", "to outside", "to inside", *(f"drop {cause}" for cause in CAUSES))
 FLAGS = {"F": packets.FIN, "S": packets.SYN, "R": packets.RST, "A": packets.ACK}
 
 
@@ -165,15 +167,21 @@ def run_of_files(folder):
 
 def report_of(ends, rows):
     """The report of a run whose packets have these ends, as `to inside` and `drop filtered`, and of these rows."""
-    names = ["to outside", "to inside", *(f"drop {cause}" for cause in CAUSES)]
-    counts = "".join(f"{name} {ends.count(name)}\n" for name in names)
+    counts = "".join(f"{name} {ends.count(name)}\n" for name in COUNTED[1:])
     return f"packets {len(ends)}\n{counts}{rows}".encode()
 
 
-def told_run(name, lines):
-    """The run that lines tell packet by packet."""
-    config, rows, ends = "", "", []
-    inputs, outputs = ({side: [] for side in SIDES} for _ in range(2))
+def counts_and_rows(report):
+    """The counts of a report by name, and the lines behind them: of captures that are cut, and of bindings."""
+    lines = report.decode().splitlines()
+    many = len(COUNTED)
+    return {name: int(count) for name, _, count in (line.rpartition(" ") for line in lines[:many])}, lines[many:]
+
+
+def told(lines):
+    """What lines tell: a configuration, the rows of a report, and of each packet the first word and those between
+    arrows."""
+    config, rows, packets = "", "", []
     for line in lines:
         first, rest = re.split(r"\s", line.text, maxsplit=1)
         if first == "config":
@@ -181,14 +189,18 @@ def told_run(name, lines):
         elif first == "binding":
             rows += f"{rest}\n"
         else:
-            came, end = rest.split("->")
-            (time, *words), (way, *left) = came.split(), end.split()
-            inputs[first].append((time, words))
-            ends.append(f"drop {left[0]}" if way == "drop" else f"to {way}")
-            if way != "drop":
-                outputs[way].append((time, left))
-    wanted = {f"to-{side}": savefile(records) for side, records in outputs.items()} | {"report": report_of(ends, rows)}
-    return Run(name, config.encode() or None, {side: savefile(records) for side, records in inputs.items()}, wanted)
+            packets.append((first, [part.split() for part in rest.split("->")]))
+    return config.encode(), rows, packets
+
+
+def told_run(name, lines):
+    """The run that lines tell packet by packet."""
+    config, rows, packets = told(lines)
+    inputs = {side: savefile([(came[0], came[1:]) for first, (came, _) in packets if first == side]) for side in SIDES}
+    ends = [f"drop {left[0]}" if way == "drop" else f"to {way}" for _, (_, (way, *left)) in packets]
+    left = {side: [(came[0], end[1:]) for _, (came, end) in packets if end[0] == side] for side in SIDES}
+    wanted = {f"to-{side}": savefile(records) for side, records in left.items()} | {"report": report_of(ends, rows)}
+    return Run(name, config or None, inputs, wanted)
 
 
 def run_names():

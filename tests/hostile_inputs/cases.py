@@ -53,7 +53,7 @@ def clock(draw):
 
 def side_packets(draw, configuration):
     """Packets from inside and from outside, with their times, some of them changed."""
-    traffic = packets.Traffic(draw, configuration.pool, configurations.HOSTS)
+    traffic = packets.Traffic(draw, configuration, configurations.HOSTS)
     strangers = (0, 2**32 - 1, configurations.POOL + 99, 0x0B000002)
     addresses = (*configuration.pool, *configurations.HOSTS, *packets.REMOTES, *strangers)
     inside, outside = [], []
@@ -71,7 +71,7 @@ def side_packets(draw, configuration):
 
 def conversation(draw, configuration):
     """Two hosts send from one port to one or two remotes, and are answered, with waits at the edges of the timers."""
-    traffic = packets.Traffic(draw, configuration.pool, configurations.HOSTS)
+    traffic = packets.Traffic(draw, configuration, configurations.HOSTS)
     protocol, port = draw.choice((packets.UDP, packets.TCP, packets.TCP, packets.ICMP)), draw.choice(packets.PORTS[1:])
     hosts = [(address, port) for address in draw.sample(configurations.HOSTS, 2)]
     remotes = [traffic.remote() for _ in range(draw.choice((1, 2)))]
@@ -82,14 +82,15 @@ def conversation(draw, configuration):
         if draw.random() < 0.5:
             inside.append((now, traffic.of_protocol(protocol, host, remote)))
         else:
-            external = (traffic.external_of(host[0]), draw.choice((port, port, port + 1, port + 2)) % 65536)
+            address, number = traffic.external_of((host[0], port))
+            external = (address, (number + draw.choice((0, 0, 1, 2))) % 65536)
             outside.append((now, traffic.of_protocol(protocol, remote, external, incoming=True)))
     return inside, outside
 
 
 def newcomers(draw, configuration):
     """Two hosts send from many ports under all protocols, with waits at the edges of the timers: of a quota more than it allows."""
-    traffic = packets.Traffic(draw, configuration.pool, configurations.HOSTS)
+    traffic = packets.Traffic(draw, configuration, configurations.HOSTS)
     hosts = draw.sample(configurations.HOSTS, 2)
     inside, now = [], 0
     for _ in range(draw.choice((4, 8, 12))):
@@ -101,9 +102,9 @@ def newcomers(draw, configuration):
 
 def session(draw, configuration):
     """A TCP session of two endpoints, and a segment of the remote near the end of its time."""
-    traffic = packets.Traffic(draw, configuration.pool, configurations.HOSTS)
+    traffic = packets.Traffic(draw, configuration, configurations.HOSTS)
     host, remote = (draw.choice(configurations.HOSTS), 5000), (packets.REMOTES[0], 80)
-    external = (traffic.external_of(host[0]), 5000)
+    external = traffic.external_of(host)
     inside, outside, now = [], [], 0
     for is_out, flags in draw.choice(SESSIONS):
         now += draw.choice((0, 1000, SECOND, SECOND))
@@ -128,7 +129,7 @@ def of_captures(draw):
     configuration = configurations.Configuration(draw)
     if draw.random() < 0.001:
         configuration.pool = configuration.pool[:1]
-        configuration.entries = []
+        configuration.entries, configuration.block, configuration.prefixes = [], "", ["10.0.0.0/8"]
         inside, outside = full_class(draw, configuration)
     else:
         kinds = (side_packets, side_packets, side_packets, conversation, session, newcomers)
@@ -144,7 +145,7 @@ def of_captures(draw):
 def plain_captures(draw):
     """Captures without a fault, for what is changed elsewhere."""
     configuration = configurations.Configuration(draw)
-    traffic = packets.Traffic(draw, configuration.pool, configurations.HOSTS)
+    traffic = packets.Traffic(draw, configuration, configurations.HOSTS)
     magic = draw.choice(tuple(captures.SPELLINGS))
     data = {False: captures.header(magic), True: captures.header(magic)}
     for second in range(draw.choice((0, 1, 5))):

@@ -1,5 +1,9 @@
 """Configurations: those that docs/FORMATS.md allows, and changes of them by key, kind and edge."""
 
+import functools
+
+from . import configured
+
 POOL = 0xCB007101  # 203.0.113.1
 INSIDE = 0x0A000000  # 10.0.0.0
 HOSTS = tuple(INSIDE + n for n in (2, 3, 4, 5, 6))
@@ -18,12 +22,12 @@ VALUES = (
     "{", "", "x", '"', "'", '"""', "\0", "\x7f", "# x",
 )
 KEYS = (
-    "pool", "inside", "filter", "refresh", "ring", "quota", "timers", "pair", "redirect", "udp", "tcp-established", "tcp-transitory", "icmp",
+    "pool", "inside", "filter", "refresh", "ring", "quota", "block", "timers", "pair", "redirect", "udp", "tcp-established", "tcp-transitory", "icmp",
     "host", "external", "protocol", "x", "Pool", "\"pool\"", "'inside'", "\"po\\u006fl\"", "pool.x", "timers.udp", "", "a b", "é", "1", "-",
 )
 LINES = (
     "[timers]", "[[timers]]", "[pair]", "[[pair]]", "[redirect]", "[[redirect]]", "[pool]", "[]", "[[]]", "[x]", "[timers.udp]",
-    "[[pair.x]]", "[", "]", "=", "pool", "\0", "\xff", "\r", "# comment", "x = 1", "ring = 1", "quota = 1", "udp = 300",
+    "[[pair.x]]", "[", "]", "=", "pool", "\0", "\xff", "\r", "# comment", "x = 1", "ring = 1", "quota = 1", "block = 64", "udp = 300",
 )
 
 
@@ -45,18 +49,34 @@ class Configuration:
         self.ring = draw.choice(("", "ring = 1", "ring = 2", "ring = 4096"))
         self.quota = draw.choice(("", "", "quota = 1", "quota = 2", "quota = 65535"))
         self.timers = draw.choice(("", "[timers]", "[timers]\nudp = 120\ntcp-established = 7440\ntcp-transitory = 240\nicmp = 60"))
-        self.entries = self.pairs(draw) + self.redirects(draw)
+        self.block = draw.choice(("", "", "", "block = 64", "block = 128"))
+        if self.block:
+            # the hosts of a few small prefixes, whose redirects are below 1024
+            self.prefixes = draw.choice((["10.0.0.0/24"], ["10.0.0.128/25", "10.0.0.0/25"], ["10.0.0.0/25", "10.0.0.128/26", "10.0.0.192/26"]))
+            self.entries = self.redirects(draw, 80)
+            return
+        self.entries = self.pairs(draw) + self.redirects(draw, 8080)
         others = draw.choice(([], ["172.16.0.0/12", "192.168.0.0/16"], [f"172.{16 + n}.0.0/16" for n in range(15)]))
         self.prefixes = ["10.0.0.0/8"] + others
+
+    @functools.cached_property
+    def rules(self):
+        return configured.configured(self.text())
+
+    def external_of(self, inside):
+        """The external endpoint of an inside one, as it is guessed: its own number or, in its host's block, the one at its place."""
+        host, number = inside
+        block = self.rules.block_of(host)
+        return self.rules.pair(host), number if block is None else block[number % len(block)]
 
     def pairs(self, draw):
         hosts = draw.sample(HOSTS, draw.choice((0, 0, 1, 3)))
         return [f'[[pair]]\nhost = "{text_of(host)}"\nexternal = "{text_of(draw.choice(self.pool))}"' for host in hosts]
 
-    def redirects(self, draw):
+    def redirects(self, draw, first):
         hosts = draw.sample(HOSTS, draw.choice((0, 0, 1, 2)))
         return [
-            f'[[redirect]]\nprotocol = "{draw.choice(("udp", "tcp"))}"\ninside = "{text_of(host)}:80"\nexternal = {8080 + place}'
+            f'[[redirect]]\nprotocol = "{draw.choice(("udp", "tcp"))}"\ninside = "{text_of(host)}:80"\nexternal = {first + place}'
             for place, host in enumerate(hosts)
         ]
 
@@ -67,6 +87,7 @@ class Configuration:
             self.settings,
             self.ring,
             self.quota,
+            self.block,
             self.timers,
             *self.entries,
         ]

@@ -11,9 +11,11 @@ MOST_ADDRESSES = MOST_PREFIXES = 16
 MOST_ENTRIES = 256
 MOST_DEPTH = 80
 MOST_SECONDS = 1_000_000_000
+FIRST_OF_BLOCKS = 1024
+MOST_OF_BLOCKS = 65536 - FIRST_OF_BLOCKS
 LEAST_SECONDS = {"udp": 120, "tcp-established": 7440, "tcp-transitory": 240, "icmp": 60}
 DEFAULT_SECONDS = LEAST_SECONDS | {"udp": 300}
-KEYS = {"pool", "inside", "filter", "refresh", "timers", "ring", "quota", "pair", "redirect"}
+KEYS = {"pool", "inside", "filter", "refresh", "timers", "ring", "quota", "block", "pair", "redirect"}
 KEYS_OF_ENTRIES = {"pair": {"host", "external"}, "redirect": {"protocol", "inside", "external"}}
 
 
@@ -103,6 +105,7 @@ class Configured:
         want(1 <= number_in(table.get("ring", 64)) <= 4096, "bad-number")
         self.quota = table.get("quota")
         want("quota" not in table or 1 <= number_in(self.quota) <= 65535, "bad-number")
+        self.block = self.block_in(table)
         self.pairs, self.redirects = {}, []
         for entry in entries_of(table, "pair", MOST_ENTRIES, is_required=False):
             self.add_pair(entry)
@@ -126,12 +129,43 @@ class Configured:
             want(seconds >= least, "timer-too-short")
         return DEFAULT_SECONDS | timers
 
+    def block_in(self, table):
+        """How many numbers each host has for itself, if there are blocks."""
+        if "block" not in table:
+            return None
+        size = number_in(table["block"])
+        want(64 <= size <= 32256 and size % 2 == 0, "bad-number")
+        ends = sorted((prefix, prefix + 2**free) for prefix, free in self.prefixes)
+        want(all(one[1] <= other[0] for one, other in zip(ends, ends[1:])), "prefixes-overlap")
+        hosts = sum(2**free for _, free in self.prefixes)
+        want(-(-hosts // len(self.pool)) * size <= MOST_OF_BLOCKS, "block-too-large")
+        want("pair" not in table, "pair-with-block")
+        return size
+
+    def index(self, host):
+        """The place of an inside host among all, prefix after prefix."""
+        before = 0
+        for prefix, free in self.prefixes:
+            if host >> free == prefix >> free:
+                return before + host - prefix
+            before += 2**free
+        return None
+
+    def block_of(self, host):
+        """The external numbers that a host has for itself; none if there are no blocks, or it is not inside."""
+        index = self.index(host)
+        if self.block is None or index is None:
+            return None
+        first = FIRST_OF_BLOCKS + self.block * (index // len(self.pool))
+        return range(first, first + self.block)
+
     def is_inside(self, address):
         return any(address >> free == prefix >> free for prefix, free in self.prefixes)
 
     def pair(self, host):
         """The external address of a host."""
-        return self.pairs.get(host, self.pool[host % len(self.pool)])
+        index = self.index(host) if self.block is not None else None
+        return self.pairs.get(host, self.pool[(host if index is None else index) % len(self.pool)])
 
     def add_pair(self, entry):
         want(isinstance(entry, dict), "bad-shape")
@@ -150,6 +184,8 @@ class Configured:
         want(self.is_inside(inside[0]), "not-inside")
         number = number_in(field_of(entry, "external"))
         want(1 <= number <= 65535, "bad-number")
+        own = self.block_of(inside[0])
+        want(own is None or number < FIRST_OF_BLOCKS or number in own, "redirect-in-block")
         external = (self.pair(inside[0]), number)
         for other in self.redirects:
             want(other[0] != protocol or (other[1] != inside and other[2] != external), "double-redirect")

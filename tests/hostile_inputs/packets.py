@@ -117,15 +117,12 @@ def mend_transport(packet, start, end):
 class Traffic:
     """Draws packets that hosts behind a translator send, and what comes to them from the outside."""
 
-    def __init__(self, draw, pool, hosts):
+    def __init__(self, draw, configuration, hosts):
         self.draw = draw
-        self.pool = pool
+        self.pool = configuration.pool
+        self.external_of = configuration.external_of
         self.hosts = hosts
         self.sent = []  # (protocol, inside endpoint, external endpoint as it is guessed, remote endpoint)
-
-    def external_of(self, host):
-        """The address of a host without a pair: the pool's at the host's number modulo the pool's size."""
-        return self.pool[host % len(self.pool)]
 
     def payload(self):
         return self.draw.randbytes(self.draw.choice((0, 0, 1, 2, 3, 8, 31)))
@@ -154,7 +151,7 @@ class Traffic:
         host, to = self.host(), self.remote()
         if self.sent and self.draw.random() < 0.3:
             to = self.draw.choice(self.sent)[2]
-        self.sent.append((protocol, host, (self.external_of(host[0]), host[1]), to))
+        self.sent.append((protocol, host, self.external_of(host), to))
         return self.of_protocol(protocol, host, to)
 
     def incoming(self):

@@ -92,8 +92,12 @@ def shown(address):
     return ".".join(str(byte) for byte in address.to_bytes(4, "big"))
 
 
-def candidates(protocol, number):
-    """The number's class from the number on, wrapping: odd or even, below 1024 or not; all identifiers of echoes are one class."""
+def candidates(block, protocol, number):
+    """The number's class from the number on, wrapping: odd or even, below 1024 or not; all identifiers of echoes are one class. Of
+    a host's block the numbers of the number's parity, from its place on, wrapping, then the others from the next place on."""
+    if block is not None:
+        places = (number + step + 2 * k for step in (0, 1) for k in range(len(block) // 2))
+        return (block[place % len(block)] for place in places)
     if protocol == ICMP:
         numbers = range(65536)
     else:
@@ -208,7 +212,8 @@ class Translator:
         if self.has_quota(address, inside[0]):
             raise Dropped("over-quota")
         taken = {binding.external[1] for binding in self.bindings if (binding.protocol, binding.external[0]) == (protocol, address)}
-        number = next((number for number in candidates(protocol, inside[1]) if number not in taken), None)
+        wanted = candidates(self.rules.block_of(inside[0]), protocol, inside[1])
+        number = next((number for number in wanted if number not in taken), None)
         if number is None:
             raise Dropped("no-port")
         self.bindings.append(Binding(protocol, inside, (address, number)))

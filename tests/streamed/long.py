@@ -1,14 +1,12 @@
 """Long runs of stream: how much memory they take, and what they tell at a terminal."""
 import os
-import pty
 import re
 import subprocess
-import sys
 import time
 
 from hostile_inputs import packets
 from hostile_inputs.captures import SECOND, header, record
-from shared import want
+from shared import Watched, measured, want
 
 HEADER = header()
 
@@ -17,15 +15,6 @@ PACKETS = 1_000_000
 # of the whole process, with 1 MiB read ahead, 64 KiB for each output, and 131 bytes for a binding
 MOST_MEMORY = 16_000_000
 LONG_SECONDS = 3.5
-# runs a program from a process that is small itself, since a child counts the memory of its parent at the fork, and prints the most
-# that it took
-MEASURE = """
-import os, sys
-pid = os.posix_spawn(sys.argv[1], sys.argv[1:], os.environ)
-_, status, usage = os.wait4(pid, 0)
-print(usage.ru_maxrss * 1024)
-sys.exit(os.waitstatus_to_exitcode(status))
-"""
 
 
 def datagrams(many):
@@ -38,7 +27,7 @@ def peak_of(program, room, packets):
     """The most memory of a run over so many packets from a pipe, in bytes."""
     block = b"".join(datagrams(BINDINGS))
     report = f"{room}/long-report"
-    words = [sys.executable, "-S", "-c", MEASURE, program, "--report", report, "--to-outside", "/dev/null"]
+    words = measured([program, "--report", report, "--to-outside", "/dev/null"])
     process = subprocess.Popen(words, stdin=subprocess.PIPE, stdout=subprocess.PIPE)
     with process.stdin as pipe:
         pipe.write(HEADER)
@@ -62,55 +51,23 @@ def check_memory(program, room):
     return peaks[-1]
 
 
-class Watched:
-    """A run over a pipe, with a terminal as its standard error."""
-
-    def __init__(self, program, room):
-        self.to_outside = f"{room}/watched"
-        self.terminal, far = pty.openpty()
-        self.process = subprocess.Popen([program, "--to-outside", self.to_outside], stdin=subprocess.PIPE, stderr=far)
-        os.close(far)
-        self.packets = 0
-
-    def send(self, data, packets):
-        self.process.stdin.write(data)
-        self.process.stdin.flush()
-        self.packets += packets
-
-    def end(self):
-        """Ends the capture; returns the status and all that the terminal got."""
-        self.process.stdin.close()
-        told = b""
-        while True:
-            try:
-                more = os.read(self.terminal, 4096)
-            except OSError:
-                # the far end is closed
-                break
-            told += more
-        os.close(self.terminal)
-        return self.process.wait(), told.decode()
-
-
 def check_terminal(program, room):
     """At a terminal a long run tells how many packets came and how many bindings there are, and a short one nothing."""
-    packet = datagrams(1)[0]
-    short = Watched(program, room)
-    short.send(HEADER + packet, 1)
-    want(short.end() == (0, ""), "a short run tells something at a terminal")
-    long = Watched(program, room)
-    long.send(HEADER, 0)
+    packet, written = datagrams(1)[0], f"{room}/watched"
+    short = Watched(program, "--to-outside", written)
+    want(short.end(HEADER + packet) == (0, ""), "a short run tells something at a terminal")
+    long, packets = Watched(program, "--to-outside", written), 0
+    long.send(HEADER)
     until = time.monotonic() + LONG_SECONDS
     while time.monotonic() < until:
-        long.send(packet * 10, 10)
+        long.send(packet * 10)
+        packets += 10
         time.sleep(0.02)
     # a record that is cut is none
-    long.send(packet[:-1], 0)
-    status, told = long.end()
+    status, told = long.end(packet[:-1])
     want(status == 0, f"at a terminal: status {status}")
     line = rf"(\rstream: \d+ packets, \d+ a second, 1 bindings    )+"
-    last = rf"\rstream: {long.packets} packets in \d+ s, \d+ a second, 1 bindings    \r\n"
+    last = rf"\rstream: {packets} packets in \d+ s, \d+ a second, 1 bindings    \r\n"
     last += "stream: the capture inside is cut: its last packet is not whole, and is left out\r\n"
-    want(re.fullmatch(line + last, told),
-         f"after {long.packets} packets a terminal got {told!r}")
-    want(os.path.getsize(long.to_outside) == len(HEADER) + long.packets * len(packet), "at a terminal something else is written")
+    want(re.fullmatch(line + last, told), f"after {packets} packets a terminal got {told!r}")
+    want(os.path.getsize(written) == len(HEADER) + packets * len(packet), "at a terminal something else is written")
