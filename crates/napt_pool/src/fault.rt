@@ -42,7 +42,7 @@ pub enum OfferRefused<I> {
     Full(I),
     /// Memory was refused. `offer` takes none, so it never returns this.
     Memory(I),
-    /// The ring has no slot, though the count of untaken answers allows one. No cause of it is known.
+    /// The ring has no slot for it, though the count of untaken answers allows one. No cause of it is known.
     Ring(I),
 }
 
