@@ -3,7 +3,7 @@ use Rattle.std.proofs.Common.{◌≡◌, ℕ, suc, ◌+◌, ◌<◌, ◌≤◌, 
 use Rattle.std.specs.Prelude.{filter}
 use Rattle.std.specs.List.{list_any, fold}
 use Rattle.napt_config.specs.Rules.{Rules, KeepsRules}
-use Rattle.napt_rules.specs.Prelude.{Binding, is_live, opening, Arrival, row, Act, Course, ahead, step, run_from, run, last_clock, OpeningIsSound}
+use Rattle.napt_rules.specs.Prelude.{Binding, is_live, opening, Arrival, row, Course, ahead, step, run_from, run, last_clock, OpeningIsSound}
 use Rattle.napt_laws.proofs.Grown.{run_append}
 use Rattle.napt_laws.proofs.Turns.{run_turn}
 use Rattle.napt_account.specs.declared.log.Entry.{Entry}

@@ -1,5 +1,5 @@
 -- The entries of the redirects, one more.
-use Rattle.std.proofs.Common.{◌≡◌, ℕ, zero, suc, ◌+◌, ◌<◌, false, ◌||◌, List, [], ◌∷◌, ◌++◌, length, map, take, get_or, refl, sym, ◌∙◌, ap, subst, arith}
+use Rattle.std.proofs.Common.{◌≡◌, ℕ, zero, suc, ◌+◌, ◌<◌, ◌≤◌, false, ◌||◌, List, [], ◌∷◌, ◌++◌, length, map, take, get_or, refl, sym, ◌∙◌, ap, subst, arith}
 use Rattle.std.specs.List.{list_any}
 use Rattle.std.proofs.lemmas.List.{take_more}
 use Rattle.napt_config.specs.Rules.{Rules, pair_of}
@@ -23,9 +23,14 @@ get_or_mapped f [] n d lt = absurd (omega arith)
 get_or_mapped f (x ∷ xs) zero d lt = refl
 get_or_mapped f (x ∷ xs) (suc n) d lt = get_or_mapped f xs n d (omega arith)
 
-long_mapped : {X Y : Type 0} (f : X → Y) (xs : List X) → length (map f xs) ≡ length xs
+pub long_mapped : {X Y : Type 0} (f : X → Y) (xs : List X) → length (map f xs) ≡ length xs
 long_mapped f [] = refl
 long_mapped f (x ∷ xs) = ap suc (long_mapped f xs)
+
+pub begun_few : (timers : Timers) (k : ℕ) (bs : List Binding) → length (map (begun timers 0) (take k bs)) ≤ k
+begun_few timers zero bs = omega arith
+begun_few timers (suc k) [] = omega arith
+begun_few timers (suc k) (b ∷ bs) = let rest = begun_few timers k bs in omega (arith, rest)
 
 each_take : {X : Type 0} (P : X → Type 0) (n : ℕ) (xs : List X) → Each P xs → Each P (take n xs)
 each_take P zero xs h = tt

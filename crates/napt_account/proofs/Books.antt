@@ -63,7 +63,7 @@ change_one p f (y ∷ xs) (suc i) x at passed only =
     let later : suc j ≡ suc i = only (suc j) z there passes in omega (arith, later)))
     ∙ ap (λ l. l ∷ map (λ z. cond (p z) (f z) z) xs) (sym (not_here p f y xs i only))
 
-none_at : {X : Type 0} (p : X → Bool) (xs : List X) → ((j : ℕ) (y : X) → slice_get xs j ≡ Some y → p y ≡ true → ⊥) →
+pub none_at : {X : Type 0} (p : X → Bool) (xs : List X) → ((j : ℕ) (y : X) → slice_get xs j ≡ Some y → p y ≡ true → ⊥) →
     list_any p xs ≡ false
 none_at p [] never = refl
 none_at p (y ∷ xs) never = elim (p y) as (λ v. p y ≡ v → (v || list_any p xs) ≡ false) [
@@ -114,7 +114,7 @@ no_place now w (e ∷ es) none = elim (is_of now w e) as (λ v. (v || list_any (
       | false ↦ λ h. ap (option_map suc) (no_place now w es h)
     ] none
 
-first_place : (now : ℕ) (w : Row) (es : List Entry) (i : ℕ) (e : Entry) → slice_get es i ≡ Some e →
+pub first_place : (now : ℕ) (w : Row) (es : List Entry) (i : ℕ) (e : Entry) → slice_get es i ≡ Some e →
     is_of now w e ≡ true → ((j : ℕ) (f : Entry) → slice_get es j ≡ Some f → is_of now w f ≡ true → j ≡ i) →
     place_of now w es ≡ Some i
 first_place now w [] i e at passed only = cc

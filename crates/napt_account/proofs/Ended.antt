@@ -17,13 +17,14 @@ use Rattle.napt_account.proofs.Books.{fold_joined}
 
 -- LISTS
 
-get_mapped : {X : Type 0} (f : X → X) (xs : List X) (i : ℕ) (x : X) → slice_get xs i ≡ Some x →
+pub get_mapped : {X : Type 0} (f : X → X) (xs : List X) (i : ℕ) (x : X) → slice_get xs i ≡ Some x →
     slice_get (map f xs) i ≡ Some (f x)
 get_mapped f [] i x at = cc
 get_mapped f (y ∷ xs) zero x at = ap (λ v. Some (f v)) (same_Some y x at)
 get_mapped f (y ∷ xs) (suc i) x at = get_mapped f xs i x at
 
-get_joined : {X : Type 0} (xs ys : List X) (i : ℕ) (x : X) → slice_get xs i ≡ Some x → slice_get (xs ++ ys) i ≡ Some x
+pub get_joined : {X : Type 0} (xs ys : List X) (i : ℕ) (x : X) → slice_get xs i ≡ Some x →
+    slice_get (xs ++ ys) i ≡ Some x
 get_joined [] ys i x at = cc
 get_joined (y ∷ xs) ys zero x at = at
 get_joined (y ∷ xs) ys (suc i) x at = get_joined xs ys i x at

@@ -8,5 +8,11 @@ pub mod Begun
 pub mod Latest
 pub mod Told
 pub mod Lists
-pub mod LoggedRuns
+pub mod BookedRuns
 pub mod Ended
+pub mod EndOrder
+pub mod InOrder
+pub mod Leaves
+pub mod MadeLegs
+pub mod LoggedRuns
+pub mod OpenEntries

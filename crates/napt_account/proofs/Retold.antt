@@ -346,7 +346,7 @@ module _ (ends : EndsAreFirst) (rules : Rules) (t : AreTimers rules.timers) wher
       (told_turn ends rules t now list (a ∷ []) a.leg.now left entries (turn.0, (omega arith, refl)) tells)))
   acts_retold now list (a ∷ b ∷ c ∷ acts) new few turn entries tells = absurd (omega (arith, few))
 
-  step_turn : (number now : ℕ) (input : Arrival) → input.clock ≤ now → (list : List Binding) →
+  pub step_turn : (number now : ℕ) (input : Arrival) → input.clock ≤ now → (list : List Binding) →
       (let course : Course = step rules number now input list in
       InTurn rules now list course.acts now course.list)
   step_turn number now input le list =

@@ -3,6 +3,7 @@
 use Rattle.std.specs.Prelude.{ℕ, cond, length, List, [], ◌∷◌, ◌++◌, map, Option, Some, None}
 use Rattle.std.specs.List.{list_any, slice_get}
 use Rattle.napt_wire.specs.declared.Way.TheVariants.{Outgoing, Incoming}
+use Rattle.napt_rules.specs.declared.Row.{Row}
 use Rattle.napt_table.specs.declared.TimedRow.{TimedRow}
 use Rattle.napt_sequential.specs.declared.passage.Passage.{Passage}
 use Rattle.napt_sequential.specs.declared.passage.Passage.TheVariants.{Nothing, Out, In, Dropped}
@@ -27,6 +28,18 @@ made_by now timed = record {
   received = 0;
   last = now;
   last_sent = now;
+}
+
+-- that of a redirect, before a packet went through it
+abbrev pub of_redirect : Row → Entry
+of_redirect binding = record {
+  binding = binding;
+  made = 0;
+  end = None;
+  sent = 0;
+  received = 0;
+  last = 0;
+  last_sent = 0;
 }
 
 abbrev pub after_out : ℕ → TimedRow → List Entry → List Entry

@@ -6,7 +6,11 @@ pub mod Places
 pub mod Ended
 pub mod Fronts
 pub mod Log
+pub mod OpenEntries
+pub mod BookedRuns
 pub mod LoggedRuns
+pub mod KnownRuns
 pub mod Questions
+pub mod Telling
 pub mod Uses
 pub use Rattle.napt_rules.specs.Prelude

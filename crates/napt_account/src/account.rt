@@ -8,8 +8,8 @@ ghost use Rattle.napt_account.specs.Latest.{latest_of};
 ghost use Rattle.napt_account.specs.Log.{log_of};
 ghost use Rattle.napt_account.specs.Uses.{uses_of};
 
+use crate::booked_run::BookedRun;
 use crate::log::{Entry, Log};
-use crate::logged_run::LoggedRun;
 use crate::places::Places;
 use napt_config::Config;
 use napt_sequential::{Input, MOST_INPUTS, Outcome, Run, RunFault};
@@ -74,7 +74,7 @@ pub fn account_of(alloc: Global, config: &Config, inputs: &[Input]) -> Result<Ac
     if inputs.len() > MOST_INPUTS {
         return Err(RunFault::TooMany);
     }
-    let mut logged = LoggedRun::begin(alloc, config)?;
+    let mut logged = BookedRun::begin(alloc, config)?;
     let told = logged.step_all(alloc, config, inputs)?;
     let bindings = logged.run.bindings(alloc)?;
     let legs = logged.run.legs(alloc)?;

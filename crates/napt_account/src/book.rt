@@ -26,7 +26,7 @@ pub(crate) struct Book {
 }
 
 /// The binding of a redirect.
-fn redirected(config: &Config, redirect: Redirect) -> Row
+pub(crate) fn redirected(config: &Config, redirect: Redirect) -> Row
     ensures { result ≡ row (redirected (pair_of config.now) redirect) }
 {
     let protocol = if redirect.tcp {
@@ -66,7 +66,7 @@ fn same_protocol(a: Protocol, b: Protocol) -> bool
 }
 
 /// Whether a time, in ns, is before an end.
-fn is_before(now: u64, end: Option<u128>) -> bool
+pub(crate) fn is_before(now: u64, end: Option<u128>) -> bool
     ensures { result ≡ is_before now end }
 {
     match end {
@@ -76,7 +76,7 @@ fn is_before(now: u64, end: Option<u128>) -> bool
 }
 
 /// Whether an entry has not ended by a time, in ns, and has the external endpoint of a row.
-fn is_of(now: u64, row: Row, entry: Entry) -> bool
+pub(crate) fn is_of(now: u64, row: Row, entry: Entry) -> bool
     ensures { result ≡ is_of now row entry }
 {
     is_before(now, entry.end)
@@ -85,14 +85,14 @@ fn is_of(now: u64, row: Row, entry: Entry) -> bool
 }
 
 /// Whether no binding could be made.
-fn is_shortage(cause: Cause) -> bool
+pub(crate) fn is_shortage(cause: Cause) -> bool
     ensures { result ≡ is_shortage cause }
 {
     matches!(cause, Cause::OverQuota | Cause::NoPort)
 }
 
 /// What a packet did to a binding that was there before it.
-fn found(entry: Entry) -> Note
+pub(crate) fn found(entry: Entry) -> Note
     ensures { result ≡ books.noted (Some entry) }
 {
     if entry.binding.fixed {
@@ -103,14 +103,14 @@ fn found(entry: Entry) -> Note
 }
 
 /// No binding was used.
-const NO_USE: Use = Use {
+pub(crate) const NO_USE: Use = Use {
     note: Note::Nothing,
     out: None,
     into: None,
 };
 
 /// What both legs of a packet did.
-fn both_uses(first: Use, second: Use) -> Use
+pub(crate) fn both_uses(first: Use, second: Use) -> Use
     ensures { result ≡ uses.both_uses first second }
 {
     Use {
@@ -142,15 +142,7 @@ impl Book {
             latest: Places::new(alloc),
         };
         for redirect in config.redirects() {
-            book.put(Entry {
-                binding: redirected(config, *redirect),
-                made: 0,
-                end: None,
-                sent: 0,
-                received: 0,
-                last: 0,
-                last_sent: 0,
-            })?;
+            book.put(Entry::of_redirect(redirected(config, *redirect)))?;
         }
         Ok(book)
     }

@@ -4,14 +4,19 @@
 
 mod account;
 mod book;
+mod booked_run;
+mod known_run;
+mod legs;
 mod log;
 mod logged_run;
+mod open_entries;
 mod places;
 mod question;
 mod who;
 
 pub use crate::account::{Account, Note, Use, account_of};
-pub use crate::log::{Entry, Log, Shortage, ended_entries_stay, log_attributes, log_of};
+pub use crate::known_run::KnownRun;
+pub use crate::log::{Entry, Listed, Log, Shortage, ended_entries_stay, log_attributes, log_of};
 pub use crate::logged_run::{LoggedRun, LoggedStep};
 pub use crate::question::{Party, Question};
 pub use crate::who::holders;

@@ -35,7 +35,22 @@ pub struct Entry {
 }
 
 impl Entry {
-    ghost use Rattle.napt_account.specs.Book.{made_by};
+    ghost use Rattle.napt_account.specs.Book.{made_by, of_redirect};
+
+    /// The entry of a redirect, before a packet went through it.
+    pub(crate) fn of_redirect(binding: Row) -> Entry
+        ensures { result ≡ of_redirect binding }
+    {
+        Entry {
+            binding,
+            made: 0,
+            end: None,
+            sent: 0,
+            received: 0,
+            last: 0,
+            last_sent: 0,
+        }
+    }
 
     /// The entry of a binding that a packet made at a time, in ns, and left through.
     pub(crate) fn by_packet(now: u64, timed: TimedRow) -> Entry
@@ -51,6 +66,14 @@ impl Entry {
             last_sent: now,
         }
     }
+}
+
+/// An entry of the log, with its number in it.
+#[derive(Clone, Copy, Debug, PartialEq, Eq)]
+pub struct Listed {
+    /// From 1, in the order of making.
+    pub number: u64,
+    pub entry: Entry,
 }
 
 /// An outgoing packet for which no binding could be made: its host has its quota, or each number of

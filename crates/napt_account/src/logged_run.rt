@@ -1,72 +1,60 @@
-//! A run with its log, one input at a time.
+//! A run with its log as it runs, one input at a time.
 
-ghost use Rattle.std.specs.Prelude.{◌≡◌, ◌≢◌, ◌↔◌, ◌+◌, ◌^◌, ◌<◌, ◌≤◌, ◌++◌, [], ◌∷◌, List, length, IfOk, IfErr, OnOk, Err};
+ghost use Rattle.std.specs.Prelude.{◌≡◌, ◌↔◌, ◌+◌, ◌^◌, ◌≤◌, ◌++◌, [], ◌∷◌, List, length, IfOk, IfErr, OnOk, Err};
 ghost use Rattle.napt_config.specs.Rules.{Rules};
-ghost use Rattle.napt_rules.specs.Prelude.{Arrival, opening};
+ghost use Rattle.napt_rules.specs.Prelude.{Arrival};
 ghost use Rattle.napt_rules.specs.Sequential as model;
 ghost use Rattle.napt_sequential.specs.Faults.{IsOneThreadFault};
-ghost use Rattle.napt_account.specs.Log.{log_of};
-ghost use Rattle.napt_account.specs.Uses.{uses_of};
+ghost use Rattle.napt_account.specs.Telling.{living_of};
 
 use crate::account::Use;
-use crate::book::Book;
-use crate::log::Log;
+use crate::log::{Listed, Shortage};
+use crate::open_entries::OpenEntries;
 use napt_config::Config;
 use napt_sequential::{Input, Outcome, RunFault, SequentialRun};
-use napt_table::opening_is_sound;
+use napt_table::{Row, opening_is_sound};
 use std::alloc::{AllocError, Global};
 
-/// A run on one thread after some inputs, and its log. It keeps the bindings and the log, and nothing else of the inputs.
+/// A run on one thread after some inputs, and the entries of its log whose bindings have not ended. It keeps nothing
+/// else of the inputs, so its memory is that of the bindings that live.
 #[derive(Drop)]
 pub struct LoggedRun {
     pub(crate) run: SequentialRun,
-    pub(crate) book: Book,
+    pub(crate) entries: OpenEntries,
 }
 
-/// The result of one input.
+/// What an input of a run did: its outcome, and what the log has to say with it.
 #[derive(Drop)]
 pub struct LoggedStep {
     pub outcome: Outcome,
-    /// What its packet did to the bindings.
+    /// What it did to the bindings; its places are numbers less one.
     pub used: Use,
-}
-
-/// The results of all inputs, in their order.
-#[derive(Drop)]
-pub(crate) struct AllTold {
-    pub(crate) outcomes: Vec<Outcome>,
-    pub(crate) uses: Vec<Use>,
-}
-
-impl AllTold {
-    /// Appends the result of one more input.
-    fn add(&mut self, told: LoggedStep) -> Result<(), AllocError>
-        ensures outcomes { OnOk result (self.new.outcomes.items
-            ≡ self.old.outcomes.items ++ told.outcome ∷ []) }
-        ensures uses { OnOk result (self.new.uses.items ≡ self.old.uses.items ++ told.used ∷ []) }
-    {
-        self.outcomes.push(told.outcome)?;
-        self.uses.push(told.used)?;
-        Ok(())
-    }
+    /// The bindings that ended since the clock of the input before, each with its final entry, by end, equal ends by
+    /// number.
+    pub ended: Vec<Listed>,
+    /// The binding that the packet made, if any (at most one), with its entry as the packet left it.
+    pub made: Vec<Listed>,
+    /// The packet, if no binding could be made for it.
+    pub refused: Vec<Shortage>,
 }
 
 impl LoggedRun {
     ghost use Rattle.napt_account.specs.LoggedRuns.{IsLogged, TellsLast};
 
-    /// A run before its first input; its log has the redirects.
+    /// A run before its first input; its log has the redirects. Fails only if memory is refused.
     pub fn begin(alloc: Global, config: &Config) -> Result<LoggedRun, AllocError>
         ensures { IfOk result (IsLogged config.now []) }
     {
         opening_is_sound();
+        // called for its clause alone: a configuration keeps its rules
+        let _pool = config.pool();
         let run = SequentialRun::begin(alloc, config)?;
-        let book = Book::begin(alloc, config)?;
-        Ok(LoggedRun { run, book })
+        let entries = OpenEntries::begin(alloc, config)?;
+        Ok(LoggedRun { run, entries })
     }
 
-    /// Passes the next input through the run, at the latest clock so far, its own included; returns its outcome and what
-    /// it did to the bindings. After each input these are the last of the run over all inputs so far, and the log is
-    /// that of this run. After a fault the run does not go on.
+    /// Passes the next input through the run, at the latest clock so far, its own included; returns its outcome, what it
+    /// did to the bindings, and what the log has to say with it. After a fault the run does not go on.
     ///
     /// Fails with `RunFault::TooMany` exactly if it took 4,294,967,295 inputs before, with `RunFault::Memory` only if
     /// memory is refused, and never with `RunFault::Pool`.
@@ -89,49 +77,43 @@ impl LoggedRun {
         // called for its clause alone: a configuration keeps its rules
         let _pool = config.pool();
         let stepped = self.run.step(alloc, config, input)?;
-        let used = self.book.tell(stepped.trace)?;
+        let ended = self.entries.take_ended(alloc, stepped.trace.now)?;
+        let legs = self.entries.tell(alloc, stepped.trace)?;
         Ok(LoggedStep {
             outcome: stepped.outcome,
-            used,
+            used: legs.used,
+            ended,
+            made: legs.made,
+            refused: legs.refused,
         })
     }
 
-    /// The log of the run over all inputs so far.
-    pub fn log(&self) -> &Log
-        ensures entries { (rules : Rules) (inputs : List Arrival) →
-            IsLogged rules inputs self.now →
-            result.now.entries.items ≡ (log_of rules inputs).entries }
-        ensures shortages { (rules : Rules) (inputs : List Arrival) →
-            IsLogged rules inputs self.now →
-            result.now.shortages.items ≡ (log_of rules inputs).shortages }
+    /// The entries that have not ended by the latest clock, by end, equal ends by number; redirects, which never end,
+    /// last. Before the first input: the redirects, in order of number. Fails only if memory is refused.
+    pub fn living(&self, alloc: Global) -> Result<Vec<Listed>, AllocError>
+        ensures { (rules : Rules) (inputs : List Arrival) → IsLogged rules inputs self.now →
+            IfOk result (λ living. living.items ≡ living_of rules inputs) }
     {
-        &self.book.log
+        let living = self.entries.list(alloc)?;
+        Ok(living)
     }
 
-    /// Passes all inputs, at most 4,294,967,295, through the run; returns their results.
-    pub(crate) fn step_all(
-        &mut self,
-        alloc: Global,
-        config: &Config,
-        inputs: &[Input],
-    ) -> Result<AllTold, RunFault>
-        requires begun { IsLogged config.now [] self.old }
-        requires few { length inputs.now < 2 ^ 32 }
-        ensures logged { OnOk result (IsLogged config.now inputs.now self.new) }
-        ensures outcomes { IfOk result (λ all. all.outcomes.items
-            ≡ (model.run config.now inputs.now (opening config.now)).outcomes) }
-        ensures uses { IfOk result (λ all. all.uses.items ≡ uses_of config.now inputs.now) }
-        ensures few { result ≢ Err RunFault.TooMany }
-        ensures never_pool { IfErr result IsOneThreadFault }
+    /// The bindings that are live at the latest clock: by external address in the order of the pool, then by protocol
+    /// (ICMP, TCP, UDP) and external number. Fails only if memory is refused.
+    pub fn bindings(&self, alloc: Global) -> Result<Vec<Row>, AllocError>
+        ensures { (rules : Rules) (inputs : List Arrival) → IsLogged rules inputs self.now →
+            IfOk result (λ made. made.items ≡ (model.ran rules inputs).bindings) }
     {
-        let mut all = AllTold {
-            outcomes: Vec::new(alloc),
-            uses: Vec::new(alloc),
-        };
-        for input in inputs {
-            let told = self.step(alloc, config, input)?;
-            all.add(told)?;
-        }
-        Ok(all)
+        let bindings = self.run.bindings(alloc)?;
+        Ok(bindings)
+    }
+
+    /// How many legs acted at each external address, in the order of the pool. Fails only if memory is refused.
+    pub fn legs(&self, alloc: Global) -> Result<Vec<u64>, AllocError>
+        ensures { (rules : Rules) (inputs : List Arrival) → IsLogged rules inputs self.now →
+            IfOk result (λ made. made.items ≡ (model.ran rules inputs).legs) }
+    {
+        let legs = self.run.legs(alloc)?;
+        Ok(legs)
     }
 }

@@ -1,10 +1,11 @@
-use Rattle.std.proofs.Common.{◌≡◌, ℕ, ◌<◌, false, List, [], ◌∷◌, ◌++◌, length, map, take, get_or, None, sym, ◌∙◌, ap, arith}
+use Rattle.std.proofs.Common.{◌≡◌, ℕ, ◌<◌, false, List, [], ◌∷◌, ◌++◌, length, map, take, get_or, sym, ◌∙◌, ap, arith}
 use Rattle.std.specs.List.{list_any}
 use Rattle.napt_config.specs.Rules.{Rules, pair_of}
 use Rattle.napt_config.specs.declared.settings.Redirect.{Redirect}
 use Rattle.napt_rules.specs.Prelude.{Binding, redirected, opening, row}
 use Rattle.napt_rules.specs.declared.Row.{Row}
 use Rattle.napt_account.specs.declared.log.Entry.{Entry}
+use Rattle.napt_account.specs.Book.{of_redirect}
 use Rattle.napt_account.specs.Log.{begun, is_of}
 use Rattle.napt_account.proofs.Begun.{begin_next, begin_free}
 use Rattle.napt_account.proofs.Lists.{map_joined}
@@ -27,28 +28,17 @@ loop-redirect-preserved c =
     ∙ (ap (list_any (is_of 0 (row made))) before.entries
     ∙ begin_free rules k other redirect below is
     (c.opening_is_sound.ensures rules c.redirects-redirect-items.ensures.kept).apart) in
+    let sent : c.of_redirect.result.sent ≡ 0 = ap (λ (e : Entry). e.sent) c.of_redirect.ensures in
+    let received : c.of_redirect.result.received ≡ 0 = ap (λ (e : Entry). e.received) c.of_redirect.ensures in
     record {
       entries = c.in_ok-put.ensures.entries
-          ∙ (ap (λ (es : List Entry). let e : Entry = record {
-            binding = c.redirected.result;
-            made = 0;
-            end = None;
-            sent = 0;
-            received = 0;
-            last = 0;
-            last_sent = 0;
-          } in es ++ e ∷ []) before.entries
-          ∙ (ap (λ (r : Row). let e : Entry = record {
-            binding = r;
-            made = 0;
-            end = None;
-            sent = 0;
-            received = 0;
-            last = 0;
-            last_sent = 0;
-          } in old ++ e ∷ []) c.redirected.ensures
+          ∙ (ap (λ (e : Entry). c.loop-redirect.book.log.entries.items ++ e ∷ []) c.of_redirect.ensures
+          ∙ (ap (λ (es : List Entry). es ++ of_redirect c.redirected.result ∷ []) before.entries
+          ∙ (ap (λ (r : Row). old ++ of_redirect r ∷ []) c.redirected.ensures
           ∙ (sym (map_joined (begun rules.timers 0) (take k (opening rules)) (made ∷ []))
-          ∙ ap (map (begun rules.timers 0)) (sym (begin_next rules k other redirect below is)))));
+          ∙ ap (map (begun rules.timers 0)) (sym (begin_next rules k other redirect below is))))));
       shortages = c.put.ensures.shortages ∙ before.shortages;
-      kept = c.in_ok-put.ensures.kept 0 0 before.kept free (omega arith) (omega arith);
+      kept = c.in_ok-put.ensures.kept 0 0 before.kept
+          (ap (λ (e : Entry). list_any (is_of 0 e.binding) c.loop-redirect.book.log.entries.items) c.of_redirect.ensures
+          ∙ free) (omega (arith, sent)) (omega (arith, received));
     }

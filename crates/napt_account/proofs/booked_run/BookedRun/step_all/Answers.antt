@@ -4,9 +4,9 @@ use Rattle.napt_config.specs.Rules.{Rules}
 use Rattle.napt_rules.specs.Prelude.{opening, Arrival, run}
 use Rattle.napt_rules.specs.declared.Outcome.{Outcome}
 use Rattle.napt_account.specs.declared.account.Use.{Use}
-use Rattle.napt_account.specs.LoggedRuns.{IsLogged}
+use Rattle.napt_account.specs.BookedRuns.{IsBooked}
 use Rattle.napt_account.specs.Uses.{uses_of}
-use Rattle.napt_account.proofs.logged_run.LoggedRun.step_all.Goals as goal
+use Rattle.napt_account.proofs.booked_run.BookedRun.step_all.Goals as goal
 
 pub step-requires : goal.step-requires
 step-requires c = (take c.loop-input.input-index c.args.inputs.now, c.loop-input.invariant.logged)
@@ -24,7 +24,7 @@ loop-input-preserved c =
     let more : take (n + 1) inputs ≡ before ++ input ∷ [] =
     take_more inputs n input c.loop-input-test.true ∙ ap (λ (x : Arrival). before ++ x ∷ []) (sym c.input-item.is) in
     record {
-      logged = subst (λ (done : List Arrival). IsLogged rules done c.step.new.self) (sym more)
+      logged = subst (λ (done : List Arrival). IsBooked rules done c.step.new.self) (sym more)
           (c.in_ok-told.ensures.logged before so_far.logged);
       outcomes = c.in_ok-add.ensures.outcomes
           ∙ (ap (λ (os : List Outcome). os ++ told.outcome ∷ []) so_far.outcomes

@@ -1,0 +1,93 @@
+-- Each leg leaves the binding that it went through an end that is to come.
+use Rattle.std.proofs.Common.{◌≡◌, ℕ, ◌+◌, ◌≤◌, max, true, List, [], ◌∷◌, ◌++◌, length, Option, Some, None, sym, ◌∙◌, subst, arith}
+use Rattle.napt_wire.specs.declared.Protocol.{Protocol}
+use Rattle.napt_wire.specs.declared.Way.{Way}
+use Rattle.napt_wire.specs.declared.Way.TheVariants.{Outgoing, Incoming}
+use Rattle.napt_config.specs.Rules.{Rules, KeepsRules, AreTimers}
+use Rattle.napt_config.specs.declared.settings.Timers.{Timers}
+use Rattle.napt_binding.specs.Ends.{end_of, is_before, EndsAreFirst}
+use Rattle.napt_binding.proofs.FirstEnds.{ends_are_first}
+use Rattle.napt_rules.specs.declared.Leg.{Leg}
+use Rattle.napt_rules.specs.declared.End.{End}
+use Rattle.napt_rules.specs.declared.End.TheVariants as ends
+use Rattle.napt_rules.specs.Prelude.{Through, Binding, Each, purge, act, Act, Arrival, Course, opening, step}
+use Rattle.napt_laws.proofs.Fresh.{IsFresh, fresh_purged}
+use Rattle.napt_laws.proofs.Lists.{find_passes}
+use Rattle.napt_laws.proofs.Turns.{IsTurn, InTurn}
+use Rattle.napt_laws.proofs.Grown.{step_one}
+use Rattle.napt_sequential.specs.declared.passage.Trace.{Trace}
+use Rattle.napt_sequential.specs.Traces.{passage_by, passage_of, first_of, second_of, traces_from, traces}
+use Rattle.napt_account.specs.OpenEntries.{LeavesOpen}
+use Rattle.napt_account.proofs.Moves.{of_moves}
+use Rattle.napt_account.proofs.Retold.{step_turn}
+
+abbrev pub Leaves : Trace → Type 0
+Leaves trace = LeavesOpen trace.now trace.first × LeavesOpen trace.now trace.second
+
+abbrev Opens : Timers → ℕ → Option Through → Type 0
+Opens timers now None = Unit {0}
+Opens timers now (Some went) = is_before now (end_of timers went.binding) ≡ true
+
+by_leaves : (timers : Timers) (way : Way) (protocol : Option Protocol) (host : ℕ) (end : End) (went : Option Through)
+    (now : ℕ) → Opens timers now went → LeavesOpen now (passage_by timers way protocol host end went)
+by_leaves timers Outgoing protocol host end (Some went) now h = h
+by_leaves timers Incoming protocol host end (Some went) now h = h
+by_leaves timers way None host end None now h = tt
+by_leaves timers way (Some p) host (ends.Dropped cause) None now h = tt
+by_leaves timers way (Some p) host (ends.ToOutside packet) None now h = tt
+by_leaves timers way (Some p) host (ends.ToInside packet) None now h = tt
+by_leaves timers way (Some p) host (ends.Onward place packet) None now h = tt
+
+module _ (first : EndsAreFirst) (rules : Rules) (t : AreTimers rules.timers) where
+  fresh_open : (now : ℕ) (b : Binding) → IsFresh rules.timers now b → is_before now (end_of rules.timers b) ≡ true
+  fresh_open now b fresh = sym (first rules.timers t now b) ∙ fresh.live
+
+  act_opens : (address : ℕ) (leg : Leg) (list : List Binding) →
+      Opens rules.timers leg.now (act rules address leg list).through
+  act_opens address leg list =
+      let own : List Binding = purge rules.timers leg.now list in
+      of_moves rules t address leg list (λ went left. Opens rules.timers leg.now went) tt tt
+      (λ p f b found same keeps. fresh_open leg.now (f b) (keeps b (find_passes p (IsFresh rules.timers leg.now) own b
+      (fresh_purged rules.timers leg.now list) found).1))
+      (λ new out is others. fresh_open leg.now new is)
+
+  turn_leaves : (clock : ℕ) (list : List Binding) (a : Act) → IsTurn rules clock list a → (now : ℕ) → a.leg.now ≡ now →
+      LeavesOpen now (passage_of rules.timers a)
+  turn_leaves clock list a turn now same =
+      subst (λ (n : ℕ). LeavesOpen n (passage_of rules.timers a)) same
+      (by_leaves rules.timers a.leg.way _ _ a.end a.through a.leg.now
+      (subst (Opens rules.timers a.leg.now) (sym turn.through) (act_opens a.address a.leg list)))
+
+  acts_leave : (now : ℕ) (list : List Binding) (acts : List Act) (new : List Binding) → length acts ≤ 2 →
+      InTurn rules now list acts now new →
+      LeavesOpen now (first_of rules.timers acts) × LeavesOpen now (second_of rules.timers acts)
+  acts_leave now list [] new few turn = (tt, tt)
+  acts_leave now list (a ∷ []) new few turn =
+      (turn_leaves now list a turn.0 now (omega (arith, turn.0.later, turn.1.0)), tt)
+  acts_leave now list (a ∷ b ∷ []) new few turn = (
+    turn_leaves now list a turn.0 now (omega (arith, turn.0.later, turn.1.0.later, turn.1.1.0)),
+    turn_leaves a.leg.now (act rules a.address a.leg list).list b turn.1.0 now
+        (omega (arith, turn.0.later, turn.1.0.later, turn.1.1.0)),
+  )
+  acts_leave now list (a ∷ b ∷ c ∷ acts) new few turn = absurd (omega (arith, few))
+
+  pub all_leave : (number clock : ℕ) (inputs : List Arrival) (list : List Binding) →
+      Each Leaves (traces_from rules number clock inputs list)
+  all_leave number clock [] list = tt
+  all_leave number clock (input ∷ inputs) list =
+      let now : ℕ = max clock input.clock in
+      let course : Course = step rules number now input list in (
+        acts_leave now list course.acts course.list (step_one rules number now input list).1
+            (step_turn first rules t number now input (omega arith) list),
+        all_leave (number + 1) now inputs course.list,
+      )
+
+pub each_last : {X : Type 0} (P : X → Type 0) (xs : List X) (x : X) → Each P (xs ++ x ∷ []) → P x
+each_last P [] x h = h.0
+each_last P (y ∷ xs) x h = each_last P xs x h.1
+
+-- the last trace of a run
+pub last_leaves : (rules : Rules) → KeepsRules rules → (before : List Arrival) (input : Arrival) (trace : Trace) →
+    traces rules (before ++ input ∷ []) ≡ traces rules before ++ trace ∷ [] → Leaves trace
+last_leaves rules keeps before input trace more = each_last Leaves (traces rules before) trace
+    (subst (Each Leaves) more (all_leave ends_are_first rules keeps.timers 0 0 (before ++ input ∷ []) (opening rules)))

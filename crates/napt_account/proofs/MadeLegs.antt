@@ -1,0 +1,247 @@
+-- What the legs of an input make.
+use Rattle.std.proofs.Common.{◌≡◌, ℕ, zero, suc, ◌+◌, ◌≤◌, ◌⊎◌, inl, inr, true, false, cond, List, [], ◌∷◌, ◌++◌, length, drop, map, Option, Some, refl, sym, ◌∙◌, ap, arith, length-append}
+use Rattle.std.specs.Prelude.{nat_lt}
+use Rattle.std.specs.List.{slice_get, list_any}
+use Rattle.std.proofs.lemmas.Bool.Decides.{nat_tests}
+use Rattle.std.proofs.lemmas.Bool.{and_parts, and_from}
+use Rattle.std.proofs.lemmas.Option.{same_Some}
+use Rattle.napt_wire.specs.declared.Way.{Way}
+use Rattle.napt_wire.specs.declared.Way.TheVariants.{Outgoing, Incoming}
+use Rattle.napt_rules.specs.declared.Row.{Row}
+use Rattle.napt_table.specs.declared.TimedRow.{TimedRow}
+use Rattle.napt_binding.specs.Ends.{is_before}
+use Rattle.napt_sequential.specs.declared.passage.Passage.{Passage}
+use Rattle.napt_sequential.specs.declared.passage.Passage.TheVariants.{Nothing, Out, In, Dropped}
+use Rattle.napt_sequential.specs.declared.passage.Trace.{Trace}
+use Rattle.napt_sequential.proofs.Lists.{get_last}
+use Rattle.napt_account.specs.declared.log.Entry.{Entry}
+use Rattle.napt_account.specs.declared.log.Listed.{Listed}
+use Rattle.napt_account.specs.declared.open_entries.OpenEntries.{OpenEntries}
+use Rattle.napt_account.specs.Book.{made_by, after, after_trace}
+use Rattle.napt_account.specs.Log.{shares, is_of, counted, through}
+use Rattle.napt_account.specs.OpenEntries.{external_key, end_key, listed_at, key_at, listed_as, IsListed, Shows, LeavesOpen}
+use Rattle.napt_account.specs.Telling.{numbered, numbered_from}
+use Rattle.napt_account.proofs.Begun.{long_mapped}
+use Rattle.napt_account.proofs.Ended.{get_mapped, get_joined}
+use Rattle.napt_account.proofs.Entries.{shares_itself}
+use Rattle.napt_account.proofs.OpenEntries.{row_only}
+
+abbrev pub timed_of : TimedRow → Passage → TimedRow
+timed_of other Nothing = other
+timed_of other (Out timed) = timed
+timed_of other (In timed) = other
+timed_of other (Dropped loss) = other
+
+-- the entry that is found for a row
+pub found_is : (now most : ℕ) (all : OpenEntries) (es : List Entry) → Shows now most es all → (r : Row) (l : Listed) →
+    key_at all (external_key r) ≡ Some (end_key l) → listed_at all (end_key l) ≡ Some l → (place : ℕ) (e : Entry) →
+    slice_get es place ≡ Some e → is_of now r e ≡ true → l ≡ listed_as place e
+found_is now most all es shows r l key at place e there passed =
+    let is : IsListed es l = shows.there (end_key l) l at in
+    let same : place ≡ is.place = row_only now most all es shows r l key at is.place (sym is.number) place e there
+    passed in
+    let entry : l.entry ≡ e = same_Some l.entry e (sym is.there ∙ (ap (slice_get es) (sym same) ∙ there)) in
+    let number : l.number ≡ place + 1 = is.number ∙ ap (λ (n : ℕ). n + 1) (sym same) in
+    λ k. record { number = number k; entry = entry k }
+
+-- HOW MANY ENTRIES
+
+pub pass_few : (now : ℕ) (p : Passage) (es : List Entry) → length (after now p es) ≤ length es + 1
+pass_few now Nothing es = omega arith
+pass_few now (Dropped loss) es = omega arith
+pass_few now (In timed) es =
+    let long = long_mapped (through now timed.row (counted Incoming now timed.end)) es in omega (arith, long)
+pass_few now (Out timed) es =
+    let change : Entry → Entry = through now timed.row (counted Outgoing now timed.end) in
+    elim (list_any (is_of now timed.row) es) as (λ v.
+    length (cond v (map change es) (es ++ made_by now timed ∷ [])) ≤ length es + 1) [
+      | true ↦ let long = long_mapped change es in omega (arith, long)
+      | false ↦ let long = length-append es (made_by now timed ∷ []) in omega (arith, long)
+    ]
+
+pub trace_few : (es : List Entry) (trace : Trace) → length (after_trace es trace) ≤ length es + 2
+trace_few es trace =
+    let first = pass_few trace.now trace.first es in
+    let second = pass_few trace.now trace.second (after trace.now trace.first es) in
+    omega (arith, first, second)
+
+pub drop_joined : {X : Type 0} (xs ys : List X) → drop (length xs) (xs ++ ys) ≡ ys
+drop_joined [] ys = refl
+drop_joined (x ∷ xs) ys = drop_joined xs ys
+
+pub not_less : (a b m n : ℕ) → a ≡ m → b ≡ n → n ≡ m → nat_lt a b ≡ false
+not_less a b m n p q same = grind (arith, nat_tests, p, q, same)
+
+pub less : (a b m n : ℕ) → a ≡ m → b ≡ n → n ≡ m + 1 → nat_lt a b ≡ true
+less a b m n p q more = grind (arith, nat_tests, p, q, more)
+
+-- WHETHER A LEG MAKES ONE
+
+pub record Grows (now : ℕ) (p : Passage) (es : List Entry) : Type 0 where
+  pub timed : TimedRow
+  pub is : p ≡ Out timed
+  pub entries : after now p es ≡ es ++ made_by now timed ∷ []
+  pub passed : is_of now timed.row (made_by now timed) ≡ true
+
+pub grows : (now : ℕ) (p : Passage) (es : List Entry) → LeavesOpen now p →
+    Grows now p es ⊎ (length (after now p es) ≡ length es)
+grows now Nothing es leaves = inr refl
+grows now (Dropped loss) es leaves = inr refl
+grows now (In timed) es leaves = inr (long_mapped (through now timed.row (counted Incoming now timed.end)) es)
+grows now (Out timed) es leaves =
+    let change : Entry → Entry = through now timed.row (counted Outgoing now timed.end) in
+    elim (list_any (is_of now timed.row) es) as (λ v. list_any (is_of now timed.row) es ≡ v →
+    Grows now (Out timed) es ⊎ (length (after now (Out timed) es) ≡ length es)) [
+      | true ↦ λ h. inr (ap (λ v. length (cond v (map change es) (es ++ made_by now timed ∷ []))) h
+          ∙ long_mapped change es)
+      | false ↦ λ h. inl (record {
+        timed = timed;
+        is = refl;
+        entries = ap (λ v. cond v (map change es) (es ++ made_by now timed ∷ [])) h;
+        passed = and_from (is_before now timed.end) (shares timed.row timed.row) leaves (shares_itself timed.row);
+      })
+    ] refl
+
+-- what has an open entry has it after the next leg
+record Later (now : ℕ) (r : Row) (es : List Entry) (place : ℕ) : Type 0 where
+  pub entry : Entry
+  pub there : slice_get es place ≡ Some entry
+  pub passed : is_of now r entry ≡ true
+
+through_passed : (way : Way) (now : ℕ) (w r : Row) (end : Option ℕ) → is_before now end ≡ true → (e : Entry) →
+    is_of now r e ≡ true → is_of now r (through now w (counted way now end) e) ≡ true
+through_passed Outgoing now w r end opened e passed =
+    elim (is_of now w e) as (λ v. is_of now r (cond v (counted Outgoing now end e) e) ≡ true) [
+      | true ↦ and_from (is_before now end) (shares r e.binding) opened
+          (and_parts (is_before now e.end) (shares r e.binding) passed).1
+      | false ↦ passed
+    ]
+through_passed Incoming now w r end opened e passed =
+    elim (is_of now w e) as (λ v. is_of now r (cond v (counted Incoming now end e) e) ≡ true) [
+      | true ↦ and_from (is_before now end) (shares r e.binding) opened
+          (and_parts (is_before now e.end) (shares r e.binding) passed).1
+      | false ↦ passed
+    ]
+
+later : (now : ℕ) (p : Passage) (es : List Entry) → LeavesOpen now p → (r : Row) (place : ℕ) → Later now r es place →
+    Later now r (after now p es) place
+later now Nothing es leaves r place l = l
+later now (Dropped loss) es leaves r place l = l
+later now (In timed) es leaves r place l = record {
+  entry = through now timed.row (counted Incoming now timed.end) l.entry;
+  there = get_mapped (through now timed.row (counted Incoming now timed.end)) es place l.entry l.there;
+  passed = through_passed Incoming now timed.row r timed.end leaves l.entry l.passed;
+}
+later now (Out timed) es leaves r place l =
+    let change : Entry → Entry = through now timed.row (counted Outgoing now timed.end) in
+    elim (list_any (is_of now timed.row) es) as (λ v.
+    Later now r (cond v (map change es) (es ++ made_by now timed ∷ [])) place) [
+      | true ↦ record {
+        entry = change l.entry;
+        there = get_mapped change es place l.entry l.there;
+        passed = through_passed Outgoing now timed.row r timed.end leaves l.entry l.passed;
+      }
+      | false ↦ record {
+        entry = l.entry;
+        there = get_joined es (made_by now timed ∷ []) place l.entry l.there;
+        passed = l.passed;
+      }
+    ]
+
+made_later : (now : ℕ) (p : Passage) (es : List Entry) → (g : Grows now p es) →
+    Later now g.timed.row (after now p es) (length es)
+made_later now p es g = record {
+  entry = made_by now g.timed;
+  there = ap (λ (xs : List Entry). slice_get xs (length es)) g.entries
+      ∙ get_last es (made_by now g.timed) (length es) refl;
+  passed = g.passed;
+}
+
+-- THE LAST OF NUMBERED ENTRIES
+
+drop_none : (m n : ℕ) (es : List Entry) → length es ≡ n → drop n (numbered_from m es) ≡ []
+drop_none m zero [] long = refl
+drop_none m zero (e ∷ es) long = absurd (omega (arith, long))
+drop_none m (suc n) [] long = refl
+drop_none m (suc n) (e ∷ es) long = drop_none (m + 1) n es (omega (arith, long))
+
+drop_next : (m n : ℕ) (es : List Entry) (e : Entry) → slice_get es n ≡ Some e → (number : ℕ) → number ≡ m + n →
+    (next : ℕ) → next ≡ n + 1 →
+    drop n (numbered_from m es) ≡ record { number = number; entry = e } ∷ drop next (numbered_from m es)
+drop_next m n [] e at number is next one = cc
+drop_next m zero (x ∷ es) e at number is zero one = absurd (omega (arith, one))
+drop_next m zero (x ∷ es) e at number is (suc zero) one = λ k. record {
+  number = (let same : m ≡ number = omega (arith, is) in same) k;
+  entry = (same_Some x e at) k;
+} ∷ numbered_from (m + 1) es
+drop_next m zero (x ∷ es) e at number is (suc (suc k)) one = absurd (omega (arith, one))
+drop_next m (suc n) (x ∷ es) e at number is zero one = absurd (omega (arith, one))
+drop_next m (suc n) (x ∷ es) e at number is (suc k) one =
+    drop_next (m + 1) n es e at number (omega (arith, is)) k (omega (arith, one))
+
+-- BOTH LEGS
+
+module _ (now : ℕ) (first second : Passage) (es : List Entry) (opens : LeavesOpen now first)
+    (leaves : LeavesOpen now second) (made one two : List Listed) where
+  abbrev mid : List Entry
+  mid = after now first es
+
+  abbrev end : List Entry
+  end = after now second mid
+
+  -- what is listed for a leg: of one that made an entry this entry as it is in the end
+  abbrev pub Lists : Passage → List Entry → List Entry → List Listed → List Listed → Type 0
+  Lists p before then old new = (length then ≡ length before → new ≡ old)
+      × ((timed : TimedRow) → p ≡ Out timed → length then ≡ length before + 1 → (place : ℕ) (e : Entry) →
+      slice_get end place ≡ Some e → is_of now timed.row e ≡ true → new ≡ old ++ listed_as place e ∷ [])
+
+  pub made_is : made ≡ [] → Lists first es mid made one → Lists second mid end one two →
+      two ≡ drop (length es) (numbered end)
+  made_is none a b = elim (grows now first es opens) [
+    | inl g ↦
+        let long : length mid ≡ length es + 1 = ap length g.entries
+        ∙ length-append es (made_by now g.timed ∷ []) in
+        let l = later now second mid leaves g.timed.row (length es) (made_later now first es g) in
+        let head : one ≡ listed_as (length es) l.entry ∷ [] =
+        a.1 g.timed g.is long (length es) l.entry l.there l.passed
+        ∙ ap (λ (xs : List Listed). xs ++ listed_as (length es) l.entry ∷ []) none in
+        let next : drop (length es) (numbered end) ≡ listed_as (length es) l.entry
+        ∷ drop (length es + 1) (numbered end) =
+        drop_next 1 (length es) end l.entry l.there (length es + 1) (omega arith) (length es + 1) refl in
+        elim (grows now second mid leaves) [
+          | inl h ↦
+              let more : length end ≡ length mid + 1 = ap length h.entries
+              ∙ length-append mid (made_by now h.timed ∷ []) in
+              let m = made_later now second mid h in
+              let tail : drop (length mid) (numbered end) ≡ listed_as (length mid) m.entry
+              ∷ drop (length mid + 1) (numbered end) =
+              drop_next 1 (length mid) end m.entry m.there (length mid + 1) (omega arith) (length mid + 1) refl in
+              let rest : drop (length mid + 1) (numbered end) ≡ [] = drop_none 1 (length mid + 1) end more in
+              b.1 h.timed h.is more (length mid) m.entry m.there m.passed
+              ∙ (ap (λ (xs : List Listed). xs ++ listed_as (length mid) m.entry ∷ []) head
+              ∙ (ap (λ (xs : List Listed). listed_as (length es) l.entry ∷ listed_as (length mid) m.entry ∷ xs)
+              (sym rest)
+              ∙ (ap (λ (xs : List Listed). listed_as (length es) l.entry ∷ xs) (sym tail)
+              ∙ (ap (λ (n : ℕ). listed_as (length es) l.entry ∷ drop n (numbered end)) long ∙ sym next))))
+          | inr same ↦
+              let rest : drop (length es + 1) (numbered end) ≡ [] =
+              drop_none 1 (length es + 1) end (same ∙ long) in
+              b.0 same ∙ (head ∙ (ap (λ (xs : List Listed). listed_as (length es) l.entry ∷ xs) (sym rest)
+              ∙ sym next))
+        ]
+    | inr same ↦ elim (grows now second mid leaves) [
+      | inl h ↦
+          let more : length end ≡ length mid + 1 = ap length h.entries
+          ∙ length-append mid (made_by now h.timed ∷ []) in
+          let m = made_later now second mid h in
+          let tail : drop (length mid) (numbered end) ≡ listed_as (length mid) m.entry
+          ∷ drop (length mid + 1) (numbered end) =
+          drop_next 1 (length mid) end m.entry m.there (length mid + 1) (omega arith) (length mid + 1) refl in
+          let rest : drop (length mid + 1) (numbered end) ≡ [] = drop_none 1 (length mid + 1) end more in
+          b.1 h.timed h.is more (length mid) m.entry m.there m.passed
+          ∙ (ap (λ (xs : List Listed). xs ++ listed_as (length mid) m.entry ∷ []) (a.0 same ∙ none)
+          ∙ (ap (λ (xs : List Listed). listed_as (length mid) m.entry ∷ xs) (sym rest)
+          ∙ (sym tail ∙ ap (λ (n : ℕ). drop n (numbered end)) same)))
+      | inr also ↦ b.0 also ∙ (a.0 same ∙ (none ∙ sym (drop_none 1 (length es) end (also ∙ same))))
+    ]
+  ]

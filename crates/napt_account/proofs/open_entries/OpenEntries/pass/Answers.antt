@@ -1,0 +1,28 @@
+use Rattle.std.proofs.Common.{◌+◌, ◌≡◌, sym, subst}
+use Rattle.std.specs.Prelude.{OnOk, IfOk}
+use Rattle.napt_sequential.specs.declared.passage.Passage.{Passage}
+use Rattle.napt_account.specs.Book.{after, use_told}
+use Rattle.napt_account.specs.OpenEntries.{Shows, LeavesOpen}
+use Rattle.napt_account.proofs.open_entries.OpenEntries.pass.Goals as goal
+
+pub returns-in-Out-clause-shows : goal.returns-in-Out-clause-shows
+returns-in-Out-clause-shows c = λ most entries shows leaves.
+    subst (λ (p : Passage). OnOk c.go_out.result (Shows c.args.now (most + 1) (after c.args.now p entries)
+    c.go_out.new.self)) (sym c.in-Out.is)
+    (c.go_out.ensures.shows most entries shows (subst (LeavesOpen c.args.now) c.in-Out.is leaves))
+
+pub returns-in-Out-clause-uses : goal.returns-in-Out-clause-uses
+returns-in-Out-clause-uses c = λ most entries shows.
+    subst (λ (p : Passage). IfOk c.go_out.result (λ used. used ≡ use_told c.args.now p entries)) (sym c.in-Out.is)
+    (c.go_out.ensures.uses most entries shows)
+
+pub returns-in-In-clause-shows : goal.returns-in-In-clause-shows
+returns-in-In-clause-shows c = λ most entries shows leaves.
+    subst (λ (p : Passage). OnOk c.come_in.result (Shows c.args.now (most + 1) (after c.args.now p entries)
+    c.come_in.new.self)) (sym c.in-In.is)
+    (c.come_in.ensures.shows most entries shows (subst (LeavesOpen c.args.now) c.in-In.is leaves))
+
+pub returns-in-In-clause-uses : goal.returns-in-In-clause-uses
+returns-in-In-clause-uses c = λ most entries shows.
+    subst (λ (p : Passage). IfOk c.come_in.result (λ used. used ≡ use_told c.args.now p entries)) (sym c.in-In.is)
+    (c.come_in.ensures.uses most entries shows)

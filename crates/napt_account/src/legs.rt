@@ -1,0 +1,128 @@
+//! What the legs of an input did, as the log has to tell it.
+
+ghost use Rattle.std.specs.Prelude.{◌≡◌, ◌+◌, ◌<◌, ◌^◌, ◌++◌, ℕ, [], ◌∷◌, List, true, false, length, drop, Some, OnOk, IfOk};
+ghost use Rattle.std.specs.List.{slice_get};
+ghost use Rattle.napt_account.specs.Book as books;
+ghost use Rattle.napt_account.specs.Log.{is_of};
+ghost use Rattle.napt_account.specs.OpenEntries.{Shows, LeavesOpen};
+ghost use Rattle.napt_account.specs.Telling.{numbered};
+ghost use Rattle.napt_account.specs.declared.log.Entry.{Entry as Logged};
+ghost use Rattle.napt_table.specs.declared.TimedRow.{TimedRow};
+ghost use Rattle.napt_account.specs.OpenEntries.{listed_as};
+
+use crate::account::Use;
+use crate::book::{both_uses, is_shortage};
+use crate::log::{Listed, Shortage};
+use crate::open_entries::OpenEntries;
+use napt_sequential::{Passage, Trace};
+use napt_table::Row;
+use std::alloc::{AllocError, Global};
+
+/// What the legs of an input did to the bindings.
+#[derive(Drop)]
+pub(crate) struct Legs {
+    pub(crate) used: Use,
+    /// The entries that they made, as they are after both.
+    pub(crate) made: Vec<Listed>,
+    pub(crate) refused: Vec<Shortage>,
+}
+
+impl OpenEntries {
+    /// Enters the legs of an input.
+    pub(crate) fn tell(&mut self, alloc: Global, trace: Trace) -> Result<Legs, AllocError>
+        requires { (most : ℕ) × (entries : List Logged) × Shows trace.now most entries self.old
+            × LeavesOpen trace.now trace.first × (most + 2 < 2 ^ 64)
+            × (length entries + 2 < 2 ^ 64) }
+        ensures shows { (most : ℕ) (entries : List Logged) → Shows trace.now most entries self.old →
+            LeavesOpen trace.now trace.first → LeavesOpen trace.now trace.second →
+            OnOk result (Shows trace.now (most + 2) (books.after_trace entries trace) self.new) }
+        ensures uses { (most : ℕ) (entries : List Logged) → Shows trace.now most entries self.old →
+            LeavesOpen trace.now trace.first →
+            IfOk result (λ legs. legs.used ≡ books.use_by_trace entries trace) }
+        ensures made { (most : ℕ) (entries : List Logged) → Shows trace.now most entries self.old →
+            LeavesOpen trace.now trace.first → LeavesOpen trace.now trace.second →
+            IfOk result (λ legs. legs.made.items
+            ≡ drop (length entries) (numbered (books.after_trace entries trace))) }
+        ensures refused { IfOk result (λ legs. legs.refused.items ≡ books.lost_by trace) }
+    {
+        let before = self.made();
+        let first = self.pass(trace.now, trace.first)?;
+        let between = self.made();
+        let second = self.pass(trace.now, trace.second)?;
+        let after = self.made();
+        let mut made = Vec::new(alloc);
+        self.list_made(&mut made, trace.first, before < between)?;
+        self.list_made(&mut made, trace.second, between < after)?;
+        Ok(Legs {
+            used: both_uses(first, second),
+            made,
+            refused: refused_by(alloc, trace)?,
+        })
+    }
+
+    /// Appends the entry that a leg made, as it is now, if it made one.
+    fn list_made(
+        &self,
+        made: &mut Vec<Listed>,
+        passage: Passage,
+        is_made: bool,
+    ) -> Result<(), AllocError>
+        ensures none { is_made ≡ false → OnOk result (made.new.items ≡ made.old.items) }
+        ensures one { (now most : ℕ) (entries : List Logged) → Shows now most entries self.now →
+            is_made ≡ true → (timed : TimedRow) → passage ≡ Passage.Out timed → (place : ℕ) (entry : Logged) →
+            slice_get entries place ≡ Some entry → is_of now timed.row entry ≡ true →
+            OnOk result (made.new.items ≡ made.old.items
+            ++ listed_as place entry ∷ []) }
+    {
+        let Passage::Out(timed) = passage else {
+            return Ok(());
+        };
+        if is_made {
+            self.list_row(made, timed.row)?;
+        }
+        Ok(())
+    }
+
+    /// Appends the entry of a row.
+    fn list_row(&self, made: &mut Vec<Listed>, row: Row) -> Result<(), AllocError>
+        ensures { (now most : ℕ) (entries : List Logged) → Shows now most entries self.now →
+            (place : ℕ) (entry : Logged) →
+            slice_get entries place ≡ Some entry → is_of now row entry ≡ true →
+            OnOk result (made.new.items ≡ made.old.items
+            ++ listed_as place entry ∷ []) }
+    {
+        let Some(listed) = self.find(row) else {
+            return Ok(());
+        };
+        made.push(listed)?;
+        Ok(())
+    }
+}
+
+/// The packets of the legs for which no binding could be made.
+fn refused_by(alloc: Global, trace: Trace) -> Result<Vec<Shortage>, AllocError>
+    ensures { IfOk result (λ refused. refused.items ≡ books.lost_by trace) }
+{
+    let mut refused = Vec::new(alloc);
+    list_refused(&mut refused, trace.now, trace.first)?;
+    list_refused(&mut refused, trace.now, trace.second)?;
+    Ok(refused)
+}
+
+/// Appends the loss of a packet, if no binding could be made for it.
+fn list_refused(refused: &mut Vec<Shortage>, now: u64, passage: Passage) -> Result<(), AllocError>
+    ensures { OnOk result (refused.new.items ≡ refused.old.items ++ books.lost now passage) }
+{
+    let Passage::Dropped(loss) = passage else {
+        return Ok(());
+    };
+    if is_shortage(loss.cause) {
+        refused.push(Shortage {
+            at: now,
+            cause: loss.cause,
+            protocol: loss.protocol,
+            host: loss.host,
+        })?;
+    }
+    Ok(())
+}
