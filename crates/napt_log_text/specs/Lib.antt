@@ -3,3 +3,5 @@ pub mod Times
 pub mod Rows
 pub mod Requests
 pub mod Holders
+pub mod Logs
+pub mod Objects

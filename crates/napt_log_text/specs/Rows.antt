@@ -12,7 +12,7 @@ use Rattle.napt_config.specs.Text.{address_text}
 use Rattle.napt_rules.specs.declared.Row.{Row}
 use Rattle.napt_account.specs.declared.log.Entry.{Entry}
 use Rattle.napt_account.specs.declared.log.Shortage.{Shortage}
-use Rattle.napt_log_text.specs.declared.event.Listed.{Listed}
+use Rattle.napt_account.specs.declared.log.Listed.{Listed}
 use Rattle.napt_log_text.specs.declared.event.Event.{Event}
 use Rattle.napt_log_text.specs.declared.event.Event.TheVariants.{Made, Ended, Living, Refused}
 use Rattle.napt_log_text.specs.Times.{Text, date_if_any}

@@ -5,7 +5,7 @@ ghost use Rattle.napt_log_text.specs.Rows as rows;
 use crate::digits::{add_address, add_number};
 use crate::moment::Moment;
 use itoa::Buffer;
-use napt_account::{Entry, Shortage};
+use napt_account::{Entry, Listed, Shortage};
 use napt_config::Config;
 use napt_rules::Row;
 use napt_wire::{Cause, Endpoint, Protocol};
@@ -27,14 +27,6 @@ pub fn header() -> &'static str
     "observationTimeNanoseconds,time,natEvent,protocolIdentifier,sourceIPv4Address,sourceTransportPort,\
     postNATSourceIPv4Address,postNAPTSourceTransportPort,natQuotaExceededEvent,binding,redirect,packets_out,\
     packets_in,flowEndNanoseconds,last_use\n"
-}
-
-/// An entry of the log, with its number in it.
-#[derive(Clone, Copy, Debug, PartialEq, Eq)]
-pub struct Listed {
-    /// From 1, in the order of making.
-    pub number: u64,
-    pub entry: Entry,
 }
 
 /// An event of the log.
@@ -61,51 +53,51 @@ impl Event {
         match self {
             Event::Made(listed) => {
                 let made = u128::from(listed.entry.made);
-                listed.add_row(Some(made), Some(BINDING_MADE), text)
+                add_listed(listed, Some(made), Some(BINDING_MADE), text)
             }
-            Event::Ended(listed) => listed.add_row(listed.entry.end, Some(BINDING_ENDED), text),
-            Event::Living(listed) => listed.add_row(listed.entry.end, None, text),
+            Event::Ended(listed) => {
+                add_listed(listed, listed.entry.end, Some(BINDING_ENDED), text)
+            }
+            Event::Living(listed) => add_listed(listed, listed.entry.end, None, text),
             Event::Refused(shortage) => { add_shortage(shortage, config.pair(shortage.host), text) }
         }
     }
 }
 
-impl Listed {
-    /// Appends the row of an event at a time, or of none.
-    fn add_row(
-        &self,
-        at: Option<u128>,
-        event: Option<u64>,
-        text: &mut String,
-    ) -> Result<(), AllocError>
-        ensures { OnOk result (string_bytes text.new ≡ string_bytes text.old
-            ++ rows.row_text (rows.time_fields at ++ rows.listed_fields event self.now)) }
-    {
-        add_time(at, text)?;
-        text.push_str(",")?;
-        add_binding(event, &self.entry.binding, text)?;
-        text.push_str(",")?;
-        self.add_entry(text)?;
-        text.push_str("\n")?;
-        Ok(())
-    }
+/// Appends the row of an event of a binding at a time, or of none.
+fn add_listed(
+    listed: &Listed,
+    at: Option<u128>,
+    event: Option<u64>,
+    text: &mut String,
+) -> Result<(), AllocError>
+    ensures { OnOk result (string_bytes text.new ≡ string_bytes text.old
+        ++ rows.row_text (rows.time_fields at ++ rows.listed_fields event listed.now)) }
+{
+    add_time(at, text)?;
+    text.push_str(",")?;
+    add_binding(event, &listed.entry.binding, text)?;
+    text.push_str(",")?;
+    add_entry(listed, text)?;
+    text.push_str("\n")?;
+    Ok(())
+}
 
-    /// Appends its number and the fields behind it.
-    fn add_entry(&self, text: &mut String) -> Result<(), AllocError>
-        ensures { OnOk result (string_bytes text.new
-            ≡ string_bytes text.old ++ (decimal self.now.number
-            ++ codes "," ++ rows.flag_text self.now.entry.binding.fixed ++ codes ","
-            ++ decimal self.now.entry.sent ++ codes "," ++ decimal self.now.entry.received ++ codes ","
-            ++ rows.time_text (rows.last_use self.now.entry))) }
-    {
-        add_field(self.number, text)?;
-        text.push_str(flag(self.entry.binding.fixed))?;
-        text.push_str(",")?;
-        add_field(self.entry.sent, text)?;
-        add_field(self.entry.received, text)?;
-        add_time(last_use(&self.entry), text)?;
-        Ok(())
-    }
+/// Appends the number of an entry and the fields behind it.
+fn add_entry(listed: &Listed, text: &mut String) -> Result<(), AllocError>
+    ensures { OnOk result (string_bytes text.new
+        ≡ string_bytes text.old ++ (decimal listed.now.number
+        ++ codes "," ++ rows.flag_text listed.now.entry.binding.fixed ++ codes ","
+        ++ decimal listed.now.entry.sent ++ codes "," ++ decimal listed.now.entry.received ++ codes ","
+        ++ rows.time_text (rows.last_use listed.now.entry))) }
+{
+    add_field(listed.number, text)?;
+    text.push_str(flag(listed.entry.binding.fixed))?;
+    text.push_str(",")?;
+    add_field(listed.entry.sent, text)?;
+    add_field(listed.entry.received, text)?;
+    add_time(last_use(&listed.entry), text)?;
+    Ok(())
 }
 
 /// Appends a time in ns and as a date, with a comma between them.

@@ -1,18 +1,23 @@
-//! The texts of the log of a run: rows of CSV, and lines that say who had an endpoint. `specs/` defines each to its last
-//! character, and the functions here write exactly these.
+//! The texts of the log of a run: rows of CSV, and lines that say who had an endpoint; and an object in JSON for each
+//! packet. `specs/` defines each to its last character, and the functions here write exactly these.
 #![tactic(auto)]
 
 mod date;
 mod digits;
 mod event;
 mod holder;
+mod log_rows;
 mod moment;
+mod object;
 mod request;
 #[cfg(test)]
 mod tests;
 
 pub use digits::{add_address, add_endpoint, add_number};
-pub use event::{Event, Listed, header};
+pub use event::{Event, header};
 pub use holder::{add_holder, add_mark, add_nobody};
+pub use log_rows::{add_living, add_opening, add_told, log_grows};
 pub use moment::Moment;
+pub use napt_account::Listed;
+pub use object::Object;
 pub use request::{Nearest, Request, Span};

@@ -1,10 +1,14 @@
-//! Dates around which the calendar is not plain, as Python's `datetime` has them, and a row and a line of each kind.
+//! Dates around which the calendar is not plain, as Python's `datetime` has them, and a row, a line and an object of each
+//! kind.
 
-use crate::{Event, Listed, Moment, Request, Span, add_holder, add_mark, add_nobody, header};
-use napt_account::{Entry, Party, Shortage};
+use crate::{
+    Event, Listed, Moment, Object, Request, Span, add_holder, add_mark, add_nobody, header,
+};
+use napt_account::{Entry, Note, Party, Shortage};
 use napt_config::Config;
-use napt_rules::Row;
-use napt_wire::{Cause, Endpoint, Protocol};
+use napt_rules::{Outcome, Row};
+use napt_sequential::Input;
+use napt_wire::{Cause, Endpoint, Packet, Protocol, Side};
 use std::alloc::Global;
 use std::test::Fail;
 
@@ -190,5 +194,112 @@ fn a_span_has_holders(rt: HostRuntime) -> Result<(), Fail> {
         ..none
     };
     assert_eq!(rt; tcp.nearest_among(&entries).before, None);
+    Ok(())
+}
+
+/// UDP 10.0.0.2:5000 > 198.51.100.7:53, and as it leaves from 203.0.113.1.
+const QUERY: &[u8] = &[
+    0x45, 0, 0, 30, 0, 1, 0, 0, 64, 17, 0x46, 0x92, 10, 0, 0, 2, 198, 51, 100, 7, // IPv4
+    0x13, 0x88, 0, 53, 0, 10, 0x4f, 0x77, 0x68, 0x69, // ports, length, checksum, payload
+];
+
+const QUERY_OUT: &[u8] = &[
+    0x45, 0, 0, 30, 0, 1, 0, 0, 64, 17, 0x14, 0x92, 203, 0, 113, 1, 198, 51, 100, 7, // IPv4
+    0x13, 0x88, 0, 53, 0, 10, 0x1d, 0x77, 0x68, 0x69, // ports, length, checksum, payload
+];
+
+/// An echo request of 10.0.0.2 with identifier 7.
+const ECHO: &[u8] = &[
+    0x45, 0, 0, 28, 0, 3, 0, 0, 64, 1, 0x46, 0xa2, 10, 0, 0, 2, 198, 51, 100, 7, // IPv4
+    8, 0, 0xf7, 0xf7, 0, 7, 0, 1, // echo request, checksum, identifier, sequence number
+];
+
+/// Port unreachable about the query as it left, and as 10.0.0.2 gets it.
+const UNREACHABLE: &[u8] = &[
+    0x45, 0, 0, 56, 0, 2, 0, 0, 64, 1, 0x14, 0x87, 198, 51, 100, 7, 203, 0, 113, 1, // IPv4
+    3, 3, 0xcb, 0xbe, 0, 0, 0, 0, // port unreachable, checksum, unused
+    0x45, 0, 0, 30, 0, 1, 0, 0, 64, 17, 0x14, 0x92, 203, 0, 113, 1, 198, 51, 100, 7, // quoted
+    0x13, 0x88, 0, 53, 0, 10, 0x1d, 0x77, // ports, length, checksum
+];
+
+const UNREACHABLE_IN: &[u8] = &[
+    0x45, 0, 0, 56, 0, 2, 0, 0, 64, 1, 0x46, 0x87, 198, 51, 100, 7, 10, 0, 0, 2, // IPv4
+    3, 3, 0x99, 0xbe, 0, 0, 0, 0, // port unreachable, checksum, unused
+    0x45, 0, 0, 30, 0, 1, 0, 0, 64, 17, 0x46, 0x92, 10, 0, 0, 2, 198, 51, 100, 7, // quoted
+    0x13, 0x88, 0, 53, 0, 10, 0x4f, 0x77, // ports, length, checksum
+];
+
+/// An input that came at 1 s.
+fn input(alloc: Global, side: Side, bytes: &[u8]) -> Result<Input, Fail> {
+    Ok(Input {
+        side,
+        time: 1_000_000_000,
+        clock: 1_000_000_000,
+        bytes: Vec::from_slice(alloc, bytes)?,
+    })
+}
+
+fn packet(alloc: Global, side: Side, bytes: &[u8]) -> Result<Packet, Fail> {
+    let bytes = Vec::from_slice(alloc, bytes)?;
+    Ok(Packet::read(side, bytes).ok().ok_or("a packet")?)
+}
+
+/// The object of an input that has a number, an outcome and a note.
+fn object_of(
+    alloc: Global,
+    number: u64,
+    input: &Input,
+    outcome: &Outcome,
+    note: Note,
+) -> Result<String, Fail> {
+    let mut text = String::new(alloc);
+    let object = Object {
+        number,
+        input,
+        outcome,
+        note,
+    };
+    object.add_to(alloc, &mut text)?;
+    Ok(text)
+}
+
+#[test]
+fn a_packet_that_leaves_has_an_object(rt: HostRuntime) -> Result<(), Fail> {
+    let alloc = rt.alloc();
+    let query = input(alloc, Side::Inside, QUERY)?;
+    let left = Outcome::ToOutside(packet(alloc, Side::Inside, QUERY_OUT)?);
+    let made = object_of(alloc, 1, &query, &left, Note::Made)?;
+    assert_eq!(rt;
+        made.as_str(),
+        "{\"number\":1,\"time\":1000000000,\"side\":\"inside\",\"outcome\":\"to-outside\",\"cause\":null,\"binding\":\"made\",\"hairpin\":false,\"before\":{\"kind\":\"udp\",\"source\":\"10.0.0.2\",\"source_port\":5000,\"destination\":\"198.51.100.7\",\"destination_port\":53,\"identifier\":null,\"about\":null},\"after\":{\"kind\":\"udp\",\"source\":\"203.0.113.1\",\"source_port\":5000,\"destination\":\"198.51.100.7\",\"destination_port\":53,\"identifier\":null,\"about\":null}}\n"
+    );
+    // as a hairpin would: only the side that it leaves for counts
+    let echo = input(alloc, Side::Inside, ECHO)?;
+    let back = Outcome::ToInside(packet(alloc, Side::Inside, ECHO)?);
+    let hairpin = object_of(alloc, 2, &echo, &back, Note::Redirect)?;
+    assert_eq!(rt;
+        hairpin.as_str(),
+        "{\"number\":2,\"time\":1000000000,\"side\":\"inside\",\"outcome\":\"to-inside\",\"cause\":null,\"binding\":\"redirect\",\"hairpin\":true,\"before\":{\"kind\":\"icmp-echo-request\",\"source\":\"10.0.0.2\",\"source_port\":null,\"destination\":\"198.51.100.7\",\"destination_port\":null,\"identifier\":7,\"about\":null},\"after\":{\"kind\":\"icmp-echo-request\",\"source\":\"10.0.0.2\",\"source_port\":null,\"destination\":\"198.51.100.7\",\"destination_port\":null,\"identifier\":7,\"about\":null}}\n"
+    );
+    Ok(())
+}
+
+#[test]
+fn an_error_has_an_object_that_tells_what_it_quotes(rt: HostRuntime) -> Result<(), Fail> {
+    let alloc = rt.alloc();
+    let error = input(alloc, Side::Outside, UNREACHABLE)?;
+    let left = Outcome::ToInside(packet(alloc, Side::Outside, UNREACHABLE_IN)?);
+    let told = object_of(alloc, 3, &error, &left, Note::Nothing)?;
+    assert_eq!(rt;
+        told.as_str(),
+        "{\"number\":3,\"time\":1000000000,\"side\":\"outside\",\"outcome\":\"to-inside\",\"cause\":null,\"binding\":null,\"hairpin\":false,\"before\":{\"kind\":\"icmp-error\",\"source\":\"198.51.100.7\",\"source_port\":null,\"destination\":\"203.0.113.1\",\"destination_port\":null,\"identifier\":null,\"about\":{\"protocol\":\"udp\",\"source\":\"203.0.113.1\",\"source_port\":5000,\"destination\":\"198.51.100.7\",\"destination_port\":53,\"identifier\":null}},\"after\":{\"kind\":\"icmp-error\",\"source\":\"198.51.100.7\",\"source_port\":null,\"destination\":\"10.0.0.2\",\"destination_port\":null,\"identifier\":null,\"about\":{\"protocol\":\"udp\",\"source\":\"10.0.0.2\",\"source_port\":5000,\"destination\":\"198.51.100.7\",\"destination_port\":53,\"identifier\":null}}}\n"
+    );
+    let cut = input(alloc, Side::Outside, &QUERY[..8])?;
+    let dropped = Outcome::Dropped(Cause::Truncated);
+    let refused = object_of(alloc, 4, &cut, &dropped, Note::Nothing)?;
+    assert_eq!(rt;
+        refused.as_str(),
+        "{\"number\":4,\"time\":1000000000,\"side\":\"outside\",\"outcome\":\"dropped\",\"cause\":\"truncated\",\"binding\":null,\"hairpin\":false,\"before\":null,\"after\":null}\n"
+    );
     Ok(())
 }

@@ -1,5 +1,5 @@
 use Rattle.std.proofs.Common.{append_assoc}
-use Rattle.napt_log_text.proofs.event.Listed.add_entry.Goals as goal
+use Rattle.napt_log_text.proofs.event.add_entry.Goals as goal
 
 pub returns : goal.returns
 returns c =
