@@ -13,19 +13,21 @@ use Rattle.napt_dispatch.specs.Passing.{HasCome, PassesEarly, PassesHalted, Pass
 use Rattle.napt_records.specs.Begun.{AreBegun}
 use Rattle.napt_records.specs.Counts.{AreCountsOf}
 use Rattle.napt_laws.specs.Dispatching.{IsFront}
-use Rattle.napt_records.specs.Merged.{AreLive, EndsWith, HandsOut}
+use Rattle.napt_records.specs.Merged.{AreLive, EndsWith, HandsOut, cut_of}
 use Rattle.napt_records.specs.Taking.{Inputs}
 use Rattle.napt_records.specs.declared.Fault.{Fault}
 use Rattle.napt_records.specs.declared.Fault.TheVariants.{Capture, Run, Write}
 use Rattle.napt_records.specs.declared.Which.{Which}
 use Rattle.napt_records.specs.declared.Which.TheVariants.{Outside, Inside, Report}
+use Rattle.napt_records.specs.declared.merged_streams.Cuts.{Cuts}
 use Rattle.napt_records.specs.declared.merged_streams.MergedStreams.{MergedStreams}
 use Rattle.napt_records.proofs.Came.{came_fault, came_whole, handed_front, handed_timely}
 use Rattle.napt_records.proofs.Left.{StopsBy-then}
 use Rattle.napt_rules.specs.Prelude.{Arrival, ran}
 use Rattle.napt_rules.specs.declared.Outcome.{Outcome}
+use Rattle.napt_sequential.specs.Inputs.{Came}
 use Rattle.napt_run.specs.Leaving.{AreSound, AreTimes, Fails, FailsBy, IsSettled, Takes, Timed, records_text}
-use Rattle.napt_run.specs.LeavingLaws.{grows_more, records_text-append, times_first, times_second}
+use Rattle.napt_run.specs.LeavingLaws.{breaks_more, grows_more, records_text-append, times_first, times_second}
 use Rattle.napt_run.specs.Outputs.{Breaks, Grows}
 use Rattle.napt_run.specs.Passed.{PassesAll, PassesOr}
 use Rattle.napt_run.specs.Runs.{FailsInside, FailsOutside, Halts, IfHeld, RunsTo, RunsToFault, RunsWell, Writes, left_of, text_behind}
@@ -34,9 +36,9 @@ use Rattle.napt_run.specs.Streams.{AreTaken, IsFaultOf, IsOfRun, IsReading}
 use Rattle.napt_run.specs.declared.leaving.Leaving.{Leaving}
 use Rattle.napt_run.specs.declared.passing.Totals.{Totals}
 use Rattle.napt_run.proofs.Begun.{ReadBy, read_somehow, read_to_fault, read_well, told}
-use Rattle.napt_run.proofs.Breaks.{breaks_more}
+use Rattle.napt_run.proofs.Counted.{all_counted}
 use Rattle.napt_run.proofs.Files.{begun_files, files_large}
-use Rattle.napt_run.proofs.Fronts.{as_many, front_of, outcomes_back, times_of}
+use Rattle.napt_run.proofs.Fronts.{front_of, times_of}
 
 -- WHAT IS KNOWN OF THE CAPTURES
 
@@ -109,7 +111,7 @@ module _ {R Q W V : Type 0} {G : source.Ghosts R} {H : source.Ghosts Q} {S : sin
             ∙ ap (λ (l : List Arrival). l ++ left) whole ∙ append_assoc first later left),
       )
 
-  front : (inputs first later : List Arrival) (mid : MergedStreams R Q G H) → inputs ≡ first ++ later →
+  pub front : (inputs first later : List Arrival) (mid : MergedStreams R Q G H) → inputs ≡ first ++ later →
       HandsOut begin inputs mid → IfHeld bytes others (λ all. IsFront first all.arrivals)
   front inputs first later mid whole handed =
       IfHeld-by (λ all. IsFront first all.arrivals) bytes others
@@ -126,12 +128,18 @@ module _ {R Q W V : Type 0} {G : source.Ghosts R} {H : source.Ghosts Q} {S : sin
 
   counted : (inputs : List Arrival) → length inputs < 2 ^ 64 → Takes old (left_of rules inputs) new →
       AreCountsOf (ran rules inputs).outcomes new.counts
-  counted inputs few took =
-      let back : map (λ (t : Timed). t.1) (left_of rules inputs) ≡ (ran rules inputs).outcomes =
-      outcomes_back inputs (ran rules inputs).outcomes (as_many rules inputs) in
-      let short : length (map (λ (t : Timed). t.1) (left_of rules inputs)) < 2 ^ 64 =
-      omega (arith, few, ap (λ (l : List Outcome). length l) back, as_many rules inputs) in
-      subst (λ (l : List Outcome). AreCountsOf l new.counts) back (took.counts [] short counts)
+  counted inputs few took = all_counted rules inputs old new counts few took
+
+  -- they are all inputs
+  pub whole_is : (inputs : List Arrival) (cuts : Cuts) → Came HandsOut EndsWith begin inputs None end →
+      cuts.inside ≡ cut_of end.inside → cuts.outside ≡ cut_of end.outside →
+      IfHeld bytes others (λ all. all ≡ record { arrivals = inputs; end = Ok cuts })
+  whole_is inputs cuts came cut_inside cut_outside =
+      IfHeld-by (λ all. all ≡ record { arrivals = inputs; end = Ok cuts }) bytes others
+      (λ b o is same.
+      begun_files begin b o (begun b o is same) ∙ came_whole begin end b o inputs (begun b o is same) came
+      ∙ ap₂ (λ x y. record { arrivals = inputs; end = Ok (record { inside = x; outside = y }) })
+      (sym cut_inside) (sym cut_outside))
 
   well : (totals : Totals) → PassesAll open_gate rules begin old end new totals →
       RunsWell open_gate rules bytes others [] old new totals
@@ -141,12 +149,7 @@ module _ {R Q W V : Type 0} {G : source.Ghosts R} {H : source.Ghosts Q} {S : sin
       record {
         inputs = whole.inputs;
         wrote = wrote whole.inputs all whole.took whole.settled;
-        all = IfHeld-by (λ all. all ≡ record { arrivals = whole.inputs; end = Ok totals.cuts }) bytes others
-            (λ b o is same.
-            begun_files begin b o (begun b o is same)
-            ∙ came_whole begin end b o whole.inputs (begun b o is same) whole.came
-            ∙ ap₂ (λ x y. record { arrivals = whole.inputs; end = Ok (record { inside = x; outside = y }) })
-            (sym p.cut_inside) (sym p.cut_outside));
+        all = whole_is whole.inputs totals.cuts whole.came p.cut_inside p.cut_outside;
         counts = subst (λ c. AreCountsOf (ran rules whole.inputs).outcomes c) (sym p.counts)
             (counted whole.inputs whole.few whole.took);
         bindings = p.well.bindings;

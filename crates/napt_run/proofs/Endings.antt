@@ -52,7 +52,7 @@ module _ (P : Result Totals Fault → Result (Unit {0}) Fault → Type 0)
       (stopped fault)
 
 -- all of the text, where no report could be made of it
-all_left : (rules : Rules) (which : Which) (inside outside : Option (List ℕ)) (old new : Option (List ℕ)) →
+pub all_left : (rules : Rules) (which : Which) (inside outside : Option (List ℕ)) (old new : Option (List ℕ)) →
     IfHeld inside outside (λ all. HasAll rules which all old new) →
     IfHeld inside outside (λ all. HasText rules which all old new ⊎ HasPart rules which all old new)
 all_left rules which inside outside old new = IfHeld-map (λ all. HasAll rules which all old new)
@@ -81,7 +81,7 @@ explains_ends inside outside = at_end (λ told result. IfErr told (Explains insi
     (λ totals fault p. IfHeld-all (λ all. Unit {0}) inside outside (λ all. tt))
     (λ totals p. IfHeld-all (λ all. Unit {0}) inside outside (λ all. tt)) (λ fault p. p)
 
-gate_of : (open_gate : Bool) (fault : Fault) → open_gate ≡ true → IsStopFault open_gate fault →
+pub gate_of : (open_gate : Bool) (fault : Fault) → open_gate ≡ true → IsStopFault open_gate fault →
     tells_shut_gate fault ≡ false
 gate_of open_gate (Capture side fault) is p = refl
 gate_of open_gate (Write which fault) is p = refl
@@ -210,8 +210,13 @@ all_reported rules inside outside old new totals result told written =
           (written (ran rules told.inputs).outcomes told.counts),
     )) told.all
 
+-- a fault that is not one of writing the report
+abbrev pub IsBeforeReport : Fault → Type 0
+IsBeforeReport (Write Report fault) = ⊥
+IsBeforeReport other = Unit {0}
+
 nothing_reported : (rules : Rules) (inside outside : Option (List ℕ))
-    (old new : Option (List ℕ)) (fault : Fault) → IsStopFault false fault → new ≡ old →
+    (old new : Option (List ℕ)) (fault : Fault) → IsBeforeReport fault → new ≡ old →
     Reports rules (Err fault) inside outside old new
 nothing_reported rules inside outside old new (Capture side fault) stop same =
     IfHeld-all (λ all. new ≡ old) inside outside (λ all. same)
@@ -225,10 +230,10 @@ nothing_reported rules inside outside old new (Write Report fault) stop same = a
 
 pub report_ends : (rules : Rules) (inside outside : Option (List ℕ))
     (old new : Option (List ℕ)) (told : Result Totals Fault) (result : Result (Unit {0}) Fault) → Ends told result →
-    IfOk told (IsToldOf rules inside outside) → IfErr told (IsStopFault false) → IfErr told (λ _. new ≡ old) →
+    IfOk told (IsToldOf rules inside outside) → IfErr told IsBeforeReport → IfErr told (λ _. new ≡ old) →
     IfOk told (λ totals. Written totals result old new) → Reports rules result inside outside old new
 report_ends rules inside outside old new = at_end (λ told result. IfOk told (IsToldOf rules inside outside) →
-    IfErr told (IsStopFault false) → IfErr told (λ _. new ≡ old) → IfOk told (λ totals. Written totals result old new) →
+    IfErr told IsBeforeReport → IfErr told (λ _. new ≡ old) → IfOk told (λ totals. Written totals result old new) →
     Reports rules result inside outside old new)
     (λ totals told stop same written. all_reported rules inside outside old new totals (Ok tt) told written)
     (λ totals fault told stop same written. all_reported rules inside outside old new totals (Err
@@ -240,17 +245,15 @@ report_ends rules inside outside old new = at_end (λ told result. IfOk told (Is
 
 -- AND WHAT WAS WRITTEN OF IT
 
-closed_fault : (open_gate : Bool) (fault : Fault) → IsStopFault open_gate fault → IsStopFault false fault
+closed_fault : (open_gate : Bool) (fault : Fault) → IsStopFault open_gate fault → IsBeforeReport fault
 closed_fault open_gate (Capture side fault) p = tt
 closed_fault open_gate (Write Outside fault) p = tt
 closed_fault open_gate (Write Inside fault) p = tt
 closed_fault open_gate (Write Report fault) p = p
-closed_fault open_gate (Run faults.Memory) p = tt
-closed_fault open_gate (Run faults.TooMany) p = p
-closed_fault open_gate (Run (faults.Pool fault)) p = λ never. absurd (let no : false ≡ true = never in cc)
+closed_fault open_gate (Run fault) p = tt
 
 pub closed : (open_gate : Bool) (told : Result Totals Fault) → IfErr told (IsStopFault open_gate) →
-    IfErr told (IsStopFault false)
+    IfErr told IsBeforeReport
 closed open_gate (Ok totals) p = tt
 closed open_gate (Err fault) p = closed_fault open_gate fault p
 
@@ -259,7 +262,7 @@ pub same_contents : {U : Type 0} (contents : U → Option (List ℕ)) (old new :
 same_contents contents old new (Ok totals) p = tt
 same_contents contents old new (Err fault) p = ap contents p
 
-none_written : (fault : Fault) → IsStopFault false fault →
+none_written : (fault : Fault) → IsBeforeReport fault →
     (let r : Result (Unit {0}) Fault = Err fault in failed_writings Report r ≡ 0)
 none_written (Capture side fault) p = refl
 none_written (Write Outside fault) p = refl
@@ -274,7 +277,7 @@ written_all (Ok totals) written result old new is made = subst (λ r. Written to
 written_all (Err fault) written result old new is made = tt
 
 pub written_fails : (told : Result Totals Fault) (written result : Result (Unit {0}) Fault) →
-    result ≡ result_and told written → IfErr told (λ _. written ≡ Ok tt) → IfErr told (IsStopFault false) →
+    result ≡ result_and told written → IfErr told (λ _. written ≡ Ok tt) → IfErr told IsBeforeReport →
     failed_writings Report written ≡ failed_writings Report result
 written_fails (Ok totals) written result is nothing stop = ap (failed_writings Report) (sym is)
 written_fails (Err fault) written result is nothing stop =

@@ -87,7 +87,7 @@ timed_append (x ∷ xs) ys [] ps same = absurd (omega (arith, same))
 timed_append (x ∷ xs) ys (o ∷ os) ps same =
     ap (λ (l : List Timed). (x.time, o) ∷ l) (timed_append xs ys os ps (omega (arith, same)))
 
-left_front : (rules : Rules) (xs ys : List Arrival) → (more : List Timed) × (left_of rules
+pub left_front : (rules : Rules) (xs ys : List Arrival) → (more : List Timed) × (left_of rules
     (xs ++ ys) ≡ left_of rules xs ++ more)
 left_front rules xs ys =
     let later : List Outcome =

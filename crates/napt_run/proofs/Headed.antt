@@ -12,7 +12,7 @@ use Rattle.napt_records.specs.declared.Fault.TheVariants.{Capture, Run, Write}
 use Rattle.napt_records.specs.declared.Which.TheVariants.{Outside, Inside, Report}
 use Rattle.napt_rules.specs.Prelude.{Arrival}
 use Rattle.napt_run.specs.Leaving.{Begins, FailsToBegin}
-use Rattle.napt_run.specs.LeavingLaws.{grows_more}
+use Rattle.napt_run.specs.LeavingLaws.{breaks_more, grows_more}
 use Rattle.napt_run.specs.Outputs.{Breaks, Grows}
 use Rattle.napt_run.specs.Runs.{FailsInside, FailsOutside, Halts, IfHeld, IsLeft, RunsTo, Writes, text_behind}
 use Rattle.napt_run.specs.Files.{files_until}
@@ -21,7 +21,7 @@ use Rattle.napt_run.specs.declared.leaving.Leaving.{Leaving}
 use Rattle.napt_run.specs.declared.output.Output.{Output}
 use Rattle.napt_run.specs.declared.passing.Totals.{Totals}
 use Rattle.napt_run.proofs.Behind.{IfHeld-by}
-use Rattle.napt_run.proofs.Breaks.{breaks_more, first_within}
+use Rattle.napt_run.proofs.Breaks.{first_within}
 
 none_held : (inside outside : Option (List ℕ)) → IfHeld inside outside
     (λ all. IsFront [] all.arrivals)

@@ -232,21 +232,14 @@ answered_write which rules inside outside captures fault first second is made =
 
 -- the text of an output that was made
 abbrev pub text_of : Which → Outputs → List ℕ
-text_of Outside outputs = text (records_at sides.Outside outputs.times.items outputs.outcomes.items)
-text_of Inside outputs = text (records_at sides.Inside outputs.times.items outputs.outcomes.items)
+text_of Outside outputs = outputs.to_outside
+text_of Inside outputs = outputs.to_inside
 text_of Report outputs = string_bytes outputs.report
-
-records_made : (side : Side) (rules : Rules) (captures : Captures) (outputs : Outputs) →
-    AreOutputs rules captures outputs → records_at side outputs.times.items outputs.outcomes.items
-    ≡ records_to side (arrivals_of captures) (ran rules (arrivals_of captures)).outcomes
-records_made side rules captures outputs made =
-    ap₂ (λ (times : List ℕ) (outcomes : List Outcome). records_at side times outcomes) made.times made.outcomes
-    ∙ records_by_time side (arrivals_of captures) (ran rules (arrivals_of captures)).outcomes
 
 text_is : (which : Which) (rules : Rules) (captures : Captures) (outputs : Outputs) →
     AreOutputs rules captures outputs → text_of which outputs ≡ text_to which (texts_made rules captures)
-text_is Outside rules captures outputs made = ap text (records_made sides.Outside rules captures outputs made)
-text_is Inside rules captures outputs made = ap text (records_made sides.Inside rules captures outputs made)
+text_is Outside rules captures outputs made = made.to_outside
+text_is Inside rules captures outputs made = made.to_inside
 text_is Report rules captures outputs made = made.report
 
 -- what was received of it

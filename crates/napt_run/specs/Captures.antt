@@ -170,8 +170,8 @@ IsUnread side known other = ⊥
 
 -- the outputs made for these captures
 pub record AreOutputs (rules : Rules) (captures : Captures) (outputs : Outputs) : Type 0 where
-  pub times : outputs.times.items ≡ map (λ input. input.time) (arrivals_of captures)
-  pub outcomes : outputs.outcomes.items ≡ (ran rules (arrivals_of captures)).outcomes
+  pub to_outside : outputs.to_outside ≡ (texts_made rules captures).outside
+  pub to_inside : outputs.to_inside ≡ (texts_made rules captures).inside
   pub report : string_bytes outputs.report ≡ (texts_made rules captures).report
 
 -- the output that goes to a side

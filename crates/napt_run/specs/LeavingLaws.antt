@@ -1,22 +1,24 @@
 -- What leaves in two parts leaves as one.
-use Rattle.std.specs.Prelude.{◌≡◌, ℕ, ◌+◌, ◌-◌, ◌^◌, ◌<◌, min, List, [], ◌∷◌, ◌++◌, length, map, filter_map, flat_map, Option, Some, None, refl}
-use Rattle.std.proofs.Common.{sym, ◌∙◌, ap, subst, append-nil, append_assoc, length-append, add_assoc, add-zero}
+use Rattle.std.specs.Prelude.{◌≡◌, ℕ, ◌+◌, ◌-◌, ◌^◌, ◌<◌, min, List, [], ◌∷◌, ◌++◌, length, take, map, filter_map, flat_map, Option, Some, None, refl}
+use Rattle.std.proofs.Common.{sym, ◌∙◌, ap, subst, append-nil, append_assoc, arith, length-append, add_assoc, add-zero}
 use Rattle.std.proofs.Math.Nat.{lt_of_le_of_lt, le-add_right}
 use Rattle.std.specs.Io.KnownBytes.{Appends}
 use Rattle.std.proofs.KnownBytes.{Appends-trans}
+use Rattle.std.proofs.Math.Seq.{take-append-add}
 use Rattle.std.proofs.lemmas.List.{map-append}
 use Rattle.std.proofs.lemmas.Grind.{flat_map-append}
 use Rattle.std.proofs.lemmas.List.Elements.{filter_map-append, All-head, All-tail, All-nil, All-cons}
 use Rattle.napt_wire.specs.declared.Side.{Side}
 use Rattle.napt_wire.specs.declared.Side.TheVariants as sides
 use Rattle.napt_capture.specs.declared.device.Sink.{Ghosts}
+use Rattle.napt_capture.specs.declared.fault.WriteFault.{WriteFault}
 use Rattle.napt_capture.specs.Contents.{Entry}
 use Rattle.napt_capture.specs.Text.{record_text}
 use Rattle.napt_rules.specs.declared.Outcome.{Outcome}
 use Rattle.napt_records.specs.Output.{packet_to, record_at}
 use Rattle.napt_records.specs.Counts.{AreCountsOf}
 use Rattle.napt_records.specs.Output.{IsTime}
-use Rattle.napt_run.specs.Outputs.{Grows}
+use Rattle.napt_run.specs.Outputs.{Breaks, Grows}
 use Rattle.napt_run.specs.Leaving.{Timed, records_text, AreTimes, Takes}
 use Rattle.napt_run.specs.declared.output.Output.{Output}
 use Rattle.napt_run.specs.declared.leaving.Leaving.{Leaving}
@@ -41,7 +43,7 @@ times_second [] second all = all
 times_second (x ∷ first) second all =
     times_second first second (All-tail (λ timed. IsTime timed.0) x (first ++ second) all)
 
-appends_none : (known : Option (List ℕ)) → Appends known known []
+pub appends_none : (known : Option (List ℕ)) → Appends known known []
 appends_none None = tt
 appends_none (Some xs) = sym (append-nil xs)
 
@@ -67,6 +69,23 @@ module _ {W : Type 0} {S : Ghosts W} where
         ∙ ap (λ (n : ℕ). a + n) (sym (length-append first second)));
     appended = Appends-trans _ _ _ first second one.appended two.appended;
     kept = two.kept ∙ one.kept;
+  }
+
+-- a fault behind what was written
+module _ {W : Type 0} {S : Ghosts W} where
+  unfoldable pub breaks_more : (x y z : Output W S) (first second : List ℕ) (fault : WriteFault) →
+      Grows x first y → Breaks y second fault z →
+      Breaks x (first ++ second) fault z
+  breaks_more x y z first second fault one two = record {
+    same = two.same ∙ one.same;
+    count = length first + two.count;
+    within = omega (arith, two.within, length-append first second);
+    counted = λ a is. two.counted (a + length first) (one.counted a is)
+        ∙ ap (λ (n : ℕ). min n (2 ^ 64 - 1)) (add_assoc a (length first) two.count);
+    appended = subst (λ (l : List ℕ). Appends (S.contents x.device.now) (S.contents z.device.now) l)
+        (sym (take-append-add first second two.count))
+        (Appends-trans _ _ _ first (take two.count second) one.appended two.appended);
+    failed_once = two.failed_once ∙ ap (λ (n : ℕ). n + 1) one.kept;
   }
 
 -- BOTH

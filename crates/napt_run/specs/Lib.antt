@@ -14,7 +14,14 @@ pub mod Files
 pub mod Outputs
 pub mod Leaving
 pub mod LeavingLaws
+pub mod Observing
+pub mod ObservingLaws
 pub mod Passed
 pub mod Streams
 pub mod Runs
+pub mod Observers
+pub mod Whole
 pub mod StreamLaws
+pub mod RunningLogs
+pub mod RunningLogLaws
+pub mod LoggedStreams

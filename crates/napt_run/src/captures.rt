@@ -1,17 +1,18 @@
 //! A run over captures: reads both, runs in memory, and only then writes.
 ghost use Rattle.std.specs.Prelude.{◌≡◌, ◌↔◌, ◌+◌, ◌-◌, ◌^◌, ◌<◌, length, All, OnOk, IfOk, IfErr, Err, true, false};
-ghost use Rattle.napt_capture.specs.Text.{IsWritable, text};
-ghost use Rattle.napt_records.specs.Output.{IsTime, records_at};
+ghost use Rattle.napt_capture.specs.Text.{IsWritable};
 ghost use Rattle.napt_run.specs.Captures.{Answers, AreOutputs, AreTooMany, Explains, Gets, IfKnown, IsReadFrom, IsUnread, IsWriteFaultOf, Receives, failed_readings, failed_writings, output_to, share_of, texts};
 ghost use Rattle.napt_sequential.specs.Faults.{is_gate_fault};
 ghost use Rattle.napt_records.specs.Faults.{tells_shut_gate};
 
-use napt_capture::{Capture, Sink, Source, read_capture, write_text};
+use crate::kept::Kept;
+use crate::passing::Setting;
+use crate::whole::Tally;
+use napt_capture::{Capture, Sink, Source, Watched, read_capture, write_text};
 use napt_config::Config;
-use napt_dispatch::{TimedRun, run_on_pool};
 use napt_pool::Gate;
-use napt_records::{Fault, Merged, Which, report_text, write_packets};
-use napt_sequential::{MOST_INPUTS, Outcome, RunFault};
+use napt_records::{Fault, Merged, Which, report_of};
+use napt_sequential::{MOST_INPUTS, RunFault};
 use napt_wire::Side;
 use std::alloc::Global;
 use std::sync::{Arc, Wait};
@@ -24,13 +25,11 @@ struct Captures {
     outside: Capture,
 }
 
-/// What a run writes, before it is laid out as captures.
+/// What a run writes.
 #[derive(Drop)]
 struct Outputs {
-    /// When each input arrived, in ns.
-    times: Vec<u64>,
-    /// The outcome of each input.
-    outcomes: Vec<Outcome>,
+    to_outside: Kept,
+    to_inside: Kept,
     report: String,
 }
 
@@ -66,31 +65,28 @@ impl Captures {
 
 /// Runs over the captures, and makes everything to be written.
 fn make_outputs<T: Threads + Wait + Copy + Send + 'static, G: Gate + Send + Sync + Drop + 'static>(
-    rt: &T,
-    alloc: Global,
-    config: &Config,
+    setting: Setting<'_, T, G>,
     captures: Captures,
-    gate: Arc<G>,
 ) -> Result<Outputs, RunFault>
     requires inside { All IsWritable captures.inside.records }
     requires outside { All IsWritable captures.outside.records }
-    ensures ok { IfOk result (λ outputs. AreOutputs config.now captures outputs) }
+    ensures ok { IfOk result (λ outputs. AreOutputs setting.entry.config.now captures outputs) }
     ensures too_many { (result ≡ Err RunFault.TooMany) ↔ AreTooMany captures }
     ensures gate { G.is_open ≡ true → IfErr result (λ fault. is_gate_fault fault ≡ false) }
-    ensures few { IfOk result (λ outputs. length outputs.times.items < 2 ^ 32) }
-    ensures timely { IfOk result (λ outputs. All IsTime outputs.times.items) }
 {
     if captures.are_too_many() {
         return Err(RunFault::TooMany);
     }
-    let many = captures.count();
+    let alloc = setting.alloc;
     let Captures { inside, outside } = captures;
-    let mut inputs = Merged::new(inside.records, outside.records);
-    let TimedRun { run, times } = run_on_pool(rt, alloc, config, &mut inputs, many, gate)?;
-    let report = report_text(alloc, &run, inside.cut, outside.cut)?;
+    let inputs = Merged::new(inside.records, outside.records);
+    let mut to_outside = Watched::new(Kept::new(alloc)?);
+    let mut to_inside = Watched::new(Kept::new(alloc)?);
+    let Tally { counts, bindings } = setting.run_into(inputs, &mut to_outside, &mut to_inside)?;
+    let report = report_of(alloc, &counts, &bindings, inside.cut, outside.cut)?;
     Ok(Outputs {
-        times,
-        outcomes: run.outcomes,
+        to_outside: to_outside.into_inner(),
+        to_inside: to_inside.into_inner(),
         report,
     })
 }
@@ -105,24 +101,19 @@ fn output_to(side: Side) -> Which
     }
 }
 
-impl Outputs {
-    /// Writes the capture that goes to a side, and flushes it.
-    fn write_side<W: Sink>(&self, side: Side, output: &mut W) -> Result<(), Fault>
-        requires output { W.failed output.old < 2 ^ 64 - 1 }
-        requires few { length self.now.times.items < 2 ^ 32 }
-        requires timely { All IsTime self.now.times.items }
-        ensures bytes { Receives (share_of (output_to side) result)
-            (text (records_at side self.now.times.items self.now.outcomes.items))
-            (W.contents output.old) (W.contents output.new) }
-        ensures flushed { OnOk result (W.is_flushed output.new) }
-        ensures fault { IfErr result (IsWriteFaultOf (output_to side)) }
-        ensures count { W.failed output.new
-            ≡ W.failed output.old + failed_writings (output_to side) result }
-    {
-        match write_packets(output, side, &self.times, &self.outcomes) {
-            Ok(()) => Ok(()),
-            Err(fault) => Err(Fault::Write(output_to(side), fault)),
-        }
+/// Writes the capture that goes to a side, and flushes it.
+fn write_side<W: Sink>(side: Side, kept: &Kept, output: &mut W) -> Result<(), Fault>
+    requires { W.failed output.old < 2 ^ 64 - 1 }
+    ensures bytes { Receives (share_of (output_to side) result) kept.now
+        (W.contents output.old) (W.contents output.new) }
+    ensures flushed { OnOk result (W.is_flushed output.new) }
+    ensures fault { IfErr result (IsWriteFaultOf (output_to side)) }
+    ensures count { W.failed output.new
+        ≡ W.failed output.old + failed_writings (output_to side) result }
+{
+    match kept.write_to(output) {
+        Ok(()) => Ok(()),
+        Err(fault) => Err(Fault::Write(output_to(side), fault)),
     }
 }
 
@@ -210,9 +201,15 @@ pub fn run_captures<
     let inside = read_side(alloc, Side::Inside, inside)?;
     let outside = read_side(alloc, Side::Outside, outside)?;
     let captures = Captures { inside, outside };
-    let outputs = make_outputs(rt, alloc, config, captures, gate)?;
-    outputs.write_side(Side::Outside, to_outside)?;
-    outputs.write_side(Side::Inside, to_inside)?;
+    let setting = Setting {
+        rt,
+        alloc,
+        config,
+        gate,
+    };
+    let outputs = make_outputs(setting, captures)?;
+    write_side(Side::Outside, &outputs.to_outside, to_outside)?;
+    write_side(Side::Inside, &outputs.to_inside, to_inside)?;
     write_report(report, &outputs.report)?;
     Ok(())
 }

@@ -8,17 +8,26 @@
 #![tactic(auto)]
 
 mod captures;
+mod kept;
 mod laws;
 mod leaving;
+mod logged_fault;
+mod logged_streams;
+mod observed;
+mod observer;
 mod output;
 mod passing;
 mod reporting;
+mod running_log;
 mod sources;
 mod streaming;
 mod streams;
+mod whole;
 
 pub use captures::run_captures;
 pub use laws::streams_write_the_same;
+pub use logged_fault::LoggedFault;
+pub use logged_streams::run_streams_with_log;
 pub use napt_dispatch::{Worker, dispatch, run_workers};
 pub use napt_records::{
     EndpointText, Fault, Which, cause_name, merge, merge_is_in_order, protocol_name, report_text,

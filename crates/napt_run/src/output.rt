@@ -1,5 +1,6 @@
-//! A capture that is written record by record.
-ghost use Rattle.std.specs.Prelude.{◌≡◌, ◌+◌, ◌-◌, min, ◌^◌, ◌≤◌, ◌<◌, [], length, OnOk, IfErr, IfOk, false};
+//! A capture that is written record by record, or another text that is written part by part.
+ghost use Rattle.std.specs.Prelude.{◌≡◌, ◌+◌, ◌-◌, min, ◌^◌, ◌≤◌, ◌<◌, [], length, take, OnOk, IfErr, IfOk, false};
+ghost use Rattle.std.specs.Io.KnownBytes.{Appends};
 ghost use Rattle.napt_capture.specs.Device.{failed_calls};
 ghost use Rattle.napt_capture.specs.Text.{entry_of_packet, file_header, record_text};
 
@@ -8,7 +9,7 @@ use napt_capture::{Sink, WriteFault, Written};
 /// The latest time, in ns, that a record can hold.
 const LATEST: u64 = 4_294_967_295_999_999_999;
 
-/// A capture that is written record by record.
+/// A capture that is written record by record, or another text that is written part by part.
 #[derive(Drop)]
 pub(crate) struct Output<'a, W: Sink> {
     pub(crate) device: &'a mut W,
@@ -96,6 +97,28 @@ impl<'a, W: Sink> Output<'a, W> {
         }
     }
 
+    /// Writes a text.
+    pub(crate) fn put_text(&mut self, text: &[u8]) -> Result<(), WriteFault>
+        ensures ok { OnOk result (Grows self.old text.now self.new) }
+        ensures err { IfErr result (λ fault. self.old.is_broken ≡ false →
+            Breaks self.old text.now fault self.new) }
+    {
+        let before = self.written;
+        if self.is_broken {
+            return Err(WriteFault { written: before });
+        }
+        match write_all(self.device, text) {
+            Ok(()) => {
+                self.written = before.saturating_add(text.len() as u64);
+                Ok(())
+            }
+            Err(fault) => {
+                self.is_broken = true;
+                Err(behind(before, fault))
+            }
+        }
+    }
+
     /// Flushes what was written.
     pub(crate) fn flush(&mut self) -> Result<(), WriteFault>
         ensures ok { OnOk result (Grows self.old [] self.new) }
@@ -117,7 +140,28 @@ impl<'a, W: Sink> Output<'a, W> {
     }
 }
 
-/// A fault in a part of the capture, counted from its start: this many bytes precede the part.
+/// Writes all of these bytes, and does not flush them. The fault counts those that were written.
+fn write_all<W: Sink>(device: &mut W, bytes: &[u8]) -> Result<(), WriteFault>
+    requires { W.failed device.old < 2 ^ 64 - 1 }
+    ensures ok { OnOk result (Appends (W.contents device.old) (W.contents device.new) bytes.now) }
+    ensures err { IfErr result (λ fault. (fault.written ≤ length bytes.now)
+        × Appends (W.contents device.old) (W.contents device.new) (take fault.written bytes.now)) }
+    ensures count { W.failed device.new ≡ W.failed device.old + failed_calls result }
+{
+    let mut done = 0;
+    while done < bytes.len() {
+        let count = device.write(&bytes[done..]).unwrap_or(0);
+        if count == 0 {
+            return Err(WriteFault {
+                written: done as u64,
+            });
+        }
+        done += count;
+    }
+    Ok(())
+}
+
+/// A fault in a part of the text, counted from its start: this many bytes precede the part.
 fn behind(before: u64, fault: WriteFault) -> WriteFault
     ensures { result.written ≡ min (before + fault.written) (2 ^ 64 - 1) }
 {

@@ -1,7 +1,9 @@
 //! The run from arrivals to departures.
-ghost use Rattle.napt_run.specs.Passed.{PassesOr};
+ghost use Rattle.napt_run.specs.Passed.{PassesObserved};
 
 use crate::leaving::Leaving;
+use crate::observed::{Interruption, Observed};
+use crate::observer::{Halt, Observer};
 use napt_capture::{Sink, Source};
 use napt_config::Config;
 use napt_dispatch::{Passed, Stopped, run_through};
@@ -34,13 +36,13 @@ impl<T: Threads + Wait + Copy + Send + 'static, G: Gate + Send + Sync + Drop + '
     G,
 > {
     /// Runs until the captures end or something fails.
-    pub(crate) fn pass<R: Source, Q: Source, W: Sink, V: Sink>(
+    pub(crate) fn pass<R: Source, Q: Source, W: Sink, V: Sink, O: Observer>(
         self,
-        inputs: &mut MergedStreams<'_, '_, R, Q>,
+        inputs: &mut Observed<'_, MergedStreams<'_, '_, R, Q>, O>,
         leaving: &mut Leaving<'_, '_, W, V>,
-    ) -> Result<Totals, Fault>
-        ensures { PassesOr G.is_open self.entry.config.now inputs.old leaving.old
-            inputs.new leaving.new result }
+    ) -> Result<Totals, Halt<O::Fault>>
+        ensures { PassesObserved O.sees O.fails O.is_settled G.is_open self.entry.config.now
+            inputs.old leaving.old inputs.new leaving.new result }
     {
         let Setting {
             rt,
@@ -52,11 +54,16 @@ impl<T: Threads + Wait + Copy + Send + 'static, G: Gate + Send + Sync + Drop + '
             Ok(passed) => Ok(Totals {
                 counts: leaving.counts,
                 passed,
-                cuts: inputs.cuts(),
+                cuts: inputs.arrivals.cuts(),
             }),
-            Err(Stopped::Run(fault)) => Err(Fault::Run(fault)),
-            Err(Stopped::Arrival(stop)) => Err(Fault::Capture(stop.side, stop.fault)),
-            Err(Stopped::Departure(fault)) => Err(Fault::Write(fault.which, fault.fault)),
+            Err(Stopped::Run(fault)) => Err(Halt::Run(Fault::Run(fault))),
+            Err(Stopped::Arrival(Interruption::Arrival(stop))) => {
+                Err(Halt::Run(Fault::Capture(stop.side, stop.fault)))
+            }
+            Err(Stopped::Arrival(Interruption::Observer(fault))) => Err(Halt::Observer(fault)),
+            Err(Stopped::Departure(fault)) => {
+                Err(Halt::Run(Fault::Write(fault.which, fault.fault)))
+            }
         }
     }
 }

@@ -42,9 +42,9 @@ pub(crate) fn write_report<U: Sink>(
 }
 
 /// Writes the report of a run, if it succeeded.
-pub(crate) fn reported<U: Sink>(
+pub(crate) fn reported<U: Sink, E>(
     alloc: Global,
-    told: &Result<Totals, Fault>,
+    told: &Result<Totals, E>,
     output: &mut U,
 ) -> Result<(), Fault>
     requires { U.failed output.old < 2 ^ 64 - 1 }

@@ -4,14 +4,16 @@ ghost use Rattle.napt_capture.specs.Text.{file_header};
 ghost use Rattle.napt_records.specs.Counts.{AreCountsOf};
 ghost use Rattle.napt_run.specs.Leaving.{AreSound};
 ghost use Rattle.napt_run.specs.Runs.{DeviceGets, ResultSays, RunsTo};
+ghost use Rattle.napt_run.specs.Observers.{Observes, as_run};
 ghost use Rattle.napt_run.specs.Streams.{HasRead, IsOfRun};
 
 use crate::leaving::Leaving;
+use crate::observer::{Halt, Observer};
 use crate::output::Output;
 use crate::passing::{Setting, Totals};
 use napt_capture::{Sink, Source};
 use napt_pool::Gate;
-use napt_records::{Fault, Which};
+use napt_records::Which;
 use std::sync::Wait;
 use std::thread::Threads;
 
@@ -21,31 +23,36 @@ impl<T: Threads + Wait + Copy + Send + 'static, G: Gate + Send + Sync + Drop + '
     G,
 > {
     /// Runs over the captures into both outputs.
-    pub(crate) fn stream<R: Source, Q: Source, W: Sink, V: Sink>(
+    pub(crate) fn stream<R: Source, Q: Source, W: Sink, V: Sink, O: Observer>(
         self,
         inside: &mut R,
         outside: &mut Q,
         to_outside: &mut W,
         to_inside: &mut V,
-    ) -> Result<Totals, Fault>
+        observer: &mut O,
+    ) -> Result<Totals, Halt<O::Fault>>
         requires inside { R.failed inside.old < 2 ^ 64 - 1 }
         requires outside { Q.failed outside.old < 2 ^ 64 - 1 }
         requires to_outside { W.failed to_outside.old < 2 ^ 64 - 1 }
         requires to_inside { V.failed to_inside.old < 2 ^ 64 - 1 }
+        requires observer { O.is_settled observer.old }
         ensures to_outside { DeviceGets W.Sink self.entry.config.now Which.Outside
-            (R.remaining inside.old)
-            (Q.remaining outside.old) result to_outside.old to_outside.new }
+            (R.remaining inside.old) (Q.remaining outside.old) (as_run result)
+            to_outside.old to_outside.new }
         ensures to_inside { DeviceGets V.Sink self.entry.config.now Which.Inside
-            (R.remaining inside.old) (Q.remaining outside.old) result to_inside.old to_inside.new }
+            (R.remaining inside.old) (Q.remaining outside.old) (as_run result)
+            to_inside.old to_inside.new }
         ensures says { ResultSays G.is_open self.entry.config.now (R.remaining inside.old)
-            (Q.remaining outside.old) result }
-        ensures readings { (¬ IsOfRun result) → HasRead R.failed Q.failed
-            inside.old inside.new outside.old outside.new result }
+            (Q.remaining outside.old) (as_run result) }
+        ensures readings { (¬ IsOfRun (as_run result)) → HasRead R.failed Q.failed
+            inside.old inside.new outside.old outside.new (as_run result) }
+        ensures observes { Observes O.sees O.fails O.is_settled (R.remaining inside.old)
+            (Q.remaining outside.old) observer.old observer.new result }
     {
         let ours = Output::over(to_outside);
         let theirs = Output::over(to_inside);
         let mut leaving = Leaving::into(ours, theirs);
-        let told = self.begin_and_run(inside, outside, &mut leaving);
+        let told = self.begin_and_run(inside, outside, &mut leaving, observer);
         let Leaving {
             to_outside: ours,
             to_inside: theirs,
@@ -57,23 +64,27 @@ impl<T: Threads + Wait + Copy + Send + 'static, G: Gate + Send + Sync + Drop + '
     }
 
     /// Writes the headers of the outputs, and runs over the captures.
-    fn begin_and_run<R: Source, Q: Source, W: Sink, V: Sink>(
+    fn begin_and_run<R: Source, Q: Source, W: Sink, V: Sink, O: Observer>(
         self,
         inside: &mut R,
         outside: &mut Q,
         leaving: &mut Leaving<'_, '_, W, V>,
-    ) -> Result<Totals, Fault>
+        observer: &mut O,
+    ) -> Result<Totals, Halt<O::Fault>>
         requires inside { R.failed inside.old < 2 ^ 64 - 1 }
         requires outside { Q.failed outside.old < 2 ^ 64 - 1 }
         requires sound { AreSound leaving.old }
         requires written { leaving.old.to_outside.written ≡ 0 }
         requires counts { AreCountsOf [] leaving.old.counts }
+        requires observer { O.is_settled observer.old }
         ensures runs { RunsTo G.is_open self.entry.config.now (R.remaining inside.old)
-            (Q.remaining outside.old) file_header leaving.old leaving.new result }
-        ensures readings { (¬ IsOfRun result) → HasRead R.failed Q.failed
-            inside.old inside.new outside.old outside.new result }
+            (Q.remaining outside.old) file_header leaving.old leaving.new (as_run result) }
+        ensures readings { (¬ IsOfRun (as_run result)) → HasRead R.failed Q.failed
+            inside.old inside.new outside.old outside.new (as_run result) }
+        ensures observes { Observes O.sees O.fails O.is_settled (R.remaining inside.old)
+            (Q.remaining outside.old) observer.old observer.new result }
     {
         leaving.begin()?;
-        self.run_over(inside, outside, leaving)
+        self.run_over(inside, outside, leaving, observer)
     }
 }

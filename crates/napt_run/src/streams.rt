@@ -2,17 +2,31 @@
 ghost use Rattle.std.specs.Prelude.{◌≡◌, ◌+◌, ◌-◌, ◌^◌, ◌<◌, IfErr, OnOk, true, false};
 ghost use Rattle.napt_records.specs.Faults.{tells_shut_gate};
 ghost use Rattle.napt_run.specs.Captures.{failed_writings};
+ghost use Rattle.napt_run.specs.Observers.{as_run};
 ghost use Rattle.napt_run.specs.Streams.{Explains, HasRead, IsOfRun, IsSettledBy, Reports, Streams};
 
-use crate::passing::Setting;
+use crate::observer::{Halt, Unobserved};
+use crate::passing::{Setting, Totals};
 use crate::reporting::reported;
 use napt_capture::{Sink, Source};
 use napt_config::Config;
 use napt_pool::Gate;
 use napt_records::{Fault, Which};
+use napt_sequential::NoFault;
 use std::alloc::Global;
 use std::sync::{Arc, Wait};
 use std::thread::Threads;
+
+/// The result of a run that nobody observes.
+fn unobserved(streamed: Result<Totals, Halt<NoFault>>) -> Result<Totals, Fault>
+    ensures { result ≡ as_run streamed }
+{
+    match streamed {
+        Ok(totals) => Ok(totals),
+        Err(Halt::Run(fault)) => Err(fault),
+        Err(Halt::Observer(none)) => match none {},
+    }
+}
 
 /// Translates both captures, and writes what leaves to each side, and a report, as `run_captures` does, but as the packets
 /// arrive: each is read, translated and written before a device is asked for more. Memory is bounded by the bindings (an expired one stays until a new one is made at its address), the 131,072
@@ -86,7 +100,9 @@ pub fn run_streams<
         config,
         gate,
     };
-    let told = setting.stream(inside, outside, to_outside, to_inside);
+    let mut nobody = Unobserved;
+    let streamed = setting.stream(inside, outside, to_outside, to_inside, &mut nobody);
+    let told = unobserved(streamed);
     let written = reported(alloc, &told, report);
     told.and(written)
 }

@@ -26,6 +26,8 @@ mod large;
 #[cfg(test)]
 mod logged;
 #[cfg(test)]
+mod logged_steps;
+#[cfg(test)]
 mod merged_streams;
 #[cfg(test)]
 mod merging;
@@ -36,6 +38,8 @@ mod pool;
 mod program;
 #[cfg(test)]
 mod report;
+#[cfg(test)]
+mod running_logs;
 pub mod sample_inputs;
 #[cfg(test)]
 mod steps;

@@ -53,7 +53,7 @@ fn holders_by_time(rt: HostRuntime) -> Result<(), Fail> {
 }
 
 /// A binding of one packet out, which no packet followed, with its end.
-fn one_packet(binding: Row, at: u64, end: u64) -> Entry {
+pub(crate) fn one_packet(binding: Row, at: u64, end: u64) -> Entry {
     Entry {
         binding,
         made: at,

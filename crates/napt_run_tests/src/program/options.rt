@@ -1,6 +1,6 @@
 //! Which files a command line names. The words of the help are seen in tests/end_to_end.
 
-use napt_program::{LineFault, Options, parse_words};
+use napt_program::{LineFault, Manual, Options, OptionsWithLog, parse_words, parse_words_with_log};
 use std::alloc::{AllocError, Global};
 use std::test::Fail;
 
@@ -17,7 +17,7 @@ pub(crate) fn parsed(
     Ok(parse_words(alloc, words))
 }
 
-fn owned(alloc: Global, text: Option<&str>) -> Result<Option<String>, AllocError> {
+pub(crate) fn owned(alloc: Global, text: Option<&str>) -> Result<Option<String>, AllocError> {
     match text {
         Some(text) => Ok(Some(String::from_str(alloc, text)?)),
         None => Ok(None),
@@ -103,6 +103,29 @@ fn gives_each_option_its_file(rt: HostRuntime) -> Result<(), Fail> {
         let wanted = options(alloc, *named)?;
         assert!(rt; parsed(alloc, arguments)? == Ok(wanted), "line {i}");
     }
+    Ok(())
+}
+
+/// The help of a program that takes a log.
+const MANUAL: Manual = Manual {
+    name: "stream",
+    about: "It takes a log.",
+    notes: "No more.",
+};
+
+#[test]
+fn gives_the_log_its_file(rt: HostRuntime) -> Result<(), Fail> {
+    let alloc = rt.alloc();
+    let mut words = Vec::new(alloc);
+    for word in ["stream", "--log", "l", "--report=r"] {
+        words.push(String::from_str(alloc, word)?)?;
+    }
+    let wanted = OptionsWithLog {
+        files: options(alloc, [None, None, None, None, None, Some("r")])?,
+        log: owned(alloc, Some("l"))?,
+    };
+    assert!(rt; parse_words_with_log(alloc, MANUAL, words) == Ok(wanted));
+    assert!(rt; parsed(alloc, &["--log", "l"])? == Err(LineFault::Usage));
     Ok(())
 }
 

@@ -1,7 +1,7 @@
 //! Which output is a file that an option before it names. That the standard streams are files too is seen in tests/end_to_end.
 
-use super::options::{NOTHING, Named, options};
-use napt_program::{Node, Place, Role, is_same, lost_file};
+use super::options::{NOTHING, Named, options, owned};
+use napt_program::{Node, OptionsWithLog, Place, Role, is_log_lost, is_same, lost_file};
 use std::test::Fail;
 
 /// Two files of Linux, and the null device.
@@ -39,6 +39,28 @@ fn finds_the_later_of_two(rt: HostRuntime) -> Result<(), Fail> {
     for (i, (named, wanted)) in rows.into_iter().enumerate() {
         let lost = lost_file(&rt, &options(rt.alloc(), named)?);
         assert_eq!(rt; lost, wanted, "row {i}");
+    }
+    Ok(())
+}
+
+#[test]
+fn finds_a_log_that_another_option_names(rt: HostRuntime) -> Result<(), Fail> {
+    let alloc = rt.alloc();
+    let rows: [(Named<'_>, Option<&str>, bool); 7] = [
+        (NOTHING, None, false),
+        (NOTHING, NEW, false),
+        ([FILE, None, None, None, None, None], FILE, true),
+        ([None, FILE, None, NEW, None, None], NEW, true),
+        ([None, None, None, None, None, NEW], NEW, true),
+        ([None, None, None, None, None, SECOND_NEW], NEW, false),
+        ([None, DEVICE, None, None, None, None], DEVICE, false),
+    ];
+    for (i, (named, log, is_lost)) in rows.into_iter().enumerate() {
+        let given = OptionsWithLog {
+            files: options(alloc, named)?,
+            log: owned(alloc, log)?,
+        };
+        assert!(rt; is_log_lost(&rt, &given) == is_lost, "row {i}");
     }
     Ok(())
 }

@@ -35,6 +35,8 @@ fn names_lines_files_and_runs(rt: HostRuntime) -> Result<(), Fail> {
         (Stop::File(Role::ToOutside), 6, "napt: file to-outside"),
         (Stop::File(Role::ToInside), 6, "napt: file to-inside"),
         (Stop::File(Role::Report), 6, "napt: file report"),
+        (Stop::File(Role::Log), 6, "napt: file log"),
+        (Stop::Log, 6, "napt: write log"),
         (
             Stop::Run(Fault::Run(RunFault::Memory)),
             5,

@@ -1,6 +1,8 @@
 use Rattle.std.proofs.Common.{Ok, sym, add-zero}
 use Rattle.std.proofs.lemmas.Result.{err_from_is_err_and}
+use Rattle.napt_run.specs.Observers.{as_run}
 use Rattle.napt_run.specs.declared.passing.Totals.{Totals}
+use Rattle.napt_run.proofs.Shown.{unbegun_observes}
 use Rattle.napt_run.proofs.Headed.{headed, none_read, unheaded}
 use Rattle.napt_run.proofs.passing.Setting.begin_and_run.Goals as goal
 
@@ -26,7 +28,18 @@ returns-in_err-begin-clause-readings g c not_run =
 pub returns-clause-runs : goal.returns-clause-runs
 returns-clause-runs g c =
     headed g.G.Gate.is_open c.args.self.config.now _ _ c.args.leaving.now c.begin.new.self c.run_over.new.leaving
-    c.in_ok-begin.ensures.ok c.run_over.result c.run_over.ensures.runs
+    c.in_ok-begin.ensures.ok (as_run c.run_over.result) c.run_over.ensures.runs
 
 pub returns-clause-readings : goal.returns-clause-readings
 returns-clause-readings g c not_run = c.run_over.ensures.readings not_run
+
+pub returns-in_err-begin-clause-observes : goal.returns-in_err-begin-clause-observes
+returns-in_err-begin-clause-observes g c =
+    let p = err_from_is_err_and c.from_residual.result c.from_residual.ensures.1 in
+    rw (p.1, p.2) (unbegun_observes g.O.Observer.sees g.O.Observer.fails g.O.Observer.is_settled
+    (g.R.Source.remaining c.args.inside.now) (g.Q.Source.remaining c.args.outside.now) c.args.observer.now
+    (g.met.O.Observer.sees_none c.args.observer.now) c.args.leaving.now c.begin.new.self c.in_err-begin.field-0.0
+    (c.in_err-begin.ensures.err c.requires.sound))
+
+pub returns-clause-observes : goal.returns-clause-observes
+returns-clause-observes g c = c.run_over.ensures.observes

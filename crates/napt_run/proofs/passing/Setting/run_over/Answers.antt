@@ -3,6 +3,7 @@ use Rattle.std.proofs.lemmas.Result.{err_from_is_err_and}
 use Rattle.napt_wire.specs.declared.Side.TheVariants as sides
 use Rattle.napt_records.specs.declared.Fault.TheVariants.{Capture}
 use Rattle.napt_run.specs.Captures.{failed_readings}
+use Rattle.napt_run.proofs.Shown.{unread_observes}
 use Rattle.napt_run.proofs.Headers.{header_failed, header_of, inside_refused, more_after, outside_refused}
 use Rattle.napt_run.proofs.passing.Setting.run_over.Goals as goal
 
@@ -56,3 +57,24 @@ returns-clause-readings g c not_run =
       more_after _ _ _ (failed_readings sides.Inside read) c.in_ok-ours.ensures.count ours,
       more_after _ _ _ (failed_readings sides.Outside read) c.in_ok-theirs.ensures.count theirs,
     )
+
+pub returns-in_err-ours-clause-observes : goal.returns-in_err-ours-clause-observes
+returns-in_err-ours-clause-observes g c =
+    let p = err_from_is_err_and c.from_residual.result c.from_residual.ensures.1 in
+    let (fault, is) = header_of sides.Inside c.in_err-ours.field-0.0 _ _ c.in_err-ours.ensures.fault in
+    rw (p.1, p.2, is) (unread_observes g.O.Observer.sees g.O.Observer.fails g.O.Observer.is_settled
+    (g.R.Source.remaining c.args.inside.now) (g.Q.Source.remaining c.args.outside.now) c.args.observer.now
+    (g.met.O.Observer.sees_none c.args.observer.now) c.requires.observer sides.Inside fault)
+
+pub returns-in_err-theirs-clause-observes : goal.returns-in_err-theirs-clause-observes
+returns-in_err-theirs-clause-observes g c =
+    let p = err_from_is_err_and c.from_residual-in_err-theirs.result c.from_residual-in_err-theirs.ensures.1 in
+    let (fault, is) = header_of sides.Outside c.in_err-theirs.field-0.0 _ _ c.in_err-theirs.ensures.fault in
+    rw (p.1, p.2, is) (unread_observes g.O.Observer.sees g.O.Observer.fails g.O.Observer.is_settled
+    (g.R.Source.remaining c.args.inside.now) (g.Q.Source.remaining c.args.outside.now) c.args.observer.now
+    (g.met.O.Observer.sees_none c.args.observer.now) c.requires.observer sides.Outside fault)
+
+pub returns-clause-observes : goal.returns-clause-observes
+returns-clause-observes g c =
+    c.run_behind_headers.ensures.observes (g.R.Source.remaining c.args.inside.now)
+    (g.Q.Source.remaining c.args.outside.now) c.in_ok-ours.ensures.header c.in_ok-theirs.ensures.header

@@ -25,3 +25,6 @@ returns-clause-says g c = says _ _ _ _ _ _ _ c.begin_and_run-told.ensures.runs
 
 pub returns-clause-readings : goal.returns-clause-readings
 returns-clause-readings g c not_run = c.begin_and_run-told.ensures.readings not_run
+
+pub returns-clause-observes : goal.returns-clause-observes
+returns-clause-observes g c = c.begin_and_run-told.ensures.observes

@@ -1,0 +1,493 @@
+-- What a run with a log leaves on its devices.
+use Rattle.std.proofs.Common.{◌≡◌, ◌⊎◌, inl, inr, ℕ, ◌+◌, ◌-◌, ◌^◌, ◌≤◌, min, Bool, false, List, [], ◌++◌, length, take, Option, None, Some, Result, Ok, Err, IfErr, IfOk, refl, sym, ◌∙◌, ap, subst, arith, append-nil, append_assoc, length-append}
+use Rattle.std.proofs.Math.Seq.{take-append_seam}
+use Rattle.std.proofs.lemmas.List.{take-append-le}
+use Rattle.std.specs.Io.KnownBytes.{Appends}
+use Rattle.std.proofs.KnownBytes.{Appends-trans}
+use Rattle.napt_capture.specs.declared.device.Sink.{Ghosts}
+use Rattle.napt_capture.specs.declared.fault.WriteFault.{WriteFault}
+use Rattle.napt_config.specs.Rules.{Rules}
+use Rattle.napt_laws.specs.Dispatching.{IsFront}
+use Rattle.napt_account.specs.Telling.{living_of}
+use Rattle.napt_log_text.specs.Logs.{living_rows, log_so_far, log_text, opening_text, rows_after}
+use Rattle.napt_log_text.specs.Times.{Text}
+use Rattle.napt_records.specs.Taking.{Inputs}
+use Rattle.napt_records.specs.declared.Fault.{Fault}
+use Rattle.napt_records.specs.declared.Fault.TheVariants as faults
+use Rattle.napt_records.specs.declared.Which.{Which}
+use Rattle.napt_records.specs.declared.Which.TheVariants as outputs
+use Rattle.napt_rules.specs.Prelude.{Arrival}
+use Rattle.napt_sequential.specs.declared.fault.RunFault.TheVariants as reasons
+use Rattle.napt_run.specs.LeavingLaws.{breaks_more, grows_more}
+use Rattle.napt_account.specs.KnownRuns.{IsOfInputs}
+use Rattle.napt_run.specs.LoggedStreams.{Counts, DeviceGetsOr, HasBytes, HasLog, HasPart, HasRows, HasWritten, LogGets, LoggedExplains, LoggedSays, Logs, LogsOf, besides_log, fault_of}
+use Rattle.napt_run.specs.Observers.{FailsAt, Observes, SeesAll, SeesOrFails, SeesSome, as_run}
+use Rattle.napt_run.specs.Outputs.{Breaks, Grows}
+use Rattle.napt_run.specs.Runs.{DeviceGets, IfHeld, ResultSays}
+use Rattle.napt_run.specs.RunningLogs.{Adds, Fails, FailsBy, Flushes, GoesOn, IsAt, IsFlushedAt, Sees}
+use Rattle.napt_run.specs.Streams.{HasRead, IsOfRun, IsSettledBy, ended}
+use Rattle.napt_run.specs.declared.logged_fault.LoggedFault.{LoggedFault}
+use Rattle.napt_run.specs.declared.logged_fault.LoggedFault.TheVariants.{Run, Log}
+use Rattle.napt_run.specs.declared.observer.Halt.{Halt}
+use Rattle.napt_run.specs.declared.observer.Halt.TheVariants as halts
+use Rattle.napt_run.specs.declared.output.Output.{Output}
+use Rattle.napt_run.specs.declared.passing.Totals.{Totals}
+use Rattle.napt_run.specs.declared.running_log.RunningLog.{RunningLog}
+use Rattle.napt_run.proofs.Endings.{IsBeforeReport, all_left}
+use Rattle.napt_run.proofs.Streamed.{IfHeld-all, IfHeld-map}
+
+-- TEXTS
+
+abbrev pub opening : Rules → Text
+opening rules = opening_text rules (living_of rules [])
+
+so_far_is : (rules : Rules) (inputs : List Arrival) → opening rules ++ rows_after rules [] inputs ≡
+    log_so_far rules inputs
+unfolding log_so_far
+so_far_is rules inputs = refl
+
+text_is : (rules : Rules) (inputs : List Arrival) →
+    log_so_far rules inputs ++ living_rows rules (living_of rules inputs) ≡ log_text rules inputs
+unfolding log_text
+text_is rules inputs = refl
+
+-- a front of what is so far is one of the whole
+cut_is : (rules : Rules) (inputs : List Arrival) (count : ℕ) → count ≤ length (log_so_far rules inputs) →
+    take count (log_so_far rules inputs) ≡ take count (log_text rules inputs)
+cut_is rules inputs count within =
+    sym (take-append-le count (log_so_far rules inputs) (living_rows rules (living_of rules inputs)) within)
+    ∙ ap (λ (l : Text). take count l) (text_is rules inputs)
+
+cut_within : (rules : Rules) (inputs : List Arrival) (count : ℕ) → count ≤ length (log_so_far rules inputs) →
+    count ≤ length (log_text rules inputs)
+cut_within rules inputs count within =
+    subst (λ (l : Text). count ≤ length l) (text_is rules inputs)
+    (omega (arith, within, length-append (log_so_far rules inputs) (living_rows rules (living_of rules inputs))))
+
+pub take_whole : (l : Text) → take (length l) l ≡ l
+take_whole l = ap (λ (k : Text). take (length l) k) (sym (append-nil l)) ∙ take-append_seam l []
+
+-- ONE OUTPUT
+
+module _ {L : Type 0} {S : Ghosts L} (rules : Rules) (inside outside : Option (List ℕ)) (old new : Output L S)
+    (none : old.written ≡ 0) where
+  abbrev Before : Option (List ℕ)
+  Before = S.contents old.device.now
+
+  abbrev After : Option (List ℕ)
+  After = S.contents new.device.now
+
+  abbrev Held : (Inputs → Type 0) → Type 0
+  Held Holds = IfHeld inside outside Holds
+
+  bytes_of : (inputs : List Arrival) (count : ℕ) → count ≤ length (log_so_far rules inputs) →
+      Appends Before After (take count (log_so_far rules inputs)) → (all : Inputs) → IsFront inputs all.arrivals →
+      HasBytes rules count all Before After
+  bytes_of inputs count within appended all front = record {
+    inputs = inputs;
+    front = front;
+    within = cut_within rules inputs count within;
+    appended = subst (λ (l : Text). Appends Before After l) (cut_is rules inputs count within) appended;
+  }
+
+  -- writing the rows failed
+  pub broken : (inputs : List Arrival) (fault : WriteFault) → Breaks old (log_so_far rules inputs) fault new →
+      Held (λ all. IsFront inputs all.arrivals) → Held (λ all. HasWritten rules fault.written all Before After)
+  broken inputs fault p = IfHeld-map (λ all. IsFront inputs all.arrivals)
+      (λ all. HasWritten rules fault.written all Before After) inside outside
+      (λ all front. (
+        p.count,
+        omega (arith, p.counted 0 (omega (arith, none))),
+        bytes_of inputs p.count p.within p.appended all front,
+      ))
+
+  -- or writing those of what lives
+  pub broken_end : (inputs : List Arrival) (fault : WriteFault) → Breaks old (log_text rules inputs) fault new →
+      Held (λ all. IsFront inputs all.arrivals) → Held (λ all. HasWritten rules fault.written all Before After)
+  broken_end inputs fault p = IfHeld-map (λ all. IsFront inputs all.arrivals)
+      (λ all. HasWritten rules fault.written all Before After) inside outside
+      (λ all front. (
+        p.count,
+        omega (arith, p.counted 0 (omega (arith, none))),
+        record { inputs = inputs; front = front; within = p.within; appended = p.appended },
+      ))
+
+  pub part_of : (inputs : List Arrival) (count : ℕ) → count ≤ length (log_so_far rules inputs) →
+      Appends Before After (take count (log_so_far rules inputs)) → Held (λ all. IsFront inputs all.arrivals) →
+      Held (λ all. HasPart rules all Before After)
+  part_of inputs count within appended = IfHeld-map (λ all. IsFront inputs all.arrivals)
+      (λ all. HasPart rules all Before After) inside outside
+      (λ all front. (count, bytes_of inputs count within appended all front))
+
+  pub whole_part : (inputs : List Arrival) → Appends Before After (log_so_far rules inputs) →
+      Held (λ all. IsFront inputs all.arrivals) → Held (λ all. HasPart rules all Before After)
+  whole_part inputs appended =
+      part_of inputs (length (log_so_far rules inputs)) (omega arith)
+      (subst (λ (l : Text). Appends Before After l) (sym (take_whole (log_so_far rules inputs))) appended)
+
+  pub rows_of : (inputs : List Arrival) → Appends Before After (log_so_far rules inputs) →
+      Held (λ all. IsFront inputs all.arrivals) → Held (λ all. HasRows rules all Before After)
+  rows_of inputs appended = IfHeld-map (λ all. IsFront inputs all.arrivals)
+      (λ all. HasRows rules all Before After) inside outside (λ all front. (inputs, front, appended))
+
+none_held : (inside outside : Option (List ℕ)) → IfHeld inside outside (λ all. IsFront [] all.arrivals)
+none_held inside outside = IfHeld-all (λ all. IsFront [] all.arrivals) inside outside (λ all. (all.arrivals, refl))
+
+front_first : (inside outside : Option (List ℕ)) (inputs first others : List Arrival) → inputs ≡ first ++ others →
+    IfHeld inside outside (λ all. IsFront inputs all.arrivals) →
+    IfHeld inside outside (λ all. IsFront first all.arrivals)
+front_first inside outside inputs first others both = IfHeld-map (λ all. IsFront inputs all.arrivals)
+    (λ all. IsFront first all.arrivals) inside outside
+    (λ all front. (
+      others ++ front.0,
+      sym (append_assoc first others front.0) ∙ ap (λ (l : List Arrival). l ++ front.0) (sym both) ∙ front.1,
+    ))
+
+-- the log has a part of the rows
+record LeavesPart {L : Type 0} {S : Ghosts L} (rules : Rules) (inside outside : Option (List ℕ))
+    (old new : Output L S) : Type 0 where
+  same : new.device.ghost_name ≡ old.device.ghost_name
+  part : IfHeld inside outside (λ all. HasPart rules all (S.contents old.device.now) (S.contents new.device.now))
+
+-- THE LOG WHILE THE RUN GOES
+
+module _ {L : Type 0} {S : Ghosts L} (rules : Rules) (inside outside : Option (List ℕ))
+    (old mid after : RunningLog L S) (none : old.output.written ≡ 0)
+    (begun : GoesOn rules [] (opening rules) old mid) where
+  abbrev pub Settled : RunningLog L S → Type 0
+  Settled log = S.is_flushed log.output.device.now
+
+  abbrev pub Watched : Result Totals (Halt LoggedFault) → Type 0
+  Watched result = Observes Sees Fails Settled inside outside mid after result
+
+  abbrev Saw : Type 0
+  Saw = SeesSome Sees Fails Settled inside outside mid after
+
+  abbrev Failed : LoggedFault → Type 0
+  Failed fault = FailsAt Sees Fails Settled inside outside mid after fault
+
+  grew : (inputs : List Arrival) → Grows mid.output (rows_after rules [] inputs) after.output →
+      Grows old.output (log_so_far rules inputs) after.output
+  grew inputs p = subst (λ (l : Text). Grows old.output l after.output) (so_far_is rules inputs)
+      (grows_more old.output mid.output after.output _ _ begun.wrote p)
+
+  broke : (inputs : List Arrival) (fault : WriteFault) →
+      Breaks mid.output (rows_after rules [] inputs) fault after.output →
+      Breaks old.output (log_so_far rules inputs) fault after.output
+  broke inputs fault p = subst (λ (l : Text). Breaks old.output l fault after.output) (so_far_is rules inputs)
+      (breaks_more old.output mid.output after.output _ _ fault begun.wrote p)
+
+  saw : (s : Saw) → Grows old.output (log_so_far rules s.inputs) after.output
+  saw s = grew s.inputs (s.saw rules [] begun.at).wrote
+
+  grown_part : (inputs : List Arrival) → Grows old.output (log_so_far rules inputs) after.output →
+      IfHeld inside outside (λ all. IsFront inputs all.arrivals) →
+      LeavesPart rules inside outside old.output after.output
+  grown_part inputs grown front = record {
+    same = grown.same;
+    part = whole_part rules inside outside old.output after.output none inputs grown.appended front;
+  }
+
+  failed_part : (fault : LoggedFault) (inputs : List Arrival) →
+      IfHeld inside outside (λ all. IsFront inputs all.arrivals) → FailsBy rules [] inputs fault mid after →
+      LeavesPart rules inside outside old.output after.output
+  failed_part (Log fault) inputs front p =
+      let all = broke inputs fault p in
+      record {
+        same = all.same;
+        part = part_of rules inside outside old.output after.output none inputs all.count all.within all.appended
+            front;
+      }
+  failed_part (Run (faults.Run fault)) inputs front p =
+      grown_part p.first (grew p.first p.wrote) (front_first inside outside inputs p.first p.others p.both front)
+  failed_part (Run (faults.Capture side fault)) inputs front p = absurd p
+  failed_part (Run (faults.Write which fault)) inputs front p = absurd p
+
+  part : SeesOrFails Sees Fails Settled inside outside mid after →
+      LeavesPart rules inside outside old.output after.output
+  part (inl s) = grown_part s.inputs (saw s) s.front
+  part (inr (fault, f)) = failed_part fault f.inputs f.front (f.failed rules [] begun.at)
+
+  abbrev Gets : Halt LoggedFault → Output L S → Type 0
+  Gets halt new = LogGets rules inside outside (Err (fault_of halt)) old.output new
+
+  failed_at : (fault : LoggedFault) (inputs : List Arrival) →
+      IfHeld inside outside (λ all. IsFront inputs all.arrivals) → FailsBy rules [] inputs fault mid after →
+      Gets (halts.Observer fault) after.output
+  failed_at (Log fault) inputs front p =
+      let all = broke inputs fault p in
+      record {
+        same = all.same;
+        gets = broken rules inside outside old.output after.output none inputs fault all front;
+        counts = all.failed_once;
+        settled = λ settled. absurd settled;
+      }
+  failed_at (Run (faults.Run fault)) inputs front p =
+      let all = failed_part (Run (faults.Run fault)) inputs front p in
+      record { same = all.same; gets = all.part; counts = tt; settled = λ settled. absurd settled }
+  failed_at (Run (faults.Capture side fault)) inputs front p = absurd p
+  failed_at (Run (faults.Write which fault)) inputs front p = absurd p
+
+  -- what it leaves where the run failed, and the log is flushed after that, or not
+  module _ (last : Output L S) (same : last.device.ghost_name ≡ after.output.device.ghost_name)
+      (kept : Appends (S.contents after.output.device.now) (S.contents last.device.now) []) where
+    on : LeavesPart rules inside outside old.output after.output → LeavesPart rules inside outside old.output last
+    on p = record {
+      same = same ∙ p.same;
+      part = IfHeld-map (λ all. HasPart rules all (S.contents old.output.device.now)
+          (S.contents after.output.device.now))
+          (λ all. HasPart rules all (S.contents old.output.device.now) (S.contents last.device.now)) inside outside
+          (λ all has. (
+            has.0,
+            record {
+              inputs = has.1.inputs;
+              front = has.1.front;
+              within = has.1.within;
+              appended = subst (λ (l : Text). Appends (S.contents old.output.device.now)
+                  (S.contents last.device.now) l) (append-nil (take has.0 (log_text rules has.1.inputs)))
+                  (Appends-trans _ _ _ _ [] has.1.appended kept);
+            },
+          )) p.part;
+    }
+
+    pub halted : (halt : Halt LoggedFault) → Watched (Err halt) →
+        IfErr (as_run {T = Totals} (Err halt)) IsBeforeReport → (IsFlushedAt halt → last ≡ after.output) →
+        Gets halt last
+    halted (halts.Run (faults.Capture side fault)) (s, settled) stop flushed =
+        let grown = saw s in
+        subst (Gets (halts.Run (faults.Capture side fault))) (sym (flushed tt)) (record {
+          same = grown.same;
+          gets = rows_of rules inside outside old.output after.output none s.inputs grown.appended s.front;
+          counts = grown.kept;
+          settled = λ done. settled;
+        })
+    halted (halts.Run (faults.Write outputs.Outside fault)) o stop flushed = let p = on (part o) in
+        record { same = p.same; gets = p.part; counts = tt; settled = λ settled. absurd settled }
+    halted (halts.Run (faults.Write outputs.Inside fault)) o stop flushed = let p = on (part o) in
+        record { same = p.same; gets = p.part; counts = tt; settled = λ settled. absurd settled }
+    halted (halts.Run (faults.Write outputs.Report fault)) o stop flushed = absurd stop
+    halted (halts.Run (faults.Run fault)) o stop flushed = let p = on (part o) in
+        record { same = p.same; gets = p.part; counts = tt; settled = λ settled. absurd settled }
+    halted (halts.Observer fault) f stop flushed =
+        subst (Gets (halts.Observer fault)) (sym (flushed tt))
+        (failed_at fault f.inputs f.front (f.failed rules [] begun.at))
+
+  -- or it did not fail, and what lives was written
+  module _ (last : RunningLog L S) (totals : Totals) (s : SeesAll Sees Fails Settled inside outside mid after
+      totals.cuts) where
+    front_all : IfHeld inside outside (λ all. IsFront s.inputs all.arrivals)
+    front_all = IfHeld-map (λ all. all ≡ record { arrivals = s.inputs; end = Ok totals.cuts })
+        (λ all. IsFront s.inputs all.arrivals) inside outside
+        (λ all is. ([], append-nil s.inputs ∙ sym (ap (λ (i : Inputs). i.arrivals) is))) s.all
+
+    saw_all : Grows old.output (log_so_far rules s.inputs) after.output
+    saw_all = grew s.inputs (s.saw rules [] begun.at).wrote
+
+    abbrev pub Closed : Result (Unit {0}) LoggedFault → Type 0
+    Closed closed = Adds rules s.inputs (living_rows rules (living_of rules s.inputs)) after closed last
+
+    pub ended_well : Flushes rules s.inputs (living_rows rules (living_of rules s.inputs)) after last →
+        LogGets rules inside outside (Ok totals) old.output last.output
+    ended_well p =
+        let grown : Grows old.output (log_text rules s.inputs) last.output =
+        subst (λ (l : Text). Grows old.output l last.output) (text_is rules s.inputs)
+        (grows_more old.output after.output last.output _ _ saw_all p.on.wrote) in
+        record {
+          same = grown.same;
+          gets = IfHeld-map (λ all. all ≡ record { arrivals = s.inputs; end = Ok totals.cuts })
+              (λ all. HasLog rules all (S.contents old.output.device.now) (S.contents last.output.device.now))
+              inside outside (λ all is. rw is (refl, grown.appended)) s.all;
+          counts = grown.kept;
+          settled = λ done. p.flushed;
+        }
+
+    pub ended_badly : (fault : LoggedFault) → Closed (Err fault) →
+        LogGets rules inside outside (Err fault) old.output last.output
+    ended_badly (Log fault) p =
+        let all : Breaks old.output (log_text rules s.inputs) fault last.output =
+        subst (λ (l : Text). Breaks old.output l fault last.output) (text_is rules s.inputs)
+        (breaks_more old.output after.output last.output _ _ fault saw_all p) in
+        record {
+          same = all.same;
+          gets = broken_end rules inside outside old.output last.output none s.inputs fault all front_all;
+          counts = all.failed_once;
+          settled = λ settled. absurd settled;
+        }
+    ended_badly (Run (faults.Run reasons.Memory)) p =
+        let grown : Grows old.output (log_so_far rules s.inputs) last.output =
+        subst (λ (l : Text). Grows old.output l last.output) (append-nil (log_so_far rules s.inputs))
+        (grows_more old.output after.output last.output _ _ saw_all p) in
+        record {
+          same = grown.same;
+          gets = whole_part rules inside outside old.output last.output none s.inputs grown.appended front_all;
+          counts = tt;
+          settled = λ settled. absurd settled;
+        }
+    ended_badly (Run (faults.Run reasons.TooMany)) p = absurd p
+    ended_badly (Run (faults.Run (reasons.Pool fault))) p = absurd p
+    ended_badly (Run (faults.Capture side fault)) p = absurd p
+    ended_badly (Run (faults.Write which fault)) p = absurd p
+
+-- or it could not be opened
+module _ {L : Type 0} {S : Ghosts L} (rules : Rules) (inside outside : Option (List ℕ))
+    (old last : RunningLog L S) (none : old.output.written ≡ 0) where
+  pub unopened : (fault : LoggedFault) → Adds rules [] (opening rules) old (Err fault) last →
+      LogGets {S = S} rules inside outside (Err fault) old.output last.output
+  unopened (Log fault) p =
+      let all : Breaks old.output (log_so_far rules []) fault last.output =
+      subst (λ (l : Text). Breaks old.output l fault last.output)
+      (sym (append-nil (opening rules)) ∙ so_far_is rules []) p in
+      record {
+        same = all.same;
+        gets = broken rules inside outside old.output last.output none [] fault all (none_held inside outside);
+        counts = all.failed_once;
+        settled = λ settled. absurd settled;
+      }
+  unopened (Run (faults.Run reasons.Memory)) p = record {
+    same = p.same;
+    gets = part_of rules inside outside old.output last.output none [] 0 (omega arith) p.appended
+        (none_held inside outside);
+    counts = tt;
+    settled = λ settled. absurd settled;
+  }
+  unopened (Run (faults.Run reasons.TooMany)) p = absurd p
+  unopened (Run (faults.Run (reasons.Pool fault))) p = absurd p
+  unopened (Run (faults.Capture side fault)) p = absurd p
+  unopened (Run (faults.Write which fault)) p = absurd p
+
+-- A FAULT OF THE LOG
+
+-- a text of the log could not be made or written
+abbrev pub IsOfText : LoggedFault → Type 0
+IsOfText (Log fault) = Unit {0}
+IsOfText (Run (faults.Run reasons.Memory)) = Unit {0}
+IsOfText other = ⊥
+
+pub adds_fault : {L : Type 0} {S : Ghosts L} (rules : Rules) (inputs : List Arrival) (text : Text)
+    (old new : RunningLog L S) (fault : LoggedFault) → Adds rules inputs text old (Err fault) new → IsOfText fault
+adds_fault rules inputs text old new (Log fault) p = tt
+adds_fault rules inputs text old new (Run (faults.Run reasons.Memory)) p = tt
+adds_fault rules inputs text old new (Run (faults.Run reasons.TooMany)) p = absurd p
+adds_fault rules inputs text old new (Run (faults.Run (reasons.Pool fault))) p = absurd p
+adds_fault rules inputs text old new (Run (faults.Capture side fault)) p = absurd p
+adds_fault rules inputs text old new (Run (faults.Write which fault)) p = absurd p
+
+pub text_stops : (fault : LoggedFault) → IsOfText fault → IsOfRun (besides_log {T = Totals} (Err fault))
+text_stops (Log fault) p = tt
+text_stops (Run (faults.Run fault)) p = tt
+text_stops (Run (faults.Capture side fault)) p = absurd p
+text_stops (Run (faults.Write which fault)) p = absurd p
+
+pub text_says : (open_gate : Bool) (rules : Rules) (inside outside : Option (List ℕ)) (fault : LoggedFault) →
+    IsOfText fault → LoggedSays open_gate rules inside outside (Err fault)
+text_says open_gate rules inside outside (Log fault) p = record { told = tt; fault = tt; stop = tt }
+text_says open_gate rules inside outside (Run (faults.Run reasons.Memory)) p = record {
+  told = tt;
+  fault = IfHeld-all (λ all. Unit {0}) inside outside (λ all. tt);
+  stop = tt;
+}
+text_says open_gate rules inside outside (Run (faults.Run reasons.TooMany)) p = absurd p
+text_says open_gate rules inside outside (Run (faults.Run (reasons.Pool fault))) p = absurd p
+text_says open_gate rules inside outside (Run (faults.Capture side fault)) p = absurd p
+text_says open_gate rules inside outside (Run (faults.Write which fault)) p = absurd p
+
+-- OUTPUTS
+
+module _ {D : Type 0} (S : Ghosts D) (rules : Rules) (inside outside : Option (List ℕ)) (old new : D) where
+  abbrev Device : Which → Result Totals Fault → Type 0
+  Device which result = DeviceGets S rules which inside outside result old new
+
+  -- where the run failed, whatever its fault
+  of_run : (which : Which) (result : Result Totals Fault) → IsOfRun result →
+      Device which (Err (faults.Run reasons.Memory)) → Device which result
+  of_run which (Ok totals) run p = absurd run
+  of_run which (Err (faults.Run fault)) run p =
+      record { gets = p.gets; count = λ no. absurd (no tt); settled = λ settled. absurd settled }
+  of_run which (Err (faults.Capture side fault)) run p = absurd run
+  of_run which (Err (faults.Write other fault)) run p = absurd run
+
+  -- where the run came to its end, and what lives could not be written
+  pub device_after : (which : Which) (totals : Totals) (fault : LoggedFault) → IsOfText fault →
+      Device which (Ok totals) → Device which (besides_log (Err fault))
+  device_after which totals fault text p =
+      of_run which (besides_log (Err fault)) (text_stops fault text) (record {
+        gets = all_left rules which inside outside _ _ p.gets;
+        count = λ no. absurd (no tt);
+        settled = λ settled. absurd settled;
+      })
+
+  pub device_halted : (which : Which) (halt : Halt LoggedFault) →
+      IsOfRun (besides_log {T = Totals} (Err (fault_of halt))) ⊎ (as_run {T = Totals} (Err halt)
+      ≡ besides_log (Err (fault_of halt))) →
+      Device which (as_run (Err halt)) → Device which (besides_log (Err (fault_of halt)))
+  device_halted which halt (inr same) p = subst (Device which) same p
+  device_halted which (halts.Run fault) (inl run) p = p
+  device_halted which (halts.Observer fault) (inl run) p = of_run which (besides_log (Err fault)) run p
+
+-- WHAT A HALT SAYS
+
+module _ {L : Type 0} {S : Ghosts L} (open_gate : Bool) (rules : Rules) (inside outside : Option (List ℕ))
+    (old mid after : RunningLog L S) (none : old.output.written ≡ 0)
+    (begun : GoesOn rules [] (opening rules) old mid) where
+  abbrev Halted : Halt LoggedFault → Type 0
+  Halted halt = Watched rules inside outside old mid after none begun (Err halt)
+
+  -- it is one of the run or of the log, or as it was told
+  pub halt_is : (halt : Halt LoggedFault) → Halted halt →
+      IsOfRun (besides_log {T = Totals} (Err (fault_of halt))) ⊎ (as_run {T = Totals} (Err halt)
+      ≡ besides_log (Err (fault_of halt)))
+  halt_is (halts.Run fault) p = inr refl
+  halt_is (halts.Observer (Log fault)) p = inr refl
+  halt_is (halts.Observer (Run (faults.Run fault))) p = inl tt
+  halt_is (halts.Observer (Run (faults.Capture side fault))) p = absurd (p.failed rules [] begun.at)
+  halt_is (halts.Observer (Run (faults.Write which fault))) p = absurd (p.failed rules [] begun.at)
+
+  too_many : (inputs : List Arrival) → 2 ^ 32 ≤ length inputs →
+      IfHeld inside outside (λ all. IsFront inputs all.arrivals) →
+      IfHeld inside outside (λ all. 2 ^ 32 ≤ length all.arrivals)
+  too_many inputs many = IfHeld-map (λ all. IsFront inputs all.arrivals) (λ all. 2 ^ 32 ≤ length all.arrivals)
+      inside outside (λ all front. subst (λ (l : List Arrival). 2 ^ 32 ≤ length l) front.1
+      (omega (arith, many, length-append inputs front.0)))
+
+  pub halt_says : (halt : Halt LoggedFault) → Halted halt →
+      ResultSays open_gate rules inside outside (as_run (Err halt)) →
+      LoggedSays open_gate rules inside outside (Err (fault_of halt))
+  halt_says (halts.Run (faults.Capture side fault)) p says =
+      record { told = tt; fault = says.fault; stop = says.stop }
+  halt_says (halts.Run (faults.Write which fault)) p says =
+      record { told = tt; fault = says.fault; stop = says.stop }
+  halt_says (halts.Run (faults.Run reasons.TooMany)) p says = absurd says.stop
+  halt_says (halts.Run (faults.Run reasons.Memory)) p says =
+      record { told = tt; fault = says.fault; stop = says.stop }
+  halt_says (halts.Run (faults.Run (reasons.Pool fault))) p says =
+      record { told = tt; fault = says.fault; stop = says.stop }
+  halt_says (halts.Observer (Log fault)) p says = record { told = tt; fault = tt; stop = tt }
+  halt_says (halts.Observer (Run (faults.Run reasons.TooMany))) p says = record {
+    told = tt;
+    fault = too_many p.inputs (p.failed rules [] begun.at).of_inputs p.front;
+    stop = tt;
+  }
+  halt_says (halts.Observer (Run (faults.Run reasons.Memory))) p says = record {
+    told = tt;
+    fault = IfHeld-all (λ all. Unit {0}) inside outside (λ all. tt);
+    stop = tt;
+  }
+  halt_says (halts.Observer (Run (faults.Run (reasons.Pool fault)))) p says =
+      absurd (p.failed rules [] begun.at).of_inputs
+  halt_says (halts.Observer (Run (faults.Capture side fault))) p says = absurd (p.failed rules [] begun.at)
+  halt_says (halts.Observer (Run (faults.Write which fault))) p says = absurd (p.failed rules [] begun.at)
+
+  pub halt_reads : (halt : Halt LoggedFault) → Halted halt → {X Y : Type 0} (of : X → ℕ) (if : Y → ℕ) (start last : X)
+      (other end : Y) → ((¬ IsOfRun (as_run {T = Totals} (Err halt))) →
+      HasRead of if start last other end (as_run {T = Totals} (Err halt))) → (fault : LoggedFault) →
+      fault ≡ fault_of halt → (¬ IsOfRun (besides_log {T = Totals} (Err fault))) →
+      HasRead of if start last other end (besides_log {T = Totals} (Err fault))
+  halt_reads halt p of if start last other end reads fault is none =
+      let stays : (¬ IsOfRun (besides_log {T = Totals} (Err (fault_of halt)))) =
+      subst (λ (f : LoggedFault). ¬ IsOfRun (besides_log {T = Totals} (Err f))) is none in
+      subst (λ (f : LoggedFault). HasRead of if start last other end (besides_log {T = Totals} (Err f))) (sym is)
+      (elim (halt_is halt p) [
+        | inl run ↦ absurd (stays run)
+        | inr same ↦ subst (λ (r : Result Totals Fault). HasRead of if start last other end r) same
+            (reads (subst (λ (r : Result Totals Fault). ¬ IsOfRun r) (sym same) stays))
+      ])

@@ -1,0 +1,62 @@
+-- Pieces that are written one behind the other.
+use Rattle.std.proofs.Common.{◌≡◌, ℕ, ◌+◌, ◌^◌, ◌<◌, ◌≤◌, List, [], ◌∷◌, ◌++◌, length, flat_map, take, drop, get_or, Option, sym, ap, ◌∙◌, subst, arith, length-append, append-nil, take_all, take-append-drop}
+use Rattle.std.proofs.lemmas.List.{take_more}
+use Rattle.std.proofs.lemmas.List.Concat.{flat_map-append}
+use Rattle.std.proofs.lemmas.List.Folds.{length-flat_map-take}
+use Rattle.std.specs.Io.KnownBytes.{Appends}
+use Rattle.napt_capture.specs.Writing.{PutsAll, PutsFront}
+use Rattle.napt_capture.specs.declared.fault.WriteFault.{WriteFault}
+use Rattle.napt_capture.proofs.Puts.{PutsAll-same, PutsFront-append, PutsFront-fault, PutsFront-longer, PutsFront-same}
+
+module _ {X : Type 0} (xs : List X) (f : X → List ℕ) (last : List ℕ) (i : ℕ) where
+  -- so many pieces are written
+  abbrev pub so_far : List ℕ
+  so_far = flat_map f (take i xs)
+
+  -- one piece more
+  so_far_more : (x : X) → i < length xs → x ≡ get_or xs i x → so_far ++ f x ≡ flat_map f (take (i + 1) xs)
+  so_far_more x within is =
+      sym (ap (flat_map f) (take_more xs i x within ∙ ap (λ y. take i xs ++ y ∷ []) (sym is))
+      ∙ flat_map-append f (take i xs) (x ∷ []) ∙ ap (λ l. so_far ++ l) (append-nil (f x)))
+
+  -- there is room for it
+  pub room_for_more : (x : X) (written : ℕ) → i < length xs → x ≡ get_or xs i x →
+      length (flat_map f xs ++ last) < 2 ^ 64 → written ≡ 0 + length so_far → written + length (f x) < 2 ^ 64
+  room_for_more x written within is few counted =
+      omega (
+        arith,
+        counted,
+        few,
+        length-append (flat_map f xs) last,
+        length-flat_map-take f xs i x within,
+        ap (λ y. length (f y)) is,
+      )
+
+  -- a front of it was written, and of all
+  pub more_fails : (old now new : Option (List ℕ)) (x : X) (written : ℕ) (fault : WriteFault) → i < length xs →
+      x ≡ get_or xs i x → PutsAll 0 old now so_far written → PutsFront written now new (f x) fault →
+      (fault.written ≤ length (flat_map f xs ++ last)) × Appends old new (take fault.written (flat_map f xs ++ last))
+  more_fails old now new x written fault within is before front =
+      let more = PutsFront-same (so_far_more x within is) (PutsFront-append so_far (f x) before front) in
+      let split : flat_map f (take (i + 1) xs) ++ flat_map f (drop (i + 1) xs) ≡ flat_map f xs =
+      sym (flat_map-append f (take (i + 1) xs) (drop (i + 1) xs)) ∙ ap (flat_map f) (take-append-drop (i + 1) xs) in
+      let whole = PutsFront-same split (PutsFront-longer (flat_map f (take (i + 1) xs)) (flat_map f (drop (i + 1) xs))
+      more) in
+      PutsFront-fault (flat_map f xs ++ last) (PutsFront-longer (flat_map f xs) last whole)
+
+  -- all of them are
+  all_full : (length xs ≤ i) → so_far ≡ flat_map f xs
+  all_full past = ap (flat_map f) (take_all i xs past)
+
+  pub room_for_last : (written : ℕ) → length xs ≤ i → length (flat_map f xs ++ last) < 2 ^ 64 →
+      written ≡ 0 + length so_far → written + length last < 2 ^ 64
+  room_for_last written past few counted =
+      omega (arith, counted, few, length-append (flat_map f xs) last, ap (λ l. length l) (all_full past))
+
+  -- and a front of the last
+  pub last_fails : (old now new : Option (List ℕ)) (written : ℕ) (fault : WriteFault) → length xs ≤ i →
+      PutsAll 0 old now so_far written → PutsFront written now new last fault →
+      (fault.written ≤ length (flat_map f xs ++ last)) × Appends old new (take fault.written (flat_map f xs ++ last))
+  last_fails old now new written fault past before front =
+      PutsFront-fault (flat_map f xs ++ last)
+      (PutsFront-append (flat_map f xs) last (PutsAll-same (all_full past) before) front)

@@ -1,0 +1,14 @@
+use Rattle.std.proofs.Common.{List, ℕ, [], subst, append-nil}
+use Rattle.std.proofs.lemmas.Result.{err_from_is_err_and}
+use Rattle.napt_run.specs.LeavingLaws.{breaks_more}
+use Rattle.napt_run.specs.Outputs.{Breaks, Grows}
+use Rattle.napt_run.proofs.running_log.RunningLog.put.Goals as goal
+
+pub returns-in_err-flush : goal.returns-in_err-flush
+returns-in_err-flush g c rules inputs at =
+    let p = err_from_is_err_and c.from_residual-in_err-flush.result c.from_residual-in_err-flush.ensures.1 in
+    let grown = subst (λ (l : List ℕ). Grows c.args.self.now.output l c.put_text.new.self) c.as_bytes.ensures.value
+    c.in_ok-put_text.ensures.ok in
+    rw (p.1, p.2) (subst (λ (l : List ℕ). Breaks c.args.self.now.output l c.in_err-flush.field-0.0 c.flush.new.self)
+    (append-nil c.args.text.now) (breaks_more c.args.self.now.output c.put_text.new.self c.flush.new.self
+    c.args.text.now [] c.in_err-flush.field-0.0 grown (c.in_err-flush.ensures.err (grown.sound at.sound))))

@@ -1,0 +1,113 @@
+//! The run over inputs that are all at hand.
+ghost use Rattle.std.specs.Prelude.{◌≡◌, ◌-◌, ◌^◌, ◌<◌, [], All, IfErr, IfOk, OnOk};
+ghost use Rattle.std.specs.Io.KnownBytes.{Appends};
+ghost use Rattle.napt_capture.specs.Text.{file_header};
+ghost use Rattle.napt_dispatch.specs.Dispatch.{IsFaultUnder};
+ghost use Rattle.napt_records.specs.Counts.{AreCountsOf};
+ghost use Rattle.napt_records.specs.Output.{IsTimely};
+ghost use Rattle.napt_run.specs.Streams.{capture_text};
+ghost use Rattle.napt_run.specs.Whole.{IsTallyOf, WritesAll};
+
+use crate::leaving::Leaving;
+use crate::output::Output;
+use crate::passing::Setting;
+use napt_capture::Sink;
+use napt_dispatch::{Passed, Stopped, run_through};
+use napt_pool::Gate;
+use napt_records::{Counts, Merged};
+use napt_rules::Row;
+use napt_sequential::RunFault;
+use napt_wire::Side;
+use std::sync::Wait;
+use std::thread::Threads;
+
+/// What the report of a run is made from, but which captures were cut.
+#[derive(Drop)]
+pub(crate) struct Tally {
+    pub(crate) counts: Counts,
+    pub(crate) bindings: Vec<Row>,
+}
+
+impl<T: Threads + Wait + Copy + Send + 'static, G: Gate + Send + Sync + Drop + 'static> Setting<
+    '_,
+    T,
+    G,
+> {
+    /// Runs over the inputs, and writes both captures. Where an output fails, the fault is `Memory`.
+    pub(crate) fn run_into<W: Sink, V: Sink>(
+        self,
+        inputs: Merged,
+        to_outside: &mut W,
+        to_inside: &mut V,
+    ) -> Result<Tally, RunFault>
+        requires timely { All IsTimely inputs }
+        requires to_outside { W.failed to_outside.old < 2 ^ 64 - 1 }
+        requires to_inside { V.failed to_inside.old < 2 ^ 64 - 1 }
+        ensures to_outside { OnOk result (Appends (W.contents to_outside.old)
+            (W.contents to_outside.new) (capture_text self.entry.config.now Side.Outside inputs)) }
+        ensures to_inside { OnOk result (Appends (V.contents to_inside.old)
+            (V.contents to_inside.new) (capture_text self.entry.config.now Side.Inside inputs)) }
+        ensures tally { IfOk result (IsTallyOf self.entry.config.now inputs) }
+        ensures fault { IfErr result (IsFaultUnder G.is_open) }
+    {
+        let ours = Output::over(to_outside);
+        let theirs = Output::over(to_inside);
+        let mut leaving = Leaving::into(ours, theirs);
+        let told = self.write_all(inputs, &mut leaving);
+        let Leaving {
+            to_outside: ours,
+            to_inside: theirs,
+            counts: _,
+        } = leaving;
+        let _inside = theirs.device;
+        let _outside = ours.device;
+        told
+    }
+
+    /// Writes the headers of both captures, and runs over the inputs.
+    fn write_all<W: Sink, V: Sink>(
+        self,
+        inputs: Merged,
+        leaving: &mut Leaving<'_, '_, W, V>,
+    ) -> Result<Tally, RunFault>
+        requires timely { All IsTimely inputs }
+        requires counts { AreCountsOf [] leaving.old.counts }
+        ensures ok { IfOk result
+            (WritesAll file_header self.entry.config.now inputs leaving.old leaving.new) }
+        ensures fault { IfErr result (IsFaultUnder G.is_open) }
+    {
+        match leaving.begin() {
+            Ok(()) => self.pass_all(inputs, leaving),
+            Err(_) => Err(RunFault::Memory),
+        }
+    }
+
+    /// Runs over the inputs.
+    fn pass_all<W: Sink, V: Sink>(
+        self,
+        mut inputs: Merged,
+        leaving: &mut Leaving<'_, '_, W, V>,
+    ) -> Result<Tally, RunFault>
+        requires timely { All IsTimely inputs }
+        requires counts { AreCountsOf [] leaving.old.counts }
+        ensures ok { IfOk result
+            (WritesAll [] self.entry.config.now inputs leaving.old leaving.new) }
+        ensures fault { IfErr result (IsFaultUnder G.is_open) }
+    {
+        let Setting {
+            rt,
+            alloc,
+            config,
+            gate,
+        } = self;
+        match run_through(rt, alloc, config, &mut inputs, leaving, gate) {
+            Ok(Passed { bindings, legs: _ }) => Ok(Tally {
+                counts: leaving.counts,
+                bindings,
+            }),
+            Err(Stopped::Run(fault)) => Err(fault),
+            Err(Stopped::Arrival(none)) => match none {},
+            Err(Stopped::Departure(_)) => Err(RunFault::Memory),
+        }
+    }
+}
