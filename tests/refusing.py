@@ -8,10 +8,11 @@ from shared import GATEWAY, INPUTS, OUTPUTS, TESTS, called, content, ran, want, 
 
 MOST_TRIES = 10_000
 MEMORY = {3: "config memory", 4: "capture (inside|outside) memory", 5: "run (memory|no-thread)"}
-CALLS = {"read": ("config", "inside", "outside"), "write": ("to-outside", "to-inside", "report")}
+CALLS = {"read": ("config", "inside", "outside"), "write": (*OUTPUTS, "log")}
 
 
 EVERY = ("config", "inside", "outside", *OUTPUTS)
+EVERY_WITH_LOG = (*EVERY, "log")
 EXAMPLE = {option: GATEWAY / name for option, name in INPUTS.items()}
 
 
@@ -31,11 +32,12 @@ class Sweep:
     def __init__(self, program, folder, refuser, named, inputs=EXAMPLE):
         self.program, self.name, self.folder = program, os.path.basename(program), folder
         self.refuser, self.named, self.inputs = built(refuser, folder), named, inputs
+        self.outputs = (*OUTPUTS, "log") if "log" in named else OUTPUTS
         self.whole = self.run({})[2]
 
     def run(self, refusal):
         """A run: its status, its line, its outputs, and what was refused, which is nothing where none was."""
-        for name in ("mark", "left", *OUTPUTS):
+        for name in ("mark", "left", *self.outputs):
             self.at(name).unlink(missing_ok=True)
         given = {"LD_PRELOAD": self.refuser, "REFUSED_MARK": self.at("mark"), "REFUSED_LEFT": self.at("left"), **refusal}
         words = words_of({name: self.inputs.get(name, self.at(name)) for name in self.named})
@@ -44,7 +46,7 @@ class Sweep:
             answer = called([self.program, *words], env=given, **how)
         if "to-outside" not in self.named:
             os.rename(self.at("standard"), self.at("to-outside"))
-        outputs = {name: content(self.at(name)) for name in OUTPUTS}
+        outputs = {name: content(self.at(name)) for name in self.outputs}
         return answer.returncode, answer.stderr.decode(), outputs, content(self.at("mark"))
 
     def at(self, name):
@@ -133,11 +135,16 @@ class Calls(Sweep):
 
 
 def sweep_all(program, room):
-    """All sweeps of stream. Returns how many growths and calls were refused."""
+    """All sweeps of stream without a log. Returns how many growths and calls were refused."""
+    return swept(program, room, (), EVERY)
+
+
+def swept(program, room, *choices):
+    """Sweeps over growths with each choice of options, and over calls with the last one. Returns how many were refused."""
     folder = room / "refused"
     folder.mkdir()
     growths = 0
-    for named in ((), EVERY):
-        growths += sum(Growths(program, folder, named).sweep(is_each_later) for is_each_later in (False, True))
-    calls = sum(Calls(program, folder, EVERY).sweep(name) for name in CALLS)
+    for options in choices:
+        growths += sum(Growths(program, folder, options).sweep(is_each_later) for is_each_later in (False, True))
+    calls = sum(Calls(program, folder, choices[-1]).sweep(name) for name in CALLS)
     return growths, calls

@@ -43,9 +43,9 @@ static const char HELP[] =
     "kept do not have them, and in the report (--report FILE of the words) the relay takes them from the packets and from\n"
     "those that are truncated.\n"
     "\n"
-    "SIGTERM, SIGINT and SIGHUP end the captures: what came is translated and leaves. Where PROGRAM ends by itself the relay ends\n"
-    "too. The status is that of PROGRAM; it is 1 where a device, a folder or PROGRAM cannot be opened, and 2 for a mistake\n"
-    "in the words.\n";
+    "SIGTERM, SIGINT and SIGHUP end the captures: what came is translated and leaves, and PROGRAM writes the report and the log\n"
+    "(--log FILE of the words) to their ends. Where PROGRAM ends by itself the relay ends too. The status is that of PROGRAM; it\n"
+    "is 1 where a device, a folder or PROGRAM cannot be opened, and 2 for a mistake in the words.\n";
 
 enum {
     HEADER_BYTES = 24,

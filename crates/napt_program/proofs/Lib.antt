@@ -1,4 +1,5 @@
 pub mod ConfigLemmas
 pub mod LineLemmas
+pub mod LogLemmas
 pub mod OneKind
 pub mod OptionLemmas

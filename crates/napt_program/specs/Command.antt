@@ -19,6 +19,7 @@ can_fail streams named role.Outside = is_some named.outside
 can_fail streams named role.ToOutside = is_some named.to_outside || not streams.output
 can_fail streams named role.ToInside = is_some named.to_inside
 can_fail streams named role.Report = is_some named.report
+can_fail streams named role.Log = is_some named.log
 
 -- a fault of the outside capture comes of one that is named
 abbrev pub IsOfGiven : Files → Fault → Type 0
@@ -30,6 +31,7 @@ abbrev pub IsRunStop : Streams → Files → Stop → Type 0
 IsRunStop streams named stop.LineMemory = Unit {0}
 IsRunStop streams named (stop.Config fault) = Unit {0}
 IsRunStop streams named (stop.File role) = can_fail streams named role ≡ true
+IsRunStop streams named stop.Log = is_some named.log ≡ true
 IsRunStop streams named (stop.Run fault) = (tells_shut_gate fault ≡ false) × IsOfGiven named fault
 IsRunStop streams named other = ⊥
 

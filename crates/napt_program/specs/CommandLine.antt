@@ -1,9 +1,10 @@
 -- What a command line means, by clap's own specification.
-use Rattle.std.specs.Prelude.{List, [], ◌∷◌, Bool, true, Option, Some, codes, is_some, option_map, string_bytes}
+use Rattle.std.specs.Prelude.{List, [], ◌∷◌, Bool, true, false, Option, Some, None, codes, option_map, string_bytes}
 use Rattle.clap.specs.Words.{App, Kinds, Row, Rule, Text, fault_of, first_of, matches_of, new_app, new_rule, with_rule}
 use Rattle.clap.specs.declared.builder.action.ArgAction.TheVariants.{Set}
 use Rattle.clap.specs.declared.error.kind.ErrorKind.TheVariants.{DisplayHelp, DisplayVersion}
 use Rattle.napt_program.specs.declared.options.Options.{Options}
+use Rattle.napt_program.specs.declared.options_with_log.OptionsWithLog.{OptionsWithLog}
 use Rattle.napt_program.specs.declared.options.LineFault.{LineFault}
 use Rattle.napt_program.specs.declared.options.LineFault.TheVariants.{Help, Version}
 use Rattle.napt_program.specs.declared.role.Role.{Role}
@@ -31,6 +32,11 @@ with_version a = record a { top = record a.top { has_version = true } }
 abbrev pub napt_app : App
 napt_app = with_options (with_version (new_app (codes "napt"))) option_names
 
+-- the same of a program that takes `--log` too, or does not
+abbrev pub app_for : Bool → App
+app_for false = napt_app
+app_for true = with_options napt_app (codes "log" ∷ [])
+
 -- the file that each option names
 pub record Files : Type 0 where
   pub config : Option Text
@@ -39,6 +45,7 @@ pub record Files : Type 0 where
   pub to_outside : Option Text
   pub to_inside : Option Text
   pub report : Option Text
+  pub log : Option Text
 
 abbrev pub files_of : Options → Files
 files_of o = record {
@@ -48,17 +55,27 @@ files_of o = record {
   to_outside = option_map string_bytes o.to_outside;
   to_inside = option_map string_bytes o.to_inside;
   report = option_map string_bytes o.report;
+  log = None;
 }
 
+abbrev pub files_with_log : OptionsWithLog → Files
+files_with_log o = record (files_of o.files) { log = option_map string_bytes o.log }
+
+-- the value of `--log`, if the program takes it
+abbrev pub log_in : Bool → List Row → Option Text
+log_in false rows = None
+log_in true rows = first_of (codes "log") rows
+
 -- the values in clap's matches
-abbrev pub files_in : List Row → Files
-files_in rows = record {
+abbrev pub files_in : Bool → List Row → Files
+files_in takes_log rows = record {
   config = first_of (codes "config") rows;
   inside = first_of (codes "inside") rows;
   outside = first_of (codes "outside") rows;
   to_outside = first_of (codes "to-outside") rows;
   to_inside = first_of (codes "to-inside") rows;
   report = first_of (codes "report") rows;
+  log = log_in takes_log rows;
 }
 
 -- what a command line means: files, a request for help or for the version, or a mistake
@@ -69,15 +86,22 @@ pub data Line : Type 0 where
   mistake : Line
 
 -- clap finds no fault in arguments that it accepts, and reports help and the version as faults of those kinds
-abbrev pub line_by : Kinds → List Row → Line
-line_by [] rows = files (files_in rows)
-line_by (DisplayHelp ∷ more) rows = help
-line_by (DisplayVersion ∷ more) rows = version
-line_by (other ∷ more) rows = mistake
+abbrev pub line_by : Kinds → Files → Line
+line_by [] named = files named
+line_by (DisplayHelp ∷ more) named = help
+line_by (DisplayVersion ∷ more) named = version
+line_by (other ∷ more) named = mistake
 
--- the arguments begin with the program's name
-unfoldable pub line_of_words : List Text → Line
-line_of_words words = line_by (fault_of napt_app words) (matches_of napt_app words)
+-- what a command line means to a program that takes `--log`, or does not; the arguments begin with the program's name
+unfoldable pub line_for : Bool → List Text → Line
+line_for takes_log words =
+    line_by (fault_of (app_for takes_log) words) (files_in takes_log (matches_of (app_for takes_log) words))
+
+abbrev pub line_of_words : List Text → Line
+line_of_words words = line_for false words
+
+abbrev pub line_with_log : List Text → Line
+line_with_log words = line_for true words
 
 -- the name of the file's option
 abbrev pub role_name : Role → Text
@@ -87,15 +111,7 @@ role_name role.Outside = codes "outside"
 role_name role.ToOutside = codes "to-outside"
 role_name role.ToInside = codes "to-inside"
 role_name role.Report = codes "report"
-
--- the arguments name a file for this role
-abbrev pub is_named : Options → Role → Bool
-is_named options role.Config = is_some options.config
-is_named options role.Inside = is_some options.inside
-is_named options role.Outside = is_some options.outside
-is_named options role.ToOutside = is_some options.to_outside
-is_named options role.ToInside = is_some options.to_inside
-is_named options role.Report = is_some options.report
+role_name role.Log = codes "log"
 
 abbrev pub IsHelp : LineFault → Type 0
 IsHelp (Help text) = Unit {0}

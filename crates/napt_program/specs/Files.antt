@@ -1,10 +1,10 @@
 -- The result of opening the files of a run.
 use Rattle.std.specs.Prelude.{◌≡◌, true, option_map}
 use Rattle.either.specs.Either.{is_left}
-use Rattle.napt_program.specs.CommandLine.{Files, is_named}
-use Rattle.napt_program.specs.Standard.{is_dash, is_standard}
-use Rattle.napt_program.specs.declared.options.Options.{Options}
+use Rattle.napt_program.specs.CommandLine.{Files}
+use Rattle.napt_program.specs.Standard.{is_dash, is_named, is_standard}
 use Rattle.napt_program.specs.declared.files.InputFiles.{InputFiles}
+use Rattle.napt_program.specs.declared.files.FilesWithLog.{FilesWithLog}
 use Rattle.napt_program.specs.declared.files.RunFiles.{RunFiles}
 use Rattle.napt_program.specs.declared.role.Role.TheVariants as role
 use Rattle.napt_program.specs.declared.stop.Stop.{Stop}
@@ -18,12 +18,17 @@ AreOpen named files = (is_left files.inside ≡ is_standard named role.Inside)
     × (option_map is_left files.to_inside ≡ option_map is_dash named.to_inside)
     × (option_map is_left files.report ≡ option_map is_dash named.report)
 
+-- the same with a log
+abbrev pub AreOpenWithLog : {S T F : Type 0} → Files → FilesWithLog S T F → Type 0
+AreOpenWithLog named opened =
+    AreOpen named opened.files × (option_map is_left opened.log ≡ option_map is_dash named.log)
+
 -- the same of the captures alone
 abbrev pub AreInputsOpen : {S F : Type 0} → Files → InputFiles S F → Type 0
 AreInputsOpen named files = (is_left files.inside ≡ is_standard named role.Inside)
     × (option_map is_left files.outside ≡ option_map is_dash named.outside)
 
 -- a fault of a file that is named
-abbrev pub IsFileStop : Options → Stop → Type 0
-IsFileStop options (stop.File role) = is_named options role ≡ true
-IsFileStop options other = ⊥
+abbrev pub IsFileStop : Files → Stop → Type 0
+IsFileStop named (stop.File role) = is_named named role ≡ true
+IsFileStop named other = ⊥

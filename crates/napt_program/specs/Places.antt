@@ -31,6 +31,11 @@ output_named_again p =
     else (if is_again p p.report p.to_outside p.to_inside then Some role.Report
     else None))
 
+-- the log is a file of another option, or a standard stream
+abbrev pub is_log_named_again : Places → Option Place → Bool
+is_log_named_again p None = false
+is_log_named_again p (Some log) = is_again p (Some log) p.to_outside p.to_inside || is_there log p.report
+
 -- an output that has a place
 abbrev pub is_placed : Places → Role → Bool
 is_placed p role.ToOutside = is_some p.to_outside

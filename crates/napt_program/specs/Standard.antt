@@ -13,6 +13,10 @@ file_for named role.Outside = named.outside
 file_for named role.ToOutside = named.to_outside
 file_for named role.ToInside = named.to_inside
 file_for named role.Report = named.report
+file_for named role.Log = named.log
+
+abbrev pub is_named : Files → Role → Bool
+is_named named r = is_some (file_for named r)
 
 -- `-` is no file, but a standard stream
 abbrev pub is_dash : Text → Bool
@@ -29,13 +33,19 @@ is_stream named r = is_dash_given (file_for named r)
 abbrev pub is_standard : Files → Role → Bool
 is_standard named r = not (is_some (file_for named r)) || is_stream named r
 
--- the first output that wants standard output after another
+-- the log wants standard output, which an output has
+abbrev pub is_log_again : Files → Bool
+is_log_again named =
+    is_stream named role.Log && (is_stream named role.Report || is_stream named role.ToInside
+    || is_standard named role.ToOutside)
+
+-- the first output that wants standard output after another; the log is the last
 abbrev pub output_again : Files → Option Role
 output_again named =
     if is_stream named role.ToInside && is_standard named role.ToOutside then Some role.ToInside
     else (if is_stream named role.Report && (is_stream named role.ToInside || is_standard named role.ToOutside)
     then Some role.Report
-    else None)
+    else (if is_log_again named then Some role.Log else None))
 
 -- the first option that wants a standard stream which another has: that of the configuration, if the inside capture is
 -- standard input by default

@@ -35,6 +35,7 @@ status_of stop.Help = 6
 status_of (stop.Config fault) = 3
 status_of (stop.File role) = 6
 status_of (stop.Run fault) = status_of_fault fault
+status_of stop.Log = 6
 
 -- a fault's name, in lower case with hyphens between its words
 abbrev pub config_name : ConfigFault → Text
@@ -103,6 +104,7 @@ stop_text stop.Help = codes "write " ++ role_name role.ToOutside
 stop_text (stop.Config fault) = codes "config " ++ config_name fault
 stop_text (stop.File role) = codes "file " ++ role_name role
 stop_text (stop.Run fault) = fault_text fault
+stop_text stop.Log = codes "write " ++ role_name role.Log
 
 -- the fault line, without its line feed
 abbrev pub line_of : Stop → Text

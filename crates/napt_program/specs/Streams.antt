@@ -11,7 +11,8 @@ abbrev pub closed_output : Streams → Files → Option Role
 closed_output streams named =
     if not streams.output && is_standard named role.ToOutside then Some role.ToOutside
     else (if not streams.output && is_stream named role.ToInside then Some role.ToInside
-    else (if not streams.output && is_stream named role.Report then Some role.Report else None))
+    else (if not streams.output && is_stream named role.Report then Some role.Report
+    else (if is_stream named role.Log && not streams.output then Some role.Log else None)))
 
 -- the first standard stream that is needed and closed: its option is `-`, or it stands for an absent one
 abbrev pub closed_stream : Streams → Files → Option Role

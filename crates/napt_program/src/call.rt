@@ -111,6 +111,7 @@ impl fmt::Display for Advice {
             | Stop::Usage
             | Stop::LineMemory
             | Stop::Help
+            | Stop::Log
             | Stop::Run(Fault::Run(_) | Fault::Write(..)) => {
                 let name = self.name;
                 write!(

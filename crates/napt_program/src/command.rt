@@ -1,25 +1,30 @@
 //! The arguments of a program, and everything that it opens for its run.
 
-ghost use Rattle.std.specs.Prelude.{◌≡◌, ◌≢◌, ◌⊎◌, Err, IfErr, IfOk, IfSome, None, false, is_some, true};
+ghost use Rattle.std.specs.Prelude.{◌≡◌, ◌≢◌, ◌⊎◌, Err, IfErr, IfOk, IfSome, None, Option, false, is_some, true};
 ghost use Rattle.std.specs.IoError.{error_kind};
-ghost use Rattle.napt_program.specs.CommandLine.{files_of};
+ghost use Rattle.clap.specs.Words.{Text};
+ghost use Rattle.napt_program.specs.CommandLine.{files_of, files_with_log};
 ghost use Rattle.napt_program.specs.Command.{IsRunStop};
 ghost use Rattle.napt_records.specs.Faults.{tells_shut_gate};
-ghost use Rattle.napt_program.specs.Devices.{AreFresh};
+ghost use Rattle.either.specs.Either.{is_left};
+ghost use Rattle.napt_program.specs.Devices.{AreFresh, failed_in};
 ghost use Rattle.napt_program.specs.Standard.{standard_again};
 ghost use Rattle.napt_program.specs.Streams.{closed_stream};
 
 use crate::config_file::configuration;
-use crate::devices::{Devices, buffered};
-use crate::files::open_files;
+use crate::devices::{Devices, buffered, sink_over};
+use crate::files::{FilesWithLog, open_files, open_files_with_log};
 use crate::options::Options;
+use crate::options_with_log::OptionsWithLog;
 use crate::stop::{MEMORY, Stop};
-use crate::streams::{Streams, closed_stream};
+use crate::streams::{Streams, closed_stream, closed_stream_with_log};
+use either::Either;
+use napt_capture::{Nowhere, Watched};
 use napt_config::Config;
 use napt_records::Fault;
 use napt_wire::Side;
 use std::env::Env;
-use std::io::{ErrorKind, Printer, Write};
+use std::io::{BufWriter, ErrorKind, Printer, Write};
 use std::rt::Files;
 use std::{env, io};
 
@@ -81,11 +86,50 @@ pub fn open<'r, R: Files + Input + Print + AllocGlobal>(
     Ok(Opened { config, devices })
 }
 
+/// Everything that a run with a log needs; without a log `Nowhere` stands for it.
+#[derive(Drop)]
+pub struct OpenedWithLog<S, T: Write + Drop, F: Write + Drop> {
+    pub opened: Opened<S, T, F>,
+    pub log: Either<Watched<BufWriter<Either<T, F>>>, Nowhere>,
+}
+
+/// The same for options with a log, which comes behind the outputs: it is refused after them, and created last. If no log is
+/// named, what `open` does is all.
+pub fn open_with_log<'r, R: Files + Input + Print + AllocGlobal>(
+    rt: &'r R,
+    streams: Streams,
+    options: &OptionsWithLog,
+) -> Result<OpenedWithLog<Box<R::Reader>, Printer<'r, R>, R::File>, Stop>
+    ensures fresh { IfOk result (λ o. AreFresh o.opened.devices × (failed_in o.log ≡ 0)) }
+    ensures log { IfOk result (λ o. is_left o.log ≡ is_some options.now.log) }
+    ensures stop { IfErr result (IsRunStop streams (files_with_log options.now)) }
+    ensures closed { IfSome (closed_stream streams (files_with_log options.now)) (λ role.
+        result ≡ Err (Stop.File role)) }
+    ensures again { closed_stream streams (files_with_log options.now) ≡ None →
+        IfSome (standard_again (files_with_log options.now)) (λ role.
+        result ≡ Err (Stop.File role)) }
+{
+    if let Some(role) = closed_stream_with_log(streams, options) {
+        return Err(Stop::File(role));
+    }
+    if let Some(role) = options.standard_again() {
+        return Err(Stop::File(role));
+    }
+    let config = configuration(rt, options.files.config.as_ref())?;
+    let FilesWithLog { files, log } = open_files_with_log(rt, options)?;
+    let devices = buffered(rt.alloc(), files)?;
+    let log = sink_over(rt.alloc(), log)?;
+    let opened = Opened { config, devices };
+    Ok(OpenedWithLog { opened, log })
+}
+
 /// Why a program stops after a fault of its run. What stands for an outside capture that was not given has no fault: if it
 /// could not be read, memory was refused to the run.
 pub fn stop_of_run(options: &Options, fault: Fault) -> Stop
     requires { tells_shut_gate fault ≡ false }
     ensures stop { (streams : Streams) → IsRunStop streams (files_of options.now) result }
+    ensures logged { (streams : Streams) (log : Option Text)
+        → IsRunStop streams (record (files_of options.now) { log = log }) result }
     ensures given { is_some (files_of options.now).outside ≡ true → result ≡ Stop.Run fault }
 {
     match fault {

@@ -88,7 +88,7 @@ fn sink<D: Write + Drop>(alloc: Global, device: D) -> Result<Watched<BufWriter<D
 }
 
 /// The same, or without a writer one that discards everything.
-fn sink_over<D: Write + Drop>(
+pub(crate) fn sink_over<D: Write + Drop>(
     alloc: Global,
     device: Option<D>,
 ) -> Result<Either<Watched<BufWriter<D>>, Nowhere>, Stop>

@@ -2,12 +2,13 @@
 
 ghost use Rattle.std.specs.Prelude.{◌≡◌, ◌⊎◌, IfErr, IfOk, IsSome, false, option_map, string_bytes, true};
 ghost use Rattle.either.specs.Either.{is_left};
-ghost use Rattle.napt_program.specs.CommandLine.{files_of};
-ghost use Rattle.napt_program.specs.Files.{AreInputsOpen, AreOpen, IsFileStop};
+ghost use Rattle.napt_program.specs.CommandLine.{files_of, files_with_log};
+ghost use Rattle.napt_program.specs.Files.{AreInputsOpen, AreOpen, AreOpenWithLog, IsFileStop};
 ghost use Rattle.napt_program.specs.Standard.{is_dash};
 
 use crate::options::{Options, is_dash};
-use crate::places::lost_file;
+use crate::options_with_log::OptionsWithLog;
+use crate::places::{is_log_lost, lost_file};
 use crate::role::Role;
 use crate::stop::{MEMORY, Stop};
 use either::{Either, Left, Right};
@@ -32,6 +33,15 @@ pub struct RunFiles<S, T, F> {
     pub report: Option<Either<T, F>>,
 }
 
+/// The open files of a run with a log.
+#[derive(Drop)]
+pub struct FilesWithLog<S, T, F> {
+    /// All but the log.
+    pub files: RunFiles<S, T, F>,
+    /// The log, if it is named.
+    pub log: Option<Either<T, F>>,
+}
+
 /// The open captures of a run: those that are named, and standard input for `-`, and in place of an inside capture that is
 /// not named.
 #[derive(Drop)]
@@ -51,9 +61,43 @@ pub fn open_files<'r, R: Files + Input + Print + AllocGlobal>(
     options: &Options,
 ) -> Result<RunFiles<Box<R::Reader>, Printer<'r, R>, R::File>, Stop>
     ensures open { IfOk result (AreOpen (files_of options.now)) }
-    ensures refused { IfErr result (λ stop. (stop ≡ MEMORY) ⊎ IsFileStop options.now stop) }
+    ensures refused { IfErr result (λ stop. (stop ≡ MEMORY)
+        ⊎ IsFileStop (files_of options.now) stop) }
 {
-    let InputFiles { inside, outside } = open_inputs(rt, options)?;
+    let inputs = open_inputs(rt, options)?;
+    with_outputs(rt, options, inputs)
+}
+
+/// The same, and creates or empties the log last. A log that another option also names is refused behind the outputs that
+/// are refused for the same, and before any output is touched.
+pub fn open_files_with_log<'r, R: Files + Input + Print + AllocGlobal>(
+    rt: &'r R,
+    options: &OptionsWithLog,
+) -> Result<FilesWithLog<Box<R::Reader>, Printer<'r, R>, R::File>, Stop>
+    ensures open { IfOk result (AreOpenWithLog (files_with_log options.now)) }
+    ensures refused { IfErr result (λ stop. (stop ≡ MEMORY)
+        ⊎ IsFileStop (files_with_log options.now) stop) }
+{
+    let inputs = open_inputs(rt, &options.files)?;
+    if is_log_lost(rt, options) {
+        return Err(Stop::File(Role::Log));
+    }
+    let files = with_outputs(rt, &options.files, inputs)?;
+    let log = created_at(rt, options.log.as_ref(), Role::Log)?;
+    Ok(FilesWithLog { files, log })
+}
+
+/// Creates or empties the outputs of a run whose captures are open. Fails with the role of one that cannot be created.
+fn with_outputs<'r, R: Files + Input + Print>(
+    rt: &'r R,
+    options: &Options,
+    inputs: InputFiles<Box<R::Reader>, R::File>,
+) -> Result<RunFiles<Box<R::Reader>, Printer<'r, R>, R::File>, Stop>
+    ensures open { AreInputsOpen (files_of options.now) inputs
+        → IfOk result (AreOpen (files_of options.now)) }
+    ensures refused { IfErr result (IsFileStop (files_of options.now)) }
+{
+    let InputFiles { inside, outside } = inputs;
     let to_outside = match &options.to_outside {
         None => Left(io::writer(rt)),
         Some(path) => created(rt, path, Role::ToOutside)?,
@@ -76,7 +120,8 @@ pub fn open_inputs<R: Files + Input + AllocGlobal>(
     options: &Options,
 ) -> Result<InputFiles<Box<R::Reader>, R::File>, Stop>
     ensures open { IfOk result (AreInputsOpen (files_of options.now)) }
-    ensures refused { IfErr result (λ stop. (stop ≡ MEMORY) ⊎ IsFileStop options.now stop) }
+    ensures refused { IfErr result (λ stop. (stop ≡ MEMORY)
+        ⊎ IsFileStop (files_of options.now) stop) }
 {
     let inside = match &options.inside {
         None => Left(standard_input(rt)?),
@@ -92,7 +137,7 @@ pub fn open_inputs<R: Files + Input + AllocGlobal>(
 
 /// Fails with the role of the first output that an earlier option also names.
 fn refuse_lost_file<R: Files>(rt: &R, options: &Options) -> Result<(), Stop>
-    ensures { IfErr result (IsFileStop options.now) }
+    ensures { IfErr result (IsFileStop (files_of options.now)) }
 {
     match lost_file(rt, options) {
         Some(role) => Err(Stop::File(role)),

@@ -8,6 +8,7 @@ mod config_file;
 mod devices;
 mod files;
 mod options;
+mod options_with_log;
 mod outputs;
 mod place;
 mod places;
@@ -17,20 +18,23 @@ mod streams;
 mod tally;
 
 pub use crate::call::Call;
-pub use crate::command::{Opened, open, stop_of_run, words};
+pub use crate::command::{Opened, OpenedWithLog, open, open_with_log, stop_of_run, words};
 pub use crate::config_file::{
     MOST_BYTES, config_from, config_text, configuration, open_config, unread_config,
 };
 pub use crate::devices::{Devices, buffered};
-pub use crate::files::{InputFiles, RunFiles, open_files, open_inputs};
+pub use crate::files::{
+    FilesWithLog, InputFiles, RunFiles, open_files, open_files_with_log, open_inputs,
+};
 pub use crate::options::{LineFault, Manual, Options, VERSION, parse_words, parse_words_of};
+pub use crate::options_with_log::{OptionsWithLog, parse_words_with_log};
 pub use crate::outputs::{refuse_unmade, unmade};
 pub use crate::place::{Node, Place, is_same, place_of};
-pub use crate::places::lost_file;
+pub use crate::places::{is_log_lost, lost_file};
 pub use crate::role::Role;
 pub use crate::stop::{
     CaptureFaultName, MEMORY, Stop, StopLine, line_at_end, name_of_config_fault, status_at_end,
     stop_line, stop_status,
 };
-pub use crate::streams::{Streams, closed_stream};
+pub use crate::streams::{Streams, closed_stream, closed_stream_with_log};
 pub use crate::tally::Tallied;

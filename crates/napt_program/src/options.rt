@@ -1,9 +1,10 @@
 //! The command line: which files a program reads and writes.
-ghost use Rattle.std.specs.Prelude.{◌≡◌, ◌≢◌, IfErr, IfOk, IfSome, false, map, option_map, string_bytes, true};
-ghost use Rattle.clap.specs.Words.{app_of, first_value, found_of, kind_of, rule_of};
-ghost use Rattle.napt_program.specs.CommandLine.{IsHelp, IsVersion, file_option, files, files_of, help, is_named, line_of_words, mistake, napt_app, version};
-ghost use Rattle.napt_program.specs.Standard.{file_for, is_dash, is_standard, is_stream, output_again, standard_again};
+ghost use Rattle.std.specs.Prelude.{◌≡◌, ◌≢◌, IfErr, IfOk, IfSome, None, false, map, option_map, string_bytes, true};
+ghost use Rattle.clap.specs.Words.{app_of, first_value, found_of, kind_of, rows_of, rule_of};
+ghost use Rattle.napt_program.specs.CommandLine.{IsHelp, IsVersion, app_for, file_option, files, files_in, files_of, files_with_log, help, line_for, line_of_words, log_in, mistake, napt_app, version};
+ghost use Rattle.napt_program.specs.Standard.{file_for, is_dash, is_named, is_standard, is_stream, output_again, standard_again};
 
+use crate::options_with_log::OptionsWithLog;
 use crate::role::Role;
 use clap::error::ErrorKind;
 use clap::{Arg, ArgAction, ArgMatches, Command, Error};
@@ -121,6 +122,12 @@ const OPTIONS: [(&str, &str); 6] = [
     ),
 ];
 
+// The option of a program that takes a log too.
+const LOG: (&str, &str) = (
+    "log",
+    "Log of the bindings as CSV, written as they begin and end [default: not written]",
+);
+
 /// The file that each option names, `None` where the option is absent.
 #[derive(Debug, PartialEq, Eq, Drop)]
 pub struct Options {
@@ -151,13 +158,14 @@ impl Options {
             Role::ToOutside => self.to_outside.as_ref(),
             Role::ToInside => self.to_inside.as_ref(),
             Role::Report => self.report.as_ref(),
+            Role::Log => None,
         }
     }
 
     /// Whether the option of a role is given as `-`, which is standard input or standard output.
     pub fn is_stream(&self, role: Role) -> bool
         ensures stream { result ≡ is_stream (files_of self.now) role }
-        ensures named { result ≡ true → is_named self.now role ≡ true }
+        ensures named { result ≡ true → is_named (files_of self.now) role ≡ true }
     {
         match self.file_for(role) {
             Some(path) => is_dash(path),
@@ -175,7 +183,7 @@ impl Options {
     /// The role of the first option, captures before outputs, that wants a standard stream which another has.
     pub fn standard_again(&self) -> Option<Role>
         ensures again { result ≡ standard_again (files_of self.now) }
-        ensures named { IfSome result (λ role. is_named self.now role ≡ true) }
+        ensures named { IfSome result (λ role. is_named (files_of self.now) role ≡ true) }
     {
         let has_config = self.is_stream(Role::Config);
         if has_config && self.inside.is_none() {
@@ -192,7 +200,7 @@ impl Options {
     /// The same among the outputs.
     fn output_again(&self) -> Option<Role>
         ensures again { result ≡ output_again (files_of self.now) }
-        ensures named { IfSome result (λ role. is_named self.now role ≡ true) }
+        ensures named { IfSome result (λ role. is_named (files_of self.now) role ≡ true) }
     {
         let (has_capture, to_inside) = (
             self.is_standard(Role::ToOutside),
@@ -271,21 +279,86 @@ pub fn parse_words_of(
     ensures usage { result ≡ Err LineFault.Usage
         → line_of_words (map string_bytes words.items) ≡ mistake }
 {
-    let command = command_of(alloc, manual)?;
+    Ok(parse_words_for(alloc, manual, false, words)?.files)
+}
+
+/// The same for a program that takes the log's option too, or does not.
+pub(crate) fn parse_words_for(
+    alloc: Global,
+    manual: Manual,
+    takes_log: bool,
+    words: Vec<String>,
+) -> Result<OptionsWithLog, LineFault>
+    ensures ok { IfOk result (λ o. line_for takes_log (map string_bytes words.items)
+        ≡ files (files_with_log o)) }
+    ensures none { takes_log ≡ false → IfOk result (λ o. o.log ≡ None) }
+    ensures help { IfErr result (λ fault. IsHelp fault
+        → line_for takes_log (map string_bytes words.items) ≡ help) }
+    ensures version { IfErr result (λ fault. IsVersion fault
+        → line_for takes_log (map string_bytes words.items) ≡ version) }
+    ensures usage { result ≡ Err LineFault.Usage
+        → line_for takes_log (map string_bytes words.items) ≡ mistake }
+{
+    let command = command_for(alloc, manual, takes_log)?;
     match command.try_get_matches_from(words.as_slice()) {
-        Ok(matches) => Ok(Options {
-            config: value_of(alloc, &matches, "config")?,
-            inside: value_of(alloc, &matches, "inside")?,
-            outside: value_of(alloc, &matches, "outside")?,
-            to_outside: value_of(alloc, &matches, "to-outside")?,
-            to_inside: value_of(alloc, &matches, "to-inside")?,
-            report: value_of(alloc, &matches, "report")?,
+        Ok(matches) => Ok(OptionsWithLog {
+            files: options_in(alloc, &matches)?,
+            log: log_in(alloc, &matches, takes_log)?,
         }),
         Err(error) => Err(fault_of(alloc, &error)?),
     }
 }
 
-/// The command. A program's name changes only its help.
+/// The values of all options but the log's.
+fn options_in(alloc: Global, matches: &ArgMatches<'_>) -> Result<Options, AllocError>
+    ensures { IfOk result (λ o. files_of o
+        ≡ files_in false (rows_of (found_of matches.now))) }
+{
+    Ok(Options {
+        config: value_of(alloc, matches, "config")?,
+        inside: value_of(alloc, matches, "inside")?,
+        outside: value_of(alloc, matches, "outside")?,
+        to_outside: value_of(alloc, matches, "to-outside")?,
+        to_inside: value_of(alloc, matches, "to-inside")?,
+        report: value_of(alloc, matches, "report")?,
+    })
+}
+
+/// The value of the log's option, if the program takes it.
+fn log_in(
+    alloc: Global,
+    matches: &ArgMatches<'_>,
+    takes_log: bool,
+) -> Result<Option<String>, AllocError>
+    ensures value { IfOk result (λ log. option_map string_bytes log
+        ≡ log_in takes_log (rows_of (found_of matches.now))) }
+    ensures none { takes_log ≡ false → IfOk result (λ log. log ≡ None) }
+{
+    if takes_log {
+        value_of(alloc, matches, "log")
+    } else {
+        Ok(None)
+    }
+}
+
+/// The command, with the log's option or without.
+fn command_for<'a>(
+    alloc: Global,
+    manual: Manual,
+    takes_log: bool,
+) -> Result<Command<'a>, AllocError>
+    ensures { IfOk result (λ command. app_of command ≡ app_for takes_log) }
+{
+    let command = command_of(alloc, manual)?;
+    if takes_log {
+        let (name, meaning) = LOG;
+        command.arg(file_arg(alloc, name, meaning))
+    } else {
+        Ok(command)
+    }
+}
+
+/// The command without the log's option. A program's name changes only its help.
 fn command_of<'a>(alloc: Global, manual: Manual) -> Result<Command<'a>, AllocError>
     ensures { IfOk result (λ command. app_of command ≡ napt_app) }
 {

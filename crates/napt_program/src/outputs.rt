@@ -1,6 +1,7 @@
 //! Finds outputs that cannot be created, without creating any.
 
 ghost use Rattle.std.specs.Prelude.{◌≡◌, IfErr, IsSome};
+ghost use Rattle.napt_program.specs.CommandLine.{files_of};
 ghost use Rattle.napt_program.specs.Files.{IsFileStop};
 
 use crate::options::{Options, is_dash};
@@ -17,7 +18,7 @@ use std::{fs, io};
 /// Fails, with its role, on the first output in the order of the options that cannot be created or emptied, as far as
 /// `unmade` knows. Creates and changes nothing.
 pub fn refuse_unmade<R: Files>(rt: &R, options: &Options) -> Result<(), Stop>
-    ensures { IfErr result (IsFileStop options.now) }
+    ensures { IfErr result (IsFileStop (files_of options.now)) }
 {
     refuse_unmade_file(rt, options.to_outside.as_ref(), Role::ToOutside)?;
     refuse_unmade_file(rt, options.to_inside.as_ref(), Role::ToInside)?;

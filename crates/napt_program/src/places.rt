@@ -1,9 +1,11 @@
 //! Finds an output that would overwrite another file of the run.
 ghost use Rattle.std.specs.Prelude.{◌≡◌, IfSome, is_some, not, true};
-ghost use Rattle.napt_program.specs.CommandLine.{is_named};
-ghost use Rattle.napt_program.specs.Places.{ArePlacesOf, is_again, is_input, is_placed, is_there, output_named_again};
+ghost use Rattle.napt_program.specs.CommandLine.{files_of};
+ghost use Rattle.napt_program.specs.Places.{ArePlacesOf, is_again, is_input, is_placed, is_log_named_again, is_there, output_named_again};
+ghost use Rattle.napt_program.specs.Standard.{is_named};
 
 use crate::options::{Options, is_dash};
+use crate::options_with_log::OptionsWithLog;
 use crate::place::{Place, is_same, place_of};
 use crate::role::Role;
 use std::rt::Files;
@@ -28,9 +30,19 @@ struct Places<'a> {
 
 /// The role of the first output, in the order of the options, that is a file which an earlier option also names.
 pub fn lost_file<R: Files>(rt: &R, options: &Options) -> Option<Role>
-    ensures { IfSome result (λ role. is_named options.now role ≡ true) }
+    ensures { IfSome result (λ role. is_named (files_of options.now) role ≡ true) }
 {
     output_named_again(&places_of(rt, options))
+}
+
+/// Whether the log is a file that another option also names, or a standard stream.
+pub fn is_log_lost<R: Files>(rt: &R, options: &OptionsWithLog) -> bool
+    ensures { result ≡ true → is_some options.now.log ≡ true }
+{
+    match place_at(rt, options.log.as_ref(), OUTPUT) {
+        Some(log) => is_log_named_again(&places_of(rt, &options.files), Some(log)),
+        None => false,
+    }
 }
 
 fn places_of<'a, R: Files>(rt: &R, options: &'a Options) -> Places<'a>
@@ -87,6 +99,19 @@ fn output_named_again(places: &Places<'_>) -> Option<Role>
         Some(Role::Report)
     } else {
         None
+    }
+}
+
+/// Whether the log is a file of another option, or a standard stream.
+fn is_log_named_again(places: &Places<'_>, log: Option<Place<'_>>) -> bool
+    ensures { result ≡ is_log_named_again places.now log.entry }
+{
+    match log {
+        Some(file) => {
+            is_again(places, log, places.to_outside, places.to_inside)
+                || is_there(file, places.report)
+        }
+        None => false,
     }
 }
 

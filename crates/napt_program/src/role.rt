@@ -18,6 +18,8 @@ pub enum Role {
     ToInside,
     /// The text that counts what became of the packets.
     Report,
+    /// The log of the bindings, which a program may take beside these.
+    Log,
 }
 
 impl Role {
@@ -32,6 +34,7 @@ impl Role {
             Role::ToOutside => "to-outside",
             Role::ToInside => "to-inside",
             Role::Report => "report",
+            Role::Log => "log",
         }
     }
 }

@@ -27,6 +27,8 @@ pub enum Stop {
     File(Role),
     /// The run failed.
     Run(Fault),
+    /// The log could not be written.
+    Log,
 }
 
 /// Memory ran out before the run.
@@ -54,6 +56,7 @@ pub fn stop_status(stop: &Stop) -> u8
         Stop::Config(_) => 3,
         Stop::File(_) => 6,
         Stop::Run(fault) => status_of_run(*fault),
+        Stop::Log => 6,
     }
 }
 
@@ -127,6 +130,10 @@ impl fmt::Display for Stop {
             Stop::Run(fault) => {
                 let fault = FaultText(*fault);
                 write!(f, "{fault}")
+            }
+            Stop::Log => {
+                f.write_str("write ")?;
+                f.write_str(Role::Log.name())
             }
         }
     }

@@ -2,10 +2,11 @@
 
 ghost use Rattle.std.specs.Prelude.{◌≡◌, IfSome, true};
 ghost use Rattle.napt_program.specs.Command.{can_fail};
-ghost use Rattle.napt_program.specs.CommandLine.{files_of};
+ghost use Rattle.napt_program.specs.CommandLine.{files_of, files_with_log};
 ghost use Rattle.napt_program.specs.Streams.{closed_output, closed_stream};
 
 use crate::options::Options;
+use crate::options_with_log::OptionsWithLog;
 use crate::role::Role;
 use std::os::fd::AsFd;
 
@@ -70,5 +71,18 @@ fn closed_output(streams: Streams, options: &Options) -> Option<Role>
         Some(Role::Report)
     } else {
         None
+    }
+}
+
+/// The same with the log, which comes last.
+pub fn closed_stream_with_log(streams: Streams, options: &OptionsWithLog) -> Option<Role>
+    ensures first { result ≡ closed_stream streams (files_with_log options.now) }
+    ensures needed { IfSome result (λ role. can_fail streams (files_with_log options.now) role
+        ≡ true) }
+{
+    match closed_stream(streams, &options.files) {
+        Some(role) => Some(role),
+        None if options.is_log_stream() && !streams.output => Some(Role::Log),
+        None => None,
     }
 }

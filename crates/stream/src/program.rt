@@ -1,19 +1,21 @@
 //! What the program does: it reads its arguments and its configuration, opens the files in a fixed order, and runs over
 //! them.
 
-ghost use Rattle.std.specs.Prelude.{◌≡◌, IfErr, OnOk, map, string_bytes};
-ghost use Rattle.napt_program.specs.CommandLine.{files_of, line_of_words};
+ghost use Rattle.std.specs.Prelude.{◌≡◌, IfErr, OnOk, is_some, map, string_bytes, true};
+ghost use Rattle.napt_program.specs.CommandLine.{files_with_log, line_with_log};
 ghost use Rattle.napt_program.specs.Command.{IsLineStop, IsRunStop, IsTaken, IsUnderOpenGate};
+ghost use Rattle.napt_run.specs.LoggedStreams.{IsUnderOpenGate as IsLoggedUnderOpenGate};
 
 use crate::counted::Counted;
 use crate::manual::{INSTALLED, OWN};
 use crate::progress::Progress;
 use crate::watched::Watched;
+use either::{Left, Right};
 use napt_program::{
-    Call, Devices, LineFault, MEMORY, Opened, Options, Stop, Streams, open, parse_words_of,
-    stop_of_run, words,
+    Call, Devices, LineFault, MEMORY, Opened, OpenedWithLog, OptionsWithLog, Stop, Streams,
+    open_with_log, parse_words_with_log, stop_of_run, words,
 };
-use napt_run::{Fault, run_streams};
+use napt_run::{Fault, LoggedFault, run_streams, run_streams_with_log};
 use std::alloc::Global;
 use std::env::Env;
 use std::rt::Files;
@@ -61,11 +63,11 @@ pub fn serve_words<
         + Send
         + 'static,
 >(rt: &R, streams: Streams, call: Call, words: Vec<String>) -> Result<(), Stop>
-    ensures taken { OnOk result (IsTaken (line_of_words (map string_bytes words.items))) }
+    ensures taken { OnOk result (IsTaken (line_with_log (map string_bytes words.items))) }
     ensures stop { IfErr result
-        (IsLineStop streams (line_of_words (map string_bytes words.items))) }
+        (IsLineStop streams (line_with_log (map string_bytes words.items))) }
 {
-    match parse_words_of(rt.alloc(), call.manual(OWN, INSTALLED), words) {
+    match parse_words_with_log(rt.alloc(), call.manual(OWN, INSTALLED), words) {
         Ok(options) => run(rt, streams, call, &options),
         Err(LineFault::Help(text)) => rt.print(text).map_err(|_| Stop::Help),
         Err(LineFault::Version(text)) => rt.print(text).map_err(|_| Stop::Help),
@@ -87,11 +89,12 @@ fn run<
         + Copy
         + Send
         + 'static,
->(rt: &R, streams: Streams, call: Call, options: &Options) -> Result<(), Stop>
-    ensures { IfErr result (IsRunStop streams (files_of options.now)) }
+>(rt: &R, streams: Streams, call: Call, options: &OptionsWithLog) -> Result<(), Stop>
+    ensures { IfErr result (IsRunStop streams (files_with_log options.now)) }
 {
     let alloc = rt.alloc();
-    let Opened { config, devices } = open(rt, streams, options)?;
+    let OpenedWithLog { opened, log } = open_with_log(rt, streams, options)?;
+    let Opened { config, devices } = opened;
     let Devices {
         inside,
         outside,
@@ -103,32 +106,67 @@ fn run<
     let progress = Progress::of(rt, again(&gate)?, call);
     let mut inside = Counted::over(inside, &progress);
     let mut outside = Counted::over(outside, &progress);
-    let answer = run_streams(
-        rt,
-        alloc,
-        &config,
-        &mut inside,
-        &mut outside,
-        &mut to_outside,
-        &mut to_inside,
-        &mut report,
-        gate,
-    );
+    let answer = match log {
+        Right(_) => ended(
+            options,
+            run_streams(
+                rt,
+                alloc,
+                &config,
+                &mut inside,
+                &mut outside,
+                &mut to_outside,
+                &mut to_inside,
+                &mut report,
+                gate,
+            ),
+        ),
+        Left(mut log) => ended_with_log(
+            options,
+            run_streams_with_log(
+                rt,
+                alloc,
+                &config,
+                &mut inside,
+                &mut outside,
+                &mut to_outside,
+                &mut to_inside,
+                &mut report,
+                &mut log,
+                gate,
+            ),
+        ),
+    };
     progress.tell_end();
     if answer.is_ok() {
         call.tell_cuts(rt, inside.tallied(), outside.tallied());
     }
-    ended(streams, options, answer)
+    answer
 }
 
-/// How the program ends after a run.
-fn ended(_streams: Streams, options: &Options, answer: Result<(), Fault>) -> Result<(), Stop>
+/// How the program ends after a run without a log.
+fn ended(options: &OptionsWithLog, answer: Result<(), Fault>) -> Result<(), Stop>
     requires { IfErr answer (λ fault. IsUnderOpenGate (Stop.Run fault)) }
-    ensures { IfErr result (IsRunStop _streams (files_of options.now)) }
+    ensures { (streams : Streams) → IfErr result
+        (IsRunStop streams (files_with_log options.now)) }
 {
     match answer {
         Ok(()) => Ok(()),
-        Err(fault) => Err(stop_of_run(options, fault)),
+        Err(fault) => Err(stop_of_run(&options.files, fault)),
+    }
+}
+
+/// How the program ends after a run with a log.
+fn ended_with_log(options: &OptionsWithLog, answer: Result<(), LoggedFault>) -> Result<(), Stop>
+    requires run { IfErr answer IsLoggedUnderOpenGate }
+    requires log { is_some options.now.log ≡ true }
+    ensures { (streams : Streams) → IfErr result
+        (IsRunStop streams (files_with_log options.now)) }
+{
+    match answer {
+        Ok(()) => Ok(()),
+        Err(LoggedFault::Run(fault)) => Err(stop_of_run(&options.files, fault)),
+        Err(LoggedFault::Log(_)) => Err(Stop::Log),
     }
 }
 

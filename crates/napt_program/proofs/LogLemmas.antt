@@ -1,0 +1,100 @@
+-- Which option comes first, with the log behind all others.
+use Rattle.std.proofs.Common.{◌≡◌, ◌∙◌, ◌&&◌, ◌||◌, ℕ, List, option_map, Bool, true, false, not, is_some, Option, Some, None, if◌then◌else◌, refl}
+use Rattle.napt_program.specs.CommandLine.{Files, files_of, files_with_log}
+use Rattle.napt_program.specs.Standard.{is_log_again, is_standard, is_stream, standard_again}
+use Rattle.napt_program.specs.Streams.{closed_stream}
+use Rattle.napt_program.specs.declared.options_with_log.OptionsWithLog.{OptionsWithLog}
+use Rattle.napt_program.specs.declared.role.Role.{Role}
+use Rattle.napt_program.specs.declared.role.Role.TheVariants as role
+use Rattle.napt_program.specs.declared.streams.Streams.{Streams}
+
+-- the role of the first condition that holds, or what comes behind them all
+abbrev pub first_role : (a b c d e f : Bool) (j k l m n o : Role) → Option Role → Option Role
+first_role a b c d e f j k l m n o behind =
+    if a then Some j
+    else (if b then Some k
+    else (if c then Some l
+    else (if d then Some m
+    else (if e then Some n
+    else (if f then Some o else behind)))))
+
+-- what is behind changes nothing where one holds
+pub first_kept : (a b c d e f : Bool) (j k l m n o found : Role) (behind : Option Role)
+    → first_role a b c d e f j k l m n o None ≡ Some found → first_role a b c d e f j k l m n o behind ≡ Some found
+first_kept true b c d e f j k l m n o found behind is = is
+first_kept false true c d e f j k l m n o found behind is = is
+first_kept false false true d e f j k l m n o found behind is = is
+first_kept false false false true e f j k l m n o found behind is = is
+first_kept false false false false true f j k l m n o found behind is = is
+first_kept false false false false false true j k l m n o found behind is = is
+first_kept false false false false false false j k l m n o found behind is = absurd (cc)
+
+-- and is all where none does
+pub first_behind : (a b c d e f : Bool) (j k l m n o : Role) (behind : Option Role)
+    → first_role a b c d e f j k l m n o None ≡ None → first_role a b c d e f j k l m n o behind ≡ behind
+first_behind true b c d e f j k l m n o behind is = absurd (cc)
+first_behind false true c d e f j k l m n o behind is = absurd (cc)
+first_behind false false true d e f j k l m n o behind is = absurd (cc)
+first_behind false false false true e f j k l m n o behind is = absurd (cc)
+first_behind false false false false true f j k l m n o behind is = absurd (cc)
+first_behind false false false false false true j k l m n o behind is = absurd (cc)
+first_behind false false false false false false j k l m n o behind is = refl
+
+-- the conditions of `standard_again`, in its order
+abbrev config_by_default : Files → Bool
+config_by_default n = is_stream n role.Config && not (is_some n.inside)
+
+abbrev config_and_inside : Files → Bool
+config_and_inside n = is_stream n role.Config && is_stream n role.Inside
+
+abbrev outside_too : Files → Bool
+outside_too n = is_stream n role.Outside && (is_stream n role.Config || is_standard n role.Inside)
+
+abbrev to_inside_too : Files → Bool
+to_inside_too n = is_stream n role.ToInside && is_standard n role.ToOutside
+
+abbrev report_too : Files → Bool
+report_too n = is_stream n role.Report && (is_stream n role.ToInside || is_standard n role.ToOutside)
+
+abbrev log_if : Bool → Option Role
+log_if asked = if asked then Some role.Log else None
+
+-- an option before the log that wants a standard stream which another has is the first
+pub again_kept : (o : OptionsWithLog) (found : Role) → standard_again (files_of o.files) ≡ Some found
+    → standard_again (files_with_log o) ≡ Some found
+again_kept o found is =
+    let n = files_of o.files in
+    first_kept false (config_by_default n) (config_and_inside n) (outside_too n) (to_inside_too n) (report_too n)
+    role.Log role.Config role.Inside role.Outside role.ToInside role.Report found
+    (log_if (is_log_again (files_with_log o))) is
+
+-- and the log is, if there is none and it wants one
+pub again_behind : (o : OptionsWithLog) → standard_again (files_of o.files) ≡ None
+    → is_log_again (files_with_log o) ≡ true → standard_again (files_with_log o) ≡ Some role.Log
+again_behind o none wants =
+    let n = files_of o.files in
+    let behind : log_if (is_log_again (files_with_log o)) ≡ Some role.Log = rw wants refl in
+    first_behind false (config_by_default n) (config_and_inside n) (outside_too n) (to_inside_too n) (report_too n)
+    role.Log role.Config role.Inside role.Outside role.ToInside role.Report
+    (log_if (is_log_again (files_with_log o))) none
+    ∙ behind
+
+-- a closed stream that stands for an option before the log is the first
+pub closed_kept : (s : Streams) (o : OptionsWithLog) (found : Role) → closed_stream s (files_of o.files) ≡ Some found
+    → closed_stream s (files_with_log o) ≡ Some found
+closed_kept s o found is =
+    let n = files_of o.files in
+    first_kept (not s.input && is_stream n role.Config) (not s.input && is_standard n role.Inside)
+    (not s.input && is_stream n role.Outside) (not s.output && is_standard n role.ToOutside)
+    (not s.output && is_stream n role.ToInside) (not s.output && is_stream n role.Report)
+    role.Config role.Inside role.Outside role.ToOutside role.ToInside role.Report found
+    (log_if (is_stream (files_with_log o) role.Log && not s.output)) is
+
+-- a log is open if it is named
+pub log_is_there : {A B : Type 0} (opened : Option A) (is : A → Bool) (named : Option B) (text : B → List ℕ)
+    (dash : List ℕ → Bool) → option_map is opened ≡ option_map dash (option_map text named)
+    → is_some opened ≡ is_some named
+log_is_there None is None text dash same = refl
+log_is_there (Some a) is (Some b) text dash same = refl
+log_is_there None is (Some b) text dash same = absurd (cc)
+log_is_there (Some a) is None text dash same = absurd (cc)

@@ -1,0 +1,74 @@
+//! The command line of a program that takes a log too.
+
+ghost use Rattle.std.specs.Prelude.{◌≡◌, IfErr, IfOk, IfSome, is_some, map, string_bytes, true};
+ghost use Rattle.napt_program.specs.CommandLine.{IsHelp, IsVersion, files, files_with_log, help, line_with_log, mistake, version};
+ghost use Rattle.napt_program.specs.Standard.{is_log_again, is_named, is_stream, standard_again};
+
+use crate::options::{LineFault, Manual, Options, is_dash, parse_words_for};
+use crate::role::Role;
+use std::alloc::Global;
+
+/// The file that each option names, with the log's.
+#[derive(Debug, PartialEq, Eq, Drop)]
+pub struct OptionsWithLog {
+    /// All but the log.
+    pub files: Options,
+    /// The log of the bindings; absent, it is not written.
+    pub log: Option<String>,
+}
+
+impl OptionsWithLog {
+    /// Whether the log is given as `-`, which is standard output.
+    pub fn is_log_stream(&self) -> bool
+        ensures stream { result ≡ is_stream (files_with_log self.now) Role.Log }
+        ensures named { result ≡ true → is_some self.now.log ≡ true }
+    {
+        match &self.log {
+            Some(path) => is_dash(path),
+            None => false,
+        }
+    }
+
+    /// The role of the first option, captures before outputs and the log last, that wants a standard stream which another
+    /// has.
+    pub fn standard_again(&self) -> Option<Role>
+        ensures again { result ≡ standard_again (files_with_log self.now) }
+        ensures named { IfSome result (λ role. is_named (files_with_log self.now) role ≡ true) }
+    {
+        match self.files.standard_again() {
+            Some(role) => Some(role),
+            None if self.is_log_again() => Some(Role::Log),
+            None => None,
+        }
+    }
+
+    /// Whether the log wants standard output, which an output has.
+    fn is_log_again(&self) -> bool
+        ensures again { result ≡ is_log_again (files_with_log self.now) }
+        ensures named { result ≡ true → is_some self.now.log ≡ true }
+    {
+        self.is_log_stream()
+            && (self.files.is_stream(Role::Report)
+                || self.files.is_stream(Role::ToInside)
+                || self.files.is_standard(Role::ToOutside))
+    }
+}
+
+/// Parses the arguments of a program with this help text and the options of `parse_words`, as that does, and of the log's
+/// option, which is like them.
+pub fn parse_words_with_log(
+    alloc: Global,
+    manual: Manual,
+    words: Vec<String>,
+) -> Result<OptionsWithLog, LineFault>
+    ensures ok { IfOk result (λ o. line_with_log (map string_bytes words.items)
+        ≡ files (files_with_log o)) }
+    ensures help { IfErr result (λ fault. IsHelp fault
+        → line_with_log (map string_bytes words.items) ≡ help) }
+    ensures version { IfErr result (λ fault. IsVersion fault
+        → line_with_log (map string_bytes words.items) ≡ version) }
+    ensures usage { result ≡ Err LineFault.Usage
+        → line_with_log (map string_bytes words.items) ≡ mistake }
+{
+    parse_words_for(alloc, manual, true, words)
+}
