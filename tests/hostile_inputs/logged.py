@@ -1,5 +1,6 @@
 """The log of a run, worked out over the run of translating.py: when each binding is made, its end by the timers of the configuration, its
-packets, and the packets that got none (RFC 6888, section 4; RFC 8158)."""
+packets, and the packets that got none (RFC 6888, section 4; RFC 8158). Rows come in the order of packets: of each the bindings that ended
+since the packet before, the one that it made, and whether it got none."""
 
 import datetime
 
@@ -36,6 +37,7 @@ class Entry:
         self.binding = binding
         self.made = made
         self.end = None
+        self.is_told = False
         self.sent = self.received = 0
         self.last = None
 
@@ -47,11 +49,17 @@ class Entry:
         return shown(address), number
 
     def row(self, at, event):
-        """Its row of the log; the event is empty behind the last packet."""
+        """Its row of the log as it is now; the event is empty at the end of the run, and the time too of what never ends."""
         ends = [part for address, number in (self.binding.inside, self.binding.external) for part in (shown(address), number)]
-        last = ["", ""] if self.last is None else [self.last, dated(self.last)]
-        redirect = int(self.binding.is_fixed)
-        return [at, dated(at), event, self.binding.protocol, *ends, "", self.number, redirect, self.sent, self.received, *last]
+        times = [part for time in (at, self.last) for part in (("", "") if time is None else (time, dated(time)))]
+        counts = [self.number, int(self.binding.is_fixed), self.sent, self.received]
+        return [*times[:2], event, self.binding.protocol, *ends, "", *counts, *times[2:]]
+
+
+def refusal(at, event, protocol, host, address):
+    """The row of a packet that got no binding."""
+    quota = 3 if event == OVER_QUOTA else ""
+    return [at, dated(at), event, protocol, shown(host), "", shown(address), "", quota, *[""] * 6]
 
 
 class Logger(translating.Translator):
@@ -59,9 +67,10 @@ class Logger(translating.Translator):
 
     def __init__(self, configured):
         super().__init__(configured)
-        self.entries, self.shortages, self.now = [], [], 0
+        self.entries, self.refused, self.now = [], [], 0
         for binding in self.bindings:
             self.begin(binding)
+        self.rows = [it.row(0, MADE) for it in self.entries]
 
     def begin(self, binding):
         binding.entry = Entry(len(self.entries) + 1, binding, self.now)
@@ -71,7 +80,7 @@ class Logger(translating.Translator):
         try:
             binding = super().made(protocol, address, inside)
         except Dropped as dropped:
-            self.shortages.append((self.now, SHORTAGES[str(dropped)], protocol, inside[0], address))
+            self.refused.append(refusal(self.now, SHORTAGES[str(dropped)], protocol, inside[0], address))
             raise
         self.begin(binding)
         return binding
@@ -93,27 +102,29 @@ class Logger(translating.Translator):
         if not packet.is_error():
             self.use(self.found(packet.protocol, address, number=number), "received")
 
+    def in_order(self):
+        """The entries without a row of their end, in the order in which they end; redirects, which never do, last."""
+        return sorted((it for it in self.entries if not it.is_told), key=lambda it: (it.end is None, it.end or 0, it.number))
+
+    def tell_ends(self):
+        """Adds the rows of the bindings that ended by now."""
+        for entry in self.in_order():
+            if entry.end is not None and entry.end <= self.now:
+                entry.is_told = True
+                self.rows.append(entry.row(entry.end, ENDED))
+
     def log(self, now, is_outside, data):
-        """Takes a packet, and keeps the ends as they are after it."""
+        """Takes a packet, adds the rows that it brings, and keeps the ends as they are after it."""
         self.now = now
+        self.tell_ends()
+        before, self.refused = len(self.entries), []
         try:
             self.take(now, is_outside, data)
         except Dropped:
             pass
+        self.rows += [it.row(now, MADE) for it in self.entries[before:]] + self.refused
         for binding in self.bindings:
             binding.entry.end = end_of(binding, self.rules.timers)
-
-    def rows(self, now):
-        """The rows of the log: events in order of time, at equal times ends first and shortages last; then what lives on."""
-        events = [(it.end, 0, it.row(it.end, ENDED)) for it in self.entries if it.end is not None and it.end <= now]
-        events += [(it.made, 1, it.row(it.made, MADE)) for it in self.entries]
-        for at, event, protocol, host, address in self.shortages:
-            quota = 3 if event == OVER_QUOTA else ""
-            row = [at, dated(at), event, protocol, shown(host), "", shown(address), "", quota, "", "", "", "", "", ""]
-            events.append((at, 2, row))
-        events.sort(key=lambda it: it[:2])
-        living = sorted((it for it in self.entries if it.end is not None and it.end > now), key=lambda it: it.end)
-        return [row for _, _, row in events] + [it.row(it.end, "") for it in living]
 
 
 def logged(configured, inside, outside):
@@ -122,6 +133,6 @@ def logged(configured, inside, outside):
     for is_outside, time, data in translating.merged(inside.packets, outside.packets):
         clock = max(clock, time)
         logger.log(clock, is_outside, data)
-    rows = [FIELDS, *logger.rows(clock)]
+    rows = [FIELDS, *logger.rows, *(it.row(it.end, "") for it in logger.in_order())]
     text = "".join(",".join(map(str, row)) + "\n" for row in rows)
     return logger.entries, text, clock

@@ -1,156 +1,176 @@
 //! The same captures under two configurations: which packets end differently.
 
+use crate::counted_run::CountedRun;
 use crate::following::copied;
-use crate::losses::Losses;
+use crate::lines::leaves_with;
 use crate::names::{Seconds, side_name};
 use crate::options::{Choice, Options, Outside};
+use crate::outcome_counts::OutcomeCounts;
+use crate::passed::Consumer;
 use crate::shown::{add_arrival, add_packet, is_end_of_arrival};
 use crate::stop::Stop;
-use crate::summary::{count_dropped, count_to_inside, count_to_outside, leaves_with};
 use crate::warning::tell_warning;
 use napt_config::Config;
 use napt_records::cause_name;
-use napt_sequential::{Input, Outcome, Run, run_plain};
+use napt_sequential::{Input, Outcome};
 use napt_wire::Cause;
 use std::alloc::{AllocError, Global};
 use std::fmt::Write;
 
-/// What becomes of the same inputs under two configurations.
-#[derive(Clone, Copy)]
-struct Both<'a> {
-    inputs: &'a [Input],
-    first: &'a [Outcome],
-    second: &'a [Outcome],
+/// Runs under two configurations, side by side, and how many packets ended differently so far.
+#[derive(Drop)]
+pub struct Against<'a> {
+    choice: Choice,
+    first: CountedRun<'a>,
+    second: CountedRun<'a>,
+    different: u64,
 }
 
-/// A packet that ends differently under the second configuration, numbered from 1.
+/// A packet and what becomes of it under both configurations, numbered from 1.
 #[derive(Clone, Copy)]
-struct Difference<'a> {
+struct Pair<'a> {
     number: u64,
     input: &'a Input,
     first: &'a Outcome,
     second: &'a Outcome,
 }
 
-/// Runs the inputs under both configurations, and prints a line for each selected packet that ends differently, then
-/// the counts of both runs. Fails with `Differ` if any packet, selected or not, ends differently.
-pub fn tell_against<R: Print + Eprint + AllocGlobal>(
-    rt: &R,
-    options: &Options<'_>,
-    other_path: &str,
-    inputs: &[Input],
-    configs: [&Config; 2],
-) -> Result<(), Stop> {
-    let [config, other] = configs;
-    let path = options.files.config.as_ref();
-    let path = path.map_or("the built-in configuration", |path| path.as_str());
-    let first = run_under(rt, path, config, options.outside, inputs)?;
-    let second = run_under(rt, other_path, other, options.outside, inputs)?;
-    let both = Both {
-        inputs,
-        first: &first.outcomes,
-        second: &second.outcomes,
-    };
-    let different = both.tell_differences(rt, options.choice)?;
-    both.tell_counts(rt, different)?;
-    if different > 0 {
-        return Err(Stop::Differ);
-    }
-    Ok(())
-}
-
-/// The run over the inputs under the configuration at a path. Replies follow that one alone. What there is to warn of is
-/// printed.
-fn run_under<R: Eprint + AllocGlobal>(
-    rt: &R,
-    path: &str,
-    config: &Config,
-    outside: Outside,
-    inputs: &[Input],
-) -> Result<Run, Stop> {
-    if !outside.follows() {
-        return run_and_warn(rt, path, config, outside, inputs);
-    }
-    let alloc = rt.alloc();
-    let inputs = outside.inputs_under(alloc, config, copied(alloc, inputs)?)?;
-    run_and_warn(rt, path, config, outside, &inputs)
-}
-
-fn run_and_warn<R: Eprint + AllocGlobal>(
-    rt: &R,
-    path: &str,
-    config: &Config,
-    outside: Outside,
-    inputs: &[Input],
-) -> Result<Run, Stop> {
-    let run = run_plain(rt.alloc(), config, inputs)?;
-    let losses = Losses::of(rt.alloc(), config, inputs, &run.outcomes)?;
-    tell_warning(rt, outside, Some(path), &losses);
-    Ok(run)
-}
-
-impl<'a> Both<'a> {
-    /// Prints the lines of the selected packets that end differently, and returns how many of all packets do.
-    fn tell_differences<R: Print + AllocGlobal>(self, rt: &R, choice: Choice) -> Result<u64, Stop> {
-        let mut different = 0u64;
-        for at in 0..self.inputs.len() {
-            if let Some(difference) = self.difference_at(at) {
-                different = different.saturating_add(1);
-                if difference.is_chosen(rt.alloc(), choice)? {
-                    let text = difference.text(rt.alloc())?;
-                    println!(rt; "{text}")?;
-                }
-            }
-        }
-        Ok(different)
-    }
-
-    /// The packet at an index, if it ends differently.
-    fn difference_at(self, at: usize) -> Option<Difference<'a>> {
-        let (first, second) = (self.first.get(at)?, self.second.get(at)?);
-        if ends_alike(first, second) {
-            return None;
-        }
-        Some(Difference {
-            number: (at as u64).saturating_add(1),
-            input: self.inputs.get(at)?,
-            first,
-            second,
+impl<'a> Against<'a> {
+    /// Before the first packet. The choice is of the lines to print.
+    pub fn begin(
+        alloc: Global,
+        choice: Choice,
+        configs: [&'a Config; 2],
+    ) -> Result<Against<'a>, AllocError> {
+        let [first, second] = configs;
+        Ok(Against {
+            choice,
+            first: CountedRun::begin(alloc, first)?,
+            second: CountedRun::begin(alloc, second)?,
+            different: 0,
         })
     }
 
-    /// Prints how many packets end differently, and the counts under each configuration.
-    fn tell_counts<R: Print>(self, rt: &R, different: u64) -> Result<(), Stop> {
-        let (first, second) = (self.first, self.second);
-        println!(rt;
-            "packets: {}, of which {different} differ",
-            self.inputs.len()
-        )?;
-        let (one, other) = (count_to_outside(first), count_to_outside(second));
-        println!(rt; "  {one} and {other} to the outside")?;
-        let (one, other) = (count_to_inside(first), count_to_inside(second));
-        println!(rt; "  {one} and {other} to the inside")?;
-        for cause in Cause::ALL {
-            let (one, other) = (count_dropped(first, cause), count_dropped(second, cause));
-            if one > 0 || other > 0 {
-                println!(rt; "  {one} and {other} dropped, {}", cause_name(cause))?;
-            }
+    /// Takes the packets of captures of which the outside one follows each run alone.
+    pub fn follow<R: Print + AllocGlobal>(
+        &mut self,
+        rt: &R,
+        outside: Outside,
+        inputs: &[Input],
+    ) -> Result<(), Stop> {
+        let alloc = rt.alloc();
+        let first = outside.inputs_under(alloc, self.first.config(), copied(alloc, inputs)?)?;
+        let second = outside.inputs_under(alloc, self.second.config(), copied(alloc, inputs)?)?;
+        let both = first.iter().zip(&second);
+        for (place, (input, (first, second))) in inputs.iter().zip(both).enumerate() {
+            let number = (place as u64).saturating_add(1);
+            self.take_both(rt, number, input, [first, second])?;
         }
+        Ok(())
+    }
+
+    /// Passes the next packet through each run, as it is there, and prints its line if it is selected and ends
+    /// differently.
+    fn take_both<R: Print + AllocGlobal>(
+        &mut self,
+        rt: &R,
+        number: u64,
+        input: &Input,
+        inputs: [&Input; 2],
+    ) -> Result<(), Stop> {
+        let [first, second] = inputs;
+        let first = self.first.step(rt.alloc(), first)?;
+        let second = self.second.step(rt.alloc(), second)?;
+        let pair = Pair {
+            number,
+            input,
+            first: &first.outcome,
+            second: &second.outcome,
+        };
+        if pair.ends_alike() {
+            return Ok(());
+        }
+        self.different = self.different.saturating_add(1);
+        pair.tell(rt, self.choice)
+    }
+
+    /// Prints what there is to warn of, and the counts of both runs. Fails with `Differ` if any packet, selected or not,
+    /// ended differently.
+    pub fn tell<R: Print + Eprint>(
+        &self,
+        rt: &R,
+        options: &Options<'_>,
+        other_path: &str,
+    ) -> Result<(), Stop> {
+        let path = options.files.config.as_ref();
+        let path = path.map_or("the built-in configuration", |path| path.as_str());
+        tell_warning(rt, options.outside, Some(path), &self.first.losses);
+        tell_warning(rt, options.outside, Some(other_path), &self.second.losses);
+        self.tell_counts(rt)?;
+        if self.different > 0 {
+            return Err(Stop::Differ);
+        }
+        Ok(())
+    }
+
+    /// Prints how many packets end differently, and the counts under each configuration.
+    fn tell_counts<R: Print>(&self, rt: &R) -> Result<(), Stop> {
+        let (first, second) = (&self.first.counts, &self.second.counts);
+        let (packets, different) = (first.packets, self.different);
+        println!(rt; "packets: {packets}, of which {different} differ")?;
+        println!(rt;
+            "  {} and {} to the outside",
+            first.to_outside, second.to_outside
+        )?;
+        println!(rt;
+            "  {} and {} to the inside",
+            first.to_inside, second.to_inside
+        )?;
+        tell_drops(rt, first, second)
+    }
+}
+
+impl<R: Print + AllocGlobal> Consumer<R> for Against<'_> {
+    fn take(&mut self, rt: &R, number: u64, input: &Input) -> Result<(), Stop> {
+        self.take_both(rt, number, input, [input, input])
+    }
+
+    fn settle(&mut self, _rt: &R) -> Result<(), Stop> {
         Ok(())
     }
 }
 
-/// Whether both outcomes are the same, to the byte.
-fn ends_alike(first: &Outcome, second: &Outcome) -> bool {
-    match (first, second) {
-        (Outcome::Dropped(one), Outcome::Dropped(other)) => one == other,
-        (Outcome::ToOutside(one), Outcome::ToOutside(other))
-        | (Outcome::ToInside(one), Outcome::ToInside(other)) => one.bytes() == other.bytes(),
-        _ => false,
+/// Prints for each cause how many packets were dropped for it under each configuration, if any were.
+fn tell_drops<R: Print>(rt: &R, first: &OutcomeCounts, second: &OutcomeCounts) -> Result<(), Stop> {
+    for cause in Cause::ALL {
+        let (one, other) = (first.dropped(cause), second.dropped(cause));
+        if one > 0 || other > 0 {
+            println!(rt; "  {one} and {other} dropped, {}", cause_name(cause))?;
+        }
     }
+    Ok(())
 }
 
-impl<'a> Difference<'a> {
+impl<'a> Pair<'a> {
+    /// Whether both outcomes are the same, to the byte.
+    fn ends_alike(self) -> bool {
+        match (self.first, self.second) {
+            (Outcome::Dropped(one), Outcome::Dropped(other)) => one == other,
+            (Outcome::ToOutside(one), Outcome::ToOutside(other))
+            | (Outcome::ToInside(one), Outcome::ToInside(other)) => one.bytes() == other.bytes(),
+            _ => false,
+        }
+    }
+
+    /// Prints its line, if it is selected.
+    fn tell<R: Print + AllocGlobal>(self, rt: &R, choice: Choice) -> Result<(), Stop> {
+        if self.is_chosen(rt.alloc(), choice)? {
+            let text = self.text(rt.alloc())?;
+            println!(rt; "{text}")?;
+        }
+        Ok(())
+    }
+
     fn is_chosen(self, alloc: Global, choice: Choice) -> Result<bool, AllocError> {
         let is_numbered = choice.only.is_none_or(|only| only == self.number);
         if !is_numbered || (choice.dropped && !self.is_dropped()) {

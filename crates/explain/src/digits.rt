@@ -2,7 +2,8 @@
 //! `write!`.
 
 use itoa::Buffer;
-pub use napt_log_text::{add_address, add_endpoint, add_number};
+use napt_log_text::add_address;
+pub use napt_log_text::add_endpoint;
 use std::alloc::{AllocError, Global};
 
 /// As many spaces as the widest column needs.

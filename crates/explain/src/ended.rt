@@ -1,42 +1,33 @@
-//! The expired bindings, one after another.
+//! The line of a binding that expired.
 
-use crate::changes::{Change, Event, ends_of};
-use napt_account::Log;
-use std::alloc::{AllocError, Global};
+use crate::digits::{add_seconds, add_spaces, pad};
+use crate::names::Seconds;
+use crate::widths::{BEFORE, Widths};
+use napt_account::Entry;
+use napt_records::{EndpointText, protocol_name};
+use std::alloc::AllocError;
+use std::fmt::Write;
 
-/// The ends of bindings in order of time, with how many were already taken.
-#[derive(Drop)]
-pub struct Ended {
-    ends: Vec<Change>,
-    told: usize,
-}
-
-/// The end of a binding: its time in ns, and the index of its entry in the log.
-#[derive(Clone, Copy)]
-pub struct End {
-    pub at: u64,
-    pub place: usize,
-}
-
-impl Ended {
-    /// Those up to the last packet, none taken yet.
-    pub fn of(alloc: Global, log: &Log, last: u64) -> Result<Ended, AllocError> {
-        Ok(Ended {
-            ends: ends_of(alloc, log, last)?,
-            told: 0,
-        })
-    }
-
-    /// Takes the next one, if it came by that time.
-    pub fn next_by(&mut self, by: u64) -> Option<End> {
-        let Change { at, event } = *self.ends.get(self.told)?;
-        let Event::Ended(place) = event else {
-            return None;
-        };
-        if at > by {
-            return None;
-        }
-        self.told = self.told.saturating_add(1);
-        Some(End { at, place })
-    }
+/// Appends the line of a binding that expired, aligned with those of packets.
+pub fn add_end(text: &mut String, widths: Widths, entry: &Entry) -> Result<(), AllocError> {
+    // an end that was reached is a time in 64 bits
+    let at = u64::try_from(entry.end.unwrap_or(0)).unwrap_or(u64::MAX);
+    let name = protocol_name(entry.binding.protocol);
+    let (inside, external) = (
+        EndpointText(entry.binding.inside),
+        EndpointText(entry.binding.external),
+    );
+    let (made, used) = (Seconds(entry.made), Seconds(entry.last));
+    let (sent, received) = (entry.sent, entry.received);
+    add_spaces(text, widths.number())?;
+    text.push_str(" ")?;
+    add_seconds(text, at, widths.seconds())?;
+    text.push_str(" ended   ")?;
+    let begin = text.len();
+    write!(text, "{name} {inside} at {external}")?;
+    pad(text, begin, BEFORE)?;
+    writeln!(
+        text,
+        " | made at {made}, last packet at {used}; {sent} out, {received} in"
+    )
 }

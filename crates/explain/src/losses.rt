@@ -23,6 +23,17 @@ pub struct Losses {
 }
 
 impl Losses {
+    /// Those of no packets.
+    pub fn new(alloc: Global, config: &Config) -> Result<Losses, AllocError> {
+        Ok(Losses {
+            all: 0,
+            no_binding: 0,
+            not_ours: 0,
+            from_inside: 0,
+            from_pool: vec![in alloc; 0; config.pool().len()]?,
+        })
+    }
+
     /// Those of a run over the inputs.
     pub fn of(
         alloc: Global,
@@ -30,23 +41,18 @@ impl Losses {
         inputs: &[Input],
         outcomes: &[Outcome],
     ) -> Result<Losses, AllocError> {
-        let mut losses = Losses {
-            all: 0,
-            no_binding: 0,
-            not_ours: 0,
-            from_inside: 0,
-            from_pool: vec![in alloc; 0; config.pool().len()]?,
-        };
+        let mut losses = Losses::new(alloc, config)?;
         for (input, outcome) in inputs.iter().zip(outcomes) {
-            if input.side == Side::Outside {
-                losses.add(config, input, outcome);
-            }
+            losses.take(config, input, outcome);
         }
         Ok(losses)
     }
 
-    /// One more packet from outside.
-    fn add(&mut self, config: &Config, input: &Input, outcome: &Outcome) {
+    /// Takes the next packet.
+    pub fn take(&mut self, config: &Config, input: &Input, outcome: &Outcome) {
+        if input.side == Side::Inside {
+            return;
+        }
         self.all = self.all.saturating_add(1);
         match outcome {
             Outcome::Dropped(Cause::NoBinding) => {

@@ -1,13 +1,14 @@
 //! Prints the figures of a run.
 
-use crate::changes::changes_of;
 use crate::names::Moment;
-use crate::sizes::hosts::{Host, Refusals, percentile};
+use crate::sizes::Sizes;
+use crate::sizes::hosts::{Host, percentile};
+use crate::sizes::level::Level;
 use crate::sizes::lifetimes::{Lifetimes, SPANS};
+use crate::sizes::quotas::Quota;
+use crate::sizes::refusals::Refusals;
 use crate::sizes::spaces::Space;
-use crate::sizes::{Level, Sizes, sizes_of};
 use crate::stop::Stop;
-use napt_account::Log;
 use napt_config::{Address, Config};
 use napt_records::protocol_name;
 
@@ -17,28 +18,23 @@ const TOP: usize = 10;
 /// How many numbers of an address blocks have together: those from 1024 on.
 const NUMBERS: u64 = 64_512;
 
-/// Prints the figures of a run; `last` is the time of its last packet.
+/// Prints the figures of a run under a configuration.
 pub fn tell_sizes<R: Print + AllocGlobal>(
     rt: &R,
     config: &Config,
-    log: &Log,
-    last: u64,
+    sizes: &Sizes,
 ) -> Result<(), Stop> {
-    let changes = changes_of(rt.alloc(), log, last)?;
-    let sizes = sizes_of(rt.alloc(), config, log, &changes)?;
-    for space in &sizes.spaces {
+    let (usage, trials) = (&sizes.usage, &sizes.trials);
+    for space in &usage.spaces {
         tell_space(rt, space)?;
     }
-    let ranked = sizes.hosts.ranked(rt.alloc())?;
+    let ranked = usage.hosts.ranked(rt.alloc())?;
     tell_hosts(rt, &ranked)?;
-    tell_quotas(
-        rt,
-        &sizes,
-        ranked.first().map_or(0, |host| host.bindings.most),
-    )?;
-    tell_blocks(rt, &sizes, config.host_count())?;
-    tell_refusals(rt, "over-quota", &sizes.over_quota)?;
-    tell_refusals(rt, "no-port", &sizes.no_number)?;
+    let greatest = ranked.first().map_or(0, |host| host.bindings.most);
+    tell_quotas(rt, trials.quotas(), greatest)?;
+    tell_blocks(rt, trials.blocks(), config.host_count())?;
+    tell_refusals(rt, "over-quota", &usage.over_quota)?;
+    tell_refusals(rt, "no-port", &usage.no_number)?;
     tell_lifetimes(rt, sizes.lifetimes)
 }
 
@@ -96,23 +92,23 @@ fn tell_host<R: Print>(rt: &R, host: &Host) -> Result<(), Stop> {
 }
 
 /// Prints what each quota would have refused, up to the first that refuses nothing.
-fn tell_quotas<R: Print>(rt: &R, sizes: &Sizes, greatest: u64) -> Result<(), Stop> {
+fn tell_quotas<R: Print>(rt: &R, quotas: &[Quota], greatest: u64) -> Result<(), Stop> {
     let mut is_behind = false;
-    for quota in &sizes.quotas {
+    for quota in quotas {
         if !is_behind {
             let (most, refused, hosts) = (quota.most, quota.refused, quota.hosts);
             println!(rt; "quota {most}: new bindings refused {refused}, of hosts {hosts}")?;
         }
-        is_behind = is_behind || quota.most >= greatest;
+        is_behind = is_behind || u64::from(quota.most) >= greatest;
     }
     Ok(())
 }
 
 /// Prints what blocks of each size would have refused, and how many addresses all hosts of the prefixes would need.
-fn tell_blocks<R: Print>(rt: &R, sizes: &Sizes, all: u64) -> Result<(), Stop> {
-    for block in &sizes.blocks {
+fn tell_blocks<R: Print>(rt: &R, blocks: &[Quota], all: u64) -> Result<(), Stop> {
+    for block in blocks {
         let (most, refused, hosts) = (block.most, block.refused, block.hosts);
-        let each = (NUMBERS / most.max(1)).max(1);
+        let each = (NUMBERS / u64::from(most).max(1)).max(1);
         let addresses = all.saturating_add(each.saturating_sub(1)) / each;
         println!(rt;
             "block {most}: hosts on one address {each}, new bindings refused {refused}, of hosts {hosts}, \

@@ -202,7 +202,7 @@ pub struct Options<'m> {
     /// What the outside capture holds.
     pub outside: Outside,
     /// What split is called.
-    pub split: &'static str,
+    pub split: &'m str,
     /// The file for the outside capture that follows, if one is requested.
     pub followed: Option<&'m str>,
     /// The file for the picture, if one is requested.
@@ -243,6 +243,11 @@ impl<'m> Options<'m> {
         matches!(self.form, Form::Holders(_) | Form::Requests(_))
             && files.inside.is_none()
             && files.outside.is_none()
+    }
+
+    /// Whether all packets have to be kept: for a picture, and for replies that follow the run.
+    pub fn keeps_packets(&self) -> bool {
+        self.svg.is_some() || self.outside.follows()
     }
 
     /// How many of the other configurations, or of files of requests, are to come from standard input.

@@ -29,6 +29,9 @@ impl Page {
 
     /// Writes the lines.
     pub fn end<R: Print>(&mut self, rt: &R) -> Result<(), Stop> {
+        if self.text.is_empty() {
+            return Ok(());
+        }
         rt.write_all(self.text.as_bytes())?;
         self.text.clear();
         Ok(())

@@ -36,7 +36,7 @@ pub enum Output {
 pub fn tell_file<R: Files + Eprint>(rt: &R, options: &Options<'_>, role: Role) -> Stop {
     let files = &options.files;
     match role {
-        Role::Config => {}
+        Role::Config | Role::Log => {}
         Role::Inside => tell_input(rt, "inside", files.inside.as_ref()),
         Role::Outside => tell_input(rt, options.outside.name(), files.outside.as_ref()),
         Role::ToOutside => tell_output(rt, options, Output::ToOutside, files.to_outside.as_ref()),
@@ -60,7 +60,7 @@ pub fn tell_closed<R: Eprint>(rt: &R, role: Role) -> Stop {
 fn stream_of(role: Role) -> &'static str {
     match role {
         Role::Config | Role::Inside | Role::Outside => "standard input",
-        Role::ToOutside | Role::ToInside | Role::Report => "standard output",
+        Role::ToOutside | Role::ToInside | Role::Report | Role::Log => "standard output",
     }
 }
 

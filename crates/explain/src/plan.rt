@@ -2,82 +2,77 @@
 
 pub mod figures;
 pub mod fullest;
+pub mod planned_run;
 pub mod sheet;
 pub mod table;
 
-use crate::following::copied;
-use crate::losses::Losses;
-use crate::options::{Form, Options};
-use crate::plan::figures::Figures;
+use crate::options::{Form, Options, Outside};
+use crate::passed::Consumer;
+use crate::plan::planned_run::PlannedRun;
 use crate::plan::sheet::write_sheet;
 use crate::plan::table::tell_table;
-use crate::progress::Progress;
 use crate::stop::Stop;
-use napt_account::account_of;
+use crate::warning::tell_warning;
 use napt_config::Config;
 use napt_sequential::Input;
-use std::rt::Files;
+use std::alloc::{AllocError, Global};
 
-/// A run of a plan.
-#[derive(Clone, Copy)]
-struct Planned<'a> {
-    /// Where its configuration stands.
-    path: &'a str,
-    config: &'a Config,
+/// The runs of a plan, side by side, in the order in which their configurations are named.
+#[derive(Drop)]
+pub struct Plans<'a> {
+    runs: Vec<PlannedRun<'a>>,
 }
 
-/// Runs the inputs under each configuration, and prints the table. What there is to warn of is printed before it.
-pub fn tell_plan<R: Files + Print + Eprint + AllocGlobal>(
-    rt: &R,
-    options: &Options<'_>,
-    inputs: &[Input],
-    configs: &[Config],
-) -> Result<(), Stop> {
-    let progress = Progress::of(rt, inputs.len().saturating_mul(configs.len()));
-    let mut lines = Vec::new(rt.alloc());
-    for (path, config) in options.plans.iter().zip(configs) {
-        progress.tell_plan(rt, lines.len(), configs.len());
-        let planned = Planned { path, config };
-        lines.push(planned.figures(rt, options, inputs, progress)?)?;
-    }
-    progress.tell_end(rt);
-    match options.form {
-        Form::PlansInCsv => write_sheet(rt, &options.plans, &lines),
-        _ => tell_table(rt, &options.plans, &lines),
-    }
-}
-
-impl<'a> Planned<'a> {
-    /// The figures of its run. Replies follow that alone.
-    fn figures<R: Eprint + AllocGlobal>(
-        self,
-        rt: &R,
-        options: &Options<'_>,
-        inputs: &[Input],
-        progress: Progress,
-    ) -> Result<Figures, Stop> {
-        if !options.outside.follows() {
-            return self.figures_of(rt, options, inputs, progress);
+impl<'a> Plans<'a> {
+    /// Those under the configurations, before the first packet.
+    pub fn begin(alloc: Global, configs: &'a [Config]) -> Result<Plans<'a>, AllocError> {
+        let mut runs = Vec::new(alloc);
+        for config in configs {
+            runs.push(PlannedRun::begin(alloc, config)?)?;
         }
-        let inputs = copied(rt.alloc(), inputs)?;
-        let inputs = options
-            .outside
-            .inputs_under(rt.alloc(), self.config, inputs)?;
-        self.figures_of(rt, options, &inputs, progress)
+        Ok(Plans { runs })
     }
 
-    fn figures_of<R: Eprint + AllocGlobal>(
-        self,
+    /// Takes the packets of captures of which the outside one follows each run alone.
+    pub fn follow(
+        &mut self,
+        alloc: Global,
+        outside: Outside,
+        inputs: &[Input],
+    ) -> Result<(), Stop> {
+        for run in self.runs.iter_mut() {
+            run.follow(alloc, outside, inputs)?;
+        }
+        Ok(())
+    }
+
+    /// Prints what there is to warn of, and the table.
+    pub fn tell<R: Print + Eprint + AllocGlobal>(
+        &self,
         rt: &R,
         options: &Options<'_>,
-        inputs: &[Input],
-        progress: Progress,
-    ) -> Result<Figures, Stop> {
-        let account = account_of(rt.alloc(), self.config, inputs)?;
-        let outcomes = account.run.outcomes.as_slice();
-        let losses = Losses::of(rt.alloc(), self.config, inputs, outcomes)?;
-        progress.tell_warning(rt, options.outside, Some(self.path), &losses);
-        let last = inputs.last().map_or(0, |input| input.clock);
-        Ok(Figures::of(rt.alloc(), self.config, &account, last)?)
+    ) -> Result<(), Stop> {
+        let mut lines = Vec::new(rt.alloc());
+        for (path, run) in options.plans.iter().zip(&self.runs) {
+            tell_warning(rt, options.outside, Some(path), &run.run.losses);
+            lines.push(run.figures(rt.alloc())?)?;
+        }
+        match options.form {
+            Form::PlansInCsv => write_sheet(rt, &options.plans, &lines),
+            _ => tell_table(rt, &options.plans, &lines),
+        }
+    }
+}
+
+impl<R: AllocGlobal> Consumer<R> for Plans<'_> {
+    fn take(&mut self, rt: &R, _number: u64, input: &Input) -> Result<(), Stop> {
+        for run in self.runs.iter_mut() {
+            run.take(rt.alloc(), input)?;
+        }
+        Ok(())
+    }
+
+    fn settle(&mut self, _rt: &R) -> Result<(), Stop> {
+        Ok(())
     }
 }

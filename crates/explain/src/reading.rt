@@ -1,48 +1,31 @@
-//! Reads the configuration and the captures as `napt` does, and explains what it refuses.
+//! Reads the configurations and opens the captures as `napt` does, and explains what it refuses.
 
-use crate::options::{Form, Options, Outside};
+use crate::options::{Form, Options};
 use crate::places::{Output, refuse_output, tell_closed, tell_config, tell_file, tell_shared};
 use crate::refused;
 use crate::requests::{Asked, requests_of};
 use crate::stop::Stop;
-use either::{Either, Left, Right};
-use napt_capture::{Capture, CaptureFault, Watched, read_capture};
 use napt_config::{Config, ConfigFault};
-use napt_display::reasons::{Splitting, inside_prefixes};
+use napt_display::reasons::inside_prefixes;
 use napt_program::{
     InputFiles, Role, Streams, closed_stream, config_text, open_config, open_inputs, refuse_unmade,
 };
-use napt_records::{Fault, merge};
-use napt_wire::Side;
 use std::alloc::{AllocError, Global};
-use std::io;
-use std::io::{BufReader, ErrorKind, Read};
 use std::rt::Files;
-
-/// How many bytes are read at once.
-const BUFFERED: usize = 65_536;
-
-/// How many bytes of a capture are kept to tell what it is: its header.
-const HEADER: u64 = 24;
 
 /// The prefixes of inside hosts in the built-in configuration (RFC 1918, section 3).
 const BUILT_IN_PREFIXES: &str = "10.0.0.0/8 172.16.0.0/12 192.168.0.0/16";
 
-/// What is printed about a capture that ends inside a record.
-const CUT: &str = "is cut: its last packet is not whole, and is left out";
-
-/// What a run needs.
+/// What a run needs. The captures are open, and nothing of them is read. `S` reads standard input, and `F` is a file.
 #[derive(Drop)]
-pub struct Given {
-    pub config: Config,
+pub struct Given<S, F> {
+    pub written: Written,
     /// The configuration to compare with.
     pub other: Option<Config>,
     /// The configurations of a plan.
     pub plans: Vec<Config>,
     pub asked: Vec<Asked>,
-    /// The packets of both captures, in the order in which `napt` takes them.
-    pub inputs: Vec<napt_sequential::Input>,
-    pub cuts: Cuts,
+    pub files: InputFiles<S, F>,
 }
 
 /// What requests to a saved log need beside it.
@@ -52,31 +35,7 @@ pub struct GivenToLog {
     pub asked: Vec<Asked>,
 }
 
-/// Which captures end inside a record. That record is left out.
-#[derive(Clone, Copy)]
-pub struct Cuts {
-    inside: bool,
-    outside: bool,
-    /// What the outside capture holds.
-    holds: Outside,
-}
-
-impl Cuts {
-    /// Reports each capture that ends inside a record, whose last packet is left out; on standard error if programs
-    /// read standard output.
-    pub fn tell<R: Print + Eprint>(self, rt: &R, form: Form<'_>) -> Result<(), Stop> {
-        for (side, cut) in [("inside", self.inside), (self.holds.name(), self.outside)] {
-            if cut && form.is_for_programs() {
-                let _ = eprintln!(rt; "explain: the capture {side} {CUT}");
-            } else if cut {
-                println!(rt; "the capture {side} {CUT}")?;
-            }
-        }
-        Ok(())
-    }
-}
-
-/// Reads the configuration, unless it was read before, and the captures.
+/// Reads the configuration, unless it was read before, and opens the captures.
 ///
 /// Fails as `napt` would, with the same fault first. The outputs of `napt` are neither created nor emptied: one that
 /// could not be is refused as far as that can be known beforehand (`napt_program::unmade`).
@@ -85,7 +44,7 @@ pub fn read_given<R: Files + Input + Eprint + AllocGlobal>(
     streams: Streams,
     options: &Options<'_>,
     written: Option<Written>,
-) -> Result<Given, Stop> {
+) -> Result<Given<Box<R::Reader>, R::File>, Stop> {
     if let Some(role) = closed_stream(streams, &options.files) {
         return Err(tell_closed(rt, role));
     }
@@ -97,28 +56,15 @@ pub fn read_given<R: Files + Input + Eprint + AllocGlobal>(
     let other = other_configuration(rt, options)?;
     let plans = plans(rt, options)?;
     let asked = requests_of(rt, options.form)?;
-    let InputFiles { inside, outside } = explain_file(
-        rt,
-        options,
-        open_inputs(rt, &options.files),
-    )?;
+    let files = explain_file(rt, options, open_inputs(rt, &options.files))?;
     explain_file(rt, options, refuse_unmade(rt, &options.files))?;
     refuse_outputs(rt, options)?;
-    let inside = capture(rt, options, &written, Side::Inside, inside)?;
-    let outside = outside_capture(rt, options, &written, outside)?;
-    let cuts = Cuts {
-        inside: inside.cut,
-        outside: outside.cut,
-        holds: options.outside,
-    };
-    let inputs = merge(rt.alloc(), inside.records, outside.records)?;
     Ok(Given {
-        config: written.config,
+        written,
         other,
         plans,
         asked,
-        inputs,
-        cuts,
+        files,
     })
 }
 
@@ -196,7 +142,7 @@ pub struct Written {
 
 impl Written {
     /// The prefixes of inside hosts, with spaces between them.
-    fn prefixes(&self, alloc: Global) -> Result<String, AllocError> {
+    pub fn prefixes(&self, alloc: Global) -> Result<String, AllocError> {
         match &self.text {
             Some(text) => inside_prefixes(alloc, text),
             None => String::from_str(alloc, BUILT_IN_PREFIXES),
@@ -280,93 +226,4 @@ pub fn configuration_text<R: Files + Input + AllocGlobal>(
     path: &str,
 ) -> Result<Vec<u8>, napt_program::Stop> {
     config_text(rt.alloc(), open_config(rt, path)?)
-}
-
-/// The outside capture, or an empty one if none is named.
-fn outside_capture<R: Eprint + AllocGlobal, F: Read + Drop>(
-    rt: &R,
-    options: &Options<'_>,
-    written: &Written,
-    file: Option<F>,
-) -> Result<Capture, Stop> {
-    match file {
-        Some(file) => capture(rt, options, written, Side::Outside, file),
-        None => Ok(Capture {
-            records: Vec::new(rt.alloc()),
-            cut: false,
-        }),
-    }
-}
-
-/// Reads the capture of a side. A refusal is explained.
-fn capture<R: Eprint + AllocGlobal, D: Read + Drop>(
-    rt: &R,
-    options: &Options<'_>,
-    written: &Written,
-    side: Side,
-    device: D,
-) -> Result<Capture, Stop> {
-    let alloc = rt.alloc();
-    let mut head = Vec::new(alloc);
-    let refused = match read_whole(alloc, device, &mut head) {
-        Ok(capture) => return Ok(capture),
-        Err(refused) => refused,
-    };
-    let (name, path) = match side {
-        Side::Inside => ("inside", options.files.inside.as_ref()),
-        Side::Outside => (options.outside.name(), options.files.outside.as_ref()),
-    };
-    let inside = written.prefixes(alloc)?;
-    let splitting = Splitting {
-        command: options.split,
-        capture: path.map(|path| path.as_str()).filter(|path| *path != "-"),
-        inside: &inside,
-    };
-    refused::tell_capture(rt, name, &head, refused.fault, splitting)?;
-    if let Some(error) = refused.failed {
-        let _ = eprintln!(rt; "  {:<9} {error}", "system");
-    }
-    Err(Stop::Told(napt_program::Stop::Run(Fault::Capture(side, refused.fault))))
-}
-
-/// Why a capture is refused, with the system's reason if it was given.
-#[derive(Drop)]
-struct Refused {
-    fault: CaptureFault,
-    failed: Option<io::Error>,
-}
-
-impl From<CaptureFault> for Refused {
-    fn from(fault: CaptureFault) -> Refused {
-        Refused {
-            fault,
-            failed: None,
-        }
-    }
-}
-
-/// Reads a capture, and keeps its first bytes in `head`.
-fn read_whole<D: Read + Drop>(
-    alloc: Global,
-    device: D,
-    head: &mut Vec<u8>,
-) -> Result<Capture, Refused> {
-    let mut reader = match BufReader::with_capacity(alloc, BUFFERED, device) {
-        Ok(reader) => reader,
-        Err(_) => return Err(Refused::from(CaptureFault::Memory)),
-    };
-    match reader.by_ref().take(HEADER).read_to_end(head) {
-        Ok(_) => Ok(read_capture(alloc, &mut Watched::new(head.as_slice().chain(reader)))?),
-        Err(error) => Err(Refused {
-            fault: fault_of(&error),
-            failed: Some(error),
-        }),
-    }
-}
-
-fn fault_of(error: &io::Error) -> CaptureFault {
-    match error.kind() {
-        ErrorKind::OutOfMemory => CaptureFault::Memory,
-        _ => CaptureFault::Read,
-    }
 }

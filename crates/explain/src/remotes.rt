@@ -1,4 +1,5 @@
-//! Whether packets that found no binding are answers to what left just before.
+//! Whether packets that found no binding are answers to what left just before. Only the remotes of the last minutes are
+//! kept.
 
 use crate::shown::{destination_of, source_of};
 use napt_sequential::{Input, Outcome};
@@ -9,37 +10,40 @@ use std::collections::BTreeMap;
 /// How long after an inside packet to a remote a packet from it counts as an answer, in ns.
 const JUST_BEFORE: u64 = 60_000_000_000;
 
-/// Whether at least half of the packets from outside that found no binding, or were not for the gateway, came from
-/// remotes to which an inside packet had left within the minute before.
-pub fn are_answers(
-    alloc: Global,
-    inputs: &[Input],
-    outcomes: &[Outcome],
-) -> Result<bool, AllocError> {
-    let mut remotes = Remotes {
-        sent: BTreeMap::new(alloc),
-        unmet: 0,
-        answers: 0,
-    };
-    for (input, outcome) in inputs.iter().zip(outcomes) {
-        remotes.take(input, outcome)?;
-    }
-    let others = remotes.unmet.saturating_sub(remotes.answers);
-    Ok(remotes.answers > 0 && remotes.answers >= others)
-}
+/// How many remotes are kept before any is forgotten.
+const FEW: usize = 1024;
 
 /// The remotes so far, each with the time in ns of the last inside packet to it, and how many packets from outside found
 /// no binding or were not for the gateway, and how many of these are answers.
 #[derive(Drop)]
-struct Remotes {
+pub struct Remotes {
     sent: BTreeMap<u32, u64>,
+    /// How many remotes there are when the next old ones are forgotten.
+    full: usize,
     unmet: u64,
     answers: u64,
 }
 
 impl Remotes {
-    /// Takes the next input.
-    fn take(&mut self, input: &Input, outcome: &Outcome) -> Result<(), AllocError> {
+    /// Before the first packet.
+    pub fn new(alloc: Global) -> Remotes {
+        Remotes {
+            sent: BTreeMap::new(alloc),
+            full: FEW,
+            unmet: 0,
+            answers: 0,
+        }
+    }
+
+    /// Whether at least half of the packets from outside that found no binding, or were not for the gateway, came from
+    /// remotes to which an inside packet had left within the minute before.
+    pub fn are_answers(&self) -> bool {
+        let others = self.unmet.saturating_sub(self.answers);
+        self.answers > 0 && self.answers >= others
+    }
+
+    /// Takes the next packet.
+    pub fn take(&mut self, input: &Input, outcome: &Outcome) -> Result<(), AllocError> {
         match (input.side, outcome) {
             (Side::Inside, Outcome::ToOutside(_)) => self.send(input),
             (Side::Outside, Outcome::Dropped(Cause::NoBinding | Cause::NotOurs)) => {
@@ -58,10 +62,21 @@ impl Remotes {
         match self.sent.get_mut(&remote) {
             Some(at) => *at = input.clock,
             None => {
+                self.forget(input.clock);
                 self.sent.insert(remote, input.clock)?;
             }
         }
         Ok(())
+    }
+
+    /// Forgets the remotes whose minute is over, once there are twice as many as were left before.
+    fn forget(&mut self, now: u64) {
+        if self.sent.len() < self.full {
+            return;
+        }
+        self.sent
+            .retain(|_, at| now.saturating_sub(*at) <= JUST_BEFORE);
+        self.full = self.sent.len().saturating_mul(2).max(FEW);
     }
 
     /// A packet from outside finds no binding, or is not for the gateway.

@@ -57,8 +57,9 @@ fn end_of(alloc: Global, input: &mut Input) -> Option<Endpoint> {
 }
 
 impl<'a> Replies<'a> {
-    /// The inside endpoint that the input at an index named, if it is a reply that reads.
-    pub fn end_at(self, at: usize) -> Option<Endpoint> {
+    /// The inside endpoint that the packet of this number, from 1, named, if it is a reply that reads.
+    pub fn end_at(self, number: u64) -> Option<Endpoint> {
+        let at = usize::try_from(number.checked_sub(1)?).ok()?;
         *self.ends.get(at)?
     }
 

@@ -1,4 +1,5 @@
-//! A log that `--log` wrote, read again. docs/FORMATS.md describes its fields; `napt_log_text` defines its rows.
+//! A log that `--log` wrote, read again. docs/FORMATS.md describes its fields and the order of its rows; `napt_log_text`
+//! defines its rows.
 
 use crate::places::tell_config;
 use crate::stop::Stop;
@@ -165,10 +166,7 @@ impl Saved {
                 self.time_of(record)?;
                 Ok(())
             }
-            "" => match field(record, AT).parse::<u128>() {
-                Ok(end) => self.end(record, end),
-                Err(_) => Err(Fault::Wrong(NO_TIME)),
-            },
+            "" => self.live_on(record),
             _ => Err(Fault::Wrong("natEvent: expected 8, 9, 12, 13 or nothing")),
         }
     }
@@ -209,6 +207,30 @@ impl Saved {
         Ok(())
     }
 
+    /// Takes the row of a binding that lives at the end of the log: when it ends if no packet comes. A redirect never
+    /// does.
+    fn live_on(&mut self, record: &StringRecord) -> Result<(), Fault> {
+        match field(record, AT) {
+            "" => self.live_on_always(record),
+            at => match at.parse::<u128>() {
+                Ok(end) => self.end(record, end),
+                Err(_) => Err(Fault::Wrong(NO_TIME)),
+            },
+        }
+    }
+
+    /// Takes the row of a redirect that lives at the end of the log.
+    fn live_on_always(&mut self, record: &StringRecord) -> Result<(), Fault> {
+        let binding = binding_of(record)?;
+        if !binding.fixed {
+            return Err(Fault::Wrong(NO_TIME));
+        }
+        match self.entry_of(field(record, NUMBER)) {
+            Some(entry) if entry.binding == binding => Ok(()),
+            _ => Err(Fault::Wrong(NO_BINDING)),
+        }
+    }
+
     /// Ends the entry of a binding.
     fn end(&mut self, record: &StringRecord, end: u128) -> Result<(), Fault> {
         let binding = binding_of(record)?;
@@ -217,7 +239,7 @@ impl Saved {
                 entry.end = Some(end);
                 Ok(())
             }
-            _ => Err(Fault::Wrong("binding: no row above makes it, or it has ended")),
+            _ => Err(Fault::Wrong(NO_BINDING)),
         }
     }
 
@@ -229,6 +251,8 @@ impl Saved {
 }
 
 const NO_TIME: &str = "observationTimeNanoseconds: expected a number";
+
+const NO_BINDING: &str = "binding: no row above makes it, or it has ended";
 
 /// A field of a row; each is there.
 fn field(record: &StringRecord, place: usize) -> &str {

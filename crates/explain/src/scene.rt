@@ -1,7 +1,6 @@
 //! What the picture of a run shows, in the words of the printed lines.
 
 use crate::names::Seconds;
-use crate::summary::count_dropped;
 use jiff::Timestamp;
 use napt_account::{Account, Entry};
 use napt_config::{Address, Config};
@@ -224,7 +223,7 @@ fn title_of(alloc: Global, entry: &Entry, label: &str, zero: u64) -> Result<Stri
 fn causes_of(alloc: Global, outcomes: &[Outcome]) -> Result<Vec<Cause>, AllocError> {
     let mut causes = Vec::new(alloc);
     for cause in Cause::ALL {
-        if count_dropped(outcomes, cause) > 0 {
+        if outcomes.iter().any(|outcome| is_dropped(cause, outcome)) {
             causes.push(cause)?;
         }
     }
@@ -278,5 +277,13 @@ fn pass_of(at: usize, clock: u64, account: &Account, causes: &[Cause]) -> Pass {
         out,
         into,
         dropped,
+    }
+}
+
+/// Whether a packet was dropped for a cause.
+fn is_dropped(cause: Cause, outcome: &Outcome) -> bool {
+    match outcome {
+        Outcome::Dropped(given) => *given == cause,
+        Outcome::ToOutside(_) | Outcome::ToInside(_) => false,
     }
 }

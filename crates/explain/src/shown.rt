@@ -51,7 +51,7 @@ fn add_ends(
 }
 
 /// Whether an echo message is a reply, by its ICMP type (RFC 792), the first byte after the IP header.
-pub fn is_reply(bytes: &[u8]) -> bool {
+fn is_reply(bytes: &[u8]) -> bool {
     match bytes.first() {
         Some(first) => bytes.get((*first & 15) as usize * 4) == Some(&0),
         None => false,
@@ -73,7 +73,7 @@ impl fmt::Display for FlagsText {
 }
 
 /// The packet that these bytes are on arrival, if they are one.
-pub fn arrival(alloc: Global, side: Side, bytes: &[u8]) -> Result<Option<Packet>, AllocError> {
+fn arrival(alloc: Global, side: Side, bytes: &[u8]) -> Result<Option<Packet>, AllocError> {
     let copy = Vec::from_slice(alloc, bytes)?;
     Ok(Packet::read(side, copy).ok())
 }

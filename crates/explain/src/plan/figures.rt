@@ -2,12 +2,10 @@
 
 ghost use Rattle.std.specs.Prelude.{◌≡◌, ◌↔◌, true};
 
-use crate::changes::changes_of;
+use crate::outcome_counts::OutcomeCounts;
 use crate::plan::fullest::{Fullest, fullest_of};
 use crate::sizes::hosts::percentile;
-use crate::sizes::sizes_of;
-use crate::summary::{count_dropped, count_to_inside, count_to_outside};
-use napt_account::Account;
+use crate::sizes::usage::Usage;
 use napt_config::Config;
 use napt_wire::Cause;
 use std::alloc::{AllocError, Global};
@@ -20,9 +18,9 @@ pub struct Figures {
     /// How many numbers each host has for itself, if there are blocks.
     pub block: Option<u64>,
     /// Packets that left for the outside.
-    pub to_outside: usize,
+    pub to_outside: u64,
     /// Packets that left for the inside.
-    pub to_inside: usize,
+    pub to_inside: u64,
     pub drops: Drops,
     /// The most bindings at once, redirects included.
     pub bindings: u64,
@@ -39,40 +37,37 @@ pub struct Figures {
 /// Packets dropped for the causes that a configuration decides.
 #[derive(Clone, Copy)]
 pub struct Drops {
-    pub no_port: usize,
-    pub over_quota: usize,
-    pub no_binding: usize,
-    pub filtered: usize,
+    pub no_port: u64,
+    pub over_quota: u64,
+    pub no_binding: u64,
+    pub filtered: u64,
 }
 
 impl Figures {
-    /// Those of a run under a configuration; `last` is the time of its last packet, in ns.
+    /// Those of a run under a configuration, by what it used and what became of its packets.
     pub fn of(
         alloc: Global,
         config: &Config,
-        account: &Account,
-        last: u64,
+        usage: &Usage,
+        counts: &OutcomeCounts,
     ) -> Result<Figures, AllocError> {
-        let changes = changes_of(alloc, &account.log, last)?;
-        let sizes = sizes_of(alloc, config, &account.log, &changes)?;
-        let ranked = sizes.hosts.ranked(alloc)?;
-        let outcomes = account.run.outcomes.as_slice();
+        let ranked = usage.hosts.ranked(alloc)?;
         Ok(Figures {
             quota: config.quota().map(u64::from),
             block: config.block().map(u64::from),
-            to_outside: count_to_outside(outcomes),
-            to_inside: count_to_inside(outcomes),
+            to_outside: counts.to_outside,
+            to_inside: counts.to_inside,
             drops: Drops {
-                no_port: count_dropped(outcomes, Cause::NoPort),
-                over_quota: count_dropped(outcomes, Cause::OverQuota),
-                no_binding: count_dropped(outcomes, Cause::NoBinding),
-                filtered: count_dropped(outcomes, Cause::Filtered),
+                no_port: counts.dropped(Cause::NoPort),
+                over_quota: counts.dropped(Cause::OverQuota),
+                no_binding: counts.dropped(Cause::NoBinding),
+                filtered: counts.dropped(Cause::Filtered),
             },
-            bindings: sizes.bindings.most,
+            bindings: usage.bindings.most,
             median: percentile(&ranked, 50),
             percentile_99: percentile(&ranked, 99),
-            refused_hosts: sizes.refused.hosts(),
-            fullest: fullest_of(&sizes.spaces),
+            refused_hosts: usage.refused.hosts(),
+            fullest: fullest_of(&usage.spaces),
         })
     }
 

@@ -4,7 +4,7 @@ use crate::digits::{add_number_within, add_spaces};
 use crate::plan::figures::Figures;
 use crate::plan::fullest::Fullest;
 use crate::stop::Stop;
-use crate::summary::digits;
+use crate::widths::digits;
 use napt_config::Address;
 use napt_records::protocol_name;
 use std::alloc::{AllocError, Global};
@@ -121,12 +121,12 @@ fn numbers_of(figures: Figures) -> [Option<u64>; NUMBERS] {
     [
         figures.quota,
         figures.block,
-        Some(figures.to_outside as u64),
-        Some(figures.to_inside as u64),
-        Some(drops.no_port as u64),
-        Some(drops.over_quota as u64),
-        Some(drops.no_binding as u64),
-        Some(drops.filtered as u64),
+        Some(figures.to_outside),
+        Some(figures.to_inside),
+        Some(drops.no_port),
+        Some(drops.over_quota),
+        Some(drops.no_binding),
+        Some(drops.filtered),
         Some(figures.bindings),
         Some(figures.median),
         Some(figures.percentile_99),

@@ -1,6 +1,6 @@
 //! How many bindings each inside host had at once. Redirects do not count, as in a quota.
 
-use crate::sizes::Level;
+use crate::sizes::level::Level;
 use napt_account::Entry;
 use std::alloc::{AllocError, Global};
 use std::collections::BTreeMap;
@@ -22,49 +22,48 @@ pub struct Hosts {
 }
 
 impl Hosts {
-    /// The hosts of the entries, before any binding is made.
-    pub fn of(alloc: Global, entries: &[Entry]) -> Result<Hosts, AllocError> {
-        let mut hosts = Hosts {
+    /// None had one.
+    pub fn new(alloc: Global) -> Hosts {
+        Hosts {
             list: Vec::new(alloc),
             places: BTreeMap::new(alloc),
-        };
-        for entry in entries {
-            if !entry.binding.fixed {
-                hosts.know(entry.binding.inside.address)?;
-            }
         }
-        Ok(hosts)
     }
 
-    fn know(&mut self, address: u32) -> Result<(), AllocError> {
-        if self.places.contains_key(&address) {
-            return Ok(());
-        }
-        let place = self.list.len();
-        self.list.push(Host {
-            address,
-            bindings: Level::EMPTY,
-        })?;
-        self.places.insert(address, place)?;
-        Ok(())
+    /// The index of the host at an address, below `many`.
+    pub fn place_of(&self, address: u32) -> Option<usize> {
+        self.places.get(&address).copied()
     }
 
     pub fn many(&self) -> usize {
         self.list.len()
     }
 
-    /// The binding of an entry, not a redirect, is made. Returns the index of its host.
-    pub fn make(&mut self, entry: &Entry) -> Option<usize> {
-        let place = *self.places.get(&entry.binding.inside.address)?;
-        self.list.get_mut(place)?.bindings.rise(entry.made);
-        Some(place)
+    /// The binding of an entry, not a redirect, is made.
+    pub fn make(&mut self, entry: &Entry) -> Result<(), AllocError> {
+        let address = entry.binding.inside.address;
+        if let Some(host) = self.host_at(address) {
+            host.bindings.rise(entry.made);
+            return Ok(());
+        }
+        let mut bindings = Level::EMPTY;
+        bindings.rise(entry.made);
+        let place = self.list.len();
+        self.list.push(Host { address, bindings })?;
+        self.places.insert(address, place)?;
+        Ok(())
     }
 
-    /// It has expired. Returns the index of its host.
-    pub fn end(&mut self, entry: &Entry) -> Option<usize> {
-        let place = *self.places.get(&entry.binding.inside.address)?;
-        self.list.get_mut(place)?.bindings.fall();
-        Some(place)
+    /// It has expired.
+    pub fn end(&mut self, entry: &Entry) {
+        if let Some(host) = self.host_at(entry.binding.inside.address) {
+            host.bindings.fall();
+        }
+    }
+
+    fn host_at(&mut self, address: u32) -> Option<&mut Host> {
+        let place = self.place_of(address)?;
+        self.list.get_mut(place)
     }
 
     /// The hosts, those with the most bindings at once first; at equal numbers the lower address first.
@@ -82,36 +81,4 @@ pub fn percentile(ranked: &[Host], percent: u64) -> u64 {
     let within = many.saturating_mul(percent).saturating_add(99) / 100;
     let place = many.saturating_sub(within) as usize;
     ranked.get(place).map_or(0, |host| host.bindings.most)
-}
-
-/// Packets refused a binding, and the hosts that sent them.
-#[derive(Drop)]
-pub struct Refusals {
-    pub packets: u64,
-    by_host: BTreeMap<u32, u64>,
-}
-
-impl Refusals {
-    pub fn new(alloc: Global) -> Refusals {
-        Refusals {
-            packets: 0,
-            by_host: BTreeMap::new(alloc),
-        }
-    }
-
-    /// One more from a host.
-    pub fn add(&mut self, host: u32) -> Result<(), AllocError> {
-        self.packets = self.packets.saturating_add(1);
-        if let Some(many) = self.by_host.get_mut(&host) {
-            *many = many.saturating_add(1);
-            return Ok(());
-        }
-        self.by_host.insert(host, 1)?;
-        Ok(())
-    }
-
-    /// How many hosts sent them.
-    pub fn hosts(&self) -> usize {
-        self.by_host.len()
-    }
 }

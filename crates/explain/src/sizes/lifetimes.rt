@@ -1,5 +1,7 @@
 //! How long bindings lived, from when they were made until they expired.
 
+use napt_account::{Listed, LoggedStep};
+
 /// The upper bounds of the spans, in seconds: a span holds the lifetimes up to its bound and above the one before. The
 /// timers of the RFCs are 60, 120, 240, 300 and 7440 seconds.
 pub const SPANS: [u64; 8] = [60, 120, 240, 300, 600, 1800, 3600, 7440];
@@ -24,18 +26,33 @@ impl Lifetimes {
         living: 0,
     };
 
-    /// A binding is made.
-    pub fn begin(&mut self) {
-        self.living = self.living.saturating_add(1);
+    /// Takes what a packet did.
+    pub fn take(&mut self, step: &LoggedStep) {
+        for listed in &step.ended {
+            self.end(lived(listed));
+        }
+        let made = step.made.len() as u64;
+        self.living = self.living.saturating_add(made);
     }
 
     /// A binding expired after this many ns.
-    pub fn end(&mut self, lived: u64) {
+    fn end(&mut self, lived: u64) {
         self.living = self.living.saturating_sub(1);
         match self.within.get_mut(span_of(lived)) {
             Some(many) => *many = many.saturating_add(1),
             None => self.longer = self.longer.saturating_add(1),
         }
+    }
+}
+
+/// For how many ns the binding of an entry lived; 0 if it has no end.
+fn lived(listed: &Listed) -> u64 {
+    match listed.entry.end {
+        Some(end) => {
+            let lived = end.saturating_sub(u128::from(listed.entry.made));
+            u64::try_from(lived).unwrap_or(u64::MAX)
+        }
+        None => 0,
     }
 }
 

@@ -1,64 +1,99 @@
 //! What a quota, or a block, would have refused: new bindings of hosts that have reached it, without those that it
 //! refused before.
 
+use crate::sizes::spaces::protocol_place;
+use napt_wire::Protocol;
 use std::alloc::{AllocError, Global};
+
+/// How many protocols there are.
+const PROTOCOLS: usize = 3;
+
+/// Which bindings of a host count together.
+#[derive(Clone, Copy)]
+pub enum Scope {
+    /// All, as for a quota.
+    Host,
+    /// Those of a protocol, as in a block.
+    Protocol,
+}
 
 /// A quota tried on a run.
 #[derive(Drop)]
 pub struct Quota {
     /// How many bindings a host may have at once, in all or of each protocol.
-    pub most: u64,
+    pub most: u16,
     /// How many new bindings it would have refused.
     pub refused: u64,
     /// To how many hosts it would have refused one.
     pub hosts: u64,
+    scope: Scope,
     /// How many live bindings each host has that it allowed, in all or of each protocol.
-    kept: Vec<u64>,
+    kept: Vec<u16>,
     /// Whether it refused a binding of each host.
     hurt: Vec<bool>,
-    /// Whether it allowed each binding.
-    lets: Vec<bool>,
 }
 
-/// For whom a binding counts: the index of its host, and that of its count.
+/// For whom a binding counts: the index of its host, and its protocol.
 #[derive(Clone, Copy)]
 pub struct Holder {
     pub host: usize,
-    pub count: usize,
+    pub protocol: Protocol,
 }
 
 impl Quota {
-    /// A quota for this many hosts and bindings, before any is made, where each host has so many counts.
-    pub fn new(
-        alloc: Global,
-        most: u64,
-        hosts: usize,
-        counts: usize,
-        bindings: usize,
-    ) -> Result<Quota, AllocError> {
-        Ok(Quota {
+    /// A quota that knows no hosts.
+    pub fn new(alloc: Global, most: u16, scope: Scope) -> Quota {
+        Quota {
             most,
             refused: 0,
             hosts: 0,
-            kept: vec![in alloc; 0; hosts.saturating_mul(counts)]?,
-            hurt: vec![in alloc; false; hosts]?,
-            lets: vec![in alloc; false; bindings]?,
-        })
+            scope,
+            kept: Vec::new(alloc),
+            hurt: Vec::new(alloc),
+        }
     }
 
-    /// A host makes the binding at an index.
-    pub fn make(&mut self, holder: Holder, binding: usize) {
-        let (Some(kept), Some(lets)) = (self.kept.get_mut(holder.count), self.lets.get_mut(binding))
-        else {
-            return;
+    /// Knows this many hosts, no fewer than before.
+    pub fn know(&mut self, many: usize) -> Result<(), AllocError> {
+        let counts = match self.scope {
+            Scope::Host => many,
+            Scope::Protocol => many.saturating_mul(PROTOCOLS),
         };
-        if *kept < self.most {
-            *kept = kept.saturating_add(1);
-            *lets = true;
-            return;
+        self.kept.resize(counts, 0)?;
+        self.hurt.resize(many, false)
+    }
+
+    /// A host that it knows makes a binding. Returns whether it allows that.
+    pub fn make(&mut self, holder: Holder) -> bool {
+        let most = self.most;
+        if let Some(kept) = self.count_of(holder) {
+            if *kept < most {
+                *kept = kept.saturating_add(1);
+                return true;
+            }
         }
         self.refused = self.refused.saturating_add(1);
         self.hurt(holder.host);
+        false
+    }
+
+    /// A binding that it allowed has expired.
+    pub fn end(&mut self, holder: Holder) {
+        if let Some(kept) = self.count_of(holder) {
+            *kept = kept.saturating_sub(1);
+        }
+    }
+
+    /// The count that a binding is in.
+    fn count_of(&mut self, holder: Holder) -> Option<&mut u16> {
+        let place = match self.scope {
+            Scope::Host => holder.host,
+            Scope::Protocol => {
+                let before = holder.host.saturating_mul(PROTOCOLS);
+                before.saturating_add(protocol_place(holder.protocol))
+            }
+        };
+        self.kept.get_mut(place)
     }
 
     /// The host at an index is refused a binding.
@@ -68,16 +103,6 @@ impl Quota {
                 *hurt = true;
                 self.hosts = self.hosts.saturating_add(1);
             }
-        }
-    }
-
-    /// The binding at an index has expired.
-    pub fn end(&mut self, holder: Holder, binding: usize) {
-        if self.lets.get(binding) != Some(&true) {
-            return;
-        }
-        if let Some(kept) = self.kept.get_mut(holder.count) {
-            *kept = kept.saturating_sub(1);
         }
     }
 }

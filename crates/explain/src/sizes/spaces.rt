@@ -1,6 +1,6 @@
 //! How much of a protocol's numbers is used at an external address.
 
-use crate::sizes::Level;
+use crate::sizes::level::Level;
 use napt_account::Entry;
 use napt_wire::Protocol;
 use std::alloc::{AllocError, Global};
@@ -49,7 +49,7 @@ pub struct Space {
     pub hosts: Level,
     /// The bindings of each class, in the order of `classes`.
     pub used: [Level; 4],
-    /// How many each host has now.
+    /// How many each host with one has now.
     now: BTreeMap<u32, u64>,
 }
 
@@ -85,18 +85,12 @@ impl Space {
             level.rise(at);
         }
         let host = entry.binding.inside.address;
-        match self.now.get_mut(&host) {
-            Some(many) => {
-                if *many == 0 {
-                    self.hosts.rise(at);
-                }
-                *many = many.saturating_add(1);
-            }
-            None => {
-                self.hosts.rise(at);
-                self.now.insert(host, 1)?;
-            }
+        if let Some(many) = self.now.get_mut(&host) {
+            *many = many.saturating_add(1);
+            return Ok(());
         }
+        self.hosts.rise(at);
+        self.now.insert(host, 1)?;
         Ok(())
     }
 
@@ -109,11 +103,18 @@ impl Space {
         {
             level.fall();
         }
-        if let Some(many) = self.now.get_mut(&entry.binding.inside.address) {
-            *many = many.saturating_sub(1);
-            if *many == 0 {
-                self.hosts.fall();
-            }
+        self.leave(entry.binding.inside.address);
+    }
+
+    /// A host has one binding fewer.
+    fn leave(&mut self, host: u32) {
+        let Some(many) = self.now.get_mut(&host) else {
+            return;
+        };
+        *many = many.saturating_sub(1);
+        if *many == 0 {
+            self.now.remove(&host);
+            self.hosts.fall();
         }
     }
 }
@@ -126,5 +127,14 @@ fn class_at(protocol: Protocol, number: u16) -> usize {
         (_, true, false) => 1,
         (_, false, true) => 2,
         (_, false, false) => 3,
+    }
+}
+
+/// The place of a protocol among all.
+pub fn protocol_place(protocol: Protocol) -> usize {
+    match protocol {
+        Protocol::Icmp => 0,
+        Protocol::Tcp => 1,
+        Protocol::Udp => 2,
     }
 }

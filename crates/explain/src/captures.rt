@@ -1,0 +1,246 @@
+//! The captures of a run, packet by packet, and why one is refused.
+
+ghost use Rattle.std.specs.Prelude.{◌-◌, ◌^◌, ◌<◌};
+
+use crate::cuts::Cuts;
+use crate::options::Options;
+use crate::passed::Consumer;
+use crate::reading::Written;
+use crate::refused;
+use crate::stop::Stop;
+use napt_capture::{CaptureFault, Records, Source};
+use napt_display::reasons::Splitting;
+use napt_records::{Fault, MergedStreams, SideFault, Stream};
+use napt_sequential::{Arrivals, Input};
+use napt_wire::Side;
+use std::alloc::{AllocError, Global};
+use std::io;
+use std::io::{BufReader, ErrorKind, Read};
+
+/// How many bytes are read at once.
+const BUFFERED: usize = 65_536;
+
+/// How many bytes of a capture are kept to tell what it is: its header.
+const HEADER: u64 = 24;
+
+/// The beginning of a capture, and what reads on.
+#[derive(Drop)]
+pub struct Begun<D> {
+    pub head: Vec<u8>,
+    pub reader: BufReader<D>,
+}
+
+/// A capture past its header, whose beginning is kept.
+#[derive(Drop)]
+pub struct Opened<'a, S: Source> {
+    head: &'a [u8],
+    stream: Stream<'a, S>,
+}
+
+/// Why a capture is refused, with the system's reason if it was given.
+#[derive(Drop)]
+struct Refused {
+    fault: CaptureFault,
+    failed: Option<io::Error>,
+}
+
+impl From<CaptureFault> for Refused {
+    fn from(fault: CaptureFault) -> Refused {
+        Refused {
+            fault,
+            failed: None,
+        }
+    }
+}
+
+/// Explains which captures are refused.
+#[derive(Clone, Copy)]
+pub struct Refusing<'a> {
+    pub options: &'a Options<'a>,
+    /// The configuration.
+    pub written: &'a Written,
+}
+
+impl Refusing<'_> {
+    /// Reads the beginning of a side's capture. A refusal is explained.
+    pub fn begin<R: Eprint + AllocGlobal, D: Read + Drop>(
+        self,
+        rt: &R,
+        side: Side,
+        device: D,
+    ) -> Result<Begun<D>, Stop> {
+        let mut head = Vec::new(rt.alloc());
+        match begin(rt.alloc(), device, &mut head) {
+            Ok(reader) => Ok(Begun { head, reader }),
+            Err(refused) => Err(self.refuse(rt, side, &head, refused)),
+        }
+    }
+
+    /// Reads the header of a side's capture, which begins with these bytes. A refusal is explained.
+    pub fn open<'a, R: Eprint + AllocGlobal, S: Source>(
+        self,
+        rt: &R,
+        side: Side,
+        head: &'a [u8],
+        source: &'a mut S,
+    ) -> Result<Opened<'a, S>, Stop>
+        requires { S.failed source.old < 2 ^ 64 - 1 }
+    {
+        match Records::open(rt.alloc(), source) {
+            Ok(records) => Ok(Opened {
+                head,
+                stream: Stream::new(source, records),
+            }),
+            Err(fault) => Err(self.refuse(rt, side, head, Refused::from(fault))),
+        }
+    }
+
+    /// Prints why the capture of a side, which begins with these bytes, is refused, and returns how the program stops.
+    fn refuse<R: Eprint + AllocGlobal>(
+        self,
+        rt: &R,
+        side: Side,
+        head: &[u8],
+        refused: Refused,
+    ) -> Stop {
+        if let Err(stop) = self.tell_reasons(rt, side, head, refused.fault) {
+            return stop;
+        }
+        if let Some(error) = refused.failed {
+            let _ = eprintln!(rt; "  {:<9} {error}", "system");
+        }
+        Stop::Told(napt_program::Stop::Run(Fault::Capture(side, refused.fault)))
+    }
+
+    fn tell_reasons<R: Eprint + AllocGlobal>(
+        self,
+        rt: &R,
+        side: Side,
+        head: &[u8],
+        fault: CaptureFault,
+    ) -> Result<(), Stop> {
+        let options = self.options;
+        let (name, path) = match side {
+            Side::Inside => ("inside", options.files.inside.as_ref()),
+            Side::Outside => (options.outside.name(), options.files.outside.as_ref()),
+        };
+        let inside = self.written.prefixes(rt.alloc())?;
+        let splitting = Splitting {
+            command: options.split,
+            capture: path.map(|path| path.as_str()).filter(|path| *path != "-"),
+            inside: &inside,
+        };
+        refused::tell_capture(rt, name, head, fault, splitting)
+    }
+}
+
+/// Reads the first bytes of a capture into `head`.
+fn begin<D: Read + Drop>(
+    alloc: Global,
+    device: D,
+    head: &mut Vec<u8>,
+) -> Result<BufReader<D>, Refused> {
+    let mut reader = match BufReader::with_capacity(alloc, BUFFERED, device) {
+        Ok(reader) => reader,
+        Err(_) => return Err(Refused::from(CaptureFault::Memory)),
+    };
+    match reader.by_ref().take(HEADER).read_to_end(head) {
+        Ok(_) => Ok(reader),
+        Err(error) => Err(Refused {
+            fault: fault_of(&error),
+            failed: Some(error),
+        }),
+    }
+}
+
+fn fault_of(error: &io::Error) -> CaptureFault {
+    match error.kind() {
+        ErrorKind::OutOfMemory => CaptureFault::Memory,
+        _ => CaptureFault::Read,
+    }
+}
+
+/// The packets of both captures, in the order in which `napt` takes them.
+#[derive(Drop)]
+pub struct Captures<'a, A: Source, B: Source> {
+    refusing: Refusing<'a>,
+    inside_head: &'a [u8],
+    outside_head: &'a [u8],
+    packets: MergedStreams<'a, 'a, A, B>,
+}
+
+impl<'a, A: Source, B: Source> Captures<'a, A, B> {
+    /// Those of captures past their headers.
+    pub fn of(
+        alloc: Global,
+        refusing: Refusing<'a>,
+        inside: Opened<'a, A>,
+        outside: Opened<'a, B>,
+    ) -> Captures<'a, A, B> {
+        let (inside_head, outside_head) = (inside.head, outside.head);
+        Captures {
+            refusing,
+            inside_head,
+            outside_head,
+            packets: MergedStreams::new(alloc, inside.stream, outside.stream),
+        }
+    }
+
+    /// Hands the packets to a consumer, one after another, until the end. A refusal is explained, behind what the consumer
+    /// told of the packets before it.
+    pub fn hand_over<R: Eprint + AllocGlobal, C: Consumer<R>>(
+        &mut self,
+        rt: &R,
+        consumer: &mut C,
+    ) -> Result<(), Stop> {
+        let mut spare = Vec::new(rt.alloc());
+        for number in 1..u64::MAX {
+            if self.packets.asks_device() {
+                consumer.settle(rt)?;
+            }
+            let input = match self.packets.next(spare) {
+                Ok(Some(input)) => input,
+                Ok(None) => return Ok(()),
+                Err(fault) => {
+                    consumer.settle(rt)?;
+                    return Err(self.refuse(rt, fault));
+                }
+            };
+            consumer.take(rt, number, &input)?;
+            spare = input.bytes;
+        }
+        Ok(())
+    }
+
+    /// All packets. A refusal is explained.
+    pub fn all<R: Eprint + AllocGlobal>(&mut self, rt: &R) -> Result<Vec<Input>, Stop> {
+        let mut inputs = Vec::new(rt.alloc());
+        for _ in 0..u64::MAX {
+            match self.packets.next(Vec::new(rt.alloc())) {
+                Ok(Some(input)) => inputs.push(input)?,
+                Ok(None) => return Ok(inputs),
+                Err(fault) => return Err(self.refuse(rt, fault)),
+            }
+        }
+        Ok(inputs)
+    }
+
+    /// Which captures end inside a record, once their end is reached.
+    pub fn cuts(&self) -> Cuts {
+        let cuts = self.packets.cuts();
+        Cuts {
+            inside: cuts.inside,
+            outside: cuts.outside,
+            holds: self.refusing.options.outside,
+        }
+    }
+
+    fn refuse<R: Eprint + AllocGlobal>(&self, rt: &R, fault: SideFault) -> Stop {
+        let head = match fault.side {
+            Side::Inside => self.inside_head,
+            Side::Outside => self.outside_head,
+        };
+        self.refusing
+            .refuse(rt, fault.side, head, Refused::from(fault.fault))
+    }
+}

@@ -1,0 +1,303 @@
+//! What is asked for of a run, as it goes on.
+
+use crate::blocks::tell_needless;
+use crate::cuts::Cuts;
+use crate::holders::Holders;
+use crate::lines::Line;
+use crate::living::Living;
+use crate::log_file::{LogFile, begin_log};
+use crate::losses::Losses;
+use crate::matched::Unmatched;
+use crate::measures::tell_sizes;
+use crate::only::Only;
+use crate::options::{Choice, Form, Options};
+use crate::page::Page;
+use crate::passed::{Consumer, Passing};
+use crate::progress::Progress;
+use crate::replies::Replies;
+use crate::requests::Asked;
+use crate::sizes::Sizes;
+use crate::stop::Stop;
+use crate::summary::{Bindings, FromOutside, Lines};
+use crate::warning::tell_warning;
+use napt_account::{KnownRun, Listed};
+use napt_config::Config;
+use napt_sequential::Input;
+use napt_table::Row;
+use std::alloc::{AllocError, Global};
+use std::io::Write;
+use std::rt::Files;
+
+/// What standard output gets of a run.
+#[derive(Drop)]
+enum Told<'a> {
+    /// The lines of packets, and the summary.
+    Lines(Lines),
+    /// The line of one packet, and its bindings.
+    Only(Only),
+    /// An object for each packet.
+    Objects,
+    /// The answers to requests.
+    Holders(Holders<'a>),
+    Sizes(Sizes),
+}
+
+/// What is asked for of a run, as it goes on. `W` is a file.
+#[derive(Drop)]
+pub struct Explanation<'a, W> {
+    options: &'a Options<'a>,
+    replies: Option<Replies<'a>>,
+    running: KnownRun<'a>,
+    told: Told<'a>,
+    log: Option<LogFile<'a, W>>,
+    losses: Losses,
+    unmatched: Unmatched,
+    progress: Progress,
+    page: Page,
+    /// How many packets there were, and the latest time so far, in ns.
+    packets: u64,
+    last: u64,
+}
+
+/// How a run ended: how many packets there were, at which time in ns the last one, and which bindings live.
+#[derive(Drop)]
+struct Ending<'a> {
+    config: &'a Config,
+    packets: u64,
+    last: u64,
+    /// In the order of the report, if they are to be printed so.
+    rows: Vec<Row>,
+    living: Vec<Listed>,
+}
+
+impl<'a> Told<'a> {
+    /// Before the first packet, with the redirects.
+    fn of(
+        alloc: Global,
+        options: &Options<'_>,
+        asked: &'a [Asked],
+        config: &Config,
+        opening: &[Listed],
+    ) -> Result<Told<'a>, AllocError> {
+        Ok(match (options.form, options.choice.only) {
+            (Form::Objects, _) => Told::Objects,
+            (Form::Holders(_) | Form::Requests(_), _) => Told::Holders(Holders::of(alloc, asked)?),
+            (Form::Sizes, _) => Told::Sizes(Sizes::of(alloc, config, opening)?),
+            (_, Some(number)) => Told::Only(Only::new(number)),
+            (_, None) => Told::Lines(Lines::new(alloc, options.choice)),
+        })
+    }
+
+    /// Takes the next packet, and appends what it adds.
+    fn take(
+        &mut self,
+        alloc: Global,
+        config: &Config,
+        choice: Choice,
+        text: &mut String,
+        (passing, line): (Passing<'_>, Line<'_>),
+    ) -> Result<(), AllocError> {
+        match self {
+            Told::Lines(lines) => lines.take(alloc, text, line, &passing.step.ended),
+            Told::Only(only) => only.take(alloc, text, passing, line),
+            Told::Objects => {
+                if line.is_chosen(alloc, choice)? {
+                    line.object().add_to(alloc, text)?;
+                }
+                Ok(())
+            }
+            Told::Holders(holders) => holders.take(passing),
+            Told::Sizes(sizes) => sizes.take(config, passing),
+        }
+    }
+
+    /// The live bindings in the order of the report, if they are to be printed so.
+    fn rows_of(&self, alloc: Global, running: &KnownRun<'_>) -> Result<Vec<Row>, AllocError> {
+        match self {
+            Told::Lines(_) => running.bindings(alloc),
+            _ => Ok(Vec::new(alloc)),
+        }
+    }
+
+    /// Prints what there is to print at the end.
+    fn tell<R: Print + Eprint + AllocGlobal>(
+        self,
+        rt: &R,
+        page: &mut Page,
+        ending: Ending<'_>,
+        outside: FromOutside<'_>,
+    ) -> Result<(), Stop> {
+        let Ending {
+            config,
+            packets,
+            last,
+            rows,
+            living,
+        } = ending;
+        match self {
+            Told::Lines(lines) => {
+                let living = Living::of(living);
+                let bindings = Bindings {
+                    last,
+                    rows: &rows,
+                    living: &living,
+                };
+                tell_summary(rt, page, &lines, bindings, outside)
+            }
+            Told::Only(only) => only.tell(rt, page, &living, packets),
+            Told::Objects => Ok(()),
+            Told::Holders(holders) => holders.tell(rt, config, &living, last),
+            Told::Sizes(sizes) => tell_sizes(rt, config, &sizes),
+        }
+    }
+}
+
+/// What is asked for of a run under a configuration, before the first packet. The packets from outside may be replies.
+pub fn begin_explanation<'a, R: Files + Eprint + AllocGlobal>(
+    rt: &R,
+    options: &'a Options<'a>,
+    config: &'a Config,
+    asked: &'a [Asked],
+    replies: Option<Replies<'a>>,
+) -> Result<Explanation<'a, R::File>, Stop> {
+    let alloc = rt.alloc();
+    let running = KnownRun::begin(alloc, config)?;
+    let opening = running.living(alloc)?;
+    let log = match options.log {
+        Some(path) => Some(begin_log(rt, path, config, &opening)?),
+        None => None,
+    };
+    Ok(Explanation {
+        options,
+        replies,
+        told: Told::of(alloc, options, asked, config, &opening)?,
+        log,
+        losses: Losses::new(alloc, config)?,
+        unmatched: Unmatched::of(options.choice, &opening),
+        progress: Progress::of(rt),
+        page: Page::new(alloc),
+        packets: 0,
+        last: 0,
+        running,
+    })
+}
+
+impl<'a, W: Write + Drop> Explanation<'a, W> {
+    /// Writes what was told so far.
+    fn write<R: Print + Eprint>(&mut self, rt: &R) -> Result<(), Stop> {
+        if let Some(log) = &mut self.log {
+            log.settle(rt)?;
+        }
+        self.page.end(rt)
+    }
+
+    /// Tells what needs the end, behind all packets.
+    pub fn end<R: Print + Eprint + AllocGlobal>(self, rt: &R, cuts: Cuts) -> Result<(), Stop> {
+        let Explanation {
+            options,
+            replies,
+            running,
+            told,
+            log,
+            losses,
+            unmatched,
+            progress,
+            page,
+            packets,
+            last,
+        } = self;
+        let mut page = page;
+        page.end(rt)?;
+        progress.tell_end(rt, packets);
+        cuts.tell(rt, options.form)?;
+        tell_warning(rt, options.outside, None, &losses);
+        let config = running.config();
+        let rows = told.rows_of(rt.alloc(), &running)?;
+        let living = living_after(rt.alloc(), running)?;
+        finish_log(rt, log, config, &living)?;
+        unmatched.tell(rt);
+        let ending = Ending {
+            config,
+            packets,
+            last,
+            rows,
+            living,
+        };
+        let outside = FromOutside {
+            losses: &losses,
+            replies,
+        };
+        told.tell(rt, &mut page, ending, outside)
+    }
+}
+
+/// The entries of the bindings that live at the end of a run, which is then gone.
+fn living_after(alloc: Global, run: KnownRun<'_>) -> Result<Vec<Listed>, AllocError> {
+    run.living(alloc)
+}
+
+/// Writes the rows of the bindings that live at the end, if there is a log.
+fn finish_log<R: Eprint, W: Write + Drop>(
+    rt: &R,
+    log: Option<LogFile<'_, W>>,
+    config: &Config,
+    living: &[Listed],
+) -> Result<(), Stop> {
+    let Some(mut log) = log else {
+        return Ok(());
+    };
+    log.finish(rt, config, living)?;
+    tell_needless(rt, config);
+    Ok(())
+}
+
+/// Prints the live bindings, and what became of the packets.
+fn tell_summary<R: Print>(
+    rt: &R,
+    page: &mut Page,
+    lines: &Lines,
+    bindings: Bindings<'_>,
+    outside: FromOutside<'_>,
+) -> Result<(), Stop> {
+    lines.tell_bindings(rt, page, bindings)?;
+    lines.add_counts(&mut page.text, outside)?;
+    page.end(rt)
+}
+
+impl<R: Print + Eprint + AllocGlobal, W: Write + Drop> Consumer<R> for Explanation<'_, W> {
+    fn take(&mut self, rt: &R, number: u64, input: &Input) -> Result<(), Stop> {
+        let alloc = rt.alloc();
+        let config = self.running.config();
+        let step = match self.running.step(alloc, input) {
+            Ok(step) => step,
+            Err(fault) => {
+                self.write(rt)?;
+                return Err(Stop::from(fault));
+            }
+        };
+        let passing = Passing {
+            number,
+            input,
+            step: &step,
+        };
+        self.packets = number;
+        self.last = self.last.max(input.clock);
+        self.losses.take(config, input, &step.outcome);
+        let line = Line::of(passing, self.replies);
+        self.unmatched.take(alloc, line, &step.made)?;
+        if let Some(log) = &mut self.log {
+            log.take(rt, config, passing)?;
+        }
+        let choice = self.options.choice;
+        let text = &mut self.page.text;
+        self.told
+            .take(alloc, config, choice, text, (passing, line))?;
+        self.page.turn(rt)?;
+        self.progress.tell(rt, number);
+        Ok(())
+    }
+
+    fn settle(&mut self, rt: &R) -> Result<(), Stop> {
+        self.write(rt)
+    }
+}

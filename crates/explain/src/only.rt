@@ -1,0 +1,129 @@
+//! The line of a single packet, and the bindings that it used.
+
+use crate::lines::Line;
+use crate::names::Seconds;
+use crate::page::Page;
+use crate::passed::Passing;
+use crate::stop::Stop;
+use crate::widths::Widths;
+use napt_account::{Entry, Listed};
+use napt_records::{EndpointText, protocol_name};
+use std::alloc::{AllocError, Global};
+use std::fmt::Write;
+
+/// A binding that the packet used: its number in the log, from 1, and its entry once it ended.
+#[derive(Clone, Copy)]
+struct Used {
+    number: u64,
+    entry: Option<Entry>,
+}
+
+impl Used {
+    /// The binding at an index of the log.
+    fn at(place: usize) -> Used {
+        Used {
+            number: (place as u64).saturating_add(1),
+            entry: None,
+        }
+    }
+
+    /// Takes its entry, if it is one of these.
+    fn take(&mut self, listed: &[Listed]) {
+        if let Some(found) = listed.iter().find(|listed| listed.number == self.number) {
+            self.entry = Some(found.entry);
+        }
+    }
+}
+
+/// The packet that is shown alone.
+#[derive(Clone, Copy)]
+pub struct Only {
+    /// Its number, from 1.
+    number: u64,
+    /// Whether it came.
+    is_found: bool,
+    /// The binding that it went out through, and that it came in through.
+    out: Option<Used>,
+    into: Option<Used>,
+}
+
+impl Only {
+    /// Before the first packet.
+    pub fn new(number: u64) -> Only {
+        Only {
+            number,
+            is_found: false,
+            out: None,
+            into: None,
+        }
+    }
+
+    /// Takes the next packet. The line of the one that is shown is appended.
+    pub fn take(
+        &mut self,
+        alloc: Global,
+        text: &mut String,
+        passing: Passing<'_>,
+        line: Line<'_>,
+    ) -> Result<(), AllocError> {
+        let step = passing.step;
+        self.take_entries(&step.ended);
+        if line.number != self.number {
+            return Ok(());
+        }
+        let mut widths = Widths::new();
+        widths.take(line.number, line.input);
+        line.add(alloc, text, widths)?;
+        self.is_found = true;
+        self.out = step.used.out.map(Used::at);
+        self.into = step.used.into.map(Used::at);
+        Ok(())
+    }
+
+    /// Takes the entries of its bindings, if they are among these.
+    fn take_entries(&mut self, listed: &[Listed]) {
+        if let Some(used) = &mut self.out {
+            used.take(listed);
+        }
+        if let Some(used) = &mut self.into {
+            used.take(listed);
+        }
+    }
+
+    /// Prints the bindings, of which these have not ended. A packet that did not come, of so many, is reported.
+    pub fn tell<R: Print + Eprint>(
+        self,
+        rt: &R,
+        page: &mut Page,
+        living: &[Listed],
+        packets: u64,
+    ) -> Result<(), Stop> {
+        if !self.is_found {
+            let number = self.number;
+            let _ = eprintln!(rt; "explain: --only {number}: there are {packets} packets");
+            return Err(Stop::Told(napt_program::Stop::Usage));
+        }
+        let mut only = self;
+        only.take_entries(living);
+        add_used(&mut page.text, "out", only.out)?;
+        add_used(&mut page.text, "in", only.into)?;
+        page.end(rt)
+    }
+}
+
+/// Appends the line of a binding that the packet used in this direction.
+fn add_used(text: &mut String, way: &str, used: Option<Used>) -> Result<(), AllocError> {
+    let Some(entry) = used.and_then(|used| used.entry) else {
+        return Ok(());
+    };
+    let binding = entry.binding;
+    let name = protocol_name(binding.protocol);
+    let (inside, external) = (EndpointText(binding.inside), EndpointText(binding.external));
+    write!(text, "  {way} through {name} {inside} at {external}")?;
+    if binding.fixed {
+        text.push_str(", a redirect\n")
+    } else {
+        let (made, used) = (Seconds(entry.made), Seconds(entry.last));
+        writeln!(text, ", made at {made}, last packet at {used}")
+    }
+}

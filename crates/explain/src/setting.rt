@@ -1,0 +1,231 @@
+//! A run over captures, as the command line asks for it.
+
+use crate::against::Against;
+use crate::captures::{Begun, Captures, Opened, Refusing};
+use crate::explanation::begin_explanation;
+use crate::following::write_followed;
+use crate::options::{Form, Options, Outside};
+use crate::passed::take_all;
+use crate::pictures::draw;
+use crate::plan::Plans;
+use crate::reading::{Given, Written};
+use crate::replies::ends_of;
+use crate::requests::Asked;
+use crate::stop::Stop;
+use napt_capture::{NoPackets, Source, Watched};
+use napt_config::Config;
+use napt_program::{InputFiles, Streams};
+use napt_sequential::Input;
+use napt_wire::{Endpoint, Side};
+use std::alloc::{AllocError, Global};
+use std::io::Read;
+use std::rt::Files;
+
+/// What is asked for, and under which configurations.
+#[derive(Clone, Copy)]
+pub struct Setting<'a> {
+    streams: Streams,
+    options: &'a Options<'a>,
+    written: &'a Written,
+    /// The configuration to compare with.
+    other: Option<&'a Config>,
+    /// The configurations of a plan.
+    plans: &'a [Config],
+    asked: &'a [Asked],
+}
+
+/// Reads the captures, and prints the run.
+pub fn explain<R, S: Read + Drop, F: Read + Drop>(
+    rt: &R,
+    streams: Streams,
+    options: &Options<'_>,
+    given: Given<S, F>,
+) -> Result<(), Stop>
+where
+    R: Files + Print + Eprint + AllocGlobal,
+{
+    let Given {
+        written,
+        other,
+        plans,
+        asked,
+        files,
+    } = given;
+    let setting = Setting {
+        streams,
+        options,
+        written: &written,
+        other: other.as_ref(),
+        plans: &plans,
+        asked: &asked,
+    };
+    setting.read(rt, files)
+}
+
+impl<'a> Setting<'a> {
+    fn refusing(self) -> Refusing<'a> {
+        Refusing {
+            options: self.options,
+            written: self.written,
+        }
+    }
+
+    /// Reads the headers of the captures, the inside one first, and explains their packets.
+    fn read<R: Files + Print + Eprint + AllocGlobal, S: Read + Drop, F: Read + Drop>(
+        self,
+        rt: &R,
+        files: InputFiles<S, F>,
+    ) -> Result<(), Stop> {
+        let InputFiles { inside, outside } = files;
+        let Begun { head, reader } = self.refusing().begin(rt, Side::Inside, inside)?;
+        let mut source = Watched::new(head.as_slice().chain(reader));
+        let inside = self.refusing().open(rt, Side::Inside, &head, &mut source)?;
+        match outside {
+            Some(outside) => self.read_outside(rt, inside, outside),
+            None => self.read_nothing(rt, inside),
+        }
+    }
+
+    /// The same, behind the header of the inside capture.
+    fn read_outside<R: Files + Print + Eprint + AllocGlobal, A: Source, D: Read + Drop>(
+        self,
+        rt: &R,
+        inside: Opened<'_, A>,
+        outside: D,
+    ) -> Result<(), Stop> {
+        let Begun { head, reader } = self.refusing().begin(rt, Side::Outside, outside)?;
+        let mut source = Watched::new(head.as_slice().chain(reader));
+        let outside = self.refusing().open(rt, Side::Outside, &head, &mut source)?;
+        self.explain(
+            rt,
+            Captures::of(rt.alloc(), self.refusing(), inside, outside),
+        )
+    }
+
+    /// The same without an outside capture.
+    fn read_nothing<R: Files + Print + Eprint + AllocGlobal, A: Source>(
+        self,
+        rt: &R,
+        inside: Opened<'_, A>,
+    ) -> Result<(), Stop> {
+        let mut source = NoPackets::new();
+        let outside = self.refusing().open(rt, Side::Outside, &[], &mut source)?;
+        self.explain(
+            rt,
+            Captures::of(rt.alloc(), self.refusing(), inside, outside),
+        )
+    }
+
+    /// Explains the packets of the captures.
+    fn explain<R: Files + Print + Eprint + AllocGlobal, A: Source, B: Source>(
+        self,
+        rt: &R,
+        captures: Captures<'_, A, B>,
+    ) -> Result<(), Stop> {
+        if !self.streams.output {
+            return Err(Stop::NoOutput);
+        }
+        match (self.options.form, self.other) {
+            (Form::Differences(path), Some(other)) => {
+                self.explain_against(rt, captures, path, other)
+            }
+            (Form::Plans | Form::PlansInCsv, _) => self.explain_plans(rt, captures),
+            _ if self.options.keeps_packets() => self.explain_kept(rt, captures),
+            _ => self.explain_passing(rt, captures),
+        }
+    }
+
+    /// Explains what ends differently under the configuration at a path.
+    fn explain_against<R: Print + Eprint + AllocGlobal, A: Source, B: Source>(
+        self,
+        rt: &R,
+        captures: Captures<'_, A, B>,
+        path: &str,
+        other: &Config,
+    ) -> Result<(), Stop> {
+        let options = self.options;
+        let mut captures = captures;
+        let configs = [&self.written.config, other];
+        let mut against = Against::begin(rt.alloc(), options.choice, configs)?;
+        if options.outside.follows() {
+            let inputs = captures.all(rt)?;
+            against.follow(rt, options.outside, &inputs)?;
+        } else {
+            captures.hand_over(rt, &mut against)?;
+        }
+        captures.cuts().tell(rt, options.form)?;
+        against.tell(rt, options, path)
+    }
+
+    /// Explains the runs of a plan.
+    fn explain_plans<R: Print + Eprint + AllocGlobal, A: Source, B: Source>(
+        self,
+        rt: &R,
+        captures: Captures<'_, A, B>,
+    ) -> Result<(), Stop> {
+        let options = self.options;
+        let mut captures = captures;
+        let mut plans = Plans::begin(rt.alloc(), self.plans)?;
+        if options.outside.follows() {
+            let inputs = captures.all(rt)?;
+            plans.follow(rt.alloc(), options.outside, &inputs)?;
+        } else {
+            captures.hand_over(rt, &mut plans)?;
+        }
+        captures.cuts().tell(rt, options.form)?;
+        plans.tell(rt, options)
+    }
+
+    /// Explains the packets as they come.
+    fn explain_passing<R: Files + Print + Eprint + AllocGlobal, A: Source, B: Source>(
+        self,
+        rt: &R,
+        captures: Captures<'_, A, B>,
+    ) -> Result<(), Stop> {
+        let mut captures = captures;
+        let mut explanation = begin_explanation(
+            rt,
+            self.options,
+            &self.written.config,
+            self.asked,
+            None,
+        )?;
+        captures.hand_over(rt, &mut explanation)?;
+        explanation.end(rt, captures.cuts())
+    }
+
+    /// Explains the packets once all are there, for what needs all of them: a picture, and replies that follow.
+    fn explain_kept<R: Files + Print + Eprint + AllocGlobal, A: Source, B: Source>(
+        self,
+        rt: &R,
+        captures: Captures<'_, A, B>,
+    ) -> Result<(), Stop> {
+        let (options, config) = (self.options, &self.written.config);
+        let mut captures = captures;
+        let mut inputs = captures.all(rt)?;
+        let ends = named_ends(rt.alloc(), options, &mut inputs)?;
+        let inputs = options.outside.inputs_under(rt.alloc(), config, inputs)?;
+        if let Some(path) = options.followed {
+            write_followed(rt, path, &inputs)?;
+        }
+        if let Some(path) = options.svg {
+            draw(rt, path, options.part, config, &inputs)?;
+        }
+        let replies = options.outside.replies(config, &ends);
+        let mut explanation = begin_explanation(rt, options, config, self.asked, replies)?;
+        take_all(rt, &inputs, &mut explanation)?;
+        explanation.end(rt, captures.cuts())
+    }
+}
+
+/// The inside endpoints that the inputs name, if they are replies of which each may have a line; else none.
+fn named_ends(
+    alloc: Global,
+    options: &Options<'_>,
+    inputs: &mut [Input],
+) -> Result<Vec<Option<Endpoint>>, AllocError> {
+    match (options.outside, options.form) {
+        (Outside::Replies, Form::Lines | Form::Objects) => ends_of(alloc, inputs),
+        _ => Ok(Vec::new(alloc)),
+    }
+}
