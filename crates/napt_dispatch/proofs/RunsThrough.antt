@@ -11,19 +11,15 @@ use Rattle.napt_pool.specs.declared.pool.Pool.{Pool}
 use Rattle.napt_pool.specs.Pools.{accepts, takes as taken}
 use Rattle.napt_laws.specs.Dispatching.{IsFront}
 use Rattle.napt_sequential.proofs.Inputs.{came_whole}
-use Rattle.napt_laws.proofs.Grown.{ran_long}
 use Rattle.napt_dispatch.specs.declared.collected.Collected.{Collected}
 use Rattle.napt_dispatch.specs.declared.dispatcher.Dispatched.{Dispatched}
 use Rattle.napt_dispatch.specs.declared.dispatcher.Ending.{Ending}
 use Rattle.napt_dispatch.specs.declared.dispatcher.Ending.TheVariants as endings
 use Rattle.napt_sequential.specs.declared.fault.RunFault.{RunFault}
 use Rattle.napt_dispatch.specs.declared.workers.Passed.{Passed}
-use Rattle.napt_dispatch.specs.declared.workers.TimedRun.{TimedRun}
 use Rattle.napt_dispatch.specs.Collecting.{outcome_of, Collects}
 use Rattle.napt_dispatch.specs.Dispatch.{IsDispatched, Right}
-use Rattle.napt_dispatch.specs.Windows.{time_in}
-use Rattle.napt_dispatch.specs.Passing.{timed, EndsWith, EndsEarly, EndsHalted, EndsBy, PassesTo, PassesWell, PassesEarly, PassesHalted, RunsAll}
-use Rattle.napt_dispatch.proofs.Windows.{timed_outcomes, timed_times}
+use Rattle.napt_dispatch.specs.Passing.{timed, EndsWith, EndsEarly, EndsHalted, EndsBy, PassesTo, PassesWell, PassesEarly, PassesHalted}
 
 -- the outcomes of a run are those of its course
 ran_outcomes : (rules : Rules) (inputs : List Arrival) →
@@ -135,37 +131,7 @@ module _ {A F S B M G : Type 0} (rules : Rules) (hands : A → List Arrival → 
   passes_closed (Err fault) ended halted =
       passes_halt rules hands ends takes fails is_settled from before pool left after (right halted.offered_many) halted
 
--- WHAT WAS COLLECTED
-
-module _ (rules : Rules) (inputs : List Arrival) (none some : Collected)
-    (took : Collects none (timed inputs (ran rules inputs).outcomes) some) where
-  pub collected_outcomes : none.outcomes.items ≡ [] → some.outcomes.items ≡ (ran rules inputs).outcomes
-  collected_outcomes empty = took.outcomes
-      ∙ (ap (λ l. l ++ map outcome_of (timed inputs (ran rules inputs).outcomes)) empty
-      ∙ timed_outcomes inputs (ran rules inputs).outcomes (ran_long rules inputs))
-
-  pub collected_times : none.times.items ≡ [] → some.times.items ≡ map (λ i. i.time) inputs
-  collected_times empty = took.times
-      ∙ (ap (λ l. l ++ map time_in (timed inputs (ran rules inputs).outcomes)) empty
-      ∙ timed_times inputs (ran rules inputs).outcomes (ran_long rules inputs))
-
-  pub collected_run : (bindings : List Row) (legs : List ℕ) → none.outcomes.items ≡ [] →
-      bindings ≡ (ran rules inputs).bindings → legs ≡ (ran rules inputs).legs →
-      (let r : Ran = record { outcomes = some.outcomes.items; bindings = bindings; legs = legs } in r ≡ ran rules
-      inputs)
-  collected_run bindings legs empty shown counted = rw (collected_outcomes empty, shown, counted) refl
-
 -- WHERE THE INPUTS COME OFF A LIST
-
--- the run is that over the whole list
-pub runs_whole : {A F : Type 0} (rules : Rules) (list : A → List Arrival) (from : A) (done : TimedRun) (left : A) →
-    RunsAll {F = F} rules (λ x xs y. list x ≡ xs ++ list y) (λ x end y. list x ≡ []) from done left →
-    (done.run ≡ ran rules (list from)) × (done.times.items ≡ map (λ i. i.time) (list from))
-runs_whole rules list from done left r =
-    let whole : list from ≡ r.inputs = came_whole list from left r.inputs None r.came in (
-      subst (λ (inputs : List Arrival). done.run ≡ ran rules inputs) (sym whole) r.run_is,
-      subst (λ (inputs : List Arrival). done.times.items ≡ map (λ i. i.time) inputs) (sym whole) r.times,
-    )
 
 pub dispatched_whole : {A F B M G : Type 0} (rules : Rules) (list : A → List Arrival)
     (fails : Collected → List (ℕ × Outcome) → B → Collected → Type 0) (is_settled : Collected → Type 0) (from : A)
@@ -176,7 +142,7 @@ pub dispatched_whole : {A F B M G : Type 0} (rules : Rules) (list : A → List A
     (length (accepts pool) ≡ length rules.pool → Right rules (accepts pool) (taken pool)) →
     IsDispatched rules (list from) (accepts pool) some.outcomes.items done.legs.items
 dispatched_whole rules list fails is_settled from none pool left some done e empty right =
-    let outcomes : some.outcomes.items ≡ map outcome_of e.went = e.took.outcomes
+    let outcomes : some.outcomes.items ≡ map outcome_of e.went = e.took
     ∙ ap (λ l. l ++ map outcome_of e.went) empty in
     subst (λ (inputs : List Arrival). IsDispatched rules inputs (accepts pool) some.outcomes.items done.legs.items)
     (sym (came_whole list from left e.inputs None e.came))

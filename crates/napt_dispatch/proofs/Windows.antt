@@ -357,9 +357,3 @@ timed_outcomes [] [] e = refl
 timed_outcomes [] (o ∷ outs) e = absurd (omega arith)
 timed_outcomes (i ∷ inputs) [] e = absurd (omega arith)
 timed_outcomes (i ∷ inputs) (o ∷ outs) e = ap (λ l. o ∷ l) (timed_outcomes inputs outs (omega arith))
-
-pub timed_times : (inputs : List Arrival) (outs : List Outcome) → length outs ≡ length inputs →
-    map time_in (timed inputs outs) ≡ map (λ i. i.time) inputs
-timed_times [] outs e = refl
-timed_times (i ∷ inputs) [] e = absurd (omega arith)
-timed_times (i ∷ inputs) (o ∷ outs) e = ap (λ l. i.time ∷ l) (timed_times inputs outs (omega arith))

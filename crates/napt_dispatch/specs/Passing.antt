@@ -19,7 +19,6 @@ use Rattle.napt_dispatch.specs.declared.dispatcher.reading.EndOfInputs.{EndOfInp
 use Rattle.napt_dispatch.specs.declared.stopped.Stopped.{Stopped}
 use Rattle.napt_dispatch.specs.declared.stopped.Stopped.TheVariants as stops
 use Rattle.napt_dispatch.specs.declared.workers.Passed.{Passed}
-use Rattle.napt_dispatch.specs.declared.workers.TimedRun.{TimedRun}
 use Rattle.napt_dispatch.specs.Collecting.{outcome_of}
 use Rattle.napt_dispatch.specs.Dispatch.{IsFaultUnder, IsDispatched, Right}
 use Rattle.napt_dispatch.specs.Windows.{Window, progress_in, times_in, IsHandedOver}
@@ -282,11 +281,3 @@ abbrev pub IsStoppedUnder : {F B : Type 0} → Bool → Stopped F B → Type 0
 IsStoppedUnder open_gate (stops.Run fault) = IsFaultUnder open_gate fault
 IsStoppedUnder open_gate (stops.Arrival fault) = ⊤
 IsStoppedUnder open_gate (stops.Departure fault) = ⊤
-
--- the arrivals ended, and this is the sequential run over all inputs
-pub record RunsAll {A F : Type 0} (rules : Rules) (hands : A → List Arrival → A → Type 0)
-    (ends : A → Option F → A → Type 0) (from : A) (done : TimedRun) (left : A) : Type 0 where
-  pub inputs : List Arrival
-  pub came : Came hands ends from inputs None left
-  pub run_is : done.run ≡ ran rules inputs
-  pub times : done.times.items ≡ map (λ i. i.time) inputs

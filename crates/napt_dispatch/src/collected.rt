@@ -6,22 +6,19 @@ use crate::departures::Departures;
 use napt_sequential::Outcome;
 use std::alloc::{AllocError, Global};
 
-/// The outcomes of a run, one for each input, and the arrival times of the inputs, in ns.
+/// The outcomes of a run, one for each input.
 #[derive(Drop)]
 pub(crate) struct Collected {
     pub(crate) outcomes: Vec<Outcome>,
-    pub(crate) times: Vec<u64>,
 }
 
 impl Collected {
     /// No outcomes, with memory reserved for a number of inputs.
     pub(crate) fn with_capacity(alloc: Global, inputs: usize) -> Result<Collected, AllocError>
         ensures outcomes { IfOk result (λ none. none.outcomes.items ≡ []) }
-        ensures times { IfOk result (λ none. none.times.items ≡ []) }
     {
         Ok(Collected {
             outcomes: Vec::with_capacity(alloc, inputs)?,
-            times: Vec::with_capacity(alloc, inputs)?,
         })
     }
 }
@@ -42,8 +39,7 @@ impl Departures for Collected {
 
     ghost takes_more = { λ x y z xs ys first second. collects_more x y z xs ys first second };
 
-    fn leave(&mut self, time: u64, outcome: Outcome) -> Result<Option<Vec<u8>>, AllocError> {
-        self.times.push(time)?;
+    fn leave(&mut self, _time: u64, outcome: Outcome) -> Result<Option<Vec<u8>>, AllocError> {
         self.outcomes.push(outcome)?;
         Ok(None)
     }

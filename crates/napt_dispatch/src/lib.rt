@@ -16,4 +16,4 @@ pub use departures::Departures;
 pub use dispatcher::dispatch;
 pub use stopped::Stopped;
 pub use worker::Worker;
-pub use workers::{Passed, TimedRun, run_on_pool, run_through, run_workers};
+pub use workers::{Passed, run_through, run_workers};

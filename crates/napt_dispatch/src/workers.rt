@@ -7,18 +7,17 @@ ghost use Rattle.napt_pool.specs.Pools.{starts, accepts, takes, zip_with};
 ghost use Rattle.napt_rules.specs.Sequential as model;
 ghost use Rattle.napt_dispatch.specs.Dispatch.{first_fault, started, rows_after, IsDispatchFault, IsFaultUnder};
 ghost use Rattle.napt_sequential.specs.Faults.{is_gate_fault};
-ghost use Rattle.napt_dispatch.specs.Passing.{Passes, RunsAll, IsStoppedUnder};
+ghost use Rattle.napt_dispatch.specs.Passing.{Passes, IsStoppedUnder};
 ghost use Rattle.napt_rules.specs.Prelude.{AreRowsApart};
 
 use crate::Worker;
-use crate::collected::Collected;
 use crate::departures::Departures;
 use crate::dispatcher::{Dispatched, Ending, dispatch, dispatch_to};
 use crate::inputs::last_clock;
 use crate::stopped::Stopped;
 use napt_config::Config;
 use napt_pool::{Ended, Gate, Machine, Pool, PoolFault};
-use napt_sequential::{Arrivals, Input, MOST_INPUTS, NoFault, Run, RunFault, runs_are_sound};
+use napt_sequential::{Arrivals, Input, MOST_INPUTS, Run, RunFault, runs_are_sound};
 use napt_table::Row;
 use napt_translate::Translator;
 use std::alloc::{AllocError, Global};
@@ -186,47 +185,5 @@ pub fn run_through<
         },
         Ending::Arrival(fault) => Err(Stopped::Arrival(fault)),
         Ending::Departure(fault) => Err(Stopped::Departure(fault)),
-    }
-}
-
-/// A run, with the arrival time of each input, in ns.
-#[derive(Drop)]
-pub struct TimedRun {
-    pub run: Run,
-    pub times: Vec<u64>,
-}
-
-/// The run of `run_workers` over inputs that cannot fail, taken as they are needed. Memory is reserved for `many` inputs.
-///
-/// The errors are those of `run_workers`, except that `RunFault::TooMany` never comes.
-pub fn run_on_pool<
-    R: Threads + Wait + Copy + Send + 'static,
-    G: Gate + Send + Sync + Drop + 'static,
-    A: Arrivals<Fault = NoFault>,
->(
-    rt: &R,
-    alloc: Global,
-    config: &Config,
-    arrivals: &mut A,
-    many: usize,
-    gate: Arc<G>,
-) -> Result<TimedRun, RunFault>
-    ensures run { IfOk result (λ done. RunsAll config.now A.hands A.ends
-        arrivals.old done arrivals.new) }
-    ensures fault { IfErr result (IsFaultUnder G.is_open) }
-{
-    let mut collected = Collected::with_capacity(alloc, many)?;
-    match run_through(rt, alloc, config, arrivals, &mut collected, gate) {
-        Ok(Passed { bindings, legs }) => Ok(TimedRun {
-            run: Run {
-                outcomes: collected.outcomes,
-                bindings,
-                legs,
-            },
-            times: collected.times,
-        }),
-        Err(Stopped::Run(fault)) => Err(fault),
-        Err(Stopped::Arrival(none)) => match none {},
-        Err(Stopped::Departure(_)) => Err(RunFault::Memory),
     }
 }
