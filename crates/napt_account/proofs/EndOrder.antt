@@ -1,169 +1,28 @@
--- What is kept by its end is in order of end; what is taken out of it, and what it lists.
-use Rattle.std.proofs.Common.{◌≡◌, ℕ, suc, ◌+◌, ◌≤◌, ◌⊎◌, inl, inr, Bool, true, false, cond, List, [], ◌∷◌, ◌++◌, Option, Some, None, refl, sym, ◌∙◌, ap, subst, arith}
+-- What has ended is taken out, and what is listed is in order of end.
+use Rattle.std.proofs.Common.{◌≡◌, ◌≢◌, ℕ, zero, suc, ◌+◌, ◌<◌, ◌^◌, ◌⊎◌, inl, inr, Bool, true, false, cond, unwrap_or, List, [], ◌∷◌, ◌++◌, length, map, Option, Some, None, refl, sym, ◌∙◌, ap, subst, arith}
 use Rattle.std.specs.Prelude.{filter, not}
-use Rattle.std.specs.List.{All, AllByRecursion}
-use Rattle.std.specs.List.Sorted.{IsStrictlySortedBy}
+use Rattle.std.specs.List.{Contains, AllByRecursion, IsDistinct, slice_index_or}
+use Rattle.std.specs.List.Sorted.{IsPermutation, IsSortedByKey}
 use Rattle.std.specs.Map.{lookup, keys_of, values_of}
-use Rattle.std.specs.Ordering.{is_eq, is_gt}
-use Rattle.std.specs.Cmp.{IsTotalOrder, bool_cmp_total}
-use Rattle.std.specs.BTreeMap as tree
-use Rattle.std.specs.declared.cmp.Ordering.TheVariants.{Less}
-use Rattle.std.proofs.lemmas.Bool.{and_parts, and_from}
+use Rattle.std.specs.Option.{option_map}
+use Rattle.std.specs.Ordering.{is_lt}
+use Rattle.std.specs.HashMap.{IsUnique}
+use Rattle.std.proofs.lemmas.Bool.{and_parts, and_from, eq-eqb}
 use Rattle.std.proofs.lemmas.Bool.Decides.{nat_tests}
-use Rattle.std.proofs.lemmas.Cmp.{on_total, then_total, nat_cmp_total}
-use Rattle.std.proofs.lemmas.Map.Views.{All-found}
+use Rattle.std.proofs.lemmas.List.Sorted.{Contains-permutation, IsPermutation-sym}
+use Rattle.std.proofs.lemmas.Map.Keys.{IsDistinct-IsPermutation}
 use Rattle.std.proofs.lemmas.Option.{same_Some}
 use Rattle.napt_rules.specs.Prelude.{Each}
-use Rattle.napt_binding.specs.Ends.{is_before}
-use Rattle.napt_binding.proofs.FirstEnds.{before_sooner}
 use Rattle.napt_account.specs.declared.log.Entry.{Entry}
 use Rattle.napt_account.specs.declared.log.Listed.{Listed}
-use Rattle.napt_account.specs.declared.open_entries.EndKey.{EndKey}
+use Rattle.napt_account.specs.declared.open_entries.Due.{Due}
 use Rattle.napt_account.specs.declared.open_entries.ExternalKey.{ExternalKey}
+use Rattle.napt_account.specs.declared.open_entries.Open.{Open}
 use Rattle.napt_account.specs.declared.open_entries.OpenEntries.{OpenEntries}
-use Rattle.napt_account.specs.OpenEntries.{external_key, end_key_of, end_key, external_eq, end_cmp, listed_at, key_at, kept, IsIndexed, IsListed, Shows, InOrder}
+use Rattle.napt_account.specs.OpenEntries.{external_key, end_key_of, end_key, external_eq, end_cmp, open_at, listed_at, due_of, is_queued, is_at, kept, IsIndexed, IsListed, Shows, InOrder}
 use Rattle.napt_account.specs.Telling.{numbered, is_open, ends_within, ends_first, in_order_of_end}
-use Rattle.napt_account.proofs.InOrder.{Has, each_has, has_each, has_left, has_parts, has_filter, filter_has, is_order, has_number, number_has, numbered_differ}
-use Rattle.napt_account.proofs.OpenEntries.{end_key_is, end_itself, external_is, external_itself}
-
--- ONE IS TAKEN OUT
-
-module _ (old new : OpenEntries) (indexed : IsIndexed old) (key0 : EndKey) (l0 : Listed)
-    (at0 : listed_at old key0 ≡ Some l0)
-    (entries : (key : EndKey) → listed_at new key ≡ cond (is_eq (end_cmp key0 key)) None (listed_at old key))
-    (keys : (x : ExternalKey) → key_at new x
-    ≡ cond (external_eq (external_key l0.entry.binding) x) None (key_at old x)) where
-  left : (key : EndKey) (m : Listed) → listed_at new key ≡ Some m →
-      (listed_at old key ≡ Some m) × (is_eq (end_cmp key0 key) ≡ false)
-  left key m at = elim (is_eq (end_cmp key0 key)) as (λ v. cond v None (listed_at old key) ≡ Some m →
-      (listed_at old key ≡ Some m) × (v ≡ false)) [ true ↦ λ h. cc | false ↦ λ h. (h, refl) ] (sym (entries key) ∙ at)
-
-  pub removed_indexed : IsIndexed new
-  removed_indexed = record {
-    under = λ key m at. indexed.under key m (left key m at).0;
-    found = λ key m at.
-        let was = left key m at in
-        keys (external_key m.entry.binding)
-        ∙ elim (external_eq (external_key l0.entry.binding) (external_key m.entry.binding)) as (λ v.
-        external_eq (external_key l0.entry.binding) (external_key m.entry.binding) ≡ v →
-        cond v None (key_at old (external_key m.entry.binding)) ≡ Some key) [
-          | true ↦ λ e.
-              let same : key0 ≡ key = same_Some key0 key (sym (indexed.found key0 l0 at0)
-              ∙ (ap (key_at old) (external_is _ _ e) ∙ indexed.found key m was.0)) in
-              let never : true ≡ false = sym (end_itself key0)
-              ∙ (ap (λ (k : EndKey). is_eq (end_cmp key0 k)) same ∙ was.1) in cc
-          | false ↦ λ e. indexed.found key m was.0
-        ] refl;
-    own = λ x key at. elim (external_eq (external_key l0.entry.binding) x) as (λ v.
-        external_eq (external_key l0.entry.binding) x ≡ v → cond v None (key_at old x) ≡ Some key →
-        (m : Listed) × (listed_at new key ≡ Some m) × (external_key m.entry.binding ≡ x)) [
-          | true ↦ λ e h. cc
-          | false ↦ λ e h.
-              let q = indexed.own x key h in
-              let m : Listed = q.0 in
-              let stays : listed_at new key ≡ Some m = entries key
-              ∙ elim (is_eq (end_cmp key0 key)) as (λ v. is_eq (end_cmp key0 key) ≡ v →
-              cond v None (listed_at old key) ≡ Some m) [
-                | true ↦ λ t.
-                    let one : l0 ≡ m = same_Some l0 m (sym at0
-                    ∙ (ap (listed_at old) (end_key_is key0 key t) ∙ q.1)) in
-                    let ends : external_key l0.entry.binding ≡ x =
-                    ap (λ (l : Listed). external_key l.entry.binding) one ∙ q.2 in
-                    let never : true ≡ false = sym (external_itself (external_key l0.entry.binding))
-                    ∙ (ap (external_eq (external_key l0.entry.binding)) ends ∙ e) in cc
-                | false ↦ λ t. q.1
-              ] refl in
-              (m, stays, q.2)
-        ] refl (sym (keys x) ∙ at);
-  }
-
--- what comes behind one that has not ended has not ended
-key_open : (now : ℕ) (a b : Option ℕ) (m n : ℕ) → is_gt (end_cmp (end_key_of a m) (end_key_of b n)) ≡ false →
-    is_before now a ≡ true → is_before now b ≡ true
-key_open now a None m n h g = refl
-key_open now None (Some b) m n h g = cc
-key_open now (Some a) (Some b) m n h g = grind (arith, nat_tests, h, g)
-
-pub later_open : (now : ℕ) (key other : EndKey) (l m : Listed) → key ≡ end_key l → other ≡ end_key m →
-    is_gt (end_cmp key other) ≡ false → is_open now l ≡ true → is_open now m ≡ true
-later_open now key other l m is also after opened =
-    key_open now l.entry.end m.entry.end l.number m.number
-    (ap (λ (k : EndKey). is_gt (end_cmp k (end_key m))) (sym is)
-    ∙ (ap (λ (k : EndKey). is_gt (end_cmp key k)) (sym also) ∙ after)) opened
-
--- THE ORDER OF THE MAP
-
-pub end_total : IsTotalOrder end_cmp
-end_total = then_total (on_total (λ (k : EndKey). k.is_endless) bool_cmp_total)
-    (then_total (on_total (λ (k : EndKey). k.end) nat_cmp_total)
-    (on_total (λ (k : EndKey). k.number) nat_cmp_total))
-
-key_first : (a b : Option ℕ) (m n : ℕ) (l o : Listed) → l.entry.end ≡ a → o.entry.end ≡ b → l.number ≡ m →
-    o.number ≡ n → end_cmp (end_key_of a m) (end_key_of b n) ≡ Less → ends_first l o ≡ true
-key_first (Some a) (Some b) m n l o p q r s h = rw (p, q, r, s) (grind (arith, nat_tests, h))
-key_first (Some a) None m n l o p q r s h = rw (p, q) refl
-key_first None (Some b) m n l o p q r s h = cc
-key_first None None m n l o p q r s h = rw (p, q, r, s) (grind (arith, nat_tests, h))
-
-each_all : {X : Type 0} (P : X → Type 0) (xs : List X) → All P xs → Each P xs
-each_all P [] h = tt
-each_all P (x ∷ xs) h = (h 0 x (omega arith), each_all P xs (λ k d lt. h (suc k) d (omega (arith, lt))))
-
-each_recursion : {X : Type 0} (P : X → Type 0) (xs : List X) → AllByRecursion P xs → Each P xs
-each_recursion P [] h = tt
-each_recursion P (x ∷ xs) h = (h.0, each_recursion P xs h.1)
-
-values_each : (e : EndKey × Listed) (es : List (EndKey × Listed)) → e.0 ≡ end_key e.1 →
-    Each (λ f. f.0 ≡ end_key f.1) es → Each (λ k. end_cmp e.0 k ≡ Less) (keys_of es) →
-    Each (λ m. ends_first e.1 m ≡ true) (values_of es)
-values_each e [] is each less = tt
-values_each e (f ∷ es) is each less = (
-  key_first e.1.entry.end f.1.entry.end e.1.number f.1.number e.1 f.1 refl refl refl refl
-      (ap (λ (k : EndKey). end_cmp k (end_key f.1)) (sym is) ∙ (ap (end_cmp e.0) (sym each.0) ∙ less.0)),
-  values_each e es is each.1 less.1,
-)
-
-values_order : (es : List (EndKey × Listed)) → Each (λ f. f.0 ≡ end_key f.1) es →
-    IsStrictlySortedBy end_cmp (keys_of es) → InOrder (values_of es)
-unfolding IsStrictlySortedBy
-values_order [] each sorted = tt
-values_order (e ∷ es) each sorted = (
-  values_each e es each.0 each.1 (each_recursion (λ k. end_cmp e.0 k ≡ Less) (keys_of es) sorted.0),
-  values_order es each.1 sorted.1,
-)
-
--- what a list of entries has
-value_at : (P : EndKey → Listed → Type 0) (es : List (EndKey × Listed)) → Each (λ f. P f.0 f.1) es → (l : Listed) →
-    Has (values_of es) l → (key : EndKey) × P key l
-value_at P [] each l h = absurd h
-value_at P (e ∷ es) each l (inl is) = (e.0, subst (P e.0) is each.0)
-value_at P (e ∷ es) each l (inr h) = value_at P es each.1 l h
-
-value_has : (test : EndKey → Bool) (es : List (EndKey × Listed)) (l : Listed) → lookup test es ≡ Some l →
-    Has (values_of es) l
-value_has test [] l h = cc
-value_has test (e ∷ es) l h = elim (test e.0) as (λ v. cond v (Some e.1) (lookup test es) ≡ Some l →
-    (e.1 ≡ l) ⊎ Has (values_of es) l)
-    [ true ↦ λ g. inl (same_Some e.1 l g) | false ↦ λ g. inr (value_has test es l g) ] h
-
-each_weaker : {X : Type 0} (P Q : X → Type 0) → ((x : X) → P x → Q x) → (xs : List X) → Each P xs → Each Q xs
-each_weaker P Q f [] h = tt
-each_weaker P Q f (x ∷ xs) h = (f x h.0, each_weaker P Q f xs h.1)
-
-module _ (all : OpenEntries) (indexed : IsIndexed all) (ordered : tree.IsOrdered end_cmp all.by_end) where
-  found_each : Each (λ f. listed_at all f.0 ≡ Some f.1) all.by_end.entries
-  found_each = each_all (λ f. listed_at all f.0 ≡ Some f.1) all.by_end.entries
-      (All-found end_total all.by_end ordered)
-
-  pub kept_order : InOrder (kept all)
-  kept_order = values_order all.by_end.entries (each_weaker (λ f. listed_at all f.0 ≡ Some f.1)
-      (λ f. f.0 ≡ end_key f.1) (λ f at. indexed.under f.0 f.1 at) all.by_end.entries found_each) ordered
-
-  pub kept_at : (l : Listed) → Has (kept all) l → (key : EndKey) × (listed_at all key ≡ Some l)
-  kept_at l h = value_at (λ key m. listed_at all key ≡ Some m) all.by_end.entries found_each l h
-
-pub kept_has : (all : OpenEntries) (key : EndKey) (l : Listed) → listed_at all key ≡ Some l → Has (kept all) l
-kept_has all key l at = value_has (λ k. is_eq (end_cmp key k)) all.by_end.entries l at
+use Rattle.napt_account.proofs.InOrder.{Has, Differ, each_has, has_each, has_left, has_parts, has_filter, filter_has, first_then, is_order, has_number, number_has, numbered_differ}
+use Rattle.napt_account.proofs.OpenEntries.{external_is, external_itself, external_flip, same_place, under, listed_open, open_listed}
 
 -- AGAINST THE ENTRIES
 
@@ -176,98 +35,355 @@ has_listed es l h =
     let at = number_has 1 es l h in
     record { place = at.place; number = (let n = at.is in omega (arith, n)); there = at.there }
 
-pub list_is : (now most : ℕ) (es : List Entry) (all : OpenEntries) → Shows now most es all →
-    tree.IsOrdered end_cmp all.by_end → kept all ≡ in_order_of_end (filter (is_open now) (numbered es))
-list_is now most es all shows ordered = is_order (kept all) (filter (is_open now) (numbered es))
-    (kept_order all shows.indexed ordered) (numbered_differ (is_open now) es)
-    (λ l h. let at = kept_at all shows.indexed ordered l h in
-    has_filter (is_open now) (numbered es) l (listed_has es l (shows.there at.0 l at.1)) (shows.unended at.0 l at.1))
-    (λ l h. let p = filter_has (is_open now) (numbered es) l h in
-    kept_has all (end_key l) l (shows.has l (has_listed es l p.0) p.1))
+-- A LIST THAT IS SORTED
+
+-- whether two have one endpoint
+abbrev share : Listed → Listed → Bool
+share l m = external_eq (external_key l.entry.binding) (external_key m.entry.binding)
+
+has_contains : (xs : List Listed) (l : Listed) → Has xs l → Contains xs l
+has_contains [] l h = absurd h
+has_contains (x ∷ xs) l (inl is) = (0, omega arith, is)
+has_contains (x ∷ xs) l (inr h) = let c = has_contains xs l h in (suc c.0, (let lt = c.1 in omega (arith, lt)), c.2)
+
+contains_has : (xs : List Listed) (l : Listed) (k : ℕ) → k < length xs → slice_index_or xs k l ≡ l → Has xs l
+contains_has [] l k lt is = absurd (omega (arith, lt))
+contains_has (x ∷ xs) l zero lt is = inl is
+contains_has (x ∷ xs) l (suc k) lt is = inr (contains_has xs l k (omega (arith, lt)) is)
+
+-- what does not come behind another stands before it
+not_behind : (a b : Option ℕ) (m n : ℕ) (l o : Listed) → l.entry.end ≡ a → o.entry.end ≡ b → l.number ≡ m →
+    o.number ≡ n → m ≢ n → is_lt (end_cmp (end_key_of b n) (end_key_of a m)) ≡ false → ends_first l o ≡ true
+not_behind (Some a) (Some b) m n l o p q r s differ h = rw (p, q, r, s) (grind (arith, nat_tests, differ, h))
+not_behind (Some a) None m n l o p q r s differ h = rw (p, q) refl
+not_behind None (Some b) m n l o p q r s differ h = cc
+not_behind None None m n l o p q r s differ h = rw (p, q, r, s) (grind (arith, nat_tests, differ, h))
+
+sorted_order : (xs : List Listed) → IsSortedByKey end_key end_cmp xs → Differ xs → InOrder xs
+sorted_order [] sorted differ = tt
+sorted_order (x ∷ []) sorted differ = (tt, tt)
+sorted_order (x ∷ y ∷ xs) sorted differ =
+    let first : ends_first x y ≡ true = not_behind x.entry.end y.entry.end x.number y.number x y refl refl refl refl
+    differ.0.0 (sorted 0 x (omega arith) (omega arith)) in
+    let rest = sorted_order (y ∷ xs) (λ k d low lt.
+    let next : suc k + 1 ≡ suc (k + 1) = omega arith in
+    subst (λ (j : ℕ). is_lt (end_cmp (end_key (slice_index_or (x ∷ y ∷ xs) j d))
+    (end_key (slice_index_or (y ∷ xs) k d))) ≡ false) next (sorted (suc k) d (omega arith) (omega (arith, lt))))
+    differ.1 in (
+      (
+        first,
+        has_each (λ z. ends_first x z ≡ true) xs (λ z h.
+            first_then x.entry.end y.entry.end z.entry.end x.number y.number z.number first
+            (each_has (λ w. ends_first y w ≡ true) xs z rest.0 h)),
+      ),
+      rest,
+    )
+
+-- OF ENTRIES THAT ARE THERE
+
+recursion_each : {X : Type 0} (P : X → Type 0) (xs : List X) → AllByRecursion P xs → Each P xs
+recursion_each P [] h = tt
+recursion_each P (x ∷ xs) h = (h.0, recursion_each P xs h.1)
+
+each_weaker : {X : Type 0} (P Q : X → Type 0) → ((x : X) → P x → Q x) → (xs : List X) → Each P xs → Each Q xs
+each_weaker P Q f [] h = tt
+each_weaker P Q f (x ∷ xs) h = (f x h.0, each_weaker P Q f xs h.1)
+
+-- each is at its endpoint
+abbrev pub AreThere : OpenEntries → List Listed → Type 0
+AreThere all xs = (l : Listed) → Has xs l → listed_at all (external_key l.entry.binding) ≡ Some l
+
+-- no two have one endpoint
+abbrev pub Apart : List Listed → Type 0
+Apart = IsDistinct share
+
+apart_differ : (now most : ℕ) (es : List Entry) (all : OpenEntries) → Shows now most es all → (xs : List Listed) →
+    AreThere all xs → Apart xs → Differ xs
+unfolding IsDistinct
+apart_differ now most es all shows [] there apart = tt
+apart_differ now most es all shows (x ∷ xs) there apart = (
+  has_each (λ y. x.number ≢ y.number) xs (λ y h same.
+      let is : x ≡ y = same_place es x y (shows.there (external_key x.entry.binding) x (there x (inl refl)))
+      (shows.there (external_key y.entry.binding) y (there y (inr h))) same in
+      let never : true ≡ false = sym (external_itself (external_key x.entry.binding))
+      ∙ (ap (λ (l : Listed). share x l) is
+      ∙ each_has (λ l. share x l ≡ false) xs y (recursion_each (λ l. share x l ≡ false) xs apart.0) h) in cc),
+  apart_differ now most es all shows xs (λ l h. there l (inr h)) apart.1,
+)
+
+module _ (now most : ℕ) (es : List Entry) (all : OpenEntries) (shows : Shows now most es all) (xs ys : List Listed)
+    (moves : IsPermutation xs ys) (there : AreThere all xs) (apart : Apart xs) where
+  back : (l : Listed) → Has ys l → Has xs l
+  back l h =
+      let c = Contains-permutation ys xs l (IsPermutation-sym xs ys moves) (has_contains ys l h) in
+      contains_has xs l c.0 c.1 c.2
+
+  onward : (l : Listed) → Has xs l → Has ys l
+  onward l h = let c = Contains-permutation xs ys l moves (has_contains xs l h) in contains_has ys l c.0 c.1 c.2
+
+  -- sorted, they are what a list with the same elements is in order of end
+  pub sorted_is : IsSortedByKey end_key end_cmp ys → (zs : List Listed) → Differ zs →
+      ((l : Listed) → Has xs l → Has zs l) → ((l : Listed) → Has zs l → Has xs l) → ys ≡ in_order_of_end zs
+  sorted_is sorted zs differ f g = is_order ys zs
+      (sorted_order ys sorted (apart_differ now most es all shows ys (λ l h. there l (back l h))
+      (IsDistinct-IsPermutation share (λ l m. external_flip (external_key l.entry.binding)
+      (external_key m.entry.binding)) xs ys moves apart)))
+      differ (λ l h. f l (back l h)) (λ l h. onward l (g l h))
+
+-- WHAT IS KEPT
+
+abbrev of_open : Open → Listed
+of_open o = o.listed
+
+-- what is found in a list of entries
+found_has : (test : ExternalKey → Bool) (es : List (ExternalKey × Open)) (o : Open) → lookup test es ≡ Some o →
+    Has (map of_open (values_of es)) o.listed
+found_has test [] o h = cc
+found_has test (e ∷ es) o h = elim (test e.0) as (λ v. cond v (Some e.1) (lookup test es) ≡ Some o →
+    (e.1.listed ≡ o.listed) ⊎ Has (map of_open (values_of es)) o.listed)
+    [ true ↦ λ g. inl (ap of_open (same_Some e.1 o g)) | false ↦ λ g. inr (found_has test es o g) ] h
+
+value_at : (P : ExternalKey → Listed → Type 0) (es : List (ExternalKey × Open)) → Each (λ f. P f.0 f.1.listed) es →
+    (l : Listed) → Has (map of_open (values_of es)) l → (x : ExternalKey) × P x l
+value_at P [] each l h = absurd h
+value_at P (e ∷ es) each l (inl is) = (e.0, subst (P e.0) is each.0)
+value_at P (e ∷ es) each l (inr h) = value_at P es each.1 l h
+
+-- each of a list whose keys differ is found
+found_later : (e : ExternalKey × Open) (all es : List (ExternalKey × Open)) →
+    AllByRecursion (λ k. external_eq e.0 k ≡ false) (keys_of es) →
+    Each (λ f. lookup (external_eq f.0) all ≡ Some f.1) es →
+    Each (λ f. lookup (external_eq f.0) (e ∷ all) ≡ Some f.1) es
+found_later e all [] apart found = tt
+found_later e all (f ∷ es) apart found = (
+  ap (λ v. cond v (Some e.1) (lookup (external_eq f.0) all)) (external_flip f.0 e.0 ∙ apart.0) ∙ found.0,
+  found_later e all es apart.1 found.1,
+)
+
+found_each : (es : List (ExternalKey × Open)) → IsDistinct external_eq (keys_of es) →
+    Each (λ f. lookup (external_eq f.0) es ≡ Some f.1) es
+unfolding IsDistinct
+found_each [] distinct = tt
+found_each (e ∷ es) distinct = (
+  ap (λ v. cond v (Some e.1) (lookup (external_eq e.0) es)) (external_itself e.0),
+  found_later e es es distinct.0 (found_each es distinct.1),
+)
+
+values_apart : (e : ExternalKey × Open) (es : List (ExternalKey × Open)) →
+    e.0 ≡ external_key e.1.listed.entry.binding →
+    Each (λ f. f.0 ≡ external_key f.1.listed.entry.binding) es →
+    AllByRecursion (λ k. external_eq e.0 k ≡ false) (keys_of es) →
+    AllByRecursion (λ l. share e.1.listed l ≡ false) (map of_open (values_of es))
+values_apart e [] is placed apart = tt
+values_apart e (f ∷ es) is placed apart = (
+  ap (λ (k : ExternalKey). external_eq k (external_key f.1.listed.entry.binding)) (sym is)
+      ∙ (ap (external_eq e.0) (sym placed.0) ∙ apart.0),
+  values_apart e es is placed.1 apart.1,
+)
+
+kept_apart : (es : List (ExternalKey × Open)) → IsDistinct external_eq (keys_of es) →
+    Each (λ f. f.0 ≡ external_key f.1.listed.entry.binding) es → Apart (map of_open (values_of es))
+unfolding IsDistinct
+kept_apart [] distinct placed = tt
+kept_apart (e ∷ es) distinct placed =
+    (values_apart e es placed.0 placed.1 distinct.0, kept_apart es distinct.1 placed.1)
+
+module _ (now most : ℕ) (es : List Entry) (all : OpenEntries) (shows : Shows now most es all)
+    (unique : IsUnique external_eq all.by_external) where
+  kept_each : Each (λ f. open_at all f.0 ≡ Some f.1) all.by_external.entries
+  kept_each = found_each all.by_external.entries unique
+
+  kept_at : (l : Listed) → Has (kept all) l → (x : ExternalKey) × (listed_at all x ≡ Some l)
+  kept_at = value_at (λ x l. listed_at all x ≡ Some l) all.by_external.entries
+      (each_weaker (λ f. open_at all f.0 ≡ Some f.1) (λ f. listed_at all f.0 ≡ Some f.1.listed)
+      (λ f at. open_listed all f.0 f.1 at) all.by_external.entries kept_each)
+
+  kept_there : AreThere all (kept all)
+  kept_there l h =
+      let at = kept_at l h in
+      ap (listed_at all) (sym (under all shows.indexed at.0 l at.1)) ∙ at.1
+
+  kept_has : (x : ExternalKey) (l : Listed) → listed_at all x ≡ Some l → Has (kept all) l
+  kept_has x l at =
+      let o = listed_open all x l at in
+      subst (Has (kept all)) o.2 (found_has (external_eq x) all.by_external.entries o.0 o.1)
+
+  pub list_is : (xs : List Listed) → IsPermutation (kept all) xs → IsSortedByKey end_key end_cmp xs →
+      xs ≡ in_order_of_end (filter (is_open now) (numbered es))
+  list_is xs moves sorted = sorted_is now most es all shows (kept all) xs moves kept_there
+      (kept_apart all.by_external.entries unique
+      (each_weaker (λ f. open_at all f.0 ≡ Some f.1) (λ f. f.0 ≡ external_key f.1.listed.entry.binding)
+      (λ f at. (shows.indexed.placed f.0 f.1 at).0) all.by_external.entries kept_each))
+      sorted (filter (is_open now) (numbered es)) (numbered_differ (is_open now) es)
+      (λ l h. let at = kept_at l h in
+      has_filter (is_open now) (numbered es) l (listed_has es l (shows.there at.0 l at.1))
+      (shows.unended at.0 l at.1))
+      (λ l h. let p = filter_has (is_open now) (numbered es) l h in
+      kept_has (external_key l.entry.binding) l (shows.has l (has_listed es l p.0) p.1))
+
+-- WHAT IS DUE
+
+-- where no time has come, none has ended
+pub none_due : (now : ℕ) → now < 2 ^ 64 → (all : OpenEntries) → IsIndexed all →
+    ((d : Due) → is_queued all d ≡ true → now < d.at) → (x : ExternalKey) (l : Listed) → listed_at all x ≡ Some l →
+    is_open now l ≡ true
+none_due now fits all indexed later x l at =
+    let o = listed_open all x l at in
+    let early = (indexed.placed x o.0 o.1).1 now in
+    subst (λ (m : Listed). is_open now m ≡ true) o.2 (early (elim (o.0.due) as (λ (due : Option ℕ). o.0.due ≡ due →
+    now < unwrap_or due (2 ^ 64)) [
+      | None ↦ λ e. fits
+      | Some time ↦ λ e. later (record { at = time; key = x })
+          (indexed.queued (record { at = time; key = x })
+          ∙ (ap (λ (v : Option Open). is_at (due_of v) time) o.1
+          ∙ (ap (λ due. is_at due time) e ∙ eq-eqb time time refl)))
+    ] refl))
 
 -- WHAT HAS ENDED
 
-order_front : (xs ys : List Listed) → InOrder (xs ++ ys) → InOrder xs
-order_front [] ys s = tt
-order_front (x ∷ xs) ys s = (
-  has_each (λ y. ends_first x y ≡ true) xs (λ y h. each_has (λ z. ends_first x z ≡ true) (xs ++ ys) y s.0
-      (has_left xs ys y h)),
-  order_front xs ys s.1,
-)
+has_last : (xs : List Listed) (l m : Listed) → l ≡ m → Has (xs ++ l ∷ []) m
+has_last [] l m is = inl is
+has_last (x ∷ xs) l m is = inr (has_last xs l m is)
 
-pub ended_is : (was now most : ℕ) (es : List Entry) (old : OpenEntries) → Shows was most es old →
-    tree.IsOrdered end_cmp old.by_end → (ended rest : List Listed) → kept old ≡ ended ++ rest →
-    Each (λ l. is_open now l ≡ false) ended → ((l : Listed) → Has rest l → is_open now l ≡ true) →
-    ended ≡ in_order_of_end (filter (ends_within was now) (numbered es))
-ended_is was now most es old shows ordered ended rest parts gone stays =
-    is_order ended (filter (ends_within was now) (numbered es))
-    (order_front ended rest (subst InOrder parts (kept_order old shows.indexed ordered)))
-    (numbered_differ (ends_within was now) es)
-    (λ l h.
-    let at = kept_at old shows.indexed ordered l (subst (λ (xs : List Listed). Has xs l) (sym parts)
-    (has_left ended rest l h)) in
-    has_filter (ends_within was now) (numbered es) l (listed_has es l (shows.there at.0 l at.1))
-    (and_from (is_open was l) (not (is_open now l)) (shows.unended at.0 l at.1)
-    (ap not (each_has (λ m. is_open now m ≡ false) ended l gone h))))
-    (λ l h.
-    let p = filter_has (ends_within was now) (numbered es) l h in
-    let q = and_parts (is_open was l) (not (is_open now l)) p.1 in
-    elim (has_parts ended rest l (subst (λ (xs : List Listed). Has xs l) parts
-    (kept_has old (end_key l) l (shows.has l (has_listed es l p.0) q.0)))) [
-      | inl here ↦ here
-      | inr there ↦ let never : false ≡ true = sym (ap not (stays l there)) ∙ q.1 in cc
-    ])
+-- of what there was at first some is left, and the others have ended
+pub record IsParted (now : ℕ) (first all : OpenEntries) (ended : List Listed) : Type 0 where
+  pub indexed : IsIndexed all
+  pub had : (x : ExternalKey) (l : Listed) → listed_at all x ≡ Some l → listed_at first x ≡ Some l
+  pub stays : (x : ExternalKey) (l : Listed) → listed_at first x ≡ Some l →
+      (listed_at all x ≡ Some l) ⊎ Has ended l
+  pub gone : (l : Listed) → Has ended l → (is_open now l ≡ false)
+      × (listed_at all (external_key l.entry.binding) ≡ None)
+  pub there : AreThere first ended
+  pub apart : Apart ended
 
-push_last : (xs ys : List Listed) (l : Listed) → (xs ++ l ∷ []) ++ ys ≡ xs ++ l ∷ ys
-push_last [] ys l = refl
-push_last (x ∷ xs) ys l = ap (λ (zs : List Listed). x ∷ zs) (push_last xs ys l)
-
-pub push_parts : (all taken left next : List Listed) (l : Listed) (now : List Listed) → all ≡ taken ++ left →
-    left ≡ l ∷ next → now ≡ taken ++ l ∷ [] → all ≡ now ++ next
-push_parts all taken left next l now parts first pushed = parts
-    ∙ (ap (λ (xs : List Listed). taken ++ xs) first
-    ∙ (sym (push_last taken next l) ∙ ap (λ (xs : List Listed). xs ++ next) (sym pushed)))
-
-each_push : (now : ℕ) (xs : List Listed) (l : Listed) → Each (λ m. is_open now m ≡ false) xs →
-    is_open now l ≡ false → Each (λ m. is_open now m ≡ false) (xs ++ l ∷ [])
-each_push now [] l each last = (last, tt)
-each_push now (x ∷ xs) l each last = (each.0, each_push now xs l each.1 last)
-
-pub each_more : (now : ℕ) (xs : List Listed) (l : Listed) (ys : List Listed) → Each (λ m. is_open now m ≡ false) xs →
-    is_open now l ≡ false → ys ≡ xs ++ l ∷ [] → Each (λ m. is_open now m ≡ false) ys
-each_more now xs l ys each last is =
-    subst (λ (zs : List Listed). Each (λ m. is_open now m ≡ false) zs) (sym is) (each_push now xs l each last)
-
-pub ended_shows : (was now most : ℕ) → was ≤ now → (es : List Entry) (old new : OpenEntries) → Shows was most es old →
-    IsIndexed new → new.made ≡ old.made →
-    ((key : EndKey) (m : Listed) → listed_at old key ≡ Some m → is_open now m ≡ true → listed_at new key ≡ Some m) →
-    ((key : EndKey) (m : Listed) → listed_at new key ≡ Some m → listed_at old key ≡ Some m) →
-    ((key : EndKey) (m : Listed) → listed_at new key ≡ Some m → is_open now m ≡ true) → Shows now most es new
-ended_shows was now most le es old new shows indexed made stay had opened = record {
+pub parted_none : (now : ℕ) (first : OpenEntries) → IsIndexed first → IsParted now first first []
+unfolding IsDistinct
+parted_none now first indexed = record {
   indexed = indexed;
-  made = made ∙ shows.made;
-  has = λ l at unended. stay (end_key l) l (shows.has l at (before_sooner was now le l.entry.end unended)) unended;
-  there = λ key l at. shows.there key l (had key l at);
-  unended = opened;
-  few = λ key l at. shows.few key l (had key l at);
+  had = λ x l at. at;
+  stays = λ x l at. inl at;
+  gone = λ l h. absurd h;
+  there = λ l h. absurd h;
+  apart = tt;
 }
+
+pub parted_same : (now : ℕ) (first old new : OpenEntries) (ended : List Listed) → IsParted now first old ended →
+    IsIndexed new → ((x : ExternalKey) → listed_at new x ≡ listed_at old x) → IsParted now first new ended
+parted_same now first old new ended parted indexed same = record {
+  indexed = indexed;
+  had = λ x l at. parted.had x l (sym (same x) ∙ at);
+  stays = λ x l at. elim (parted.stays x l at) [ inl here ↦ inl (same x ∙ here) | inr h ↦ inr h ];
+  gone = λ l h. let g = parted.gone l h in (g.0, same (external_key l.entry.binding) ∙ g.1);
+  there = parted.there;
+  apart = parted.apart;
+}
+
+apart_pushed : (xs : List Listed) (l : Listed) → Apart xs → ((m : Listed) → Has xs m → share m l ≡ false) →
+    Apart (xs ++ l ∷ [])
+unfolding IsDistinct
+apart_pushed [] l apart new = (tt, tt)
+apart_pushed (x ∷ xs) l apart new = (
+  each_pushed xs apart.0,
+  apart_pushed xs l apart.1 (λ m h. new m (inr h)),
+) where
+  each_pushed : (ys : List Listed) → AllByRecursion (λ y. share x y ≡ false) ys →
+      AllByRecursion (λ y. share x y ≡ false) (ys ++ l ∷ [])
+  each_pushed [] h = (new x (inl refl), tt)
+  each_pushed (y ∷ ys) h = (h.0, each_pushed ys h.1)
+
+module _ (now : ℕ) (first old new : OpenEntries) (ended more : List Listed) (parted : IsParted now first old ended)
+    (key : ExternalKey) (l : Listed) (at : listed_at old key ≡ Some l) (over : is_open now l ≡ false)
+    (indexed : IsIndexed new)
+    (left : (x : ExternalKey) → listed_at new x ≡ cond (external_eq key x) None (listed_at old x))
+    (pushed : more ≡ ended ++ l ∷ []) where
+  its : key ≡ external_key l.entry.binding
+  its = under old parted.indexed key l at
+
+  left_none : (x : ExternalKey) → listed_at old x ≡ None → listed_at new x ≡ None
+  left_none x none = left x ∙ elim (external_eq key x) as (λ v. cond v None (listed_at old x) ≡ None)
+      [ true ↦ refl | false ↦ none ]
+
+  pushed_has : (m : Listed) → Has more m → Has ended m ⊎ (l ≡ m)
+  pushed_has m h = elim (has_parts ended (l ∷ []) m (subst (λ (xs : List Listed). Has xs m) pushed h)) [
+    | inl was ↦ inl was
+    | inr new ↦ elim new [ inl is ↦ inr is | inr never ↦ absurd never ]
+  ]
+
+  pub parted_taken : IsParted now first new more
+  parted_taken = record {
+    indexed = indexed;
+    had = λ x m there. parted.had x m (elim (external_eq key x) as (λ v. cond v None (listed_at old x) ≡ Some m →
+        listed_at old x ≡ Some m) [ true ↦ λ h. cc | false ↦ λ h. h ] (sym (left x) ∙ there));
+    stays = λ x m there. subst (λ (xs : List Listed). (listed_at new x ≡ Some m) ⊎ Has xs m) (sym pushed)
+        (elim (parted.stays x m there) [
+          | inl here ↦ elim (external_eq key x) as (λ v. external_eq key x ≡ v →
+              (listed_at new x ≡ Some m) ⊎ Has (ended ++ l ∷ []) m) [
+                | true ↦ λ e. inr (has_last ended l m (same_Some l m (sym at
+                    ∙ (ap (listed_at old) (external_is key x e) ∙ here))))
+                | false ↦ λ e. inl (left x ∙ (ap (λ v. cond v None (listed_at old x)) e ∙ here))
+              ] refl
+          | inr h ↦ inr (has_left ended (l ∷ []) m h)
+        ]);
+    gone = λ m h. elim (pushed_has m h) [
+      | inl was ↦ let g = parted.gone m was in (g.0, left_none (external_key m.entry.binding) g.1)
+      | inr is ↦ subst (λ (k : Listed). (is_open now k ≡ false)
+          × (listed_at new (external_key k.entry.binding) ≡ None)) is (
+            over,
+            left (external_key l.entry.binding)
+                ∙ ap (λ v. cond v None (listed_at old (external_key l.entry.binding)))
+                (ap (external_eq key) (sym its) ∙ external_itself key),
+          )
+    ];
+    there = λ m h. elim (pushed_has m h) [
+      | inl was ↦ parted.there m was
+      | inr is ↦ subst (λ (k : Listed). listed_at first (external_key k.entry.binding) ≡ Some k) is
+          (parted.had (external_key l.entry.binding) l (ap (listed_at old) (sym its) ∙ at))
+    ];
+    apart = subst Apart (sym pushed) (apart_pushed ended l parted.apart (λ m h.
+        elim (share m l) as (λ v. share m l ≡ v → v ≡ false) [
+          | true ↦ λ e.
+              let never : None ≡ Some l = sym (parted.gone m h).1
+              ∙ (ap (listed_at old) (external_is _ _ e ∙ sym its) ∙ at) in cc
+          | false ↦ λ e. refl
+        ] refl));
+  }
+
+module _ (was now most : ℕ) (es : List Entry) (first all : OpenEntries) (shows : Shows was most es first)
+    (ended : List Listed) (parted : IsParted now first all ended)
+    (left : (x : ExternalKey) (l : Listed) → listed_at all x ≡ Some l → is_open now l ≡ true) where
+  pub ended_is : (xs : List Listed) → IsPermutation ended xs → IsSortedByKey end_key end_cmp xs →
+      xs ≡ in_order_of_end (filter (ends_within was now) (numbered es))
+  ended_is xs moves sorted = sorted_is was most es first shows ended xs moves parted.there parted.apart sorted
+      (filter (ends_within was now) (numbered es)) (numbered_differ (ends_within was now) es)
+      (λ l h.
+      let key : ExternalKey = external_key l.entry.binding in
+      let at : listed_at first key ≡ Some l = parted.there l h in
+      has_filter (ends_within was now) (numbered es) l (listed_has es l (shows.there key l at))
+      (and_from (is_open was l) (not (is_open now l)) (shows.unended key l at) (ap not (parted.gone l h).0)))
+      (λ l h.
+      let p = filter_has (ends_within was now) (numbered es) l h in
+      let q = and_parts (is_open was l) (not (is_open now l)) p.1 in
+      let key : ExternalKey = external_key l.entry.binding in
+      elim (parted.stays key l (shows.has l (has_listed es l p.0) q.0)) [
+        | inl here ↦ let never : false ≡ true = sym (ap not (left key l here)) ∙ q.1 in cc
+        | inr there ↦ there
+      ])
 
 -- AT FIRST
 
-pub none_shows : (all : OpenEntries) → ((key : EndKey) → listed_at all key ≡ None) →
-    ((x : ExternalKey) → key_at all x ≡ None) → all.made ≡ 0 → Shows 0 0 [] all
-none_shows all listed keys made =
-    let never : (key : EndKey) (m : Listed) → listed_at all key ≡ Some m → ⊥ = λ key m at.
-    let z : None ≡ Some m = sym (listed key) ∙ at in cc in
+pub none_shows : (all : OpenEntries) → ((x : ExternalKey) → open_at all x ≡ None) →
+    ((d : Due) → is_queued all d ≡ false) → all.made ≡ 0 → Shows 0 0 [] all
+none_shows all opens queue made =
+    let never : (x : ExternalKey) (l : Listed) → listed_at all x ≡ Some l → ⊥ = λ x l at.
+    let z : None ≡ Some l = sym (ap (option_map of_open) (opens x)) ∙ at in cc in
     record {
       indexed = record {
-        under = λ key m at. absurd (never key m at);
-        found = λ key m at. absurd (never key m at);
-        own = λ x key at. let z : None ≡ Some key = sym (keys x) ∙ at in absurd cc;
+        placed = λ x o at. let z : None ≡ Some o = sym (opens x) ∙ at in absurd cc;
+        queued = λ d. queue d ∙ ap (λ (o : Option Open). is_at (due_of o) d.at) (sym (opens d.key));
       };
       made = made;
       has = λ l at opened. let z : None ≡ Some l.entry = at.there in absurd cc;
-      there = λ key m at. absurd (never key m at);
-      unended = λ key m at. absurd (never key m at);
-      few = λ key m at. absurd (never key m at);
+      there = λ x l at. absurd (never x l at);
+      unended = λ x l at. absurd (never x l at);
+      few = λ x l at. absurd (never x l at);
     }

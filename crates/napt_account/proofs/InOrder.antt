@@ -68,7 +68,7 @@ either (Some a) None m n differ h = cc
 either None (Some b) m n differ h = refl
 either None None m n differ h = grind (arith, nat_tests, h, differ)
 
-first_then : (a b c : Option ℕ) (l m n : ℕ) → first_by a b l m ≡ true → first_by b c m n ≡ true →
+pub first_then : (a b c : Option ℕ) (l m n : ℕ) → first_by a b l m ≡ true → first_by b c m n ≡ true →
     first_by a c l n ≡ true
 first_then (Some a) (Some b) (Some c) l m n h g = grind (arith, nat_tests, h, g)
 first_then (Some a) (Some b) None l m n h g = refl

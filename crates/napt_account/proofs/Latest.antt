@@ -1,11 +1,10 @@
 -- The last entry of an external endpoint, and its place.
-use Rattle.std.proofs.Common.{◌≡◌, ℕ, zero, suc, Bool, true, false, cond, List, [], ◌∷◌, ◌++◌, length, set, Option, Some, None, refl, sym, ◌∙◌, ap, subst}
+use Rattle.std.proofs.Common.{◌≡◌, ℕ, suc, Bool, true, false, cond, List, [], ◌∷◌, ◌++◌, length, Option, Some, None, refl, ◌∙◌, ap, subst}
 use Rattle.std.specs.Option.{option_map, option_or}
 use Rattle.std.specs.List.{slice_get}
-use Rattle.std.proofs.lemmas.Option.{same_Some}
 use Rattle.napt_account.specs.Latest.{last_such, last_place}
 
--- CHANGES
+-- ONE MORE
 
 pub last_joined : {X : Type 0} (p : X → Bool) (xs : List X) (x : X) → last_place p (xs ++ x ∷ [])
     ≡ cond (p x) (Some (length xs)) (last_place p xs)
@@ -15,15 +14,6 @@ last_joined p (y ∷ xs) x =
     ∙ (elim (p x) as (λ v. option_or (option_map suc (cond v (Some (length xs)) (last_place p xs)))
     (cond (p y) (Some 0) None) ≡ cond v (Some (suc (length xs)))
     (option_or (option_map suc (last_place p xs)) (cond (p y) (Some 0) None))) [ true ↦ refl | false ↦ refl ])
-
-pub last_set : {X : Type 0} (p : X → Bool) (xs : List X) (i : ℕ) (x y : X) → slice_get xs i ≡ Some x → p y ≡ p x →
-    last_place p (set xs i y) ≡ last_place p xs
-last_set p [] i x y at same = refl
-last_set p (z ∷ xs) zero x y at same =
-    let is : z ≡ x = same_Some z x at in
-    ap (λ v. option_or (option_map suc (last_place p xs)) (cond v (Some 0) None)) (same ∙ ap p (sym is))
-last_set p (z ∷ xs) (suc i) x y at same =
-    ap (λ o. option_or (option_map suc o) (cond (p z) (Some 0) None)) (last_set p xs i x y at same)
 
 -- WHAT IS AT THE PLACE
 

@@ -24,7 +24,7 @@ use Rattle.napt_account.proofs.Retold.{step_turn}
 abbrev pub Leaves : Trace → Type 0
 Leaves trace = LeavesOpen trace.now trace.first × LeavesOpen trace.now trace.second
 
-abbrev Opens : Timers → ℕ → Option Through → Type 0
+abbrev pub Opens : Timers → ℕ → Option Through → Type 0
 Opens timers now None = Unit {0}
 Opens timers now (Some went) = is_before now (end_of timers went.binding) ≡ true
 
@@ -42,7 +42,7 @@ module _ (first : EndsAreFirst) (rules : Rules) (t : AreTimers rules.timers) whe
   fresh_open : (now : ℕ) (b : Binding) → IsFresh rules.timers now b → is_before now (end_of rules.timers b) ≡ true
   fresh_open now b fresh = sym (first rules.timers t now b) ∙ fresh.live
 
-  act_opens : (address : ℕ) (leg : Leg) (list : List Binding) →
+  pub act_opens : (address : ℕ) (leg : Leg) (list : List Binding) →
       Opens rules.timers leg.now (act rules address leg list).through
   act_opens address leg list =
       let own : List Binding = purge rules.timers leg.now list in

@@ -1,9 +1,20 @@
 -- A run with its log as it runs: what it tells of one more input.
-use Rattle.std.proofs.Common.{◌≡◌, max, List, [], ◌∷◌, ◌++◌, length, drop, refl}
-use Rattle.std.specs.Prelude.{filter}
-use Rattle.napt_config.specs.Rules.{Rules}
-use Rattle.napt_rules.specs.Prelude.{Arrival, last_clock}
-use Rattle.napt_account.specs.Log.{log_of}
+use Rattle.std.proofs.Common.{◌≡◌, max, List, [], ◌∷◌, ◌++◌, length, map, append-nil, sym, ◌∙◌, ap, drop, refl}
+use Rattle.std.specs.Prelude.{flat_map, filter}
+use Rattle.std.specs.List.{fold}
+use Rattle.napt_config.specs.Rules.{Rules, KeepsRules}
+use Rattle.napt_rules.specs.Prelude.{opening, Arrival, OpeningIsSound, last_clock}
+use Rattle.napt_sequential.specs.declared.passage.Trace.{Trace}
+use Rattle.napt_sequential.specs.Traces.{traces}
+use Rattle.napt_account.specs.declared.account.Use.{Use}
+use Rattle.napt_account.specs.declared.log.Entry.{Entry}
+use Rattle.napt_account.specs.declared.log.Shortage.{Shortage}
+use Rattle.napt_account.specs.Book.{after_trace, lost_by, use_by_trace, uses_told}
+use Rattle.napt_account.specs.Log.{begun, log_of}
+use Rattle.napt_account.specs.Uses.{uses_of}
+use Rattle.napt_account.proofs.Attribution.{retold}
+use Rattle.napt_account.proofs.Books.{fold_joined, uses_more}
+use Rattle.napt_account.proofs.Retold.{flat_joined, log_is}
 use Rattle.napt_account.specs.Telling.{numbered, is_open, ends_within, in_order_of_end, told_by, living_of}
 
 pub ended_told : (rules : Rules) (before : List Arrival) (input : Arrival) → (told_by rules before input).ended
@@ -26,3 +37,45 @@ pub living_is : (rules : Rules) (inputs : List Arrival) → living_of rules inpu
     ≡ in_order_of_end (filter (is_open (last_clock 0 inputs)) (numbered (log_of rules inputs).entries))
 unfolding living_of
 living_is rules inputs = refl
+
+-- THE LOG, ONE INPUT LATER
+
+module _ (rules : Rules) (keeps : KeepsRules rules) (opens : OpeningIsSound) where
+  abbrev first : List Entry
+  first = map (begun rules.timers 0) (opening rules)
+
+  -- what the traces tell is the log
+
+  entries_told : (inputs : List Arrival) →
+      (log_of rules inputs).entries ≡ fold after_trace first (traces rules inputs)
+  entries_told inputs = (log_is rules inputs).0 ∙ sym (retold rules keeps opens inputs).entries_are
+
+  shortages_told : (inputs : List Arrival) →
+      (log_of rules inputs).shortages ≡ flat_map lost_by (traces rules inputs)
+  shortages_told inputs = (log_is rules inputs).1 ∙ sym (retold rules keeps opens inputs).shortages_are
+
+  uses_are_told : (inputs : List Arrival) → uses_of rules inputs ≡ uses_told first (traces rules inputs)
+  uses_are_told inputs = sym (retold rules keeps opens inputs).uses_are
+
+  module _ (before : List Arrival) (input : Arrival) (trace : Trace)
+      (more : traces rules (before ++ input ∷ []) ≡ traces rules before ++ trace ∷ []) where
+    pub entries_next : after_trace (log_of rules before).entries trace ≡ (log_of rules (before ++ input ∷ [])).entries
+    entries_next = ap (λ (es : List Entry). after_trace es trace) (entries_told before)
+        ∙ (sym (fold_joined after_trace (traces rules before) (trace ∷ []) first)
+        ∙ (ap (fold after_trace first) (sym more) ∙ sym (entries_told (before ++ input ∷ []))))
+
+    pub shortages_next : (log_of rules before).shortages ++ lost_by trace
+        ≡ (log_of rules (before ++ input ∷ [])).shortages
+    shortages_next = ap (λ (xs : List Shortage). xs ++ lost_by trace) (shortages_told before)
+        ∙ (ap (λ (xs : List Shortage). flat_map lost_by (traces rules before) ++ xs) (sym (append-nil (lost_by trace)))
+        ∙ (sym (flat_joined lost_by (traces rules before) (trace ∷ []))
+        ∙ (ap (flat_map lost_by) (sym more) ∙ sym (shortages_told (before ++ input ∷ [])))))
+
+    pub uses_next : uses_of rules (before ++ input ∷ [])
+        ≡ uses_of rules before ++ use_by_trace (log_of rules before).entries trace ∷ []
+    uses_next = uses_are_told (before ++ input ∷ [])
+        ∙ (ap (uses_told first) more
+        ∙ (uses_more first (traces rules before) trace
+        ∙ (ap (λ (us : List Use). us ++ use_by_trace (fold after_trace first (traces rules before)) trace ∷ [])
+        (sym (uses_are_told before))
+        ∙ ap (λ (es : List Entry). uses_of rules before ++ use_by_trace es trace ∷ []) (sym (entries_told before)))))

@@ -19,7 +19,7 @@ use Rattle.napt_account.specs.declared.log.Listed.{Listed}
 use Rattle.napt_account.specs.declared.open_entries.OpenEntries.{OpenEntries}
 use Rattle.napt_account.specs.Book.{made_by, after, after_trace}
 use Rattle.napt_account.specs.Log.{shares, is_of, counted, through}
-use Rattle.napt_account.specs.OpenEntries.{external_key, end_key, listed_at, key_at, listed_as, IsListed, Shows, LeavesOpen}
+use Rattle.napt_account.specs.OpenEntries.{external_key, listed_at, listed_as, IsListed, Shows, LeavesOpen}
 use Rattle.napt_account.specs.Telling.{numbered, numbered_from}
 use Rattle.napt_account.proofs.Begun.{long_mapped}
 use Rattle.napt_account.proofs.Ended.{get_mapped, get_joined}
@@ -34,12 +34,11 @@ timed_of other (Dropped loss) = other
 
 -- the entry that is found for a row
 pub found_is : (now most : ℕ) (all : OpenEntries) (es : List Entry) → Shows now most es all → (r : Row) (l : Listed) →
-    key_at all (external_key r) ≡ Some (end_key l) → listed_at all (end_key l) ≡ Some l → (place : ℕ) (e : Entry) →
+    listed_at all (external_key r) ≡ Some l → (place : ℕ) (e : Entry) →
     slice_get es place ≡ Some e → is_of now r e ≡ true → l ≡ listed_as place e
-found_is now most all es shows r l key at place e there passed =
-    let is : IsListed es l = shows.there (end_key l) l at in
-    let same : place ≡ is.place = row_only now most all es shows r l key at is.place (sym is.number) place e there
-    passed in
+found_is now most all es shows r l at place e there passed =
+    let is : IsListed es l = shows.there (external_key r) l at in
+    let same : place ≡ is.place = row_only now most all es shows r l at is.place (sym is.number) place e there passed in
     let entry : l.entry ≡ e = same_Some l.entry e (sym is.there ∙ (ap (slice_get es) (sym same) ∙ there)) in
     let number : l.number ≡ place + 1 = is.number ∙ ap (λ (n : ℕ). n + 1) (sym same) in
     λ k. record { number = number k; entry = entry k }

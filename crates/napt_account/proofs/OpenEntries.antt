@@ -2,16 +2,12 @@
 use Rattle.std.proofs.Common.{◌≡◌, ◌≢◌, ℕ, ◌+◌, ◌<◌, ◌≤◌, inl, inr, Bool, true, false, ◌&&◌, cond, List, [], ◌∷◌, ◌++◌, length, map, set, Option, Some, None, refl, sym, ◌∙◌, ap, subst, arith, eqb, eqb-true, length-append, length-set}
 use Rattle.std.specs.Prelude.{◌==◌}
 use Rattle.std.specs.List.{slice_get, list_any}
-use Rattle.std.specs.Ordering.{ordering_then, nat_cmp, bool_cmp, is_eq}
-use Rattle.std.specs.declared.cmp.Ordering.{Ordering}
-use Rattle.std.specs.declared.cmp.Ordering.TheVariants.{Less, Equal, Greater}
+use Rattle.std.specs.Option.{option_map}
 use Rattle.std.proofs.lemmas.Bool.{and_parts, and_from, cases_lt, eq-eqb, eqb-false}
-use Rattle.std.proofs.lemmas.Bool.Decides.{nat_tests}
 use Rattle.std.proofs.lemmas.Option.{same_Some, slice_get_within}
-use denote.Enum.Bare.{sameb}
+use denote.Enum.Bare.{sameb, same_true}
+use denote.Enum.Declared.{tag_of}
 use Rattle.napt_wire.specs.contracts.Protocol.{the_type}
-use Rattle.napt_wire.specs.declared.Protocol.{Protocol}
-use Rattle.napt_wire.specs.declared.Protocol.TheVariants.{Icmp, Tcp, Udp}
 use Rattle.napt_rules.specs.declared.Row.{Row}
 use Rattle.napt_rules.specs.Prelude.{same_protocol, same_endpoint}
 use Rattle.napt_laws.proofs.Endpoints.{protocol_is, end_is}
@@ -19,65 +15,17 @@ use Rattle.napt_binding.specs.Ends.{is_before}
 use Rattle.napt_sequential.proofs.Lists.{get_before, get_last, get_set, get_set_other}
 use Rattle.napt_account.specs.declared.log.Entry.{Entry}
 use Rattle.napt_account.specs.declared.log.Listed.{Listed}
-use Rattle.napt_account.specs.declared.open_entries.EndKey.{EndKey}
+use Rattle.napt_account.specs.declared.open_entries.Due.{Due}
 use Rattle.napt_account.specs.declared.open_entries.ExternalKey.{ExternalKey}
+use Rattle.napt_account.specs.declared.open_entries.Open.{Open}
 use Rattle.napt_account.specs.declared.open_entries.OpenEntries.{OpenEntries}
 use Rattle.napt_account.specs.Log.{shares, is_of, place_of, through}
 use Rattle.napt_account.specs.Telling.{is_open}
 use Rattle.napt_account.proofs.Books.{change_one, none_at, any_at, first_place}
 use Rattle.napt_account.proofs.Entries.{shares_itself}
-use Rattle.napt_account.specs.OpenEntries.{external_key, end_key_of, end_key, external_eq, end_cmp, listed_at, key_at, IsIndexed, IsListed, Shows}
+use Rattle.napt_account.specs.OpenEntries.{external_key, external_eq, open_at, listed_at, due_of, due_at, is_queued, is_at, listed_as, IsPlaced, IsIndexed, IsIndexedBut, IsListed, Shows}
 
 -- KEYS
-
-end_apart : (a b : EndKey) → a.is_endless ≡ b.is_endless → a.end ≡ b.end → a.number ≡ b.number → a ≡ b
-end_apart a b p q r = λ k. record { is_endless = p k; end = q k; number = r k }
-
-nat_same : (m n : ℕ) → is_eq (nat_cmp m n) ≡ true → m ≡ n
-nat_same m n h = grind (arith, nat_tests, h)
-
-nat_itself : (m : ℕ) → nat_cmp m m ≡ Equal
-nat_itself m = grind (arith, nat_tests)
-
-bool_same : (v w : Bool) → is_eq (bool_cmp v w) ≡ true → v ≡ w
-bool_same true true h = refl
-bool_same true false h = cc
-bool_same false true h = cc
-bool_same false false h = refl
-
-bool_itself : (v : Bool) → bool_cmp v v ≡ Equal
-bool_itself true = refl
-bool_itself false = refl
-
-then_parts : (o p : Ordering) → is_eq (ordering_then o p) ≡ true → (is_eq o ≡ true) × (is_eq p ≡ true)
-then_parts Less p h = cc
-then_parts Equal p h = (refl, h)
-then_parts Greater p h = cc
-
-pub end_key_is : (a b : EndKey) → is_eq (end_cmp a b) ≡ true → a ≡ b
-end_key_is a b h =
-    let p = then_parts _ _ h in
-    let q = then_parts _ _ p.1 in
-    end_apart a b (bool_same _ _ p.0) (nat_same _ _ q.0) (nat_same _ _ q.1)
-
-pub end_itself : (a : EndKey) → is_eq (end_cmp a a) ≡ true
-end_itself a = rw (bool_itself a.is_endless, nat_itself a.end, nat_itself a.number) refl
-
-same_bare : (p q : Protocol) → sameb the_type p q ≡ true → p ≡ q
-same_bare Icmp Icmp h = refl
-same_bare Icmp Tcp h = cc
-same_bare Icmp Udp h = cc
-same_bare Tcp Icmp h = cc
-same_bare Tcp Tcp h = refl
-same_bare Tcp Udp h = cc
-same_bare Udp Icmp h = cc
-same_bare Udp Tcp h = cc
-same_bare Udp Udp h = refl
-
-bare_itself : (p : Protocol) → sameb the_type p p ≡ true
-bare_itself Icmp = refl
-bare_itself Tcp = refl
-bare_itself Udp = refl
 
 pub external_is : (a b : ExternalKey) → external_eq a b ≡ true → a ≡ b
 external_is a b h =
@@ -85,17 +33,24 @@ external_is a b h =
     let q = and_parts (eqb a.number b.number) (sameb the_type a.protocol b.protocol) p.1 in
     let address : a.address ≡ b.address = eqb-true a.address b.address p.0 in
     let number : a.number ≡ b.number = eqb-true a.number b.number q.0 in
-    let protocol : a.protocol ≡ b.protocol = same_bare a.protocol b.protocol q.1 in
+    let protocol : a.protocol ≡ b.protocol = same_true the_type tt a.protocol b.protocol q.1 in
     λ k. record { address = address k; number = number k; protocol = protocol k }
 
 pub external_itself : (a : ExternalKey) → external_eq a a ≡ true
 external_itself a = and_from (eqb a.address a.address) _ (eq-eqb a.address a.address refl)
     (and_from (eqb a.number a.number) (sameb the_type a.protocol a.protocol) (eq-eqb a.number a.number refl)
-    (bare_itself a.protocol))
+    (eq-eqb (tag_of the_type a.protocol) (tag_of the_type a.protocol) refl))
 
-pub end_number : (l : Listed) → (end_key l).number ≡ l.number
-end_number l = elim (l.entry.end) as (λ (o : Option ℕ). (end_key_of o l.number).number ≡ l.number)
-    [ None ↦ refl | Some end ↦ refl ]
+pub external_flip : (a b : ExternalKey) → external_eq a b ≡ external_eq b a
+external_flip a b = elim (external_eq a b) as (λ v. external_eq a b ≡ v → v ≡ external_eq b a) [
+  | true ↦ λ e. sym (ap (external_eq b) (external_is a b e) ∙ external_itself b)
+  | false ↦ λ e. elim (external_eq b a) as (λ v. external_eq b a ≡ v → false ≡ v) [
+    | true ↦ λ g.
+        let never : true ≡ false = sym (external_itself a)
+        ∙ (ap (external_eq a) (sym (external_is b a g)) ∙ e) in cc
+    | false ↦ λ g. refl
+  ] refl
+] refl
 
 -- ENTRIES
 
@@ -108,114 +63,136 @@ same_place es l m a b same =
     same_Some l.entry m.entry (sym a.there ∙ (ap (slice_get es) place ∙ b.there)) in
     λ k. record { number = same k; entry = entry k }
 
--- ONE MORE IS WRITTEN: at a number that no other has, for an endpoint that no other has
+-- WHAT IS AT AN ENDPOINT
+
+pub listed_open : (all : OpenEntries) (x : ExternalKey) (l : Listed) → listed_at all x ≡ Some l →
+    (o : Open) × (open_at all x ≡ Some o) × (o.listed ≡ l)
+listed_open all x l at = elim (open_at all x) as (λ (v : Option Open). open_at all x ≡ v →
+    option_map (λ (o : Open). o.listed) v ≡ Some l → (o : Open) × (open_at all x ≡ Some o) × (o.listed ≡ l))
+    [ None ↦ λ e h. cc | Some o ↦ λ e h. (o, e, same_Some o.listed l h) ] refl at
+
+pub open_listed : (all : OpenEntries) (x : ExternalKey) (o : Open) → open_at all x ≡ Some o →
+    listed_at all x ≡ Some o.listed
+open_listed all x o at = ap (option_map (λ (o : Open). o.listed)) at
+
+pub under : (all : OpenEntries) → IsIndexed all → (x : ExternalKey) (l : Listed) → listed_at all x ≡ Some l →
+    x ≡ external_key l.entry.binding
+under all indexed x l at =
+    let o = listed_open all x l at in
+    (indexed.placed x o.0 o.1).0 ∙ ap (λ (m : Listed). external_key m.entry.binding) o.2
+
+pub listed_cond : (v : Bool) (w o : Option Open) → option_map (λ (o : Open). o.listed) (cond v w o)
+    ≡ cond v (option_map (λ (o : Open). o.listed) w) (option_map (λ (o : Open). o.listed) o)
+listed_cond true w o = refl
+listed_cond false w o = refl
+
+pub indexed_but : (all : OpenEntries) → IsIndexed all → (x : ExternalKey) → IsIndexedBut x (due_at all x) all
+indexed_but all indexed x = record {
+  placed = indexed.placed;
+  queued = λ d. indexed.queued d
+      ∙ elim (external_eq x d.key) as (λ v. external_eq x d.key ≡ v → is_at (due_at all d.key) d.at
+      ≡ is_at (cond v (due_at all x) (due_at all d.key)) d.at) [
+        | true ↦ λ e. ap (λ (y : ExternalKey). is_at (due_at all y) d.at) (sym (external_is x d.key e))
+        | false ↦ λ e. refl
+      ] refl;
+}
+
+pub queued_at : (all : OpenEntries) (x : ExternalKey) (was : Option ℕ) → IsIndexedBut x was all → (d : Due) →
+    external_eq x d.key ≡ true → is_queued all d ≡ is_at was d.at
+queued_at all x was indexed d e = indexed.queued d ∙ ap (λ v. is_at (cond v was (due_at all d.key)) d.at) e
+
+-- one endpoint has another entry, or none, and is queued as that entry is
+module _ (old new : OpenEntries) (x : ExternalKey) (was : Option ℕ) (indexed : IsIndexedBut x was old)
+    (next : Option Open)
+    (opens : (y : ExternalKey) → open_at new y ≡ cond (external_eq x y) next (open_at old y))
+    (queue : (d : Due) → is_queued new d ≡ cond (external_eq x d.key) (is_at (due_of next) d.at) (is_queued old d))
+    (its : (o : Open) → next ≡ Some o → IsPlaced x o) where
+  pub moved : IsIndexed new
+  moved = record {
+    placed = λ y o at. elim (external_eq x y) as (λ v. external_eq x y ≡ v → cond v next (open_at old y) ≡ Some o →
+        IsPlaced y o) [
+          | true ↦ λ e h. subst (λ (z : ExternalKey). IsPlaced z o) (external_is x y e) (its o h)
+          | false ↦ λ e h. indexed.placed y o h
+        ] refl (sym (opens y) ∙ at);
+    queued = λ d. queue d ∙ (elim (external_eq x d.key) as (λ v. external_eq x d.key ≡ v →
+        cond v (is_at (due_of next) d.at) (is_queued old d) ≡ is_at (due_of (cond v next (open_at old d.key))) d.at) [
+          | true ↦ λ e. refl
+          | false ↦ λ e. indexed.queued d ∙ ap (λ v. is_at (cond v was (due_at old d.key)) d.at) e
+        ] refl ∙ ap (λ (o : Option Open). is_at (due_of o) d.at) (sym (opens d.key)));
+  }
+
+  pub moved_listed : (y : ExternalKey) → listed_at new y
+      ≡ cond (external_eq x y) (option_map (λ (o : Open). o.listed) next) (listed_at old y)
+  moved_listed y = ap (option_map (λ (o : Open). o.listed)) (opens y)
+      ∙ listed_cond (external_eq x y) next (open_at old y)
+
+-- ONE IS WRITTEN: at its endpoint, where no other was
 
 module _ (now most : ℕ) (old new : OpenEntries) (es fs : List Entry) (shows : Shows now most es old) (l : Listed)
-    (left : EndKey → Option Listed)
     (made : new.made ≡ length fs)
     (is : IsListed fs l)
     (opened : is_open now l ≡ true)
     (stays : (m : Listed) → m.number ≢ l.number → IsListed es m → IsListed fs m)
     (was : (m : Listed) → m.number ≢ l.number → IsListed fs m → IsListed es m)
-    (only : (key : EndKey) (m : Listed) → left key ≡ Some m → (listed_at old key ≡ Some m) × (m.number ≢ l.number))
-    (keeps : (key : EndKey) (m : Listed) → listed_at old key ≡ Some m → m.number ≢ l.number → left key ≡ Some m)
-    (apart : (key : EndKey) (m : Listed) → left key ≡ Some m →
-    external_eq (external_key l.entry.binding) (external_key m.entry.binding) ≡ false)
-    (free : (x : ExternalKey) (key : EndKey) (m : Listed) → key_at old x ≡ Some key → listed_at old key ≡ Some m →
-    external_eq (external_key l.entry.binding) x ≡ false → m.number ≢ l.number)
-    (entries : (key : EndKey) → listed_at new key ≡ cond (is_eq (end_cmp (end_key l) key)) (Some l) (left key))
-    (keys : (x : ExternalKey) → key_at new x
-    ≡ cond (external_eq (external_key l.entry.binding) x) (Some (end_key l)) (key_at old x)) where
-  here : listed_at new (end_key l) ≡ Some l
-  here = entries (end_key l)
-      ∙ ap (λ v. cond v (Some l) (left (end_key l))) (end_itself (end_key l))
+    (here : (m : Listed) → listed_at old (external_key l.entry.binding) ≡ Some m → m.number ≡ l.number)
+    (other : (x : ExternalKey) (m : Listed) → external_eq (external_key l.entry.binding) x ≡ false →
+    listed_at old x ≡ Some m → m.number ≢ l.number)
+    (indexed : IsIndexed new)
+    (entries : (x : ExternalKey) → listed_at new x
+    ≡ cond (external_eq (external_key l.entry.binding) x) (Some l) (listed_at old x)) where
+  abbrev key : ExternalKey
+  key = external_key l.entry.binding
 
-  -- what is at a key is the new one or an old one
-  at_key : (P : EndKey → Listed → Type 0) → P (end_key l) l →
-      ((key : EndKey) (m : Listed) → left key ≡ Some m → P key m) →
-      (key : EndKey) (m : Listed) → listed_at new key ≡ Some m → P key m
-  at_key P one rest key m at = elim (is_eq (end_cmp (end_key l) key)) as (λ v. is_eq (end_cmp (end_key l) key) ≡ v →
-      cond v (Some l) (left key) ≡ Some m → P key m) [
-        | true ↦ λ e h. subst (λ (k : EndKey). P k m) (end_key_is (end_key l) key e)
-            (subst (P (end_key l)) (same_Some l m h) one)
-        | false ↦ λ e h. rest key m h
-      ] refl (sym (entries key) ∙ at)
+  itself : listed_at new key ≡ Some l
+  itself = entries key ∙ ap (λ v. cond v (Some l) (listed_at old key)) (external_itself key)
 
-  elsewhere : (m : Listed) → m.number ≢ l.number → left (end_key m) ≡ Some m → listed_at new (end_key m) ≡ Some m
-  elsewhere m differs at = entries (end_key m) ∙ elim (is_eq (end_cmp (end_key l) (end_key m))) as (λ v.
-      is_eq (end_cmp (end_key l) (end_key m)) ≡ v → cond v (Some l) (left (end_key m)) ≡ Some m) [
-        | true ↦ λ e. absurd (differs (sym (end_number m)
-            ∙ (ap (λ (k : EndKey). k.number) (sym (end_key_is (end_key l) (end_key m) e)) ∙ end_number l)))
-        | false ↦ λ e. at
-      ] refl
-
-  -- hence
-  old_key : (key : EndKey) (m : Listed) → left key ≡ Some m → key ≡ end_key m
-  old_key key m at = shows.indexed.under key m (only key m at).0
-
-  indexed : IsIndexed new
-  indexed = record {
-    under = at_key (λ key m. key ≡ end_key m) refl old_key;
-    found = at_key (λ key m. key_at new (external_key m.entry.binding) ≡ Some key)
-        (keys (external_key l.entry.binding)
-        ∙ ap (λ v. cond v (Some (end_key l)) (key_at old (external_key l.entry.binding)))
-        (external_itself (external_key l.entry.binding)))
-        (λ key m at. keys (external_key m.entry.binding)
-        ∙ (ap (λ v. cond v (Some (end_key l)) (key_at old (external_key m.entry.binding))) (apart key m at)
-        ∙ shows.indexed.found key m (only key m at).0));
-    own = λ x key at. elim (external_eq (external_key l.entry.binding) x) as (λ v.
-        external_eq (external_key l.entry.binding) x ≡ v → cond v (Some (end_key l)) (key_at old x) ≡ Some key →
-        (m : Listed) × (listed_at new key ≡ Some m) × (external_key m.entry.binding ≡ x)) [
-          | true ↦ λ e h. (
-            l,
-            subst (λ (k : EndKey). listed_at new k ≡ Some l) (same_Some (end_key l) key h) here,
-            external_is (external_key l.entry.binding) x e,
-          )
-          | false ↦ λ e h.
-              let q = shows.indexed.own x key h in
-              let m : Listed = q.0 in
-              let under : key ≡ end_key m = shows.indexed.under key m q.1 in
-              let differs : m.number ≢ l.number = free x key m h q.1 e in (
-                m,
-                subst (λ (k : EndKey). listed_at new k ≡ Some m) (sym under)
-                    (elsewhere m differs (subst (λ (k : EndKey). left k ≡ Some m) under
-                    (keeps key m q.1 differs))),
-                q.2,
-              )
-        ] refl (sym (keys x) ∙ at);
-  }
+  -- what is at an endpoint is the new one or an old one
+  at_key : (P : ExternalKey → Listed → Type 0) → P key l →
+      ((x : ExternalKey) (m : Listed) → external_eq key x ≡ false → listed_at old x ≡ Some m → P x m) →
+      (x : ExternalKey) (m : Listed) → listed_at new x ≡ Some m → P x m
+  at_key P one rest x m at = elim (external_eq key x) as (λ v. external_eq key x ≡ v →
+      cond v (Some l) (listed_at old x) ≡ Some m → P x m) [
+        | true ↦ λ e h. subst (λ (y : ExternalKey). P y m) (external_is key x e)
+            (subst (P key) (same_Some l m h) one)
+        | false ↦ λ e h. rest x m e h
+      ] refl (sym (entries x) ∙ at)
 
   pub written : (more : ℕ) → most ≤ more → l.entry.sent ≤ more → l.entry.received ≤ more → Shows now more fs new
   written more le sent received = record {
     indexed = indexed;
     made = made;
     has = λ m at unended. elim (eqb m.number l.number) as (λ v. eqb m.number l.number ≡ v →
-        listed_at new (end_key m) ≡ Some m) [
+        listed_at new (external_key m.entry.binding) ≡ Some m) [
           | true ↦ λ e.
               let same : m ≡ l = same_place fs m l at is (eqb-true m.number l.number e) in
-              subst (λ (k : Listed). listed_at new (end_key k) ≡ Some k) (sym same) here
+              subst (λ (k : Listed). listed_at new (external_key k.entry.binding) ≡ Some k) (sym same) itself
           | false ↦ λ e.
               let differs : m.number ≢ l.number = eqb-false m.number l.number e in
-              elsewhere m differs (keeps (end_key m) m (shows.has m (was m differs at) unended) differs)
+              let its : ExternalKey = external_key m.entry.binding in
+              let had : listed_at old its ≡ Some m = shows.has m (was m differs at) unended in
+              entries its ∙ elim (external_eq key its) as (λ v. external_eq key its ≡ v →
+              cond v (Some l) (listed_at old its) ≡ Some m) [
+                | true ↦ λ t. absurd (differs (here m (ap (listed_at old) (external_is key its t) ∙ had)))
+                | false ↦ λ t. had
+              ] refl
         ] refl;
-    there = at_key (λ key m. IsListed fs m) is
-        (λ key m at. let o = only key m at in stays m o.1 (shows.there key m o.0));
-    unended = at_key (λ key m. is_open now m ≡ true) opened
-        (λ key m at. shows.unended key m (only key m at).0);
-    few = at_key (λ key m. (m.entry.sent ≤ more) × (m.entry.received ≤ more)) (sent, received)
-        (λ key m at. let f = shows.few key m (only key m at).0 in (omega (arith, f.0), omega (arith, f.1)));
+    there = at_key (λ x m. IsListed fs m) is
+        (λ x m apart at. stays m (other x m apart at) (shows.there x m at));
+    unended = at_key (λ x m. is_open now m ≡ true) opened (λ x m apart at. shows.unended x m at);
+    few = at_key (λ x m. (m.entry.sent ≤ more) × (m.entry.received ≤ more)) (sent, received)
+        (λ x m apart at. let f = shows.few x m at in (omega (arith, f.0), omega (arith, f.1)));
   }
 
 -- A NEW ENTRY
 
 module _ (now most : ℕ) (old new : OpenEntries) (es : List Entry) (shows : Shows now most es old) (e : Entry)
-    (free : key_at old (external_key e.binding) ≡ None) where
+    (free : open_at old (external_key e.binding) ≡ None) where
   abbrev one : Listed
   one = record { number = old.made + 1; entry = e }
 
-  put_less : (key : EndKey) (m : Listed) → listed_at old key ≡ Some m → m.number ≢ old.made + 1
-  put_less key m at same =
-      let there : IsListed es m = shows.there key m at in
+  put_less : (x : ExternalKey) (m : Listed) → listed_at old x ≡ Some m → m.number ≢ old.made + 1
+  put_less x m at same =
+      let there : IsListed es m = shows.there x m at in
       let number : m.number ≡ there.place + 1 = there.number in
       let within : there.place < length es = slice_get_within es there.place m.entry there.there in
       let made : old.made ≡ length es = shows.made in
@@ -243,113 +220,78 @@ module _ (now most : ℕ) (old new : OpenEntries) (es : List Entry) (shows : Sho
         | inr ge ↦ absurd (differs (omega (arith, within, long, number, made, ge)))
       ]
 
-  put_apart : (key : EndKey) (m : Listed) → listed_at old key ≡ Some m →
-      external_eq (external_key e.binding) (external_key m.entry.binding) ≡ false
-  put_apart key m at = elim (external_eq (external_key e.binding) (external_key m.entry.binding)) as (λ v.
-      external_eq (external_key e.binding) (external_key m.entry.binding) ≡ v → v ≡ false) [
-        | true ↦ λ h.
-            let same : external_key e.binding ≡ external_key m.entry.binding = external_is _ _ h in
-            let never : None ≡ Some key = sym free ∙ (ap (key_at old) same ∙ shows.indexed.found key m at) in cc
-        | false ↦ λ h. refl
-      ] refl
+  put_here : (m : Listed) → listed_at old (external_key e.binding) ≡ Some m → m.number ≡ old.made + 1
+  put_here m at =
+      let never : None ≡ Some m = sym (ap (option_map (λ (o : Open). o.listed)) free) ∙ at in cc
+
+  pub put_indexed : IsIndexedBut (external_key e.binding) None old
+  put_indexed = subst (λ (due : Option ℕ). IsIndexedBut (external_key e.binding) due old) (ap due_of free)
+      (indexed_but old shows.indexed (external_key e.binding))
 
   pub put_shows : is_before now e.end ≡ true → e.sent ≤ most → e.received ≤ most → new.made ≡ old.made + 1 →
-      ((key : EndKey) → listed_at new key ≡ cond (is_eq (end_cmp (end_key one) key)) (Some one) (listed_at old key)) →
-      ((x : ExternalKey) → key_at new x
-      ≡ cond (external_eq (external_key e.binding) x) (Some (end_key one)) (key_at old x)) →
+      IsIndexed new →
+      ((x : ExternalKey) → listed_at new x
+      ≡ cond (external_eq (external_key e.binding) x) (Some one) (listed_at old x)) →
       Shows now most (es ++ e ∷ []) new
-  put_shows opened sent received made entries keys =
+  put_shows opened sent received made indexed entries =
       let long : length (es ++ e ∷ []) ≡ length es + 1 = length-append es (e ∷ []) in
       let was : old.made ≡ length es = shows.made in
-      written now most old new es (es ++ e ∷ []) shows one (listed_at old) (omega (arith, long, was, made))
+      written now most old new es (es ++ e ∷ []) shows one (omega (arith, long, was, made))
       (record { place = length es; number = (omega (arith, was)); there = get_last es e (length es) refl })
-      opened (λ m differs at. put_stays m at) put_was (λ key m at. (at, put_less key m at)) (λ key m at differs. at)
-      put_apart (λ x key m h at apart. put_less key m at) entries keys most (omega arith) sent received
+      opened (λ m differs at. put_stays m at) put_was put_here (λ x m apart at. put_less x m at) indexed entries most
+      (omega arith) sent received
 
 -- A CHANGE
 
-module _ (now most : ℕ) (old new : OpenEntries) (es : List Entry) (shows : Shows now most es old) (o : Listed)
-    (at : listed_at old (end_key o) ≡ Some o) (e : Entry) (same : e.binding ≡ o.entry.binding)
-    (place : ℕ) (number : place + 1 ≡ o.number) where
+module _ (now most : ℕ) (old new : OpenEntries) (es : List Entry) (shows : Shows now most es old) (x : ExternalKey)
+    (o : Open) (at : open_at old x ≡ Some o) (e : Entry) (same : e.binding ≡ o.listed.entry.binding)
+    (place : ℕ) (number : place + 1 ≡ o.listed.number) where
   abbrev next : Listed
-  next = record { number = o.number; entry = e }
+  next = record { number = o.listed.number; entry = e }
 
-  abbrev left : EndKey → Option Listed
-  left key = cond (is_eq (end_cmp (end_key o) key)) None (listed_at old key)
+  was_at : listed_at old x ≡ Some o.listed
+  was_at = open_listed old x o at
 
-  was_there : IsListed es o
-  was_there = shows.there (end_key o) o at
+  was_there : IsListed es o.listed
+  was_there = shows.there x o.listed was_at
 
-  change_only : (key : EndKey) (m : Listed) → left key ≡ Some m →
-      (listed_at old key ≡ Some m) × (m.number ≢ o.number)
-  change_only key m h = elim (is_eq (end_cmp (end_key o) key)) as (λ v. is_eq (end_cmp (end_key o) key) ≡ v →
-      cond v None (listed_at old key) ≡ Some m → (listed_at old key ≡ Some m) × (m.number ≢ o.number)) [
-        | true ↦ λ t g. cc
-        | false ↦ λ t g. (
-          g,
-          λ equal.
-              let is : m ≡ o = same_place es m o (shows.there key m g) was_there equal in
-              let under : key ≡ end_key o = shows.indexed.under key m g ∙ ap end_key is in
-              let never : true ≡ false = sym (end_itself (end_key o))
-              ∙ (ap (λ (k : EndKey). is_eq (end_cmp (end_key o) k)) (sym under) ∙ t) in cc,
-        )
-      ] refl h
+  its_key : x ≡ external_key e.binding
+  its_key = (shows.indexed.placed x o at).0 ∙ ap external_key (sym same)
 
-  at_end : (key : EndKey) (m : Listed) → listed_at old key ≡ Some m → key ≡ end_key o → m ≡ o
-  at_end key m h is = same_Some m o (sym h ∙ (ap (listed_at old) is ∙ at))
+  change_here : (m : Listed) → listed_at old (external_key e.binding) ≡ Some m → m.number ≡ o.listed.number
+  change_here m there = ap (λ (l : Listed). l.number)
+      (same_Some m o.listed (sym there ∙ (ap (listed_at old) (sym its_key) ∙ was_at)))
 
-  change_keeps : (key : EndKey) (m : Listed) → listed_at old key ≡ Some m → m.number ≢ o.number → left key ≡ Some m
-  change_keeps key m h differs = elim (is_eq (end_cmp (end_key o) key)) as (λ v. is_eq (end_cmp (end_key o) key) ≡ v →
-      cond v None (listed_at old key) ≡ Some m) [
-        | true ↦ λ t. absurd (differs (ap (λ (l : Listed). l.number)
-            (at_end key m h (sym (end_key_is (end_key o) key t)))))
-        | false ↦ λ t. h
-      ] refl
-
-  change_apart : (key : EndKey) (m : Listed) → left key ≡ Some m →
-      external_eq (external_key e.binding) (external_key m.entry.binding) ≡ false
-  change_apart key m h =
-      let only = change_only key m h in
-      elim (external_eq (external_key e.binding) (external_key m.entry.binding)) as (λ v.
-      external_eq (external_key e.binding) (external_key m.entry.binding) ≡ v → v ≡ false) [
-        | true ↦ λ t.
-            let ends : external_key o.entry.binding ≡ external_key m.entry.binding =
-            ap external_key (sym same) ∙ external_is _ _ t in
-            let keys : key ≡ end_key o = same_Some key (end_key o) (sym (shows.indexed.found key m only.0)
-            ∙ (ap (key_at old) (sym ends) ∙ shows.indexed.found (end_key o) o at)) in
-            absurd (only.1 (ap (λ (l : Listed). l.number) (at_end key m only.0 keys)))
-        | false ↦ λ t. refl
-      ] refl
-
-  change_free : (x : ExternalKey) (key : EndKey) (m : Listed) → key_at old x ≡ Some key → listed_at old key ≡ Some m →
-      external_eq (external_key e.binding) x ≡ false → m.number ≢ o.number
-  change_free x key m h there apart equal =
-      let is : m ≡ o = same_place es m o (shows.there key m there) was_there equal in
-      let own = shows.indexed.own x key h in
-      let found : own.0 ≡ m = same_Some own.0 m (sym own.1 ∙ there) in
-      let ends : external_key e.binding ≡ x = ap external_key same
-      ∙ (ap (λ (l : Listed). external_key l.entry.binding) (sym (found ∙ is)) ∙ own.2) in
+  change_other : (y : ExternalKey) (m : Listed) → external_eq (external_key e.binding) y ≡ false →
+      listed_at old y ≡ Some m → m.number ≢ o.listed.number
+  change_other y m apart there equal =
+      let is : m ≡ o.listed = same_place es m o.listed (shows.there y m there) was_there equal in
+      let key : external_key e.binding ≡ y = ap external_key same
+      ∙ (ap (λ (l : Listed). external_key l.entry.binding) (sym is) ∙ sym (under old shows.indexed y m there)) in
       let never : true ≡ false = sym (external_itself (external_key e.binding))
-      ∙ (ap (external_eq (external_key e.binding)) ends ∙ apart) in
+      ∙ (ap (external_eq (external_key e.binding)) key ∙ apart) in
       cc
 
   place_is : (was_there).place ≡ place
-  place_is = let n : o.number ≡ was_there.place + 1 = was_there.number in omega (arith, n, number)
+  place_is = let n : o.listed.number ≡ was_there.place + 1 = was_there.number in omega (arith, n, number)
 
-  other_place : (m : Listed) → m.number ≢ o.number → (j : ℕ) → m.number ≡ j + 1 → j ≢ place
+  other_place : (m : Listed) → m.number ≢ o.listed.number → (j : ℕ) → m.number ≡ j + 1 → j ≢ place
   other_place m differs j is equal = differs (omega (arith, is, equal, number))
 
-  pub change_shows : is_before now e.end ≡ true → e.sent ≤ o.entry.sent + 1 → e.received ≤ o.entry.received + 1 →
-      new.made ≡ old.made →
-      ((key : EndKey) → listed_at new key ≡ cond (is_eq (end_cmp (end_key next) key)) (Some next) (left key)) →
-      ((x : ExternalKey) → key_at new x
-      ≡ cond (external_eq (external_key e.binding) x) (Some (end_key next)) (key_at old x)) →
+  pub change_indexed : IsIndexedBut (external_key e.binding) o.due old
+  change_indexed = subst (λ (y : ExternalKey). IsIndexedBut y o.due old) its_key
+      (subst (λ (due : Option ℕ). IsIndexedBut x due old) (ap due_of at) (indexed_but old shows.indexed x))
+
+  pub change_shows : is_before now e.end ≡ true → e.sent ≤ o.listed.entry.sent + 1 →
+      e.received ≤ o.listed.entry.received + 1 → new.made ≡ old.made → IsIndexed new →
+      ((y : ExternalKey) → listed_at new y
+      ≡ cond (external_eq (external_key e.binding) y) (Some next) (listed_at old y)) →
       Shows now (most + 1) (set es place e) new
-  change_shows opened sent received made entries keys =
-      let few = shows.few (end_key o) o at in
+  change_shows opened sent received made indexed entries =
+      let few = shows.few x o.listed was_at in
       let within : place < length es = subst (λ (p : ℕ). p < length es) place_is
-      (slice_get_within es was_there.place o.entry was_there.there) in
-      written now most old new es (set es place e) shows next left
+      (slice_get_within es was_there.place o.listed.entry was_there.there) in
+      written now most old new es (set es place e) shows next
       (made ∙ (shows.made ∙ sym (length-set es place e)))
       (record { place = place; number = sym number; there = get_set es place e within })
       opened
@@ -363,7 +305,7 @@ module _ (now most : ℕ) (old new : OpenEntries) (es : List Entry) (shows : Sho
         number = is.number;
         there = sym (get_set_other es place is.place e (other_place m differs is.place is.number)) ∙ is.there;
       })
-      change_only change_keeps change_apart change_free entries keys (most + 1) (omega arith)
+      change_here change_other indexed entries (most + 1) (omega arith)
       (omega (arith, sent, few.0)) (omega (arith, received, few.1))
 
 -- THE OPEN ENTRY OF AN EXTERNAL ENDPOINT
@@ -380,41 +322,34 @@ key_shares a b h =
     λ k. record { address = (external k).address; number = (external k).number; protocol = protocol k }
 
 module _ (now most : ℕ) (all : OpenEntries) (es : List Entry) (shows : Shows now most es all) (r : Row) where
-  its_key : (i : ℕ) (e : Entry) → slice_get es i ≡ Some e → is_of now r e ≡ true →
-      key_at all (external_key r) ≡ Some (end_key (record { number = i + 1; entry = e }))
-  its_key i e at passed =
-      let l : Listed = record { number = i + 1; entry = e } in
+  its_entry : (i : ℕ) (e : Entry) → slice_get es i ≡ Some e → is_of now r e ≡ true →
+      listed_at all (external_key r) ≡ Some (listed_as i e)
+  its_entry i e at passed =
       let p = and_parts (is_before now e.end) (shares r e.binding) passed in
-      ap (key_at all) (key_shares r e.binding p.1)
-      ∙ shows.indexed.found (end_key l) l (shows.has l (record { place = i; number = refl; there = at }) p.0)
+      ap (listed_at all) (key_shares r e.binding p.1)
+      ∙ shows.has (listed_as i e) (record { place = i; number = refl; there = at }) p.0
 
-  pub row_none : key_at all (external_key r) ≡ None → list_any (is_of now r) es ≡ false
+  pub row_none : listed_at all (external_key r) ≡ None → list_any (is_of now r) es ≡ false
   row_none none = none_at (is_of now r) es (λ j f there passed.
-      let never : None ≡ Some (end_key (record { number = j + 1; entry = f })) =
-      sym none ∙ its_key j f there passed in cc)
+      let never : None ≡ Some (listed_as j f) = sym none ∙ its_entry j f there passed in cc)
 
-  module _ (l : Listed) (key : key_at all (external_key r) ≡ Some (end_key l))
-      (at : listed_at all (end_key l) ≡ Some l) where
+  module _ (l : Listed) (at : listed_at all (external_key r) ≡ Some l) where
     pub row_of : is_of now r l.entry ≡ true
-    row_of =
-        let own = shows.indexed.own (external_key r) (end_key l) key in
-        let same : l ≡ own.0 = same_Some l own.0 (sym at ∙ own.1) in
-        and_from (is_before now l.entry.end) (shares r l.entry.binding) (shows.unended (end_key l) l at)
-        (shares_key r l.entry.binding (sym (ap (λ (m : Listed). external_key m.entry.binding) same ∙ own.2)))
+    row_of = and_from (is_before now l.entry.end) (shares r l.entry.binding) (shows.unended (external_key r) l at)
+        (shares_key r l.entry.binding (under all shows.indexed (external_key r) l at))
 
     module _ (place : ℕ) (number : place + 1 ≡ l.number) where
       pub row_there : slice_get es place ≡ Some l.entry
       row_there =
-          let there : IsListed es l = shows.there (end_key l) l at in
+          let there : IsListed es l = shows.there (external_key r) l at in
           let n : l.number ≡ there.place + 1 = there.number in
           let same : there.place ≡ place = omega (arith, n, number) in
           ap (slice_get es) (sym same) ∙ there.there
 
       pub row_only : (j : ℕ) (f : Entry) → slice_get es j ≡ Some f → is_of now r f ≡ true → j ≡ place
       row_only j f there passed =
-          let m : Listed = record { number = j + 1; entry = f } in
-          let same : end_key l ≡ end_key m = same_Some (end_key l) (end_key m) (sym key ∙ its_key j f there passed) in
-          let n : l.number ≡ j + 1 = sym (end_number l) ∙ (ap (λ (k : EndKey). k.number) same ∙ end_number m) in
+          let same : l ≡ listed_as j f = same_Some l (listed_as j f) (sym at ∙ its_entry j f there passed) in
+          let n : l.number ≡ j + 1 = ap (λ (m : Listed). m.number) same in
           omega (arith, n, number)
 
       pub row_place : place_of now r es ≡ Some place
@@ -434,21 +369,19 @@ shows_more now most more le es all shows = record {
   has = shows.has;
   there = shows.there;
   unended = shows.unended;
-  few = λ key l at. let f = shows.few key l at in (omega (arith, f.0, le), omega (arith, f.1, le));
+  few = λ x l at. let f = shows.few x l at in (omega (arith, f.0, le), omega (arith, f.1, le));
 }
 
--- where no open entry has its endpoint, no key does
+-- where no open entry has its endpoint, nothing is there
 pub row_free : (now most : ℕ) (all : OpenEntries) (es : List Entry) → Shows now most es all → (r : Row) →
-    list_any (is_of now r) es ≡ false → key_at all (external_key r) ≡ None
-row_free now most all es shows r none = elim (key_at all (external_key r)) as (λ (o : Option EndKey).
-    key_at all (external_key r) ≡ o → o ≡ None) [
+    list_any (is_of now r) es ≡ false → open_at all (external_key r) ≡ None
+row_free now most all es shows r none = elim (open_at all (external_key r)) as (λ (v : Option Open).
+    open_at all (external_key r) ≡ v → v ≡ None) [
       | None ↦ λ h. refl
-      | Some key ↦ λ h.
-          let own = shows.indexed.own (external_key r) key h in
-          let l : Listed = own.0 in
-          let there : IsListed es l = shows.there key l own.1 in
-          let passed : is_of now r l.entry ≡ true = and_from (is_before now l.entry.end) (shares r l.entry.binding)
-          (shows.unended key l own.1) (shares_key r l.entry.binding (sym own.2)) in
-          let never : false ≡ true = sym none ∙ any_at (is_of now r) es there.place l.entry there.there passed in
+      | Some o ↦ λ h.
+          let at : listed_at all (external_key r) ≡ Some o.listed = open_listed all (external_key r) o h in
+          let there : IsListed es o.listed = shows.there (external_key r) o.listed at in
+          let never : false ≡ true = sym none ∙ any_at (is_of now r) es there.place o.listed.entry there.there
+          (row_of now most all es shows r o.listed at) in
           absurd cc
     ] refl

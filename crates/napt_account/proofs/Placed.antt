@@ -1,12 +1,16 @@
 -- A place that was set.
-use Rattle.std.proofs.Common.{◌≡◌, ℕ, false, ◌&&◌, cond, Some, refl, sym, ◌∙◌, ap}
+use Rattle.std.proofs.Common.{◌≡◌, ℕ, ◌+◌, ◌<◌, false, ◌&&◌, cond, List, [], ◌∷◌, ◌++◌, length, take, Some, refl, sym, ◌∙◌, ap, arith}
+use Rattle.std.proofs.lemmas.List.{length-take-le}
 use Rattle.napt_wire.specs.declared.Protocol.{Protocol}
 use Rattle.napt_wire.specs.declared.Protocol.TheVariants.{Icmp, Tcp, Udp}
 use Rattle.napt_wire.specs.declared.Endpoint.{Endpoint}
 use Rattle.napt_rules.specs.Prelude.{same_protocol, same_endpoint}
 use Rattle.napt_binding.specs.Lists.{pair_eq}
+use Rattle.napt_account.specs.declared.log.Entry.{Entry}
 use Rattle.napt_account.specs.declared.places.Places.{Places}
-use Rattle.napt_account.specs.Places.{place_at}
+use Rattle.napt_account.specs.Latest.{is_at, last_place}
+use Rattle.napt_account.specs.Places.{place_at, IsIndex}
+use Rattle.napt_account.proofs.Latest.{last_joined}
 
 put_own : (at : Protocol) (old new : Places) (external : Endpoint) (place : ℕ) →
     ((e : Endpoint) → place_at new at e ≡ cond (pair_eq (external.address, external.number) (e.address, e.number))
@@ -49,3 +53,17 @@ pub udp_others : (old new : Places) → new.icmp ≡ old.icmp → new.tcp ≡ ol
 udp_others old new i t Udp no_more e = cc
 udp_others old new i t Icmp no_more e = ap (λ m. Rattle.std.specs.HashMap.get pair_eq m (e.address, e.number)) i
 udp_others old new i t Tcp no_more e = ap (λ m. Rattle.std.specs.HashMap.get pair_eq m (e.address, e.number)) t
+
+-- the next of some entries has its place set
+pub index_more : (entries : List Entry) (n : ℕ) (entry : Entry) (old new : Places) →
+    take (n + 1) entries ≡ take n entries ++ entry ∷ [] → n < length entries → IsIndex (take n entries) old →
+    ((p : Protocol) (e : Endpoint) → place_at new p e
+    ≡ cond (same_protocol entry.binding.protocol p && same_endpoint entry.binding.external e) (Some n)
+    (place_at old p e)) → IsIndex (take (n + 1) entries) new
+index_more entries n entry old new more lt index put protocol external =
+    put protocol external
+    ∙ (ap (cond (is_at protocol external entry) (Some n)) (index protocol external)
+    ∙ (ap (λ (k : ℕ). cond (is_at protocol external entry) (Some k) (last_place (is_at protocol external)
+    (take n entries))) (sym (length-take-le n entries (omega (arith, lt))))
+    ∙ (sym (last_joined (is_at protocol external) (take n entries) entry)
+    ∙ ap (last_place (is_at protocol external)) (sym more))))

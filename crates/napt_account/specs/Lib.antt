@@ -1,13 +1,12 @@
+pub mod AllTold
 pub mod Attribution
 pub mod Book
-pub mod Kept
 pub mod Latest
 pub mod Places
 pub mod Ended
 pub mod Fronts
 pub mod Log
 pub mod OpenEntries
-pub mod BookedRuns
 pub mod LoggedRuns
 pub mod KnownRuns
 pub mod Questions

@@ -1,12 +1,15 @@
--- The entries that have not ended, as they are kept while a run goes on: by their ends, and found by their endpoints.
-use Rattle.std.specs.Prelude.{◌≡◌, ℕ, ◌+◌, ◌≤◌, ◌==◌, Bool, true, false, ◌&&◌, List, [], ◌∷◌, length, Option, Some, None}
+-- The entries that have not ended, as they are kept while a run goes on: found by their endpoints, and queued by the
+-- times at which they are looked at.
+use Rattle.std.specs.Prelude.{◌≡◌, ℕ, ◌+◌, ◌^◌, ◌<◌, ◌≤◌, ◌==◌, nat_le, Bool, true, false, ◌&&◌, cond, List, [], ◌∷◌, length, map, filter, Option, Some, None, unwrap_or}
 use Rattle.std.specs.List.{slice_get}
+use Rattle.std.specs.Option.{option_map}
 use Rattle.std.specs.Ordering.{ordering_then, nat_cmp, bool_cmp}
 use Rattle.std.specs.declared.cmp.Ordering.{Ordering}
-use Rattle.std.specs.BTreeMap as tree
+use Rattle.std.specs.BTreeSet as sorted
 use Rattle.std.specs.HashMap as hash
 use denote.Enum.Bare.{sameb}
 use Rattle.napt_wire.specs.contracts.Protocol.{the_type}
+use Rattle.napt_wire.specs.contracts.ProtocolOrd.TheImpl as protocols
 use Rattle.napt_rules.specs.Prelude.{Each}
 use Rattle.napt_rules.specs.declared.Row.{Row}
 use Rattle.napt_binding.specs.Ends.{is_before}
@@ -14,8 +17,10 @@ use Rattle.napt_sequential.specs.declared.passage.Passage.{Passage}
 use Rattle.napt_sequential.specs.declared.passage.Passage.TheVariants.{Nothing, Out, In, Dropped}
 use Rattle.napt_account.specs.declared.log.Entry.{Entry}
 use Rattle.napt_account.specs.declared.log.Listed.{Listed}
+use Rattle.napt_account.specs.declared.open_entries.Due.{Due}
 use Rattle.napt_account.specs.declared.open_entries.EndKey.{EndKey}
 use Rattle.napt_account.specs.declared.open_entries.ExternalKey.{ExternalKey}
+use Rattle.napt_account.specs.declared.open_entries.Open.{Open}
 use Rattle.napt_account.specs.declared.open_entries.OpenEntries.{OpenEntries}
 use Rattle.napt_account.specs.Telling.{ends_first, is_open}
 
@@ -40,25 +45,58 @@ abbrev pub end_cmp : EndKey → EndKey → Ordering
 end_cmp a b = ordering_then (bool_cmp a.is_endless b.is_endless)
     (ordering_then (nat_cmp a.end b.end) (nat_cmp a.number b.number))
 
+abbrev pub external_cmp : ExternalKey → ExternalKey → Ordering
+external_cmp a b = ordering_then (nat_cmp a.address b.address)
+    (ordering_then (nat_cmp a.number b.number) ((protocols.ghosts).cmp a.protocol b.protocol))
+
+abbrev pub due_cmp : Due → Due → Ordering
+due_cmp a b = ordering_then (nat_cmp a.at b.at) (external_cmp a.key b.key)
+
 -- WHAT IS KEPT
 
-abbrev pub listed_at : OpenEntries → EndKey → Option Listed
-listed_at all key = tree.get end_cmp all.by_end key
+abbrev pub open_at : OpenEntries → ExternalKey → Option Open
+open_at all x = hash.get external_eq all.by_external x
 
-abbrev pub key_at : OpenEntries → ExternalKey → Option EndKey
-key_at all key = hash.get external_eq all.by_external key
+-- the entry of an endpoint, and when it is looked at next
+abbrev pub listed_at : OpenEntries → ExternalKey → Option Listed
+listed_at all x = option_map (λ (o : Open). o.listed) (open_at all x)
 
--- all, by their ends
+abbrev pub due_of : Option Open → Option ℕ
+due_of None = None
+due_of (Some o) = o.due
+
+abbrev pub due_at : OpenEntries → ExternalKey → Option ℕ
+due_at all x = due_of (open_at all x)
+
+abbrev pub is_queued : OpenEntries → Due → Bool
+is_queued all due = sorted.contains due_cmp all.queue due
+
+abbrev pub is_at : Option ℕ → ℕ → Bool
+is_at None time = false
+is_at (Some at) time = at == time
+
+-- all, in no particular order
 abbrev pub kept : OpenEntries → List Listed
-kept all = tree.values all.by_end
+kept all = map (λ (o : Open). o.listed) (hash.values all.by_external)
 
--- each is under its end, and its endpoint finds it; an endpoint finds none but its own
+-- how many are to be looked at by a time
+abbrev pub due_within : ℕ → OpenEntries → ℕ
+due_within now all = length (filter (λ (due : Due). nat_le due.at now) all.queue.keys)
+
+-- it is under its endpoint, and looked at no later than at its end
+abbrev pub IsPlaced : ExternalKey → Open → Type 0
+IsPlaced x o = (x ≡ external_key o.listed.entry.binding)
+    × ((time : ℕ) → time < unwrap_or o.due (2 ^ 64) → is_open time o.listed ≡ true)
+
+-- each is in its place, and the queue has the time of each that has one, and nothing else
 pub record IsIndexed (all : OpenEntries) : Type 0 where
-  pub under : (key : EndKey) (l : Listed) → listed_at all key ≡ Some l → key ≡ end_key l
-  pub found : (key : EndKey) (l : Listed) → listed_at all key ≡ Some l →
-      key_at all (external_key l.entry.binding) ≡ Some key
-  pub own : (x : ExternalKey) (key : EndKey) → key_at all x ≡ Some key →
-      (l : Listed) × (listed_at all key ≡ Some l) × (external_key l.entry.binding ≡ x)
+  pub placed : (x : ExternalKey) (o : Open) → open_at all x ≡ Some o → IsPlaced x o
+  pub queued : (due : Due) → is_queued all due ≡ is_at (due_at all due.key) due.at
+
+-- the same but for one endpoint, which the queue has at another time
+pub record IsIndexedBut (key : ExternalKey) (at : Option ℕ) (all : OpenEntries) : Type 0 where
+  pub placed : (x : ExternalKey) (o : Open) → open_at all x ≡ Some o → IsPlaced x o
+  pub queued : (due : Due) → is_queued all due ≡ is_at (cond (external_eq key due.key) at (due_at all due.key)) due.at
 
 -- it is one of these entries, with its number
 pub record IsListed (entries : List Entry) (l : Listed) : Type 0 where
@@ -74,10 +112,11 @@ listed_as place entry = record { number = place + 1; entry = entry }
 pub record Shows (now most : ℕ) (entries : List Entry) (all : OpenEntries) : Type 0 where
   pub indexed : IsIndexed all
   pub made : all.made ≡ length entries
-  pub has : (l : Listed) → IsListed entries l → is_open now l ≡ true → listed_at all (end_key l) ≡ Some l
-  pub there : (key : EndKey) (l : Listed) → listed_at all key ≡ Some l → IsListed entries l
-  pub unended : (key : EndKey) (l : Listed) → listed_at all key ≡ Some l → is_open now l ≡ true
-  pub few : (key : EndKey) (l : Listed) → listed_at all key ≡ Some l →
+  pub has : (l : Listed) → IsListed entries l → is_open now l ≡ true →
+      listed_at all (external_key l.entry.binding) ≡ Some l
+  pub there : (x : ExternalKey) (l : Listed) → listed_at all x ≡ Some l → IsListed entries l
+  pub unended : (x : ExternalKey) (l : Listed) → listed_at all x ≡ Some l → is_open now l ≡ true
+  pub few : (x : ExternalKey) (l : Listed) → listed_at all x ≡ Some l →
       (l.entry.sent ≤ most) × (l.entry.received ≤ most)
 
 -- each stands before all behind it

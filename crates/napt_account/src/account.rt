@@ -3,13 +3,13 @@
 ghost use Rattle.std.specs.Prelude.{◌≡◌, ◌↔◌, ◌≤◌, ◌^◌, IfOk, IfErr, Err, length, option_map, slice_get};
 ghost use Rattle.napt_rules.specs.Sequential as model;
 ghost use Rattle.napt_sequential.specs.Faults.{IsOneThreadFault};
-ghost use Rattle.napt_account.specs.Kept.{IsIndex};
 ghost use Rattle.napt_account.specs.Latest.{latest_of};
 ghost use Rattle.napt_account.specs.Log.{log_of};
+ghost use Rattle.napt_account.specs.Places.{IsIndex};
 ghost use Rattle.napt_account.specs.Uses.{uses_of};
 
-use crate::booked_run::BookedRun;
-use crate::log::{Entry, Log};
+use crate::log::{Entry, Log, in_order_of_making, what_is_told_is_the_log};
+use crate::logged_run::LoggedRun;
 use crate::places::Places;
 use napt_config::Config;
 use napt_sequential::{Input, MOST_INPUTS, Outcome, Run, RunFault};
@@ -74,19 +74,28 @@ pub fn account_of(alloc: Global, config: &Config, inputs: &[Input]) -> Result<Ac
     if inputs.len() > MOST_INPUTS {
         return Err(RunFault::TooMany);
     }
-    let mut logged = BookedRun::begin(alloc, config)?;
-    let told = logged.step_all(alloc, config, inputs)?;
-    let bindings = logged.run.bindings(alloc)?;
-    let legs = logged.run.legs(alloc)?;
+    what_is_told_is_the_log();
+    // called for its clause alone: a configuration keeps its rules
+    let _pool = config.pool();
+    let mut logged = LoggedRun::begin(alloc, config)?;
+    let mut told = logged.step_all(alloc, config, inputs)?;
+    told.ended.append(&mut logged.living(alloc)?)?;
+    let entries = in_order_of_making(alloc, told.ended)?;
+    let latest = Places::of(alloc, &entries)?;
+    let bindings = logged.bindings(alloc)?;
+    let legs = logged.legs(alloc)?;
     Ok(Account {
         run: Run {
             outcomes: told.outcomes,
             bindings,
             legs,
         },
-        log: logged.book.log,
+        log: Log {
+            entries,
+            shortages: told.refused,
+        },
         uses: told.uses,
-        latest: logged.book.latest,
+        latest,
     })
 }
 

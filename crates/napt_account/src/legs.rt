@@ -11,9 +11,9 @@ ghost use Rattle.napt_table.specs.declared.TimedRow.{TimedRow};
 ghost use Rattle.napt_account.specs.OpenEntries.{listed_as};
 
 use crate::account::Use;
-use crate::book::{both_uses, is_shortage};
-use crate::log::{Listed, Shortage};
+use crate::log::{Listed, Shortage, is_shortage};
 use crate::open_entries::OpenEntries;
+use crate::uses::both_uses;
 use napt_sequential::{Passage, Trace};
 use napt_table::Row;
 use std::alloc::{AllocError, Global};
@@ -91,10 +91,10 @@ impl OpenEntries {
             OnOk result (made.new.items ≡ made.old.items
             ++ listed_as place entry ∷ []) }
     {
-        let Some(listed) = self.find(row) else {
+        let Some(open) = self.find(row) else {
             return Ok(());
         };
-        made.push(listed)?;
+        made.push(open.listed)?;
         Ok(())
     }
 }

@@ -3,8 +3,7 @@
 #![tactic(auto)]
 
 mod account;
-mod book;
-mod booked_run;
+mod all_told;
 mod known_run;
 mod legs;
 mod log;
@@ -12,11 +11,15 @@ mod logged_run;
 mod open_entries;
 mod places;
 mod question;
+mod uses;
 mod who;
 
 pub use crate::account::{Account, Note, Use, account_of};
 pub use crate::known_run::KnownRun;
-pub use crate::log::{Entry, Listed, Log, Shortage, ended_entries_stay, log_attributes, log_of};
+pub use crate::log::{
+    Entry, Listed, Log, Shortage, ended_entries_stay, log_attributes, log_of,
+    what_is_told_is_the_log,
+};
 pub use crate::logged_run::{LoggedRun, LoggedStep};
 pub use crate::question::{Party, Question};
 pub use crate::who::holders;

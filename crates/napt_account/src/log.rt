@@ -1,18 +1,24 @@
 //! The log of a run: who had which external endpoint, from when and until when (RFC 6888, section 4).
 
-ghost use Rattle.std.specs.Prelude.{◌≡◌, ◌↔◌, ◌≤◌, ◌^◌, IfOk, IfErr, Err, length};
+ghost use Rattle.std.specs.Prelude.{◌≡◌, ◌↔◌, ◌≤◌, ◌^◌, List, map, IfOk, IfErr, Err, length};
+ghost use Rattle.std.specs.List.Sorted.{IsPermutation};
 ghost use Rattle.napt_sequential.specs.Faults.{IsOneThreadFault};
-ghost use Rattle.napt_account.specs.Log.{log_of};
+ghost use Rattle.napt_config.specs.Rules.{pair_of};
+ghost use Rattle.napt_rules.specs.Prelude.{redirected, row};
+ghost use Rattle.napt_account.specs.Log.{is_shortage, log_of};
 ghost use Rattle.napt_account.specs.Attribution.{LogNamesTheHolders, LogListsTheLiving};
 ghost use Rattle.napt_account.specs.Ended.{EndedEntriesStay};
-ghost use Rattle.napt_binding.specs.Ends.{EndsAreFirst};
+ghost use Rattle.napt_account.specs.AllTold.{ToldIsTheLog};
+ghost use Rattle.napt_account.specs.Telling.{numbered};
+ghost use Rattle.napt_account.specs.declared.log.Entry.{Entry as Logged};
+ghost use Rattle.napt_binding.specs.Ends.{EndsAreFirst, is_before};
 
 use crate::account::account_of;
-use napt_config::Config;
+use napt_config::{Config, Redirect};
 use napt_sequential::{Input, RunFault};
 use napt_table::{Row, TimedRow, opening_is_sound};
-use napt_wire::{Cause, Protocol};
-use std::alloc::Global;
+use napt_wire::{Cause, Endpoint, Protocol};
+use std::alloc::{AllocError, Global};
 
 /// A binding of a run, from when it was made until it ended, with times in ns.
 #[derive(Clone, Copy, Debug, PartialEq, Eq)]
@@ -68,12 +74,52 @@ impl Entry {
     }
 }
 
+/// The binding of a redirect.
+pub(crate) fn redirected(config: &Config, redirect: Redirect) -> Row
+    ensures { result ≡ row (redirected (pair_of config.now) redirect) }
+{
+    let protocol = if redirect.tcp {
+        Protocol::Tcp
+    } else {
+        Protocol::Udp
+    };
+    Row {
+        protocol,
+        inside: Endpoint {
+            address: redirect.address,
+            number: redirect.port,
+        },
+        external: Endpoint {
+            address: config.pair(redirect.address),
+            number: redirect.external,
+        },
+        fixed: true,
+    }
+}
+
+/// Whether a time, in ns, is before an end.
+pub(crate) fn is_before(now: u64, end: Option<u128>) -> bool
+    ensures { result ≡ is_before now end }
+{
+    match end {
+        Some(end) => u128::from(now) < end,
+        None => true,
+    }
+}
+
 /// An entry of the log, with its number in it.
 #[derive(Clone, Copy, Debug, PartialEq, Eq)]
 pub struct Listed {
     /// From 1, in the order of making.
     pub number: u64,
     pub entry: Entry,
+}
+
+/// Whether no binding could be made.
+pub(crate) fn is_shortage(cause: Cause) -> bool
+    ensures { result ≡ is_shortage cause }
+{
+    matches!(cause, Cause::OverQuota | Cause::NoPort)
 }
 
 /// An outgoing packet for which no binding could be made: its host has its quota, or each number of
@@ -113,6 +159,24 @@ pub fn log_of(alloc: Global, config: &Config, inputs: &[Input]) -> Result<Log, R
     Ok(account_of(alloc, config, inputs)?.log)
 }
 
+/// The entries in the order in which their bindings were made, of all entries of a log in any order. Fails only if
+/// memory is refused.
+pub fn in_order_of_making(alloc: Global, listed: Vec<Listed>) -> Result<Vec<Entry>, AllocError>
+    ensures { (entries : List Logged) → IsPermutation listed.items (numbered entries) →
+        IfOk result (λ made. made.items ≡ entries) }
+{
+    let mut listed = listed;
+    listed.sort_by_key(|one| one.number)?;
+    let entries = without_numbers(alloc, &listed)?;
+    Ok(entries)
+}
+
+fn without_numbers(alloc: Global, listed: &[Listed]) -> Result<Vec<Entry>, AllocError>
+    ensures { IfOk result (λ made. made.items ≡ map (λ one. one.entry) listed.now) }
+{
+    listed.iter().map(|one| one.entry).collect(alloc)
+}
+
 /// At each moment of a run the log of the whole run names exactly the live bindings: each host that it names had the
 /// endpoint, and each host that had it is named.
 pub fn log_attributes()
@@ -127,4 +191,11 @@ pub fn log_attributes()
 /// its place. So it can be told then, and forgotten.
 pub fn ended_entries_stay()
     ensures { EndedEntriesStay }
+{}
+
+/// What a run tells with its inputs is its log: the entries told as ended, with those that are left, are the entries of
+/// the log, each once and with its number; the bindings told as made, behind the redirects, are those of the log in its
+/// order, each with its number and when it was made; and the refused packets are its shortages, in its order.
+pub fn what_is_told_is_the_log()
+    ensures { ToldIsTheLog }
 {}

@@ -1,7 +1,8 @@
 //! The entries of the log whose bindings have not ended.
 
-ghost use Rattle.std.specs.Prelude.{◌≡◌, ◌+◌, ◌<◌, ◌≤◌, ◌^◌, ◌++◌, ℕ, [], ◌∷◌, List, true, false, cond, length, map, set, filter, Some, None, OnOk, IfOk, IfSome, IfNone};
-ghost use Rattle.std.specs.Ordering.{is_eq};
+ghost use Rattle.std.specs.Prelude.{◌≡◌, ◌+◌, ◌<◌, ◌≤◌, ◌^◌, ◌++◌, ◌&&◌, ◌||◌, not, ℕ, [], ◌∷◌, List, true, false, cond, length, map, set, filter, Some, None, OnOk, IfOk, IfSome, IfNone, unwrap_or};
+ghost use Rattle.std.specs.List.Sorted.{IsPermutation, IsSortedByKey};
+ghost use Rattle.std.specs.Option.{is_some};
 ghost use Rattle.napt_rules.specs.Prelude.{Each, opening};
 ghost use Rattle.napt_binding.specs.Ends.{is_before};
 ghost use Rattle.napt_account.specs.Book as books;
@@ -10,17 +11,17 @@ ghost use Rattle.napt_account.specs.OpenEntries as keys;
 ghost use Rattle.napt_account.specs.Telling.{numbered, ends_within, in_order_of_end, is_open};
 
 use crate::account::{Note, Use};
-use crate::book::{NO_USE, found, is_before, redirected};
-use crate::log::{Entry, Listed};
+use crate::log::{Entry, Listed, is_before, redirected};
+use crate::uses::{NO_USE, found};
 use napt_config::Config;
 use napt_sequential::Passage;
 use napt_table::{Row, TimedRow, opening_is_sound};
 use napt_wire::Protocol;
 use std::alloc::{AllocError, Global};
-use std::collections::{BTreeMap, HashMap};
+use std::collections::{BTreeSet, HashMap};
 
 /// An external endpoint under its protocol.
-#[derive(Clone, Copy, PartialEq, Eq, Hash)]
+#[derive(Clone, Copy, PartialEq, Eq, PartialOrd, Ord, Hash)]
 pub(crate) struct ExternalKey {
     address: u32,
     number: u16,
@@ -29,7 +30,7 @@ pub(crate) struct ExternalKey {
 
 /// When a binding ends, and the number of its entry. In their order are those that end first, of those that end together
 /// the first made, and at last those that never end.
-#[derive(Clone, Copy, PartialEq, Eq, PartialOrd, Ord)]
+#[derive(Clone, Copy, PartialEq, Eq, PartialOrd, Ord, Drop)]
 pub(crate) struct EndKey {
     /// Whether it never ends; then `end` is 0.
     is_endless: bool,
@@ -39,11 +40,28 @@ pub(crate) struct EndKey {
     number: u64,
 }
 
-/// The entries of the bindings that have not ended, by their ends, and found by their external endpoints.
+/// An entry whose binding has not ended.
+#[derive(Clone, Copy)]
+pub(crate) struct Open {
+    pub(crate) listed: Listed,
+    /// When it is looked at next, in ns: never after its end. None if its end is after each time that 64 bits hold.
+    due: Option<u64>,
+}
+
+/// When the entry of an endpoint is looked at next, in ns.
+#[derive(Clone, Copy, PartialEq, Eq, PartialOrd, Ord)]
+pub(crate) struct Due {
+    at: u64,
+    key: ExternalKey,
+}
+
+/// The entries of the bindings that have not ended, found by their external endpoints. A packet that moves the end of its
+/// binding away leaves the queue alone: the entry is queued anew once its time there has come.
 #[derive(Drop)]
 pub(crate) struct OpenEntries {
-    by_end: BTreeMap<EndKey, Listed>,
-    by_external: HashMap<ExternalKey, EndKey>,
+    by_external: HashMap<ExternalKey, Open>,
+    /// One for each entry that has a time.
+    queue: BTreeSet<Due>,
     /// How many entries the log has.
     made: usize,
 }
@@ -83,23 +101,45 @@ fn place_of(listed: Listed) -> usize
     (listed.number - 1) as usize
 }
 
+/// When an entry with this end is looked at next that was to be looked at by a time: then, or at its end if that is
+/// sooner.
+fn due_by(was: Option<u64>, end: Option<u128>) -> Option<u64>
+    ensures early { (time : ℕ) → time < unwrap_or result (2 ^ 64) → is_before time end ≡ true }
+    ensures first { was ≡ None → (time : ℕ) → is_before time end ≡ true →
+        is_before time result ≡ true }
+{
+    let Some(end) = end else { return was };
+    match was {
+        Some(was) if u128::from(was) <= end => Some(was),
+        _ => u64::try_from(end).ok(),
+    }
+}
+
+/// Puts entries in order of end.
+fn sort_by_end(entries: &mut Vec<Listed>)
+    ensures moved { IsPermutation entries.old.items entries.new.items }
+    ensures sorted { IsSortedByKey keys.end_key keys.end_cmp entries.new.items }
+{
+    entries.sort_unstable_by_key(|listed| end_key(*listed));
+}
+
 impl OpenEntries {
-    ghost use Rattle.std.specs.BTreeMap.{IsOrdered};
-    ghost use Rattle.napt_account.specs.OpenEntries.{listed_at, key_at, end_cmp, external_eq, kept, IsIndexed, Shows, InOrder, LeavesOpen};
+    ghost use Rattle.std.specs.HashMap.{IsUnique};
+    ghost use Rattle.napt_account.specs.OpenEntries.{open_at, listed_at, due_at, is_queued, is_at, due_within, external_eq, IsIndexed, IsIndexedBut, Shows, LeavesOpen};
     ghost use Rattle.napt_account.specs.declared.log.Entry.{Entry as Logged};
     ghost use Rattle.napt_account.specs.declared.log.Listed.{Listed as Numbered};
-    ghost use Rattle.napt_account.specs.declared.open_entries.EndKey.{EndKey as Key};
+    ghost use Rattle.napt_account.specs.declared.open_entries.Due.{Due as Place};
     ghost use Rattle.napt_account.specs.declared.open_entries.ExternalKey.{ExternalKey as Endpoint};
 
     /// None.
     fn new(alloc: Global) -> OpenEntries
-        ensures listed { (key : Key) → listed_at result key ≡ None }
-        ensures keys { (x : Endpoint) → key_at result x ≡ None }
+        ensures open { (x : Endpoint) → open_at result x ≡ None }
+        ensures queue { (d : Place) → is_queued result d ≡ false }
         ensures made { result.made ≡ 0 }
     {
         OpenEntries {
-            by_end: BTreeMap::new(alloc),
             by_external: HashMap::new(alloc),
+            queue: BTreeSet::new(alloc),
             made: 0,
         }
     }
@@ -128,88 +168,163 @@ impl OpenEntries {
         requires { self.old.made + 1 < 2 ^ 64 }
         ensures place { IfOk result (λ place. place ≡ self.old.made) }
         ensures shows { (now most : ℕ) (entries : List Logged) → Shows now most entries self.old →
-            key_at self.old (keys.external_key entry.binding) ≡ None →
+            open_at self.old (keys.external_key entry.binding) ≡ None →
             is_before now entry.end ≡ true → entry.sent ≤ most → entry.received ≤ most →
             OnOk result (Shows now most (entries ++ entry ∷ []) self.new) }
     {
         let place = self.made;
         self.made = place + 1;
-        self.set(Listed {
-            number: place as u64 + 1,
-            entry,
-        })?;
+        self.set(
+            Listed {
+                number: place as u64 + 1,
+                entry,
+            },
+            None,
+        )?;
         Ok(place)
     }
 
-    /// Sets an entry, whose key has none.
-    fn set(&mut self, listed: Listed) -> Result<(), AllocError>
+    /// Sets the entry of an endpoint, which is queued at `was`, or not at all.
+    fn set(&mut self, listed: Listed, was: Option<u64>) -> Result<(), AllocError>
         ensures made { self.new.made ≡ self.old.made }
-        ensures listed { OnOk result ((key : Key) → listed_at self.new key
-            ≡ cond (is_eq (end_cmp (keys.end_key listed) key)) (Some listed)
-            (listed_at self.old key)) }
-        ensures keys { OnOk result ((x : Endpoint) → key_at self.new x
-            ≡ cond (external_eq (keys.external_key listed.entry.binding) x)
-            (Some (keys.end_key listed)) (key_at self.old x)) }
+        ensures listed { OnOk result ((x : Endpoint) → listed_at self.new x
+            ≡ cond (external_eq (keys.external_key listed.entry.binding) x) (Some listed)
+            (listed_at self.old x)) }
+        ensures indexed { IsIndexedBut (keys.external_key listed.entry.binding) was self.old →
+            OnOk result (IsIndexed self.new) }
+        ensures within { (now : ℕ) → is_open now listed ≡ true → was ≡ None →
+            OnOk result (due_within now self.new ≡ due_within now self.old) }
     {
-        let key = end_key(listed);
-        self.by_end.insert(key, listed)?;
-        self.by_external
-            .insert(external_key(listed.entry.binding), key)?;
+        let key = external_key(listed.entry.binding);
+        let due = due_by(was, listed.entry.end);
+        self.queue_at(key, was, due)?;
+        self.by_external.insert(key, Open { listed, due })?;
         Ok(())
     }
 
-    /// The entry of an external endpoint, with its number.
-    pub(crate) fn find(&self, row: Row) -> Option<Listed>
-        ensures some { IsIndexed self.now → IfSome result (λ l.
-            (key_at self.now (keys.external_key row) ≡ Some (keys.end_key l))
-            × (listed_at self.now (keys.end_key l) ≡ Some l)) }
-        ensures none { IsIndexed self.now →
-            IfNone result (key_at self.now (keys.external_key row) ≡ None) }
+    /// Moves an endpoint from one time in the queue to another.
+    fn queue_at(
+        &mut self,
+        key: ExternalKey,
+        was: Option<u64>,
+        due: Option<u64>,
+    ) -> Result<(), AllocError>
+        ensures open { (x : Endpoint) → open_at self.new x ≡ open_at self.old x }
+        ensures made { self.new.made ≡ self.old.made }
+        ensures queued { OnOk result ((d : Place) →
+            (external_eq key d.key ≡ true → is_queued self.old d ≡ is_at was d.at) →
+            is_queued self.new d ≡ cond (external_eq key d.key) (is_at due d.at)
+            (is_queued self.old d)) }
+        ensures within { (now : ℕ) → is_before now due ≡ true → was ≡ None →
+            OnOk result (due_within now self.new ≡ due_within now self.old) }
     {
-        let key = self.by_external.get(&external_key(row))?;
-        let listed = self.by_end.get(key)?;
-        Some(*listed)
+        if was == due {
+            return Ok(());
+        }
+        self.leave_queue(key, was);
+        self.enter_queue(key, due)
+    }
+
+    /// Takes an endpoint out of the queue, if it is there at a time.
+    fn leave_queue(&mut self, key: ExternalKey, was: Option<u64>)
+        ensures open { (x : Endpoint) → open_at self.new x ≡ open_at self.old x }
+        ensures made { self.new.made ≡ self.old.made }
+        ensures queued { (d : Place) → is_queued self.new d
+            ≡ (not (external_eq key d.key && is_at was d.at) && is_queued self.old d) }
+        ensures within { was ≡ None → (now : ℕ) →
+            due_within now self.new ≡ due_within now self.old }
+    {
+        if let Some(at) = was {
+            self.queue.remove(&Due { at, key });
+        }
+    }
+
+    /// Puts an endpoint into the queue at a time, if there is one.
+    fn enter_queue(&mut self, key: ExternalKey, due: Option<u64>) -> Result<(), AllocError>
+        ensures open { (x : Endpoint) → open_at self.new x ≡ open_at self.old x }
+        ensures made { self.new.made ≡ self.old.made }
+        ensures queued { OnOk result ((d : Place) → is_queued self.new d
+            ≡ ((external_eq key d.key && is_at due d.at) || is_queued self.old d)) }
+        ensures within { (now : ℕ) → is_before now due ≡ true →
+            OnOk result (due_within now self.new ≡ due_within now self.old) }
+    {
+        if let Some(at) = due {
+            self.queue.insert(Due { at, key })?;
+        }
+        Ok(())
+    }
+
+    /// The entry of an external endpoint.
+    pub(crate) fn find(&self, row: Row) -> Option<Open>
+        ensures { result ≡ open_at self.now (keys.external_key row) }
+    {
+        self.by_external.get(&external_key(row)).copied()
     }
 
     /// Changes an entry to another of its binding.
-    fn change(&mut self, old: Listed, entry: Entry) -> Result<(), AllocError>
+    fn change(&mut self, old: Open, entry: Entry) -> Result<(), AllocError>
         ensures shows { (now most : ℕ) (entries : List Logged) → Shows now most entries self.old →
-            listed_at self.old (keys.end_key old) ≡ Some old → entry.binding ≡ old.entry.binding →
+            (x : Endpoint) → open_at self.old x ≡ Some old → entry.binding ≡ old.listed.entry.binding →
             is_before now entry.end ≡ true →
-            entry.sent ≤ old.entry.sent + 1 → entry.received ≤ old.entry.received + 1 →
-            (place : ℕ) → place + 1 ≡ old.number →
+            entry.sent ≤ old.listed.entry.sent + 1 → entry.received ≤ old.listed.entry.received + 1 →
+            (place : ℕ) → place + 1 ≡ old.listed.number →
             OnOk result (Shows now (most + 1) (set entries place entry) self.new) }
     {
-        self.by_end.remove(&end_key(old));
-        self.set(Listed {
-            number: old.number,
-            entry,
-        })?;
+        self.set(
+            Listed {
+                number: old.listed.number,
+                entry,
+            },
+            old.due,
+        )?;
         Ok(())
     }
 
-    /// Takes out the first entry if its binding has ended by a time, in ns.
-    fn take_first(&mut self, now: u64) -> Option<Listed>
+    /// Takes the first endpoint out of the queue if its time there has come by a time, in ns.
+    fn take_due(&mut self, now: u64) -> Option<ExternalKey>
+        ensures open { (x : Endpoint) → open_at self.new x ≡ open_at self.old x }
         ensures made { self.new.made ≡ self.old.made }
-        ensures first { IfSome result (λ l. kept self.old ≡ l ∷ kept self.new) }
-        ensures ended { IfSome result (λ l. is_open now l ≡ false) }
-        ensures indexed { IsIndexed self.old → IsIndexed self.new }
-        ensures stay { IsIndexed self.old → (key : Key) (l : Numbered) →
-            listed_at self.old key ≡ Some l → is_open now l ≡ true →
-            listed_at self.new key ≡ Some l }
-        ensures had { (key : Key) (l : Numbered) → listed_at self.new key ≡ Some l →
-            listed_at self.old key ≡ Some l }
-        ensures none { IsIndexed self.old → IfNone result (
-            (kept self.new ≡ kept self.old) × ((key : Key) (l : Numbered) →
-            listed_at self.new key ≡ Some l → is_open now l ≡ true)) }
+        ensures within { IfSome result (λ key.
+            due_within now self.new + 1 ≡ due_within now self.old) }
+        ensures indexed { IsIndexed self.old →
+            IfSome result (λ key. IsIndexedBut key None self.new) }
+        ensures none { IsIndexed self.old → IfNone result (IsIndexed self.new ×
+            ((x : Endpoint) (l : Numbered) → listed_at self.new x ≡ Some l →
+            is_open now l ≡ true)) }
     {
-        let (_, first) = self.by_end.first_key_value()?;
-        if is_before(now, first.entry.end) {
+        let Some(first) = self.queue.first() else {
+            return None;
+        };
+        if now < first.at {
             return None;
         }
-        let (_, listed) = self.by_end.pop_first()?;
-        self.by_external.remove(&external_key(listed.entry.binding));
-        Some(listed)
+        let Some(due) = self.queue.pop_first() else {
+            return None;
+        };
+        Some(due.key)
+    }
+
+    /// Looks at the entry of an endpoint that is not queued: takes it out if its binding has ended by a time, in ns, and
+    /// queues it at its end if not.
+    fn look_at(&mut self, key: ExternalKey, now: u64) -> Result<Option<Listed>, AllocError>
+        ensures made { self.new.made ≡ self.old.made }
+        ensures indexed { IsIndexedBut key None self.old → OnOk result (IsIndexed self.new) }
+        ensures taken { IfOk result (λ taken. IfSome taken (λ l.
+            (listed_at self.old key ≡ Some l) × (is_open now l ≡ false))) }
+        ensures left { IsIndexedBut key None self.old → IfOk result (λ taken. (x : Endpoint) →
+            listed_at self.new x ≡ cond (is_some taken && external_eq key x) None
+            (listed_at self.old x)) }
+        ensures within { OnOk result (due_within now self.new ≡ due_within now self.old) }
+    {
+        let Some(open) = self.by_external.get(&key).copied() else {
+            return Ok(None);
+        };
+        if is_before(now, open.listed.entry.end) {
+            self.set(open.listed, None)?;
+            return Ok(None);
+        }
+        self.by_external.remove(&key);
+        Ok(Some(open.listed))
     }
 
     /// Takes out the entries of the bindings that have ended by a time, in ns.
@@ -221,13 +336,12 @@ impl OpenEntries {
             was ≤ now → OnOk result (Shows now most entries self.new) }
     {
         let mut ended = Vec::new(alloc);
-        // called for its clause alone: the map is in order
-        let _many = self.by_end.len();
-        while let Some(listed) = self.take_first(now) {
-            ended.push(listed)?;
+        while let Some(key) = self.take_due(now) {
+            if let Some(listed) = self.look_at(key, now)? {
+                ended.push(listed)?;
+            }
         }
-        // likewise of what is left
-        let _left = self.by_end.len();
+        sort_by_end(&mut ended);
         Ok(ended)
     }
 
@@ -237,16 +351,20 @@ impl OpenEntries {
             IfOk result (λ all. all.items
             ≡ in_order_of_end (filter (is_open now) (numbered entries))) }
     {
-        let all = self.copied(alloc)?;
+        let mut all = self.copied(alloc)?;
+        sort_by_end(&mut all);
         Ok(all)
     }
 
-    /// What is kept, in its order.
+    /// What is kept, in no particular order.
     fn copied(&self, alloc: Global) -> Result<Vec<Listed>, AllocError>
-        ensures kept { IfOk result (λ all. all.items ≡ kept self.now) }
-        ensures ordered { IsOrdered end_cmp self.now.by_end }
+        ensures kept { IfOk result (λ all. all.items ≡ keys.kept self.now) }
+        ensures unique { IsUnique external_eq self.now.by_external }
     {
-        self.by_end.values().copied().collect(alloc)
+        self.by_external
+            .values()
+            .map(|open| open.listed)
+            .collect(alloc)
     }
 
     /// Counts a packet that left through the binding, which now has this end; returns what it did to the binding.
@@ -259,7 +377,7 @@ impl OpenEntries {
         ensures uses { (most : ℕ) (entries : List Logged) → Shows now most entries self.old →
             IfOk result (λ used. used ≡ books.use_told now (Passage.Out timed) entries) }
     {
-        let Some(listed) = self.find(timed.row) else {
+        let Some(open) = self.find(timed.row) else {
             let made = self.put(Entry::by_packet(now, timed))?;
             return Ok(Use {
                 note: Note::Made,
@@ -267,10 +385,10 @@ impl OpenEntries {
                 into: None,
             });
         };
-        let place = place_of(listed);
-        let entry = listed.entry;
+        let place = place_of(open.listed);
+        let entry = open.listed.entry;
         self.change(
-            listed,
+            open,
             Entry {
                 end: timed.end,
                 sent: entry.sent + 1,
@@ -296,13 +414,13 @@ impl OpenEntries {
         ensures uses { (most : ℕ) (entries : List Logged) → Shows now most entries self.old →
             IfOk result (λ used. used ≡ books.use_told now (Passage.In timed) entries) }
     {
-        let Some(listed) = self.find(timed.row) else {
+        let Some(open) = self.find(timed.row) else {
             return Ok(NO_USE);
         };
-        let place = place_of(listed);
-        let entry = listed.entry;
+        let place = place_of(open.listed);
+        let entry = open.listed.entry;
         self.change(
-            listed,
+            open,
             Entry {
                 end: timed.end,
                 received: entry.received + 1,

@@ -1,10 +1,11 @@
 //! A place for each external endpoint.
 
-ghost use Rattle.std.specs.Prelude.{◌≡◌, ◌&&◌, cond, None, Some, OnOk};
+ghost use Rattle.std.specs.Prelude.{◌≡◌, ◌&&◌, cond, None, Some, IfOk, OnOk};
 ghost use Rattle.napt_wire.specs.declared.Protocol.{Protocol};
 ghost use Rattle.napt_wire.specs.declared.Endpoint.{Endpoint};
 ghost use Rattle.napt_rules.specs.Prelude.{same_protocol, same_endpoint};
 
+use crate::log::Entry;
 use napt_wire::{Endpoint, Protocol};
 use std::alloc::{AllocError, Global};
 use std::collections::HashMap;
@@ -18,7 +19,7 @@ pub(crate) struct Places {
 }
 
 impl Places {
-    ghost use Rattle.napt_account.specs.Places.{place_at};
+    ghost use Rattle.napt_account.specs.Places.{place_at, IsIndex};
 
     /// No endpoint has a place. Takes no memory.
     pub(crate) fn new(alloc: Global) -> Places
@@ -29,6 +30,17 @@ impl Places {
             tcp: HashMap::new(alloc),
             udp: HashMap::new(alloc),
         }
+    }
+
+    /// The place of the last entry of each external endpoint.
+    pub(crate) fn of(alloc: Global, entries: &[Entry]) -> Result<Places, AllocError>
+        ensures { IfOk result (IsIndex entries.now) }
+    {
+        let mut places = Places::new(alloc);
+        for (place, entry) in entries.iter().enumerate() {
+            places.put(entry.binding.protocol, entry.binding.external, place)?;
+        }
+        Ok(places)
     }
 
     /// The place of an external endpoint.

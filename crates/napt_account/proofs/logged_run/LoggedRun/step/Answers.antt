@@ -11,10 +11,9 @@ use Rattle.napt_account.specs.Log.{log_of}
 use Rattle.napt_account.specs.OpenEntries.{Shows}
 use Rattle.napt_account.specs.Telling.{numbered, ends_within, in_order_of_end}
 use Rattle.napt_account.specs.Uses.{uses_of}
-use Rattle.napt_account.proofs.BookedRuns.{entries_next, shortages_next, uses_next}
 use Rattle.napt_account.proofs.Leaves.{Leaves, last_leaves}
 use Rattle.napt_account.proofs.MadeLegs.{trace_few, drop_joined}
-use Rattle.napt_account.proofs.LoggedRuns.{ended_told, made_told, refused_told}
+use Rattle.napt_account.proofs.LoggedRuns.{ended_told, made_told, refused_told, entries_next, shortages_next, uses_next}
 use Rattle.napt_account.proofs.logged_run.LoggedRun.step.Goals as goal
 
 pub tell-requires : goal.tell-requires

@@ -6,7 +6,7 @@ use Rattle.napt_rules.specs.Prelude.{Binding, redirected, opening, row}
 use Rattle.napt_account.specs.declared.log.Entry.{Entry}
 use Rattle.napt_account.specs.Book.{of_redirect}
 use Rattle.napt_account.specs.Log.{begun}
-use Rattle.napt_account.specs.OpenEntries.{external_key, key_at, Shows}
+use Rattle.napt_account.specs.OpenEntries.{external_key, open_at, Shows}
 use Rattle.napt_account.proofs.Begun.{begin_next, begin_free, begun_few}
 use Rattle.napt_account.proofs.EndOrder.{none_shows}
 use Rattle.napt_account.proofs.Lists.{map_joined}
@@ -15,7 +15,7 @@ use Rattle.napt_account.proofs.open_entries.OpenEntries.begin.Goals as goal
 
 pub loop-redirect-init : goal.loop-redirect-init
 loop-redirect-init c =
-    none_shows c.new-all.result c.new-all.ensures.listed c.new-all.ensures.keys c.new-all.ensures.made
+    none_shows c.new-all.result c.new-all.ensures.open c.new-all.ensures.queue c.new-all.ensures.made
 
 pub put-requires : goal.put-requires
 put-requires c =
@@ -49,7 +49,7 @@ loop-redirect-preserved c =
     ∙ (sym (map_joined (begun rules.timers 0) (take k (opening rules)) (made ∷ []))
     ∙ ap (map (begun rules.timers 0)) (sym (begin_next rules k other redirect below is))))
     (c.in_ok-put.ensures.shows 0 0 old before
-    (ap (λ (e : Entry). key_at c.loop-redirect.all (external_key e.binding)) entry
+    (ap (λ (e : Entry). open_at c.loop-redirect.all (external_key e.binding)) entry
     ∙ row_free 0 0 c.loop-redirect.all old before (row made) (begin_free rules k other redirect below is
     (c.opening_is_sound.ensures rules c.redirects-redirect-items.ensures.kept).apart))
     (ap (λ (e : Entry). is_before 0 e.end) entry) (omega (arith, sent)) (omega (arith, received)))

@@ -1,7 +1,12 @@
-use Rattle.std.proofs.Common.{◌∙◌}
+use Rattle.std.proofs.Common.{List, subst}
+use Rattle.std.specs.List.Sorted.{IsPermutation}
+use Rattle.napt_account.specs.declared.log.Listed.{Listed}
 use Rattle.napt_account.proofs.EndOrder.{list_is}
 use Rattle.napt_account.proofs.open_entries.OpenEntries.list.Goals as goal
 
 pub returns : goal.returns
 returns c = λ now most entries shows.
-    c.in_ok-all.ensures.kept ∙ list_is now most entries c.args.self.now shows c.copied.ensures.ordered
+    list_is now most entries c.args.self.now shows c.copied.ensures.unique c.sort_by_end.new.entries.items
+    (subst (λ (xs : List Listed). IsPermutation xs c.sort_by_end.new.entries.items) c.in_ok-all.ensures.kept
+    c.sort_by_end.ensures.moved)
+    c.sort_by_end.ensures.sorted

@@ -1,11 +1,17 @@
-use Rattle.std.proofs.Common.{◌++◌, ◌∷◌, [], ◌∙◌, ap}
+use Rattle.std.proofs.Common.{◌++◌, ◌∷◌, [], sym, ◌∙◌, ap}
 use Rattle.napt_account.specs.declared.log.Listed.{Listed}
+use Rattle.napt_account.specs.declared.open_entries.ExternalKey.{ExternalKey}
+use Rattle.napt_account.specs.declared.open_entries.Open.{Open}
+use Rattle.napt_account.specs.OpenEntries.{external_key}
 use Rattle.napt_account.proofs.MadeLegs.{found_is}
+use Rattle.napt_account.proofs.OpenEntries.{open_listed}
 use Rattle.napt_account.proofs.open_entries.OpenEntries.list_row.Goals as goal
 
 pub returns : goal.returns
 returns c = λ now most entries shows place entry there passed.
-    let some = c.in-Some.ensures.some shows.indexed in
+    let o : Open = c.in-Some.open in
+    let key : ExternalKey = external_key c.args.row in
     c.in_ok-push.ensures.items
     ∙ ap (λ (l : Listed). c.args.made.now.items ++ l ∷ [])
-    (found_is now most c.args.self.now entries shows c.args.row c.in-Some.listed some.0 some.1 place entry there passed)
+    (found_is now most c.args.self.now entries shows c.args.row o.listed
+    (open_listed c.args.self.now key o (sym c.find.ensures ∙ c.in-Some.is)) place entry there passed)

@@ -1,43 +1,56 @@
-use Rattle.std.proofs.Common.{◌++◌, List, sym, ◌∙◌, ap}
+use Rattle.std.proofs.Common.{◌≡◌, ℕ, ◌&&◌, false, cond, Option, Some, None, refl, sym, ◌∙◌, ap, subst}
+use Rattle.std.specs.Option.{option_map, is_some, IfSome}
 use Rattle.napt_account.specs.declared.log.Listed.{Listed}
+use Rattle.napt_account.specs.declared.open_entries.ExternalKey.{ExternalKey}
+use Rattle.napt_account.specs.declared.open_entries.Open.{Open}
 use Rattle.napt_account.specs.declared.open_entries.OpenEntries.{OpenEntries}
-use Rattle.napt_account.specs.OpenEntries.{kept}
-use Rattle.napt_account.proofs.EndOrder.{ended_is, ended_shows, kept_at, each_more, push_parts}
+use Rattle.napt_account.specs.OpenEntries.{external_eq, listed_at}
+use Rattle.napt_account.specs.Telling.{is_open}
+use Rattle.napt_account.proofs.EndOrder.{IsParted, parted_none, parted_same, parted_taken, ended_is}
 use Rattle.napt_account.proofs.open_entries.OpenEntries.take_ended.Goals as goal
 
-pub loop-listed-preserved : goal.loop-listed-preserved
-loop-listed-preserved c =
-    let i = c.loop-listed.invariant in
-    let listed : Listed = c.in-Some.listed in
+pub loop-key-init : goal.loop-key-init
+loop-key-init c = record {
+  made = refl;
+  parted = λ indexed. subst (IsParted c.args.now c.args.self.now c.args.self.now) (sym c.new-ended.ensures.items)
+      (parted_none c.args.now c.args.self.now indexed);
+}
+
+pub loop-key-preserved-in-Continue-branch-3 : goal.loop-key-preserved-in-Continue-branch-3
+loop-key-preserved-in-Continue-branch-3 c =
+    let i = c.loop-key.invariant in
+    let now : ℕ = c.args.now in
+    let key : ExternalKey = c.in-Some.key in
+    let l : Listed = c.in-Some-2.listed in
+    let first : OpenEntries = c.args.self.now in
+    let old : OpenEntries = c.loop-key.self in
+    let mid : OpenEntries = c.take_due.new.self in
+    let same : (x : ExternalKey) → listed_at mid x ≡ listed_at old x =
+    λ x. ap (option_map (λ (o : Open). o.listed)) (c.take_due.ensures.open x) in
     record {
-      made = c.take_first.ensures.made ∙ i.made;
-      indexed = λ h. c.take_first.ensures.indexed (i.indexed h);
-      parts = push_parts (kept c.args.self.now) c.loop-listed.ended.items (kept c.loop-listed.self)
-          (kept c.take_first.new.self)
-          listed c.push.new.self.items i.parts c.in-Some.ensures.first c.in_ok-push.ensures.items;
-      gone = each_more c.args.now c.loop-listed.ended.items listed c.push.new.self.items i.gone c.in-Some.ensures.ended
+      made = c.look_at.ensures.made ∙ (c.take_due.ensures.made ∙ i.made);
+      parted = λ h.
+          let parted = i.parted h in
+          let but = c.in-Some.ensures.indexed parted.indexed in
+          let taken : (listed_at mid key ≡ Some l) × (is_open now l ≡ false) =
+          subst (λ (o : Option Listed). IfSome o (λ m. (listed_at mid key ≡ Some m) × (is_open now m ≡ false)))
+          c.in-Some-2.is c.in_ok-listed.ensures.taken in
+          parted_taken now first old c.look_at.new.self c.loop-key.ended.items c.push.new.self.items parted key l
+          (sym (same key) ∙ taken.0) taken.1 (c.in_ok-listed.ensures.indexed but)
+          (λ x. subst (λ (o : Option Listed). listed_at c.look_at.new.self x
+          ≡ cond (is_some o && external_eq key x) None (listed_at mid x)) c.in-Some-2.is
+          (c.in_ok-listed.ensures.left but x)
+          ∙ ap (cond (external_eq key x) None) (same x))
           c.in_ok-push.ensures.items;
-      stay = λ h key m at opened. c.take_first.ensures.stay (i.indexed h) key m (i.stay h key m at opened) opened;
-      had = λ key m at. i.had key m (c.take_first.ensures.had key m at);
     }
 
 pub returns-clause-ended : goal.returns-clause-ended
 returns-clause-ended c = λ was most entries shows.
-    let i = c.loop-listed.invariant in
-    let indexed = i.indexed shows.indexed in
-    let left = c.in_default.ensures.none indexed in
-    let new : OpenEntries = c.take_first.new.self in
-    ended_is was c.args.now most entries c.args.self.now shows c.len-many.ensures.ordered c.loop-listed.ended.items
-    (kept new) (i.parts ∙ ap (λ (xs : List Listed). c.loop-listed.ended.items ++ xs) (sym left.0)) i.gone
-    (λ l h. let at = kept_at new (c.take_first.ensures.indexed indexed) c.len-left.ensures.ordered l h in
-    left.1 at.0 l at.1)
-
-pub returns-clause-shows : goal.returns-clause-shows
-returns-clause-shows c = λ was most entries shows le.
-    let i = c.loop-listed.invariant in
-    let indexed = i.indexed shows.indexed in
-    let left = c.in_default.ensures.none indexed in
-    ended_shows was c.args.now most le entries c.args.self.now c.take_first.new.self shows
-    (c.take_first.ensures.indexed indexed) (c.take_first.ensures.made ∙ i.made)
-    (λ key m at opened. c.take_first.ensures.stay indexed key m (i.stay shows.indexed key m at opened) opened)
-    (λ key m at. i.had key m (c.take_first.ensures.had key m at)) left.1
+    let old : OpenEntries = c.loop-key.self in
+    let new : OpenEntries = c.take_due.new.self in
+    let parted = c.loop-key.invariant.parted shows.indexed in
+    let none = c.in_default.ensures.none parted.indexed in
+    ended_is was c.args.now most entries c.args.self.now new shows c.loop-key.ended.items
+    (parted_same c.args.now c.args.self.now old new c.loop-key.ended.items parted none.0
+    (λ x. ap (option_map (λ (o : Open). o.listed)) (c.take_due.ensures.open x)))
+    none.1 c.sort_by_end.new.entries.items c.sort_by_end.ensures.moved c.sort_by_end.ensures.sorted

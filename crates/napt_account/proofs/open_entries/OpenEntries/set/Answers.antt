@@ -1,0 +1,28 @@
+use Rattle.std.proofs.Common.{ℕ, cond, Option, Some, refl, sym, ◌∙◌, ap, subst}
+use Rattle.std.proofs.lemmas.Option.{same_Some}
+use Rattle.napt_account.specs.declared.open_entries.ExternalKey.{ExternalKey}
+use Rattle.napt_account.specs.declared.open_entries.Open.{Open}
+use Rattle.napt_account.specs.declared.open_entries.OpenEntries.{OpenEntries}
+use Rattle.napt_account.specs.OpenEntries.{external_key, external_eq, open_at, is_queued, is_at, IsPlaced}
+use Rattle.napt_account.proofs.OpenEntries.{moved, queued_at}
+use Rattle.napt_account.proofs.open_entries.OpenEntries.set.Goals as goal
+
+pub returns-clause-indexed : goal.returns-clause-indexed
+returns-clause-indexed c = λ but.
+    let key : ExternalKey = external_key c.args.listed.entry.binding in
+    let same = c.external_key-key.ensures in
+    let due : Option ℕ = c.due_by-due.result in
+    let next : Open = record { listed = c.args.listed; due = due } in
+    let new : OpenEntries = record {
+      by_external = c.insert.new.self;
+      queue = c.queue_at.new.self.queue;
+      made = c.queue_at.new.self.made;
+    } in
+    moved c.args.self.now new key c.args.was but (Some next)
+    (λ y. c.in_ok-insert.ensures.updates.0 y
+    ∙ (ap (λ (k : ExternalKey). cond (external_eq k y) (Some next) (open_at c.queue_at.new.self y)) same
+    ∙ ap (cond (external_eq key y) (Some next)) (c.queue_at.ensures.open y)))
+    (λ d. c.in_ok-queue_at.ensures.queued d
+    (λ e. queued_at c.args.self.now key c.args.was but d (ap (λ (k : ExternalKey). external_eq k d.key) (sym same) ∙ e))
+    ∙ ap (λ (k : ExternalKey). cond (external_eq k d.key) (is_at due d.at) (is_queued c.args.self.now d)) same)
+    (λ o h. subst (IsPlaced key) (same_Some next o h) (refl, c.due_by-due.ensures.early))

@@ -1,0 +1,42 @@
+-- What is told with the inputs of a run, and what it has left, is its log.
+use Rattle.std.specs.Prelude.{◌≡◌, ℕ, List, [], ◌∷◌, ◌++◌, map}
+use Rattle.std.specs.List.Sorted.{IsPermutation}
+use Rattle.napt_config.specs.Rules.{Rules, KeepsRules}
+use Rattle.napt_rules.specs.Prelude.{Arrival}
+use Rattle.napt_rules.specs.declared.Row.{Row}
+use Rattle.napt_account.specs.declared.log.Listed.{Listed}
+use Rattle.napt_account.specs.declared.log.Shortage.{Shortage}
+use Rattle.napt_account.specs.Log.{log_of}
+use Rattle.napt_account.specs.Telling.{numbered, told_by, living_of}
+
+-- what each of the inputs gives, by all before it, joined
+abbrev pub joined : {X : Type 0} → (List Arrival → Arrival → List X) → List Arrival → List Arrival → List X
+joined gives before [] = []
+joined gives before (input ∷ inputs) = gives before input ++ joined gives (before ++ input ∷ []) inputs
+
+-- what is told with all inputs: of bindings that were made, of those that ended, and of refused packets
+abbrev pub all_made : Rules → List Arrival → List Listed
+all_made rules inputs = joined (λ before input. (told_by rules before input).made) [] inputs
+
+abbrev pub all_ended : Rules → List Arrival → List Listed
+all_ended rules inputs = joined (λ before input. (told_by rules before input).ended) [] inputs
+
+abbrev pub all_refused : Rules → List Arrival → List Shortage
+all_refused rules inputs = joined (λ before input. (told_by rules before input).refused) [] inputs
+
+-- what is final of an entry as soon as its binding is made: its number, its binding, and when it was made
+abbrev pub origin : Listed → ℕ × (Row × ℕ)
+origin listed = (listed.number, (listed.entry.binding, listed.entry.made))
+
+-- of what is told with all inputs: the entries of ended bindings, with those that are left, are the entries of the log,
+-- each once, with its number; the bindings that were made, behind the redirects, are those of the log, in its order;
+-- and the refused packets are its shortages, in its order
+pub record IsTold (rules : Rules) (inputs : List Arrival) : Type 0 where
+  pub entries : IsPermutation (all_ended rules inputs ++ living_of rules inputs)
+      (numbered (log_of rules inputs).entries)
+  pub made : map origin (numbered (log_of rules []).entries ++ all_made rules inputs)
+      ≡ map origin (numbered (log_of rules inputs).entries)
+  pub refused : all_refused rules inputs ≡ (log_of rules inputs).shortages
+
+abbrev pub ToldIsTheLog : Type 0
+ToldIsTheLog = (rules : Rules) → KeepsRules rules → (inputs : List Arrival) → IsTold rules inputs
