@@ -4,6 +4,7 @@ ghost use Rattle.napt_config.specs.Text.{address_text};
 ghost use Rattle.napt_records.specs.Report.{endpoint_text};
 ghost use Rattle.napt_log_text.specs.Times.{padded};
 
+use crate::suffix::Suffix;
 use itoa::Buffer;
 use napt_wire::Endpoint;
 use std::alloc::AllocError;
@@ -29,26 +30,13 @@ pub(crate) fn add_padded(text: &mut String, number: u32, width: usize) -> Result
     Ok(())
 }
 
-fn add_octet(text: &mut String, octet: u8) -> Result<(), AllocError>
-    ensures { OnOk result (string_bytes text.new ≡ string_bytes text.old ++ decimal octet) }
-{
-    let mut digits = Buffer::new();
-    text.push_str(digits.format(octet))
-}
-
 /// Appends an address, such as `10.0.0.2`. Fails only if memory runs out.
 pub fn add_address(text: &mut String, address: u32) -> Result<(), AllocError>
     ensures { OnOk result (string_bytes text.new ≡ string_bytes text.old ++ address_text address) }
 {
-    let octets = address.to_be_bytes();
-    add_octet(text, octets[0])?;
-    text.push_str(".")?;
-    add_octet(text, octets[1])?;
-    text.push_str(".")?;
-    add_octet(text, octets[2])?;
-    text.push_str(".")?;
-    add_octet(text, octets[3])?;
-    Ok(())
+    let mut shown = Suffix::new();
+    shown.put_address(address);
+    shown.add_to(text)
 }
 
 /// Appends an endpoint, such as `10.0.0.2:5000`. Fails only if memory runs out.
@@ -56,8 +44,9 @@ pub fn add_endpoint(text: &mut String, endpoint: Endpoint) -> Result<(), AllocEr
     ensures { OnOk result (string_bytes text.new
         ≡ string_bytes text.old ++ endpoint_text endpoint) }
 {
-    add_address(text, endpoint.address)?;
-    text.push_str(":")?;
-    add_number(text, u64::from(endpoint.number))?;
-    Ok(())
+    let mut shown = Suffix::new();
+    shown.put_number(endpoint.number);
+    shown.put_byte(b':');
+    shown.put_address(endpoint.address);
+    shown.add_to(text)
 }

@@ -10,6 +10,7 @@ mod log_rows;
 mod moment;
 mod object;
 mod request;
+mod suffix;
 #[cfg(test)]
 mod tests;
 

@@ -1,0 +1,82 @@
+//! The end of a text, written from its last byte to its first.
+ghost use Rattle.std.specs.Prelude.{◌≡◌, ◌+◌, ◌<◌, ◌≤◌, List, ℕ, [], ◌∷◌, ◌++◌, length, drop, OnOk, IsAscii, decimal, string_bytes};
+ghost use Rattle.napt_config.specs.Text.{address_text};
+
+use itoa::write_digits;
+use std::alloc::AllocError;
+use std::marker::Model;
+use std::str;
+
+/// How many bytes it has room for: an endpoint needs 21.
+const ROOM: usize = 40;
+
+/// The end of an ASCII text, which grows to the front and takes no memory. A text of many numbers is so appended at once.
+#[derive(Drop)]
+pub(crate) struct Suffix {
+    bytes: [u8; ROOM],
+    start: usize,
+}
+
+impl Model for Suffix {
+    ghost Value = { List ℕ };
+
+    ghost view = { λ suffix. drop suffix.start suffix.bytes };
+
+    ghost invariant = { λ suffix. (suffix.start ≤ 40)
+        × IsAscii (drop suffix.start suffix.bytes) };
+}
+
+impl Suffix {
+    /// An empty one.
+    pub(crate) fn new() -> Suffix
+        ensures { result ≡ [] }
+    {
+        Suffix {
+            bytes: [0; ROOM],
+            start: ROOM,
+        }
+    }
+
+    /// Puts an ASCII byte in front.
+    pub(crate) fn put_byte(&mut self, byte: u8)
+        requires { (byte < 128) × (length self.old < 40) }
+        ensures { self.new ≡ byte ∷ self.old }
+    {
+        self.start -= 1;
+        self.bytes[self.start] = byte;
+    }
+
+    /// Puts a number in front, in decimal.
+    pub(crate) fn put_number(&mut self, number: u16)
+        requires { length self.old ≤ 35 }
+        ensures text { self.new ≡ decimal number ++ self.old }
+        ensures length { length self.new ≤ length self.old + 5 }
+    {
+        self.start = write_digits(u64::from(number), &mut self.bytes, self.start);
+    }
+
+    /// Puts an address in front.
+    pub(crate) fn put_address(&mut self, address: u32)
+        requires { length self.old ≤ 10 }
+        ensures { self.new ≡ address_text address ++ self.old }
+    {
+        let [first, second, third, fourth] = address.to_be_bytes();
+        self.put_number(u16::from(fourth));
+        self.put_byte(b'.');
+        self.put_number(u16::from(third));
+        self.put_byte(b'.');
+        self.put_number(u16::from(second));
+        self.put_byte(b'.');
+        self.put_number(u16::from(first));
+    }
+
+    /// Appends it to a text. Fails only if memory runs out.
+    pub(crate) fn add_to(&self, text: &mut String) -> Result<(), AllocError>
+        ensures { OnOk result (string_bytes text.new ≡ string_bytes text.old ++ self.now) }
+    {
+        match str::from_utf8(&self.bytes[self.start..]) {
+            Ok(shown) => text.push_str(shown),
+            Err(_) => unreachable!(),
+        }
+    }
+}
