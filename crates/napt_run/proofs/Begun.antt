@@ -100,7 +100,7 @@ module _ {R Q : Type 0} {G : Ghosts R} {H : Ghosts Q} (begin end : MergedStreams
         outside_count = none_more _ _ counts.1;
       }
 
-  pub read_some : (inputs : List Arrival) → HandsOut begin inputs end →
+  read_some : (inputs : List Arrival) → HandsOut begin inputs end →
       ReadBy (Ok tt)
   read_some inputs handed =
       let goes = handed.1 live in

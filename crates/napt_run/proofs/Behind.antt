@@ -1,5 +1,5 @@
 -- From what passed between captures that were begun and outputs to what the run did.
-use Rattle.std.proofs.Common.{◌≡◌, inl, inr, ℕ, ◌^◌, ◌<◌, Bool, List, [], ◌++◌, length, map, Option, Some, None, Result, Ok, Err, refl, sym, ◌∙◌, ap, ap₂, subst, arith, append-nil, append_assoc}
+use Rattle.std.proofs.Common.{◌≡◌, inl, inr, ℕ, ◌^◌, ◌<◌, Bool, List, [], ◌++◌, length, Option, Some, None, Result, Ok, Err, refl, sym, ◌∙◌, ap, ap₂, subst, arith, append-nil, append_assoc}
 use Rattle.napt_wire.specs.declared.Side.{Side}
 use Rattle.napt_wire.specs.declared.Side.TheVariants as sides
 use Rattle.napt_capture.specs.declared.device.Sink as sink
@@ -24,7 +24,6 @@ use Rattle.napt_records.specs.declared.merged_streams.MergedStreams.{MergedStrea
 use Rattle.napt_records.proofs.Came.{came_fault, came_whole, handed_front, handed_timely}
 use Rattle.napt_records.proofs.Left.{StopsBy-then}
 use Rattle.napt_rules.specs.Prelude.{Arrival, ran}
-use Rattle.napt_rules.specs.declared.Outcome.{Outcome}
 use Rattle.napt_sequential.specs.Inputs.{Came}
 use Rattle.napt_run.specs.Leaving.{AreSound, AreTimes, Fails, FailsBy, IsSettled, Takes, Timed, records_text}
 use Rattle.napt_run.specs.LeavingLaws.{breaks_more, grows_more, records_text-append, times_first, times_second}
@@ -155,15 +154,23 @@ module _ {R Q W V : Type 0} {G : source.Ghosts R} {H : source.Ghosts Q} {S : sin
         bindings = p.well.bindings;
       }
 
-  refused : (side : Side) (fault : CaptureFault) → (p : PassesTo rules HandsOut EndsWith Takes Fails IsSettled begin
-      old end new (Some (record { side = side; fault = fault }))) → (b o : List ℕ) → bytes ≡ Some b →
-      others ≡ Some o → Refuses side fault (files_until b o) p.inputs
-  refused side fault p b o is same =
+  refused : (side : Side) (fault : CaptureFault) (inputs : List Arrival) →
+      Came HandsOut EndsWith begin inputs (Some (record { side = side; fault = fault })) end → (b o : List ℕ) →
+      bytes ≡ Some b → others ≡ Some o → Refuses side fault (files_until b o) inputs
+  refused side fault inputs came b o is same =
       let of_files = begun_files begin b o (begun b o is same) in
-      refuses side fault b o p.inputs (front_at p.inputs p.inputs [] p.came.last (sym (append-nil p.inputs))
-      p.came.handed b o is same)
+      refuses side fault b o inputs (front_at inputs inputs [] came.last (sym (append-nil inputs)) came.handed b o
+      is same)
       (StopsBy-then fault (λ stops. of_files ∙ stops) (came_fault begin end b o
-      p.inputs (record { side = side; fault = fault }) (begun b o is same) p.came))
+      inputs (record { side = side; fault = fault }) (begun b o is same) came))
+
+  -- they are all before the fault
+  pub taken_is : (side : Side) (fault : CaptureFault) (inputs : List Arrival) →
+      Came HandsOut EndsWith begin inputs (Some (record { side = side; fault = fault })) end →
+      IfHeld bytes others (λ all. AreTaken side fault all inputs)
+  taken_is side fault inputs came =
+      IfHeld-by (λ all. AreTaken side fault all inputs) bytes others
+      (λ b o is same. (refused side fault inputs came b o is same).taken)
 
   to_fault : (side : Side) (fault : CaptureFault) → PassesTo rules HandsOut EndsWith Takes Fails IsSettled begin old
       end new (Some (record { side = side; fault = fault })) →
@@ -173,10 +180,9 @@ module _ {R Q W V : Type 0} {G : source.Ghosts R} {H : source.Ghosts Q} {S : sin
       record {
         inputs = p.inputs;
         wrote = wrote p.inputs all p.took p.settled;
-        taken = IfHeld-by (λ all. AreTaken side fault all p.inputs) bytes others
-            (λ b o is same. (refused side fault p b o is same).taken);
+        taken = taken_is side fault p.inputs p.came;
         is_fault = IfHeld-by (IsFaultOf side fault) bytes others
-            (λ b o is same. (refused side fault p b o is same).is_fault);
+            (λ b o is same. (refused side fault p.inputs p.came b o is same).is_fault);
       }
 
   -- the outputs told a fault

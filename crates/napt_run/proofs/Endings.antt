@@ -2,6 +2,7 @@
 use Rattle.std.specs.Result.{result_and}
 use Rattle.std.proofs.Common.{◌≡◌, ◌⊎◌, ℕ, ◌+◌, Bool, true, false, inl, append-nil, List, [], Option, Result, Ok, Err, IfErr, IfOk, OnOk, refl, sym, ◌∙◌, ap, subst}
 use Rattle.napt_wire.specs.declared.Side.TheVariants as sides
+use Rattle.napt_capture.specs.declared.device.Sink.{Ghosts}
 use Rattle.napt_config.specs.Rules.{Rules}
 use Rattle.napt_records.specs.Counts.{AreCountsOf}
 use Rattle.napt_records.specs.Report.{report_of, report_text}
@@ -15,7 +16,7 @@ use Rattle.napt_records.specs.Faults.{tells_shut_gate}
 use Rattle.napt_run.specs.Captures.{failed_readings, failed_writings}
 use Rattle.napt_sequential.specs.declared.fault.RunFault.TheVariants as faults
 use Rattle.napt_run.specs.Runs.{IfHeld, IsToldOf}
-use Rattle.napt_run.specs.Streams.{Explains, GetsReport, HasAll, HasPart, HasRead, HasText, IsOfRun, IsReading, IsReportFault, IsSettledBy, IsStopFault, Reports, ReportsAll, Streams, ended}
+use Rattle.napt_run.specs.Streams.{DeviceGets, Explains, GetsReport, HasAll, HasPart, HasRead, HasText, IsOfRun, IsReading, IsReportFault, IsSettledBy, IsStopFault, ReportGets, Reports, ReportsAll, Streams, ended}
 use Rattle.napt_run.specs.declared.passing.Totals.{Totals}
 use Rattle.napt_run.proofs.Streamed.{IfHeld-all, IfHeld-map}
 
@@ -61,16 +62,18 @@ all_left rules which inside outside old new = IfHeld-map (λ all. HasAll rules w
 
 module _ (rules : Rules) (inside outside : Option (List ℕ)) (old new : Option
     (List ℕ)) where
-  pub outside_ends : (told : Result Totals Fault) (result : Result (Unit {0}) Fault) → Ends told result →
-      Streams rules Outside (ended told) inside outside old new → Streams rules Outside result inside outside old new
+  outside_ends : (told : Result Totals Fault) (result : Result (Unit {0}) Fault) → Ends told result →
+      Streams rules Outside (ended told) inside outside old new →
+      Streams rules Outside (ended result) inside outside old new
   outside_ends = at_end (λ told result. Streams rules Outside (ended told) inside outside old new →
-      Streams rules Outside result inside outside old new) (λ totals p. p) (λ totals fault p. p)
+      Streams rules Outside (ended result) inside outside old new) (λ totals p. p) (λ totals fault p. p)
       (λ totals p. all_left rules Outside inside outside old new p) (λ fault p. p)
 
-  pub inside_ends : (told : Result Totals Fault) (result : Result (Unit {0}) Fault) → Ends told result →
-      Streams rules Inside (ended told) inside outside old new → Streams rules Inside result inside outside old new
+  inside_ends : (told : Result Totals Fault) (result : Result (Unit {0}) Fault) → Ends told result →
+      Streams rules Inside (ended told) inside outside old new →
+      Streams rules Inside (ended result) inside outside old new
   inside_ends = at_end (λ told result. Streams rules Inside (ended told) inside outside old new →
-      Streams rules Inside result inside outside old new) (λ totals p. p) (λ totals fault p. p)
+      Streams rules Inside (ended result) inside outside old new) (λ totals p. p) (λ totals fault p. p)
       (λ totals p. all_left rules Inside inside outside old new p) (λ fault p. p)
 
 pub explains_ends : (inside outside : Option (List ℕ)) (told : Result Totals Fault)
@@ -107,20 +110,20 @@ not_run = at_end (λ told result. (¬ IsOfRun result) → ¬ IsOfRun told) (λ t
     (λ totals fault none run. run) (λ totals none run. run) not_stopped
 
 outside_written : (told : Result Totals Fault) (result : Result (Unit {0}) Fault) → Ends told result →
-    (¬ IsOfRun result) → failed_writings Outside (ended told) ≡ failed_writings Outside result
+    (¬ IsOfRun result) → failed_writings Outside (ended told) ≡ failed_writings Outside (ended result)
 outside_written = at_end (λ told result. (¬ IsOfRun result) → failed_writings Outside (ended told)
-    ≡ failed_writings Outside result) (λ totals no. refl) (λ totals fault no. refl) (λ totals no. refl)
+    ≡ failed_writings Outside (ended result)) (λ totals no. refl) (λ totals fault no. refl) (λ totals no. refl)
     (λ fault no. refl)
 
 inside_written : (told : Result Totals Fault) (result : Result (Unit {0}) Fault) → Ends told result →
-    (¬ IsOfRun result) → failed_writings Inside (ended told) ≡ failed_writings Inside result
+    (¬ IsOfRun result) → failed_writings Inside (ended told) ≡ failed_writings Inside (ended result)
 inside_written = at_end (λ told result. (¬ IsOfRun result) → failed_writings Inside (ended told)
-    ≡ failed_writings Inside result) (λ totals no. refl) (λ totals fault no. refl) (λ totals no. refl)
+    ≡ failed_writings Inside (ended result)) (λ totals no. refl) (λ totals fault no. refl) (λ totals no. refl)
     (λ fault no. refl)
 
 settled_ends : (told : Result Totals Fault) (result : Result (Unit {0}) Fault) → Ends told result →
-    IsSettledBy result → IsSettledBy (ended told)
-settled_ends = at_end (λ told result. IsSettledBy result → IsSettledBy (ended told)) (λ totals p. tt)
+    IsSettledBy (ended result) → IsSettledBy (ended told)
+settled_ends = at_end (λ told result. IsSettledBy (ended result) → IsSettledBy (ended told)) (λ totals p. tt)
     (λ totals fault p. tt) (λ totals p. tt) (λ fault p. p)
 
 -- what reading came to is the same, and so many of its reads failed
@@ -170,18 +173,30 @@ module _ (told : Result Totals Fault) (result : Result (Unit {0}) Fault) (ends :
         theirs ∙ ap (λ (n : ℕ). if other + n) same.outside_same,
       )
 
-  pub outside_by : (old new : ℕ) → ((¬ IsOfRun told) → new ≡ old + failed_writings Outside (ended told)) →
-      (¬ IsOfRun result) → new ≡ old + failed_writings Outside result
-  outside_by old new fails none = fails (not_run told result ends none)
-      ∙ ap (λ (n : ℕ). old + n) (outside_written told result ends none)
-
-  pub inside_by : (old new : ℕ) → ((¬ IsOfRun told) → new ≡ old + failed_writings Inside (ended told)) →
-      (¬ IsOfRun result) → new ≡ old + failed_writings Inside result
-  inside_by old new fails none = fails (not_run told result ends none)
-      ∙ ap (λ (n : ℕ). old + n) (inside_written told result ends none)
-
-  pub settled_by : {P : Type 0} → (IsSettledBy (ended told) → P) → IsSettledBy result → P
+  pub settled_by : {P : Type 0} → (IsSettledBy (ended told) → P) → IsSettledBy (ended result) → P
   settled_by holds settled = holds (settled_ends told result ends settled)
+
+  module _ {D : Type 0} (S : Ghosts D) (rules : Rules) (inside outside : Option (List ℕ)) (old new : D) where
+    device_by : (which : Which) →
+        (Streams rules which (ended told) inside outside (S.contents old) (S.contents new) →
+        Streams rules which (ended result) inside outside (S.contents old) (S.contents new)) →
+        ((¬ IsOfRun result) → failed_writings which (ended told) ≡ failed_writings which (ended result)) →
+        DeviceGets S rules which inside outside told old new → DeviceGets S rules which inside outside result old new
+    device_by which gets writings p = record {
+      gets = gets p.gets;
+      count = λ none. p.count (not_run told result ends none) ∙ ap (λ (n : ℕ). S.failed old + n) (writings none);
+      settled = settled_by p.settled;
+    }
+
+    pub outside_by : DeviceGets S rules Outside inside outside told old new →
+        DeviceGets S rules Outside inside outside result old new
+    outside_by = device_by Outside (outside_ends rules inside outside _ _ told result ends)
+        (outside_written told result ends)
+
+    pub inside_by : DeviceGets S rules Inside inside outside told old new →
+        DeviceGets S rules Inside inside outside result old new
+    inside_by = device_by Inside (inside_ends rules inside outside _ _ told result ends)
+        (inside_written told result ends)
 
 -- THE REPORT
 
@@ -228,7 +243,7 @@ nothing_reported rules inside outside old new (Write Inside fault) stop same =
     IfHeld-all (λ all. new ≡ old) inside outside (λ all. same)
 nothing_reported rules inside outside old new (Write Report fault) stop same = absurd stop
 
-pub report_ends : (rules : Rules) (inside outside : Option (List ℕ))
+report_ends : (rules : Rules) (inside outside : Option (List ℕ))
     (old new : Option (List ℕ)) (told : Result Totals Fault) (result : Result (Unit {0}) Fault) → Ends told result →
     IfOk told (IsToldOf rules inside outside) → IfErr told IsBeforeReport → IfErr told (λ _. new ≡ old) →
     IfOk told (λ totals. Written totals result old new) → Reports rules result inside outside old new
@@ -257,7 +272,7 @@ pub closed : (open_gate : Bool) (told : Result Totals Fault) → IfErr told (IsS
 closed open_gate (Ok totals) p = tt
 closed open_gate (Err fault) p = closed_fault open_gate fault p
 
-pub same_contents : {U : Type 0} (contents : U → Option (List ℕ)) (old new : U) (told : Result Totals Fault) →
+same_contents : {U : Type 0} (contents : U → Option (List ℕ)) (old new : U) (told : Result Totals Fault) →
     IfErr told (λ _. new ≡ old) → IfErr told (λ _. contents new ≡ contents old)
 same_contents contents old new (Ok totals) p = tt
 same_contents contents old new (Err fault) p = ap contents p
@@ -270,20 +285,37 @@ none_written (Write Inside fault) p = refl
 none_written (Write Report fault) p = absurd p
 none_written (Run fault) p = refl
 
-pub written_all : (told : Result Totals Fault) (written result : Result (Unit {0}) Fault) (old new : Option (List ℕ)) →
+written_all : (told : Result Totals Fault) (written result : Result (Unit {0}) Fault) (old new : Option (List ℕ)) →
     result ≡ result_and told written → IfOk told (λ totals. Written totals written old new) →
     IfOk told (λ totals. Written totals result old new)
 written_all (Ok totals) written result old new is made = subst (λ r. Written totals r old new) (sym is) made
 written_all (Err fault) written result old new is made = tt
 
-pub written_fails : (told : Result Totals Fault) (written result : Result (Unit {0}) Fault) →
+written_fails : (told : Result Totals Fault) (written result : Result (Unit {0}) Fault) →
     result ≡ result_and told written → IfErr told (λ _. written ≡ Ok tt) → IfErr told IsBeforeReport →
     failed_writings Report written ≡ failed_writings Report result
 written_fails (Ok totals) written result is nothing stop = ap (failed_writings Report) (sym is)
 written_fails (Err fault) written result is nothing stop =
     ap (failed_writings Report) nothing ∙ sym (none_written fault stop) ∙ ap (failed_writings Report) (sym is)
 
-pub written_flushed : (P : Type 0) (told : Result Totals Fault) (written result : Result (Unit {0}) Fault) →
+written_flushed : (P : Type 0) (told : Result Totals Fault) (written result : Result (Unit {0}) Fault) →
     result ≡ result_and told written → OnOk told (OnOk written P) → OnOk result P
 written_flushed P (Ok totals) written result is flushed = subst (λ r. OnOk r P) (sym is) flushed
 written_flushed P (Err fault) written result is flushed = subst (λ r. OnOk r P) (sym is) tt
+
+pub report_by : {U : Type 0} (S : Ghosts U) (rules : Rules) (inside outside : Option (List ℕ)) (old new : U)
+    (told : Result Totals Fault) (written result : Result (Unit {0}) Fault) → result ≡ result_and told written →
+    IfErr written IsReportFault → IfOk told (IsToldOf rules inside outside) → IfErr told IsBeforeReport →
+    IfErr told (λ _. new ≡ old) → IfErr told (λ _. written ≡ Ok tt) →
+    IfOk told (λ totals. Written totals written (S.contents old) (S.contents new)) →
+    OnOk told (OnOk written (S.is_flushed new)) →
+    S.failed new ≡ S.failed old + failed_writings Report written →
+    ReportGets S rules inside outside result old new
+report_by S rules inside outside old new told written result is fault says stop same nothing made flushed counted =
+    record {
+      gets = report_ends rules inside outside (S.contents old) (S.contents new) told result
+          (ends_and told written result is fault) says stop (same_contents S.contents old new told same)
+          (written_all told written result (S.contents old) (S.contents new) is made);
+      count = counted ∙ ap (λ (n : ℕ). S.failed old + n) (written_fails told written result is nothing stop);
+      settled = written_flushed (S.is_flushed new) told written result is flushed;
+    }

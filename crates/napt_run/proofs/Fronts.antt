@@ -74,7 +74,7 @@ timed_long (input ∷ inputs) [] same = omega (arith, same)
 timed_long (input ∷ inputs) (outcome ∷ outcomes) same =
     ap suc (timed_long inputs outcomes (omega (arith, same)))
 
-pub left_long : (rules : Rules) (inputs : List Arrival) → length (left_of rules inputs) ≡ length inputs
+left_long : (rules : Rules) (inputs : List Arrival) → length (left_of rules inputs) ≡ length inputs
 left_long rules inputs = timed_long inputs (ran rules inputs).outcomes (as_many rules inputs)
 
 -- FRONTS

@@ -16,7 +16,7 @@ use Rattle.napt_records.proofs.Left.{StopsBy-says}
 use Rattle.napt_run.specs.Files.{files_until, unless_bad, unless_refused}
 use Rattle.napt_run.specs.Leaving.{IsSettled}
 use Rattle.napt_run.specs.LeavingLaws.{grows_none}
-use Rattle.napt_run.specs.Runs.{RunsTo, RunsToFault}
+use Rattle.napt_run.specs.Runs.{IfHeld, RunsTo, RunsToFault}
 use Rattle.napt_run.specs.Streams.{AreTaken, IsFaultOf, IsHeaderFault}
 use Rattle.napt_run.specs.declared.leaving.Leaving.{Leaving}
 use Rattle.napt_run.proofs.Behind.{IfHeld-by, refuses}
@@ -58,6 +58,12 @@ outside_refused inside left known other spelling fault good bad b o is same =
     ∙ ap (λ r. unless_bad sides.Outside r (all_of b o)) (spelled o other (Err fault) p))
     (subst (λ (k : Option (List ℕ)). HeadsBadly k other fault) same bad)
 
+pub none_taken : (inside outside : Option (List ℕ)) (side : Side) (fault : CaptureFault) →
+    EndsAtHeader side fault inside outside → IfHeld inside outside (λ all. AreTaken side fault all [])
+none_taken inside outside side fault ends =
+    IfHeld-by (λ all. AreTaken side fault all []) inside outside (λ b o is same.
+    (refuses side fault b o [] ((files_until b o).arrivals, refl) (ends b o is same)).taken)
+
 module _ {W V : Type 0} {S : Ghosts W} {T : Ghosts V} (open_gate : Bool) (rules : Rules)
     (inside outside : Option (List ℕ)) (old : Leaving W V S T) (settled : IsSettled old) where
   header_fails : (side : Side) (fault : CaptureFault) → EndsAtHeader side fault inside outside →
@@ -69,8 +75,7 @@ module _ {W V : Type 0} {S : Ghosts W} {T : Ghosts V} (open_gate : Bool) (rules 
       to_inside = grows_none old.to_inside;
       settled = settled;
     };
-    taken = IfHeld-by (λ all. AreTaken side fault all []) inside outside (λ b o is same.
-        (refuses side fault b o [] ((files_until b o).arrivals, refl) (ends b o is same)).taken);
+    taken = none_taken inside outside side fault ends;
     is_fault = IfHeld-by (IsFaultOf side fault) inside outside (λ b o is same.
         (refuses side fault b o [] ((files_until b o).arrivals, refl) (ends b o is same)).is_fault);
   }
@@ -88,8 +93,8 @@ module _ {W V : Type 0} {S : Ghosts W} {T : Ghosts V} (open_gate : Bool) (rules 
 -- FAILED READS
 
 pub header_of : (side : Side) (fault : Fault) (old new : Option (List ℕ)) → IsHeaderFault side old new fault →
-    (inner : CaptureFault) × (fault ≡ Capture side inner)
-header_of side (Capture other fault) old new is = (fault, ap (λ (s : Side). Capture s fault) is.0)
+    (inner : CaptureFault) × (fault ≡ Capture side inner) × HeadsBadly old new inner
+header_of side (Capture other fault) old new is = (fault, ap (λ (s : Side). Capture s fault) is.0, is.1)
 header_of side (Run fault) old new is = absurd is
 header_of side (Write which fault) old new is = absurd is
 

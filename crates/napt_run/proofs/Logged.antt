@@ -1,10 +1,13 @@
 -- What a run with a log leaves on its devices.
-use Rattle.std.proofs.Common.{◌≡◌, ◌⊎◌, inl, inr, ℕ, ◌+◌, ◌-◌, ◌^◌, ◌≤◌, min, Bool, false, List, [], ◌++◌, length, take, Option, None, Some, Result, Ok, Err, IfErr, IfOk, refl, sym, ◌∙◌, ap, subst, arith, append-nil, append_assoc, length-append}
+use Rattle.std.proofs.Common.{◌≡◌, ◌⊎◌, inl, inr, ℕ, ◌+◌, ◌-◌, ◌^◌, ◌≤◌, Bool, true, List, [], ◌++◌, length, take, Option, Result, Ok, Err, IfErr, refl, sym, ◌∙◌, ap, subst, arith, append-nil, append_assoc, length-append}
+use Rattle.std.proofs.lemmas.Bool.{true≢false}
 use Rattle.std.proofs.Math.Seq.{take-append_seam}
 use Rattle.std.proofs.lemmas.List.{take-append-le}
 use Rattle.std.specs.Io.KnownBytes.{Appends}
 use Rattle.std.proofs.KnownBytes.{Appends-trans}
+use Rattle.napt_wire.specs.declared.Side.{Side}
 use Rattle.napt_capture.specs.declared.device.Sink.{Ghosts}
+use Rattle.napt_capture.specs.declared.fault.CaptureFault.{CaptureFault}
 use Rattle.napt_capture.specs.declared.fault.WriteFault.{WriteFault}
 use Rattle.napt_config.specs.Rules.{Rules}
 use Rattle.napt_laws.specs.Dispatching.{IsFront}
@@ -19,13 +22,12 @@ use Rattle.napt_records.specs.declared.Which.TheVariants as outputs
 use Rattle.napt_rules.specs.Prelude.{Arrival}
 use Rattle.napt_sequential.specs.declared.fault.RunFault.TheVariants as reasons
 use Rattle.napt_run.specs.LeavingLaws.{breaks_more, grows_more}
-use Rattle.napt_account.specs.KnownRuns.{IsOfInputs}
-use Rattle.napt_run.specs.LoggedStreams.{Counts, DeviceGetsOr, HasBytes, HasLog, HasPart, HasRows, HasWritten, LogGets, LoggedExplains, LoggedSays, Logs, LogsOf, besides_log, fault_of}
+use Rattle.napt_run.specs.LoggedStreams.{FailsAtMostOnce, HasBytes, HasLog, HasPart, HasRows, HasWritten, LogIsLeft, LoggedSays, besides_log, fault_of}
 use Rattle.napt_run.specs.Observers.{FailsAt, Observes, SeesAll, SeesOrFails, SeesSome, as_run}
 use Rattle.napt_run.specs.Outputs.{Breaks, Grows}
-use Rattle.napt_run.specs.Runs.{DeviceGets, IfHeld, ResultSays}
-use Rattle.napt_run.specs.RunningLogs.{Adds, Fails, FailsBy, Flushes, GoesOn, IsAt, IsFlushedAt, Sees}
-use Rattle.napt_run.specs.Streams.{HasRead, IsOfRun, IsSettledBy, ended}
+use Rattle.napt_run.specs.Runs.{IfHeld, ResultSays}
+use Rattle.napt_run.specs.RunningLogs.{Adds, Fails, FailsBy, FailsMore, Flushes, GoesOn, IsFlushedAt, Sees}
+use Rattle.napt_run.specs.Streams.{AreTaken, DeviceGets, HasRead, IsOfRun}
 use Rattle.napt_run.specs.declared.logged_fault.LoggedFault.{LoggedFault}
 use Rattle.napt_run.specs.declared.logged_fault.LoggedFault.TheVariants.{Run, Log}
 use Rattle.napt_run.specs.declared.observer.Halt.{Halt}
@@ -102,7 +104,7 @@ module _ {L : Type 0} {S : Ghosts L} (rules : Rules) (inside outside : Option (L
       ))
 
   -- or writing those of what lives
-  pub broken_end : (inputs : List Arrival) (fault : WriteFault) → Breaks old (log_text rules inputs) fault new →
+  broken_end : (inputs : List Arrival) (fault : WriteFault) → Breaks old (log_text rules inputs) fault new →
       Held (λ all. IsFront inputs all.arrivals) → Held (λ all. HasWritten rules fault.written all Before After)
   broken_end inputs fault p = IfHeld-map (λ all. IsFront inputs all.arrivals)
       (λ all. HasWritten rules fault.written all Before After) inside outside
@@ -125,10 +127,11 @@ module _ {L : Type 0} {S : Ghosts L} (rules : Rules) (inside outside : Option (L
       part_of inputs (length (log_so_far rules inputs)) (omega arith)
       (subst (λ (l : Text). Appends Before After l) (sym (take_whole (log_so_far rules inputs))) appended)
 
-  pub rows_of : (inputs : List Arrival) → Appends Before After (log_so_far rules inputs) →
-      Held (λ all. IsFront inputs all.arrivals) → Held (λ all. HasRows rules all Before After)
-  rows_of inputs appended = IfHeld-map (λ all. IsFront inputs all.arrivals)
-      (λ all. HasRows rules all Before After) inside outside (λ all front. (inputs, front, appended))
+  pub rows_of : (side : Side) (fault : CaptureFault) (inputs : List Arrival) →
+      Appends Before After (log_so_far rules inputs) → Held (λ all. AreTaken side fault all inputs) →
+      Held (λ all. HasRows rules side fault all Before After)
+  rows_of side fault inputs appended = IfHeld-map (λ all. AreTaken side fault all inputs)
+      (λ all. HasRows rules side fault all Before After) inside outside (λ all taken. (inputs, taken, appended))
 
 none_held : (inside outside : Option (List ℕ)) → IfHeld inside outside (λ all. IsFront [] all.arrivals)
 none_held inside outside = IfHeld-all (λ all. IsFront [] all.arrivals) inside outside (λ all. (all.arrivals, refl))
@@ -143,10 +146,36 @@ front_first inside outside inputs first others both = IfHeld-map (λ all. IsFron
       sym (append_assoc first others front.0) ∙ ap (λ (l : List Arrival). l ++ front.0) (sym both) ∙ front.1,
     ))
 
+-- no call of the log failed, or one, and none since
+abbrev FailsThen : {L : Type 0} {S : Ghosts L} (old new : Output L S) → Type 0
+FailsThen {L} {S} old new =
+    (S.failed new.device.now ≡ S.failed old.device.now)
+    ⊎ ((new.is_broken ≡ true) × (S.failed new.device.now ≡ S.failed old.device.now + 1))
+
 -- the log has a part of the rows
 record LeavesPart {L : Type 0} {S : Ghosts L} (rules : Rules) (inside outside : Option (List ℕ))
     (old new : Output L S) : Type 0 where
   same : new.device.ghost_name ≡ old.device.ghost_name
+  counts : FailsThen old new
+  part : IfHeld inside outside (λ all. HasPart rules all (S.contents old.device.now) (S.contents new.device.now))
+
+at_most_once : (broken : Bool) (old new : ℕ) →
+    (new ≡ old) ⊎ ((broken ≡ true) × (new ≡ old + 1)) → FailsAtMostOnce old new
+at_most_once broken old new (inl none) = inl none
+at_most_once broken old new (inr (is, one)) = inr one
+
+once_more : (broken : Bool) (old mid new : ℕ) → (mid ≡ old) ⊎ ((broken ≡ true) × (mid ≡ old + 1)) →
+    FailsMore broken mid new → FailsAtMostOnce old new
+once_more broken old mid new (inl none) (inl same) = inl (same ∙ none)
+once_more broken old mid new (inl none) (inr (sound, one)) = inr (one ∙ ap (λ (n : ℕ). n + 1) none)
+once_more broken old mid new (inr (is, one)) (inl same) = inr (same ∙ one)
+once_more broken old mid new (inr (is, one)) (inr (sound, more)) = absurd (true≢false (sym is ∙ sound))
+
+-- and at the end
+record EndsPart {L : Type 0} {S : Ghosts L} (rules : Rules) (inside outside : Option (List ℕ))
+    (old new : Output L S) : Type 0 where
+  same : new.device.ghost_name ≡ old.device.ghost_name
+  counts : FailsAtMostOnce (S.failed old.device.now) (S.failed new.device.now)
   part : IfHeld inside outside (λ all. HasPart rules all (S.contents old.device.now) (S.contents new.device.now))
 
 -- THE LOG WHILE THE RUN GOES
@@ -185,6 +214,7 @@ module _ {L : Type 0} {S : Ghosts L} (rules : Rules) (inside outside : Option (L
       LeavesPart rules inside outside old.output after.output
   grown_part inputs grown front = record {
     same = grown.same;
+    counts = inl grown.kept;
     part = whole_part rules inside outside old.output after.output none inputs grown.appended front;
   }
 
@@ -195,6 +225,7 @@ module _ {L : Type 0} {S : Ghosts L} (rules : Rules) (inside outside : Option (L
       let all = broke inputs fault p in
       record {
         same = all.same;
+        counts = inr (all.broken, all.failed_once);
         part = part_of rules inside outside old.output after.output none inputs all.count all.within all.appended
             front;
       }
@@ -209,7 +240,7 @@ module _ {L : Type 0} {S : Ghosts L} (rules : Rules) (inside outside : Option (L
   part (inr (fault, f)) = failed_part fault f.inputs f.front (f.failed rules [] begun.at)
 
   abbrev Gets : Halt LoggedFault → Output L S → Type 0
-  Gets halt new = LogGets rules inside outside (Err (fault_of halt)) old.output new
+  Gets halt new = LogIsLeft rules inside outside (Err (fault_of halt)) old.output new
 
   failed_at : (fault : LoggedFault) (inputs : List Arrival) →
       IfHeld inside outside (λ all. IsFront inputs all.arrivals) → FailsBy rules [] inputs fault mid after →
@@ -218,22 +249,33 @@ module _ {L : Type 0} {S : Ghosts L} (rules : Rules) (inside outside : Option (L
       let all = broke inputs fault p in
       record {
         same = all.same;
-        gets = broken rules inside outside old.output after.output none inputs fault all front;
-        counts = all.failed_once;
-        settled = λ settled. absurd settled;
+        gets = record {
+          gets = broken rules inside outside old.output after.output none inputs fault all front;
+          counts = all.failed_once;
+          settled = λ settled. absurd settled;
+        };
       }
   failed_at (Run (faults.Run fault)) inputs front p =
       let all = failed_part (Run (faults.Run fault)) inputs front p in
-      record { same = all.same; gets = all.part; counts = tt; settled = λ settled. absurd settled }
+      record {
+        same = all.same;
+        gets = record {
+          gets = all.part;
+          counts = at_most_once _ _ _ all.counts;
+          settled = λ settled. absurd settled;
+        };
+      }
   failed_at (Run (faults.Capture side fault)) inputs front p = absurd p
   failed_at (Run (faults.Write which fault)) inputs front p = absurd p
 
   -- what it leaves where the run failed, and the log is flushed after that, or not
   module _ (last : Output L S) (same : last.device.ghost_name ≡ after.output.device.ghost_name)
-      (kept : Appends (S.contents after.output.device.now) (S.contents last.device.now) []) where
-    on : LeavesPart rules inside outside old.output after.output → LeavesPart rules inside outside old.output last
+      (kept : Appends (S.contents after.output.device.now) (S.contents last.device.now) [])
+      (more : FailsMore after.output.is_broken (S.failed after.output.device.now) (S.failed last.device.now)) where
+    on : LeavesPart rules inside outside old.output after.output → EndsPart rules inside outside old.output last
     on p = record {
       same = same ∙ p.same;
+      counts = once_more _ _ _ _ p.counts more;
       part = IfHeld-map (λ all. HasPart rules all (S.contents old.output.device.now)
           (S.contents after.output.device.now))
           (λ all. HasPart rules all (S.contents old.output.device.now) (S.contents last.device.now)) inside outside
@@ -253,21 +295,32 @@ module _ {L : Type 0} {S : Ghosts L} (rules : Rules) (inside outside : Option (L
     pub halted : (halt : Halt LoggedFault) → Watched (Err halt) →
         IfErr (as_run {T = Totals} (Err halt)) IsBeforeReport → (IsFlushedAt halt → last ≡ after.output) →
         Gets halt last
-    halted (halts.Run (faults.Capture side fault)) (s, settled) stop flushed =
-        let grown = saw s in
+    halted (halts.Run (faults.Capture side fault)) s stop flushed =
+        let grown = grew s.inputs (s.saw rules [] begun.at).wrote in
         subst (Gets (halts.Run (faults.Capture side fault))) (sym (flushed tt)) (record {
           same = grown.same;
-          gets = rows_of rules inside outside old.output after.output none s.inputs grown.appended s.front;
-          counts = grown.kept;
-          settled = λ done. settled;
+          gets = record {
+            gets = rows_of rules inside outside old.output after.output none side fault s.inputs grown.appended s.taken;
+            counts = grown.kept;
+            settled = λ done. s.settled;
+          };
         })
     halted (halts.Run (faults.Write outputs.Outside fault)) o stop flushed = let p = on (part o) in
-        record { same = p.same; gets = p.part; counts = tt; settled = λ settled. absurd settled }
+        record {
+          same = p.same;
+          gets = record { gets = p.part; counts = p.counts; settled = λ settled. absurd settled };
+        }
     halted (halts.Run (faults.Write outputs.Inside fault)) o stop flushed = let p = on (part o) in
-        record { same = p.same; gets = p.part; counts = tt; settled = λ settled. absurd settled }
+        record {
+          same = p.same;
+          gets = record { gets = p.part; counts = p.counts; settled = λ settled. absurd settled };
+        }
     halted (halts.Run (faults.Write outputs.Report fault)) o stop flushed = absurd stop
     halted (halts.Run (faults.Run fault)) o stop flushed = let p = on (part o) in
-        record { same = p.same; gets = p.part; counts = tt; settled = λ settled. absurd settled }
+        record {
+          same = p.same;
+          gets = record { gets = p.part; counts = p.counts; settled = λ settled. absurd settled };
+        }
     halted (halts.Observer fault) f stop flushed =
         subst (Gets (halts.Observer fault)) (sym (flushed tt))
         (failed_at fault f.inputs f.front (f.failed rules [] begun.at))
@@ -287,31 +340,35 @@ module _ {L : Type 0} {S : Ghosts L} (rules : Rules) (inside outside : Option (L
     Closed closed = Adds rules s.inputs (living_rows rules (living_of rules s.inputs)) after closed last
 
     pub ended_well : Flushes rules s.inputs (living_rows rules (living_of rules s.inputs)) after last →
-        LogGets rules inside outside (Ok totals) old.output last.output
+        LogIsLeft rules inside outside (Ok totals) old.output last.output
     ended_well p =
         let grown : Grows old.output (log_text rules s.inputs) last.output =
         subst (λ (l : Text). Grows old.output l last.output) (text_is rules s.inputs)
         (grows_more old.output after.output last.output _ _ saw_all p.on.wrote) in
         record {
           same = grown.same;
-          gets = IfHeld-map (λ all. all ≡ record { arrivals = s.inputs; end = Ok totals.cuts })
-              (λ all. HasLog rules all (S.contents old.output.device.now) (S.contents last.output.device.now))
-              inside outside (λ all is. rw is (refl, grown.appended)) s.all;
-          counts = grown.kept;
-          settled = λ done. p.flushed;
+          gets = record {
+            gets = IfHeld-map (λ all. all ≡ record { arrivals = s.inputs; end = Ok totals.cuts })
+                (λ all. HasLog rules all (S.contents old.output.device.now) (S.contents last.output.device.now))
+                inside outside (λ all is. rw is (refl, grown.appended)) s.all;
+            counts = grown.kept;
+            settled = λ done. p.flushed;
+          };
         }
 
     pub ended_badly : (fault : LoggedFault) → Closed (Err fault) →
-        LogGets rules inside outside (Err fault) old.output last.output
+        LogIsLeft rules inside outside (Err fault) old.output last.output
     ended_badly (Log fault) p =
         let all : Breaks old.output (log_text rules s.inputs) fault last.output =
         subst (λ (l : Text). Breaks old.output l fault last.output) (text_is rules s.inputs)
         (breaks_more old.output after.output last.output _ _ fault saw_all p) in
         record {
           same = all.same;
-          gets = broken_end rules inside outside old.output last.output none s.inputs fault all front_all;
-          counts = all.failed_once;
-          settled = λ settled. absurd settled;
+          gets = record {
+            gets = broken_end rules inside outside old.output last.output none s.inputs fault all front_all;
+            counts = all.failed_once;
+            settled = λ settled. absurd settled;
+          };
         }
     ended_badly (Run (faults.Run reasons.Memory)) p =
         let grown : Grows old.output (log_so_far rules s.inputs) last.output =
@@ -319,9 +376,11 @@ module _ {L : Type 0} {S : Ghosts L} (rules : Rules) (inside outside : Option (L
         (grows_more old.output after.output last.output _ _ saw_all p) in
         record {
           same = grown.same;
-          gets = whole_part rules inside outside old.output last.output none s.inputs grown.appended front_all;
-          counts = tt;
-          settled = λ settled. absurd settled;
+          gets = record {
+            gets = whole_part rules inside outside old.output last.output none s.inputs grown.appended front_all;
+            counts = inl grown.kept;
+            settled = λ settled. absurd settled;
+          };
         }
     ended_badly (Run (faults.Run reasons.TooMany)) p = absurd p
     ended_badly (Run (faults.Run (reasons.Pool fault))) p = absurd p
@@ -332,23 +391,27 @@ module _ {L : Type 0} {S : Ghosts L} (rules : Rules) (inside outside : Option (L
 module _ {L : Type 0} {S : Ghosts L} (rules : Rules) (inside outside : Option (List ℕ))
     (old last : RunningLog L S) (none : old.output.written ≡ 0) where
   pub unopened : (fault : LoggedFault) → Adds rules [] (opening rules) old (Err fault) last →
-      LogGets {S = S} rules inside outside (Err fault) old.output last.output
+      LogIsLeft {S = S} rules inside outside (Err fault) old.output last.output
   unopened (Log fault) p =
       let all : Breaks old.output (log_so_far rules []) fault last.output =
       subst (λ (l : Text). Breaks old.output l fault last.output)
       (sym (append-nil (opening rules)) ∙ so_far_is rules []) p in
       record {
         same = all.same;
-        gets = broken rules inside outside old.output last.output none [] fault all (none_held inside outside);
-        counts = all.failed_once;
-        settled = λ settled. absurd settled;
+        gets = record {
+          gets = broken rules inside outside old.output last.output none [] fault all (none_held inside outside);
+          counts = all.failed_once;
+          settled = λ settled. absurd settled;
+        };
       }
   unopened (Run (faults.Run reasons.Memory)) p = record {
     same = p.same;
-    gets = part_of rules inside outside old.output last.output none [] 0 (omega arith) p.appended
-        (none_held inside outside);
-    counts = tt;
-    settled = λ settled. absurd settled;
+    gets = record {
+      gets = part_of rules inside outside old.output last.output none [] 0 (omega arith) p.appended
+          (none_held inside outside);
+      counts = inl p.kept;
+      settled = λ settled. absurd settled;
+    };
   }
   unopened (Run (faults.Run reasons.TooMany)) p = absurd p
   unopened (Run (faults.Run (reasons.Pool fault))) p = absurd p

@@ -1,6 +1,6 @@
 -- What a whole run with a log comes to, once its report is written or nobody wants one.
 use Rattle.std.specs.Result.{result_and}
-use Rattle.std.proofs.Common.{◌≡◌, ◌⊎◌, inl, inr, ℕ, ◌+◌, Bool, true, List, [], length, take, Option, Result, Ok, Err, IfErr, IfOk, OnOk, refl, sym, ◌∙◌, ap, subst, arith, append-nil}
+use Rattle.std.proofs.Common.{◌≡◌, inl, inr, ℕ, Bool, true, List, [], length, Option, Result, Ok, Err, IfErr, IfOk, OnOk, refl, sym, ◌∙◌, ap, subst, arith, append-nil}
 use Rattle.std.specs.Io.KnownBytes.{Appends}
 use Rattle.napt_capture.specs.declared.device.Sink.{Ghosts}
 use Rattle.napt_config.specs.Rules.{Rules}
@@ -8,19 +8,17 @@ use Rattle.napt_log_text.specs.Logs.{log_text}
 use Rattle.napt_log_text.specs.Times.{Text}
 use Rattle.napt_records.specs.declared.Fault.{Fault}
 use Rattle.napt_records.specs.declared.Fault.TheVariants as faults
-use Rattle.napt_records.specs.declared.Which.{Which}
 use Rattle.napt_records.specs.declared.Which.TheVariants as outputs
 use Rattle.napt_sequential.specs.declared.fault.RunFault.TheVariants as reasons
-use Rattle.napt_run.specs.Captures.{failed_writings}
 use Rattle.napt_run.specs.LeavingLaws.{appends_none}
-use Rattle.napt_run.specs.LoggedStreams.{Counts, DeviceGetsOr, HasLog, HasPart, IsLoggedStop, IsUnderOpenGate, LogGets, LoggedExplains, LoggedStreams, Logs, besides_log, reported_of}
+use Rattle.napt_run.specs.LoggedStreams.{Counts, DeviceGetsOr, HasLog, HasPart, IsLoggedStop, IsUnderOpenGate, LogGets, LogIsLeft, LoggedExplains, Logs, besides_log, reported_of}
 use Rattle.napt_run.specs.Runs.{IfHeld}
-use Rattle.napt_run.specs.Streams.{IsOfRun, IsReportFault, IsSettledBy, ended}
+use Rattle.napt_run.specs.Streams.{IsOfRun, IsReportFault, ReportGets}
 use Rattle.napt_run.specs.declared.logged_fault.LoggedFault.{LoggedFault}
 use Rattle.napt_run.specs.declared.logged_fault.LoggedFault.TheVariants.{Run, Log}
 use Rattle.napt_run.specs.declared.output.Output.{Output}
 use Rattle.napt_run.specs.declared.passing.Totals.{Totals}
-use Rattle.napt_run.proofs.Endings.{Ends, IsBeforeReport, gate_of, inside_by, inside_ends, outside_by, outside_ends, settled_by}
+use Rattle.napt_run.proofs.Endings.{Ends, IsBeforeReport, gate_of, inside_by, outside_by, settled_by}
 use Rattle.napt_run.proofs.Logged.{take_whole}
 use Rattle.napt_run.proofs.Streamed.{IfHeld-all, IfHeld-map}
 
@@ -67,10 +65,6 @@ pub on_besides : (P : Type 0) (told : Result Totals LoggedFault) → OnOk told P
 on_besides P (Ok totals) p = p
 on_besides P (Err (Run fault)) p = tt
 on_besides P (Err (Log fault)) p = tt
-
-pub on_whole : (P : Type 0) (result : Result (Unit {0}) LoggedFault) → OnOk (besides_log result) P → OnOk result P
-on_whole P (Ok done) p = p
-on_whole P (Err fault) p = tt
 
 -- THE FAULT
 
@@ -142,52 +136,18 @@ run_stays (Err (faults.Run fault)) result ends run =
 run_stays (Err (faults.Capture side fault)) result ends run = absurd run
 run_stays (Err (faults.Write which fault)) result ends run = absurd run
 
-run_unsettled : (result : Result (Unit {0}) Fault) → IsOfRun result → IsSettledBy result → ⊥
-run_unsettled (Ok done) run settled = run
-run_unsettled (Err (faults.Run fault)) run settled = settled
-run_unsettled (Err (faults.Capture side fault)) run settled = run
-run_unsettled (Err (faults.Write which fault)) run settled = run
-
 module _ {D : Type 0} (S : Ghosts D) (rules : Rules) (inside outside : Option (List ℕ)) (old new : D)
     (told : Result Totals LoggedFault) (result : Result (Unit {0}) LoggedFault)
     (ends : Ends (besides_log told) (besides_log result)) where
-  abbrev Gets : Which → Type 0
-  Gets which = DeviceGetsOr S rules which inside outside told old new
+  pub outside_gets : DeviceGetsOr S rules outputs.Outside inside outside told old new →
+      DeviceGetsOr S rules outputs.Outside inside outside result old new
+  outside_gets (inl p) = inl (outside_by (besides_log told) (besides_log result) ends S rules inside outside old new p)
+  outside_gets (inr (run, same)) = inr (run_stays (besides_log told) (besides_log result) ends run, same)
 
-  pub outside_streams : Gets outputs.Outside →
-      LoggedStreams rules outputs.Outside result inside outside (S.contents old) (S.contents new)
-  outside_streams (inl p) =
-      inl (outside_ends rules inside outside _ _ (besides_log told) (besides_log result) ends p.gets)
-  outside_streams (inr (run, same)) =
-      inr (run_stays (besides_log told) (besides_log result) ends run, ap S.contents same)
-
-  pub inside_streams : Gets outputs.Inside →
-      LoggedStreams rules outputs.Inside result inside outside (S.contents old) (S.contents new)
-  inside_streams (inl p) =
-      inl (inside_ends rules inside outside _ _ (besides_log told) (besides_log result) ends p.gets)
-  inside_streams (inr (run, same)) =
-      inr (run_stays (besides_log told) (besides_log result) ends run, ap S.contents same)
-
-  pub outside_fails : Gets outputs.Outside → (¬ IsOfRun (besides_log result)) →
-      S.failed new ≡ S.failed old + failed_writings outputs.Outside (besides_log result)
-  outside_fails (inl p) none =
-      outside_by (besides_log told) (besides_log result) ends (S.failed old) (S.failed new) p.count none
-  outside_fails (inr (run, same)) none =
-      absurd (none (run_stays (besides_log told) (besides_log result) ends run))
-
-  pub inside_fails : Gets outputs.Inside → (¬ IsOfRun (besides_log result)) →
-      S.failed new ≡ S.failed old + failed_writings outputs.Inside (besides_log result)
-  inside_fails (inl p) none =
-      inside_by (besides_log told) (besides_log result) ends (S.failed old) (S.failed new) p.count none
-  inside_fails (inr (run, same)) none =
-      absurd (none (run_stays (besides_log told) (besides_log result) ends run))
-
-  pub flushed : (which : Which) → Gets which → IsSettledBy (besides_log result) → S.is_flushed new
-  flushed which (inl p) settled =
-      settled_by (besides_log told) (besides_log result) ends p.settled settled
-  flushed which (inr (run, same)) settled =
-      absurd (run_unsettled (besides_log result) (run_stays (besides_log told) (besides_log result) ends run)
-      settled)
+  pub inside_gets : DeviceGetsOr S rules outputs.Inside inside outside told old new →
+      DeviceGetsOr S rules outputs.Inside inside outside result old new
+  inside_gets (inl p) = inl (inside_by (besides_log told) (besides_log result) ends S rules inside outside old new p)
+  inside_gets (inr (run, same)) = inr (run_stays (besides_log told) (besides_log result) ends run, same)
 
 -- THE LOG
 
@@ -231,7 +191,7 @@ module _ (rules : Rules) (inside outside : Option (List ℕ)) (old new : Option 
   logs_of (Ok totals) (Err fault) report p = report_logs totals fault report p
   logs_of (Err fault) written report p = same_logs fault p
 
-  pub logs : (told : Result Totals LoggedFault) (written : Result (Unit {0}) Fault)
+  logs : (told : Result Totals LoggedFault) (written : Result (Unit {0}) Fault)
       (result : Result (Unit {0}) LoggedFault) → result ≡ reported_of told written →
       IfErr written IsReportFault → Logs rules told inside outside old new → Logs rules result inside outside old new
   logs told written result is report p =
@@ -244,7 +204,7 @@ module _ (old new : ℕ) where
   report_counts (faults.Write outputs.Outside fault) report p = absurd report
   report_counts (faults.Write outputs.Inside fault) report p = absurd report
   report_counts (faults.Capture side fault) report p = absurd report
-  report_counts (faults.Run fault) report p = tt
+  report_counts (faults.Run fault) report p = inl p
 
   same_counts : (fault : LoggedFault) → Counts {T = Totals} (Err fault) old new →
       Counts {T = Unit {0}} (Err fault) old new
@@ -261,42 +221,50 @@ module _ (old new : ℕ) where
   counts_of (Ok totals) (Err fault) report p = report_counts fault report p
   counts_of (Err fault) written report p = same_counts fault p
 
-  pub counts : (told : Result Totals LoggedFault) (written : Result (Unit {0}) Fault)
+  counts : (told : Result Totals LoggedFault) (written : Result (Unit {0}) Fault)
       (result : Result (Unit {0}) LoggedFault) → result ≡ reported_of told written →
       IfErr written IsReportFault → Counts told old new → Counts result old new
   counts told written result is report p =
       subst (λ (r : Result (Unit {0}) LoggedFault). Counts r old new) (sym is) (counts_of told written report p)
 
 -- the device of the log, which is left as the log leaves it
-pub record LogLeft {L : Type 0} (S : Ghosts L) (rules : Rules) (inside outside : Option (List ℕ))
-    (told : Result Totals LoggedFault) (start last : L) : Type 0 where
-  pub gets : Logs rules told inside outside (S.contents start) (S.contents last)
-  pub counts : Counts told (S.failed start) (S.failed last)
-  pub settled : IsSettledBy (ended (besides_log told)) → S.is_flushed last
-
-pub log_left : {L : Type 0} {S : Ghosts L} (rules : Rules) (inside outside : Option (List ℕ))
-    (told : Result Totals LoggedFault) (old new : Output L S) → LogGets rules inside outside told old new →
-    (start last : L) → old.device.now ≡ start →
+pub log_gets : {L : Type 0} {S : Ghosts L} (rules : Rules) (inside outside : Option (List ℕ))
+    (told : Result Totals LoggedFault) (written : Result (Unit {0}) Fault)
+    (result : Result (Unit {0}) LoggedFault) → result ≡ reported_of told written → IfErr written IsReportFault →
+    Ends (besides_log told) (besides_log result) → (old new : Output L S) →
+    LogIsLeft rules inside outside told old new → (start last : L) → old.device.now ≡ start →
     (new.device.ghost_name ≡ old.device.ghost_name → last ≡ new.device.now) →
-    LogLeft S rules inside outside told start last
-log_left {L} {S} rules inside outside told old new is start last from at =
-    let left : last ≡ new.device.now = at is.same in
-    record {
-      gets = rw (left, sym from) is.gets;
-      counts = rw (left, sym from) is.counts;
-      settled = λ settled. rw left (is.settled settled);
-    }
+    LogGets S rules inside outside result start last
+log_gets {L} {S} rules inside outside told written result is report ends old new left start last from at =
+    rw (at left.same, sym from) (record {
+      gets = logs rules inside outside _ _ told written result is report left.gets.gets;
+      counts = counts _ _ told written result is report left.gets.counts;
+      settled = settled_by (besides_log told) (besides_log result) ends left.gets.settled;
+    })
 
 -- where nothing was begun, the log has nothing
-pub unbegun_logs : (rules : Rules) (inside outside : Option (List ℕ)) (known : Option (List ℕ)) →
-    Logs {T = Unit {0}} rules (Err (Run (faults.Run reasons.Memory))) inside outside known known
-unbegun_logs rules inside outside known = IfHeld-all (λ all. HasPart rules all known known) inside outside
-    (λ all. (
-      0,
-      record {
-        inputs = [];
-        front = (all.arrivals, refl);
-        within = omega arith;
-        appended = appends_none known;
-      },
-    ))
+pub unbegun_log : {L : Type 0} (S : Ghosts L) (rules : Rules) (inside outside : Option (List ℕ)) (log : L) →
+    LogGets {T = Unit {0}} S rules inside outside (Err (Run (faults.Run reasons.Memory))) log log
+unbegun_log S rules inside outside log = record {
+  gets = IfHeld-all (λ all. HasPart rules all (S.contents log) (S.contents log)) inside outside
+      (λ all. (
+        0,
+        record {
+          inputs = [];
+          front = (all.arrivals, refl);
+          within = omega arith;
+          appended = appends_none (S.contents log);
+        },
+      ));
+  counts = inl refl;
+  settled = λ settled. absurd settled;
+}
+
+-- and the report either
+pub unbegun_report : {U : Type 0} (S : Ghosts U) (rules : Rules) (inside outside : Option (List ℕ)) (report : U) →
+    ReportGets S rules inside outside (Err (faults.Run reasons.Memory)) report report
+unbegun_report S rules inside outside report = record {
+  gets = IfHeld-all (λ all. S.contents report ≡ S.contents report) inside outside (λ all. refl);
+  count = omega arith;
+  settled = tt;
+}

@@ -67,7 +67,7 @@ headed_all rules inputs old mid new begins (Ok tally) p = record {
 }
 
 -- the device of an output, which is left as the output leaves it
-pub capture_appended : {D : Type 0} {S : Ghosts D} (rules : Rules) (side : Side) (inputs : List Arrival)
+capture_appended : {D : Type 0} {S : Ghosts D} (rules : Rules) (side : Side) (inputs : List Arrival)
     (old new : Output D S) → Grows old (text_behind file_header rules side inputs) new → (start last : D) →
     old.device.now ≡ start → (new.device.ghost_name ≡ old.device.ghost_name → last ≡ new.device.now) →
     Appends (S.contents start) (S.contents last) (capture_text rules side inputs)

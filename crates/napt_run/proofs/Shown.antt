@@ -1,11 +1,11 @@
 -- From a run whose inputs an observer is shown to the run itself, and to what the observer was shown.
-use Rattle.std.proofs.Common.{◌≡◌, ◌⊎◌, inl, inr, ℕ, Bool, List, [], ◌++◌, Option, None, Some, Result, Ok, Err, refl, sym, ◌∙◌, ap, subst, append-nil, append_assoc}
+use Rattle.std.proofs.Common.{◌≡◌, inl, inr, ℕ, Bool, List, [], ◌++◌, Option, None, Some, Result, Ok, Err, refl, sym, ◌∙◌, ap, subst, append-nil, append_assoc}
 use Rattle.napt_wire.specs.declared.Side.{Side}
 use Rattle.napt_capture.specs.declared.device.Sink as sink
 use Rattle.napt_capture.specs.declared.device.Source as source
 use Rattle.napt_capture.specs.declared.fault.CaptureFault.{CaptureFault}
 use Rattle.napt_config.specs.Rules.{Rules}
-use Rattle.napt_dispatch.specs.Passing.{HasCome, PassesEarly, PassesHalted, PassesTo, timed}
+use Rattle.napt_dispatch.specs.Passing.{HasCome, PassesHalted, PassesTo}
 use Rattle.napt_laws.specs.Dispatching.{IsFront}
 use Rattle.napt_records.specs.Begun.{AreBegun}
 use Rattle.napt_records.specs.Counts.{AreCountsOf}
@@ -15,14 +15,14 @@ use Rattle.napt_records.specs.declared.Fault.{Fault}
 use Rattle.napt_records.specs.declared.Fault.TheVariants.{Capture, Run, Write}
 use Rattle.napt_records.specs.declared.merged_streams.MergedStreams.{MergedStreams}
 use Rattle.napt_records.specs.declared.merged_streams.SideFault.{SideFault}
-use Rattle.napt_rules.specs.Prelude.{Arrival, ran}
-use Rattle.napt_rules.specs.declared.Outcome.{Outcome}
+use Rattle.napt_rules.specs.Prelude.{Arrival}
 use Rattle.napt_sequential.specs.Inputs.{Came}
 use Rattle.napt_run.specs.Files.{files_until}
 use Rattle.napt_run.specs.Leaving.{AreSound, Fails, FailsToBegin, IsSettled, Takes, Timed}
 use Rattle.napt_run.specs.Observers.{FailsAt, Observes, SeesOrFails, SeesSome, as_run}
-use Rattle.napt_run.specs.Passed.{Ended, Handed, PassesAll, PassesObserved, PassesOr, PassesShown}
+use Rattle.napt_run.specs.Passed.{Ended, Handed, PassesObserved, PassesOr, PassesShown}
 use Rattle.napt_run.specs.Runs.{IfHeld, left_of}
+use Rattle.napt_run.specs.Streams.{AreTaken}
 use Rattle.napt_run.specs.declared.leaving.Leaving.{Leaving}
 use Rattle.napt_run.specs.declared.observed.Interruption.{Interruption}
 use Rattle.napt_run.specs.declared.observed.Interruption.TheVariants as interruptions
@@ -30,7 +30,7 @@ use Rattle.napt_run.specs.declared.observed.Observed.{Observed}
 use Rattle.napt_run.specs.declared.observer.Halt.{Halt}
 use Rattle.napt_run.specs.declared.observer.Halt.TheVariants as halts
 use Rattle.napt_run.specs.declared.passing.Totals.{Totals}
-use Rattle.napt_run.proofs.Behind.{IfHeld-by, front, whole_is}
+use Rattle.napt_run.proofs.Behind.{IfHeld-by, front, taken_is, whole_is}
 use Rattle.napt_run.proofs.Fronts.{left_front}
 
 module _ {R Q W V O E : Type 0} {G : source.Ghosts R} {H : source.Ghosts Q} {S : sink.Ghosts W} {T : sink.Ghosts V}
@@ -279,10 +279,13 @@ module _ {R Q W V O E : Type 0} {G : source.Ghosts R} {H : source.Ghosts Q} {S :
               whole.came.handed.saw;
           settled = whole.came.ended.settled;
         }
-    observes (Err (halts.Run (Capture side fault))) p = (
-      seen_fault p.inputs (record { side = side; fault = fault }) p.came,
-      p.came.ended.settled,
-    )
+    observes (Err (halts.Run (Capture side fault))) p = record {
+      inputs = p.inputs;
+      taken = taken_is open_gate rules from.arrivals before left.arrivals after bytes others live begun sound counts
+          side fault p.inputs (came_fault p.inputs (record { side = side; fault = fault }) p.came);
+      saw = saw_all p.inputs p.came.last.observer.now left.observer.now p.came.ended.saw p.came.handed.saw;
+      settled = p.came.ended.settled;
+    }
     observes (Err (halts.Run (Write which fault))) p = seen_or_failed p.inputs p.come
     observes (Err (halts.Run (Run fault))) p = seen_or_failed p.1.inputs p.1.come
     observes (Err (halts.Observer fault)) p = failed_over p.inputs fault p.came
@@ -326,5 +329,7 @@ module _ {O E : Type 0} (sees : O → List Arrival → O → Type 0) (fails : O 
 
   -- a header of a capture was refused
   pub unread_observes : is_settled it → (side : Side) (fault : CaptureFault) →
+      IfHeld inside outside (λ all. AreTaken side fault all []) →
       Observes sees fails is_settled inside outside it it (Err (halts.Run (Capture side fault)))
-  unread_observes settled side fault = (none_seen, settled)
+  unread_observes settled side fault taken =
+      record { inputs = []; taken = taken; saw = none; settled = settled }

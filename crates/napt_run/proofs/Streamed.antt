@@ -19,9 +19,9 @@ use Rattle.napt_run.specs.Captures.{failed_writings}
 use Rattle.napt_sequential.specs.declared.fault.RunFault.{RunFault}
 use Rattle.napt_sequential.specs.declared.fault.RunFault.TheVariants as faults
 use Rattle.napt_run.specs.Outputs.{Breaks, Grows}
-use Rattle.napt_run.specs.Runs.{DeviceGets, FailsOutside, IfHeld, IsLeft, IsToldOf, ResultSays, RunsTo, text_behind}
+use Rattle.napt_run.specs.Runs.{FailsOutside, IfHeld, IsLeft, IsToldOf, ResultSays, RunsTo, text_behind}
 use Rattle.napt_run.specs.Files.{files_until}
-use Rattle.napt_run.specs.Streams.{AreTaken, Explains, GetsOf, HasAll, HasFront, HasPart, HasText, HasWritten, IsOfRun, IsSettledBy, IsStopFault, Streams, capture_text, ended, side_of}
+use Rattle.napt_run.specs.Streams.{DeviceGets, AreTaken, Explains, GetsOf, HasAll, HasFront, HasPart, HasText, HasWritten, IsOfRun, IsSettledBy, IsStopFault, Streams, capture_text, ended, side_of}
 use Rattle.napt_run.specs.declared.leaving.Leaving.{Leaving}
 use Rattle.napt_run.specs.declared.output.Output.{Output}
 use Rattle.napt_run.specs.declared.passing.Totals.{Totals}

@@ -85,6 +85,7 @@ module _ {W : Type 0} {S : Ghosts W} where
     appended = subst (λ (l : List ℕ). Appends (S.contents x.device.now) (S.contents z.device.now) l)
         (sym (take-append-add first second two.count))
         (Appends-trans _ _ _ first (take two.count second) one.appended two.appended);
+    broken = two.broken;
     failed_once = two.failed_once ∙ ap (λ (n : ℕ). n + 1) one.kept;
   }
 

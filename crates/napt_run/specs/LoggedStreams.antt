@@ -1,7 +1,9 @@
 -- What a run with a log leaves over captures that are read as they arrive.
-use Rattle.std.specs.Prelude.{◌≡◌, ◌⊎◌, ⊤, ℕ, ◌+◌, ◌-◌, ◌^◌, ◌≤◌, min, List, length, take, Bool, false, [], Option, Result, Ok, Err, IfErr, IfOk, IsOk}
+use Rattle.std.specs.Prelude.{◌≡◌, ◌⊎◌, ℕ, ◌+◌, ◌-◌, ◌^◌, ◌≤◌, min, List, length, take, Bool, false, Option, Result, Ok, Err, IfErr, IfOk, IsOk}
 use Rattle.std.specs.Io.KnownBytes.{Appends}
+use Rattle.napt_wire.specs.declared.Side.{Side}
 use Rattle.napt_capture.specs.declared.device.Sink.{Ghosts}
+use Rattle.napt_capture.specs.declared.fault.CaptureFault.{CaptureFault}
 use Rattle.napt_config.specs.Rules.{Rules}
 use Rattle.napt_laws.specs.Dispatching.{IsFront}
 use Rattle.napt_log_text.specs.Logs.{log_so_far, log_text}
@@ -15,8 +17,8 @@ use Rattle.napt_rules.specs.Prelude.{Arrival}
 use Rattle.napt_sequential.specs.declared.fault.RunFault.TheVariants as reasons
 use Rattle.napt_run.specs.Captures.{IfKnown}
 use Rattle.napt_run.specs.Files.{files_until}
-use Rattle.napt_run.specs.Runs.{DeviceGets, IsToldOf}
-use Rattle.napt_run.specs.Streams.{Explains, IsOfRun, IsSettledBy, IsStopFault, Streams, ended}
+use Rattle.napt_run.specs.Runs.{IsToldOf}
+use Rattle.napt_run.specs.Streams.{AreTaken, DeviceGets, Explains, IsOfRun, IsSettledBy, IsStopFault, ended}
 use Rattle.napt_run.specs.declared.observer.Halt.{Halt}
 use Rattle.napt_run.specs.declared.observer.Halt.TheVariants as halts
 use Rattle.napt_run.specs.declared.output.Output.{Output}
@@ -30,11 +32,11 @@ besides_log (Ok given) = Ok given
 besides_log (Err (Run fault)) = Err fault
 besides_log (Err (Log fault)) = Err (faults.Run reasons.Memory)
 
--- what an output gets: what it gets without a log; nothing, if the log could not be begun
-abbrev pub LoggedStreams : Rules → Which → Result (Unit {0}) LoggedFault → Option (List ℕ) → Option (List ℕ) →
-    Option (List ℕ) → Option (List ℕ) → Type 0
-LoggedStreams rules which result inside outside old new =
-    Streams rules which (besides_log result) inside outside old new
+-- what a run leaves on the device of a capture: what it leaves without a log; nothing, if the log could not be begun
+abbrev pub DeviceGetsOr : {D T : Type 0} → Ghosts D → Rules → Which → Option (List ℕ) → Option (List ℕ) →
+    Result T LoggedFault → D → D → Type 0
+DeviceGetsOr S rules which inside outside result old new =
+    DeviceGets S rules which inside outside (besides_log result) old new
     ⊎ (IsOfRun (besides_log result) × (new ≡ old))
 
 -- THE LOG
@@ -43,10 +45,10 @@ LoggedStreams rules which result inside outside old new =
 abbrev pub HasLog : Rules → Inputs → Option (List ℕ) → Option (List ℕ) → Type 0
 HasLog rules all old new = IsOk all.end × Appends old new (log_text rules all.arrivals)
 
--- the rows of a front of the inputs, without those of what lives at the end
-abbrev pub HasRows : Rules → Inputs → Option (List ℕ) → Option (List ℕ) → Type 0
-HasRows rules all old new =
-    (inputs : List Arrival) × IsFront inputs all.arrivals × Appends old new (log_so_far rules inputs)
+-- the rows of the inputs before a fault of a capture, without those of what lives at the end
+abbrev pub HasRows : Rules → Side → CaptureFault → Inputs → Option (List ℕ) → Option (List ℕ) → Type 0
+HasRows rules side fault all old new =
+    (inputs : List Arrival) × AreTaken side fault all inputs × Appends old new (log_so_far rules inputs)
 
 -- so many bytes of the log of a front of the inputs
 pub record HasBytes (rules : Rules) (count : ℕ) (all : Inputs) (old new : Option (List ℕ)) : Type 0 where
@@ -67,7 +69,7 @@ HasPart rules all old new = (count : ℕ) × HasBytes rules count all old new
 abbrev pub LogsOf : {T : Type 0} → Rules → Result T LoggedFault → Inputs → Option (List ℕ) → Option (List ℕ) → Type 0
 LogsOf rules (Ok done) all old new = HasLog rules all old new
 LogsOf rules (Err (Log fault)) all old new = HasWritten rules fault.written all old new
-LogsOf rules (Err (Run (faults.Capture side fault))) all old new = HasRows rules all old new
+LogsOf rules (Err (Run (faults.Capture side fault))) all old new = HasRows rules side fault all old new
 LogsOf rules (Err (Run (faults.Write outputs.Report fault))) all old new = HasLog rules all old new
 LogsOf rules (Err (Run other)) all old new = HasPart rules all old new
 
@@ -75,6 +77,25 @@ abbrev pub Logs : {T : Type 0} → Rules → Result T LoggedFault → Option (Li
     Option (List ℕ) → Type 0
 Logs rules result inside outside old new =
     IfKnown inside outside (λ bytes others. LogsOf rules result (files_until bytes others) old new)
+
+-- no call failed, or one
+abbrev pub FailsAtMostOnce : ℕ → ℕ → Type 0
+FailsAtMostOnce old new = (new ≡ old) ⊎ (new ≡ old + 1)
+
+-- how many writes and flushes of the log failed: a fault of the run or of an output may hide one
+abbrev pub Counts : {T : Type 0} → Result T LoggedFault → ℕ → ℕ → Type 0
+Counts (Err (Log fault)) old new = new ≡ old + 1
+Counts (Err (Run (faults.Run fault))) old new = FailsAtMostOnce old new
+Counts (Err (Run (faults.Write outputs.Outside fault))) old new = FailsAtMostOnce old new
+Counts (Err (Run (faults.Write outputs.Inside fault))) old new = FailsAtMostOnce old new
+Counts other old new = new ≡ old
+
+-- what a run leaves on the device of the log
+pub record LogGets {L T : Type 0} (S : Ghosts L) (rules : Rules) (inside outside : Option (List ℕ))
+    (result : Result T LoggedFault) (old new : L) : Type 0 where
+  pub gets : Logs rules result inside outside (S.contents old) (S.contents new)
+  pub counts : Counts result (S.failed old) (S.failed new)
+  pub settled : IsSettledBy (ended (besides_log result)) → S.is_flushed new
 
 -- THE FAULT
 
@@ -90,13 +111,6 @@ IsUnderOpenGate (Run fault) = tells_shut_gate fault ≡ false
 IsUnderOpenGate (Log fault) = Unit {0}
 
 -- STEPS
-
--- what a run leaves on the device of an output
-abbrev pub DeviceGetsOr : {D : Type 0} → Ghosts D → Rules → Which → Option (List ℕ) → Option (List ℕ) →
-    Result Totals LoggedFault → D → D → Type 0
-DeviceGetsOr S rules which inside outside result old new =
-    DeviceGets S rules which inside outside (besides_log result) old new
-    ⊎ (IsOfRun (besides_log result) × (new ≡ old))
 
 -- why a run that is observed by its log failed
 abbrev pub fault_of : Halt LoggedFault → LoggedFault
@@ -116,21 +130,11 @@ pub record LoggedSays (open_gate : Bool) (rules : Rules) (inside outside : Optio
   pub fault : IfErr result (LoggedExplains inside outside)
   pub stop : IfErr result (IsLoggedStop open_gate)
 
--- how many writes and flushes of the log failed, where that is known
-abbrev pub Counts : {T : Type 0} → Result T LoggedFault → ℕ → ℕ → Type 0
-Counts (Err (Log fault)) old new = new ≡ old + 1
-Counts (Err (Run (faults.Run fault))) old new = Unit {0}
-Counts (Err (Run (faults.Write outputs.Outside fault))) old new = Unit {0}
-Counts (Err (Run (faults.Write outputs.Inside fault))) old new = Unit {0}
-Counts other old new = new ≡ old
-
 -- what a run leaves in the log
-pub record LogGets {L : Type 0} {S : Ghosts L} (rules : Rules) (inside outside : Option (List ℕ))
+pub record LogIsLeft {L : Type 0} {S : Ghosts L} (rules : Rules) (inside outside : Option (List ℕ))
     (result : Result Totals LoggedFault) (old new : Output L S) : Type 0 where
   pub same : new.device.ghost_name ≡ old.device.ghost_name
-  pub gets : Logs rules result inside outside (S.contents old.device.now) (S.contents new.device.now)
-  pub counts : Counts result (S.failed old.device.now) (S.failed new.device.now)
-  pub settled : IsSettledBy (ended (besides_log result)) → S.is_flushed new.device.now
+  pub gets : LogGets S rules inside outside result old.device.now new.device.now
 
 -- and then its report was written, if that was to be
 abbrev pub reported_of : {T : Type 0} → Result T LoggedFault → Result (Unit {0}) Fault →

@@ -1,5 +1,5 @@
 -- Inputs that are shown in two parts are shown as one.
-use Rattle.std.specs.Prelude.{◌≡◌, List, [], ◌++◌, refl}
+use Rattle.std.specs.Prelude.{List, [], ◌++◌, refl}
 use Rattle.std.proofs.Common.{◌∙◌}
 use Rattle.napt_rules.specs.Prelude.{Arrival}
 use Rattle.napt_run.specs.Observing.{Shows}

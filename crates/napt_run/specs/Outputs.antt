@@ -1,5 +1,5 @@
 -- What a call of an output does.
-use Rattle.std.specs.Prelude.{◌≡◌, ℕ, ◌+◌, ◌-◌, ◌^◌, ◌≤◌, min, List, length, take, false}
+use Rattle.std.specs.Prelude.{◌≡◌, ℕ, ◌+◌, ◌-◌, ◌^◌, ◌≤◌, min, List, length, take, true, false}
 use Rattle.std.specs.Io.KnownBytes.{Appends}
 use Rattle.napt_capture.specs.declared.device.Sink.{Ghosts}
 use Rattle.napt_capture.specs.declared.fault.WriteFault.{WriteFault}
@@ -21,4 +21,5 @@ pub record Breaks {W : Type 0} {S : Ghosts W} (old : Output W S) (text : List �
   pub within : count ≤ length text
   pub counted : (a : ℕ) → old.written ≡ min a (2 ^ 64 - 1) → fault.written ≡ min (a + count) (2 ^ 64 - 1)
   pub appended : Appends (S.contents old.device.now) (S.contents new.device.now) (take count text)
+  pub broken : new.is_broken ≡ true
   pub failed_once : S.failed new.device.now ≡ S.failed old.device.now + 1

@@ -1,19 +1,17 @@
 -- What is shown to a log in two parts is shown as one.
-use Rattle.std.specs.Prelude.{◌≡◌, List, [], ◌∷◌, ◌++◌, refl}
+use Rattle.std.specs.Prelude.{List, [], ◌++◌}
 use Rattle.std.proofs.Common.{sym, ◌∙◌, ap, subst, append-nil, append_assoc}
 use Rattle.napt_capture.specs.declared.device.Sink.{Ghosts}
-use Rattle.napt_capture.specs.declared.fault.WriteFault.{WriteFault}
 use Rattle.napt_config.specs.Rules.{Rules}
 use Rattle.napt_rules.specs.Prelude.{Arrival}
 use Rattle.napt_log_text.specs.Logs.{rows_after}
 use Rattle.napt_log_text.specs.Times.{Text}
 use Rattle.napt_log_text.proofs.Logs.{rows_after-append}
 use Rattle.napt_records.specs.declared.fault.Fault.TheVariants as faults
-use Rattle.napt_sequential.specs.declared.fault.RunFault.{RunFault}
 use Rattle.napt_run.specs.Outputs.{Breaks, Grows}
 use Rattle.napt_run.specs.LeavingLaws.{breaks_more, grows_more, grows_none}
 use Rattle.napt_account.specs.KnownRuns.{IsOfInputs}
-use Rattle.napt_run.specs.RunningLogs.{Fails, FailsBy, GoesOn, Halts, IsAt, Sees}
+use Rattle.napt_run.specs.RunningLogs.{Fails, FailsBy, GoesOn, IsAt, Sees}
 use Rattle.napt_run.specs.declared.logged_fault.LoggedFault.{LoggedFault}
 use Rattle.napt_run.specs.declared.logged_fault.LoggedFault.TheVariants.{Run, Log}
 use Rattle.napt_run.specs.declared.running_log.RunningLog.{RunningLog}

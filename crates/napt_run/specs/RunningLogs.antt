@@ -1,5 +1,5 @@
 -- What the log of a run does while inputs come.
-use Rattle.std.specs.Prelude.{◌≡◌, List, [], ◌∷◌, ◌++◌, false, Result, Ok, Err}
+use Rattle.std.specs.Prelude.{◌≡◌, ◌⊎◌, ℕ, ◌+◌, Bool, List, [], ◌∷◌, ◌++◌, false, Result, Ok, Err}
 use Rattle.napt_capture.specs.declared.device.Sink.{Ghosts}
 use Rattle.napt_config.specs.Rules.{Rules}
 use Rattle.napt_rules.specs.Prelude.{Arrival}
@@ -22,6 +22,10 @@ abbrev pub IsFlushedAt : Halt LoggedFault → Type 0
 IsFlushedAt (halts.Run (faults.Capture side fault)) = Unit {0}
 IsFlushedAt (halts.Observer fault) = Unit {0}
 IsFlushedAt other = ⊥
+
+-- no call of a log failed after this; or one, if none had failed before
+abbrev pub FailsMore : Bool → ℕ → ℕ → Type 0
+FailsMore is_broken old new = (new ≡ old) ⊎ ((is_broken ≡ false) × (new ≡ old + 1))
 
 module _ {L : Type 0} {S : Ghosts L} where
   -- it took these inputs, and goes on

@@ -13,14 +13,13 @@ use Rattle.napt_laws.specs.Dispatching.{IsFront}
 use Rattle.napt_records.specs.Taking.{Inputs}
 use Rattle.napt_records.specs.declared.Fault.{Fault}
 use Rattle.napt_records.specs.declared.Fault.TheVariants.{Capture, Run, Write}
-use Rattle.napt_records.specs.declared.Which.{Which}
 use Rattle.napt_records.specs.declared.Which.TheVariants.{Outside, Inside, Report}
-use Rattle.napt_run.specs.Captures.{IfKnown, failed_writings}
+use Rattle.napt_run.specs.Captures.{IfKnown}
 use Rattle.napt_rules.specs.Prelude.{Arrival, ran}
 use Rattle.napt_run.specs.Leaving.{IsSettled, Timed, records_text}
 use Rattle.napt_run.specs.Outputs.{Breaks, Grows}
 use Rattle.napt_run.specs.Files.{files_until}
-use Rattle.napt_run.specs.Streams.{AreTaken, Explains, IsFaultOf, IsOfRun, IsSettledBy, IsStopFault, Streams, ended}
+use Rattle.napt_run.specs.Streams.{AreTaken, Explains, IsFaultOf, IsStopFault}
 use Rattle.napt_run.specs.declared.leaving.Leaving.{Leaving}
 use Rattle.napt_run.specs.declared.output.Output.{Output}
 use Rattle.napt_run.specs.declared.passing.Totals.{Totals}
@@ -105,13 +104,6 @@ pub record IsToldOf (rules : Rules) (inside outside : Option (List ℕ)) (totals
   pub all : IfHeld inside outside (λ all. all ≡ record { arrivals = inputs; end = Ok totals.cuts })
   pub counts : AreCountsOf (ran rules inputs).outcomes totals.counts
   pub bindings : totals.passed.bindings.items ≡ (ran rules inputs).bindings
-
--- what a run leaves on the device of an output
-pub record DeviceGets {D : Type 0} (S : Ghosts D) (rules : Rules) (which : Which) (inside outside : Option (List ℕ))
-    (result : Result Totals Fault) (old new : D) : Type 0 where
-  pub gets : Streams rules which (ended result) inside outside (S.contents old) (S.contents new)
-  pub count : (¬ IsOfRun result) → S.failed new ≡ S.failed old + failed_writings which (ended result)
-  pub settled : IsSettledBy (ended result) → S.is_flushed new
 
 -- what the result of a run says of the captures, under a gate that promises yes or one that does not
 pub record ResultSays (open_gate : Bool) (rules : Rules) (inside outside : Option (List ℕ))

@@ -1,12 +1,13 @@
 -- What a run leaves over captures that are read as they arrive. Nothing is claimed of the bytes of a reader or a writer
 -- that are not known.
-use Rattle.std.specs.Prelude.{◌≡◌, ◌⊎◌, ℕ, ◌+◌, ◌≤◌, ◌-◌, ◌^◌, min, List, [], length, take, drop, Bool, Option, Result, Ok, Err, IsOk}
+use Rattle.std.specs.Prelude.{◌≡◌, ◌⊎◌, ℕ, ◌+◌, ◌≤◌, ◌-◌, ◌^◌, min, List, [], length, take, drop, Bool, Option, Result, Ok, Err, IsOk, OnOk}
 use Rattle.std.specs.Io.KnownBytes.{Appends}
 use Rattle.napt_wire.specs.declared.Side.{Side}
 use Rattle.napt_wire.specs.declared.Side.TheVariants as sides
 use Rattle.napt_capture.specs.Capture.{spelling_in}
 use Rattle.napt_capture.specs.Reading.{Gives, Says, StopsBy}
 use Rattle.napt_capture.specs.Text.{file_header, text}
+use Rattle.napt_capture.specs.declared.device.Sink as sink
 use Rattle.napt_capture.specs.declared.device.Source.{Ghosts}
 use Rattle.napt_capture.specs.declared.records.Records.{Records}
 use Rattle.napt_capture.specs.declared.fault.CaptureFault.{CaptureFault}
@@ -22,7 +23,7 @@ use Rattle.napt_records.specs.declared.Fault.{Fault}
 use Rattle.napt_records.specs.declared.Fault.TheVariants.{Capture, Run, Write}
 use Rattle.napt_records.specs.declared.Which.{Which}
 use Rattle.napt_records.specs.declared.Which.TheVariants.{Outside, Inside, Report}
-use Rattle.napt_run.specs.Captures.{IfKnown, failed_readings}
+use Rattle.napt_run.specs.Captures.{IfKnown, failed_readings, failed_writings}
 use Rattle.napt_run.specs.Files.{files_until}
 use Rattle.napt_rules.specs.Prelude.{Arrival, ran}
 use Rattle.napt_sequential.specs.declared.fault.RunFault.TheVariants as faults
@@ -104,12 +105,6 @@ GetsReport report (Err (Write Report fault)) old new =
     (fault.written ≤ length report) × Appends old new (take fault.written report)
 GetsReport report (Err other) old new = new ≡ old
 
--- it is written only at the end
-abbrev pub TellsAll : Result (Unit {0}) Fault → Type 0
-TellsAll (Ok done) = Unit {0}
-TellsAll (Err (Write Report fault)) = Unit {0}
-TellsAll other = ⊥
-
 abbrev pub ReportsAll : Rules → Result (Unit {0}) Fault → Inputs → Option (List ℕ) → Option (List ℕ) → Type 0
 ReportsAll rules result all old new =
     (cuts : Cuts) × (all.end ≡ Ok cuts)
@@ -182,6 +177,22 @@ HasRead inside_failed outside_failed old new other_old other_new result =
     (read : Result (Unit {0}) Fault) × IsReading result read
     × (inside_failed new ≡ inside_failed old + failed_readings sides.Inside read)
     × (outside_failed other_new ≡ outside_failed other_old + failed_readings sides.Outside read)
+
+-- THE DEVICES
+
+-- what a run leaves on the device of a capture; its fault may hide failed calls
+pub record DeviceGets {D T : Type 0} (S : sink.Ghosts D) (rules : Rules) (which : Which)
+    (inside outside : Option (List ℕ)) (result : Result T Fault) (old new : D) : Type 0 where
+  pub gets : Streams rules which (ended result) inside outside (S.contents old) (S.contents new)
+  pub count : (¬ IsOfRun result) → S.failed new ≡ S.failed old + failed_writings which (ended result)
+  pub settled : IsSettledBy (ended result) → S.is_flushed new
+
+-- and on that of the report
+pub record ReportGets {D : Type 0} (S : sink.Ghosts D) (rules : Rules) (inside outside : Option (List ℕ))
+    (result : Result (Unit {0}) Fault) (old new : D) : Type 0 where
+  pub gets : Reports rules result inside outside (S.contents old) (S.contents new)
+  pub count : S.failed new ≡ S.failed old + failed_writings Report result
+  pub settled : OnOk result (S.is_flushed new)
 
 -- STEPS
 

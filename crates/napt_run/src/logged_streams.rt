@@ -1,9 +1,8 @@
 //! A run over captures as they arrive, with its log.
-ghost use Rattle.std.specs.Prelude.{◌≡◌, ◌+◌, ◌-◌, ◌^◌, ◌<◌, [], IfErr, OnOk, true, false};
-ghost use Rattle.napt_run.specs.Captures.{failed_writings};
-ghost use Rattle.napt_run.specs.LoggedStreams.{Counts, DeviceGetsOr, IsUnderOpenGate, LogGets, LoggedExplains, LoggedSays, LoggedStreams, Logs, besides_log, fault_of, reported_of};
+ghost use Rattle.std.specs.Prelude.{◌≡◌, ◌-◌, ◌^◌, ◌<◌, [], IfErr, true};
+ghost use Rattle.napt_run.specs.LoggedStreams.{DeviceGetsOr, IsUnderOpenGate, LogGets, LogIsLeft, LoggedExplains, LoggedSays, besides_log, fault_of, reported_of};
 ghost use Rattle.napt_run.specs.RunningLogs.{IsAt};
-ghost use Rattle.napt_run.specs.Streams.{HasRead, IsOfRun, IsSettledBy, Reports};
+ghost use Rattle.napt_run.specs.Streams.{HasRead, IsOfRun, ReportGets};
 
 use crate::logged_fault::LoggedFault;
 use crate::observer::Halt;
@@ -55,7 +54,7 @@ impl<T: Threads + Wait + Copy + Send + 'static, G: Gate + Send + Sync + Drop + '
             to_outside.old to_outside.new }
         ensures to_inside { DeviceGetsOr V.Sink self.entry.config.now Which.Inside
             (R.remaining inside.old) (Q.remaining outside.old) result to_inside.old to_inside.new }
-        ensures log { LogGets self.entry.config.now (R.remaining inside.old)
+        ensures log { LogIsLeft self.entry.config.now (R.remaining inside.old)
             (Q.remaining outside.old) result log.old.output log.new.output }
         ensures says { LoggedSays G.is_open self.entry.config.now (R.remaining inside.old)
             (Q.remaining outside.old) result }
@@ -103,9 +102,9 @@ fn with_report(
 /// Fails with `LoggedFault::Run` as `run_streams` does. In addition the fault is `TooMany` if there are more than
 /// 4,294,967,295 inputs, and `Memory` may come before anything is written. Fails with `LoggedFault::Log` if the log could not
 /// be written: it has the first `written` bytes of its text, a number that saturates. The captures are then as after a fault
-/// of the run, or untouched if the log could not be begun, and there is no report. After each other fault the log has the
-/// rows of some first inputs, or a part of them; after one of a capture or of the report it has all rows of the inputs
-/// before, and is flushed.
+/// of the run, or untouched if the log could not be begun, and there is no report. After a fault of a capture the log has
+/// all rows of the packets before it, and after one of the report all of its text; no call of it failed, and it is flushed.
+/// After each other fault it has a part of its text, and at most one call of it failed.
 pub fn run_streams_with_log<
     T: Threads + Wait + Copy + Send + 'static,
     R: Source,
@@ -133,34 +132,20 @@ pub fn run_streams_with_log<
     requires to_inside { V.failed to_inside.old < 2 ^ 64 - 1 }
     requires report { U.failed report.old < 2 ^ 64 - 1 }
     requires log { L.failed log.old < 2 ^ 64 - 1 }
-    ensures to_outside { LoggedStreams config.now Which.Outside result
-        (R.remaining inside.old) (Q.remaining outside.old)
-        (W.contents to_outside.old) (W.contents to_outside.new) }
-    ensures to_inside { LoggedStreams config.now Which.Inside result
-        (R.remaining inside.old) (Q.remaining outside.old)
-        (V.contents to_inside.old) (V.contents to_inside.new) }
-    ensures report { Reports config.now (besides_log result)
-        (R.remaining inside.old) (Q.remaining outside.old)
-        (U.contents report.old) (U.contents report.new) }
-    ensures log { Logs config.now result (R.remaining inside.old) (Q.remaining outside.old)
-        (L.contents log.old) (L.contents log.new) }
+    ensures to_outside { DeviceGetsOr W.Sink config.now Which.Outside (R.remaining inside.old)
+        (Q.remaining outside.old) result to_outside.old to_outside.new }
+    ensures to_inside { DeviceGetsOr V.Sink config.now Which.Inside (R.remaining inside.old)
+        (Q.remaining outside.old) result to_inside.old to_inside.new }
+    ensures report { ReportGets U.Sink config.now (R.remaining inside.old)
+        (Q.remaining outside.old) (besides_log result) report.old report.new }
+    ensures log { LogGets L.Sink config.now (R.remaining inside.old)
+        (Q.remaining outside.old) result log.old log.new }
     ensures fault { IfErr result
         (LoggedExplains (R.remaining inside.old) (Q.remaining outside.old)) }
     ensures gate { G.is_open ≡ true → IfErr result IsUnderOpenGate }
-    // Unless the run itself or the log failed, the failed call is the reported one; a failed write may hide a failed read.
+    // Unless the run itself or the log failed, the failed read is the reported one; a failed write may hide it.
     ensures readings { (¬ IsOfRun (besides_log result)) → HasRead R.failed Q.failed
         inside.old inside.new outside.old outside.new (besides_log result) }
-    ensures outside_writings { (¬ IsOfRun (besides_log result)) → W.failed to_outside.new
-        ≡ W.failed to_outside.old + failed_writings Which.Outside (besides_log result) }
-    ensures inside_writings { (¬ IsOfRun (besides_log result)) → V.failed to_inside.new
-        ≡ V.failed to_inside.old + failed_writings Which.Inside (besides_log result) }
-    ensures report_writings { U.failed report.new
-        ≡ U.failed report.old + failed_writings Which.Report (besides_log result) }
-    ensures log_writings { Counts result (L.failed log.old) (L.failed log.new) }
-    ensures outside_flushed { IsSettledBy (besides_log result) → W.is_flushed to_outside.new }
-    ensures inside_flushed { IsSettledBy (besides_log result) → V.is_flushed to_inside.new }
-    ensures report_flushed { OnOk result (U.is_flushed report.new) }
-    ensures log_flushed { IsSettledBy (besides_log result) → L.is_flushed log.new }
 {
     let run = KnownRun::begin(alloc, config)?;
     let setting = Setting {

@@ -1,6 +1,6 @@
 //! The inputs of a run, shown to an observer as they come.
 
-ghost use Rattle.std.specs.Prelude.{◌≡◌, ◌++◌, [], ◌∷◌, List, MatchResult, false, refl};
+ghost use Rattle.std.specs.Prelude.{◌≡◌, [], ◌∷◌, MatchResult, OnOk};
 ghost use Rattle.napt_rules.specs.Prelude.{Arrival};
 
 use crate::observer::Observer;
@@ -41,6 +41,8 @@ impl<'o, A: Arrivals, O: Observer> Observed<'o, A, O> {
         ensures shows { MatchResult result
             (λ _. O.sees self.old.observer.now (input.now ∷ []) self.new.observer.now)
             (λ fault. O.fails self.old.observer.now (input.now ∷ []) fault self.new.observer.now) }
+        ensures settled { A.asks self.old.arrivals →
+            OnOk result (O.is_settled self.new.observer.now) }
     {
         self.observer.observe(input)?;
         self.settle_for_wait()
@@ -53,8 +55,10 @@ impl<'o, A: Arrivals, O: Observer> Observed<'o, A, O> {
         ensures settles { MatchResult result
             (λ _. O.sees self.old.observer.now [] self.new.observer.now)
             (λ fault. O.fails self.old.observer.now [] fault self.new.observer.now) }
+        ensures settled { A.asks self.old.arrivals →
+            OnOk result (O.is_settled self.new.observer.now) }
     {
-        if !self.arrivals.asks_device() {
+        if !self.observer.needs_settling() || !self.arrivals.asks_device() {
             return Ok(());
         }
         self.settle()
@@ -74,7 +78,6 @@ impl<'o, A: Arrivals, O: Observer> Observed<'o, A, O> {
 }
 
 impl<'o, A: Arrivals, O: Observer> Arrivals for Observed<'o, A, O> {
-    ghost use Rattle.std.specs.Prelude.{◌≡◌, false, refl};
     ghost use Rattle.napt_run.specs.Observing.{Shows, Ends};
     ghost use Rattle.napt_run.specs.ObservingLaws.{shows_none, shows_more};
 

@@ -1,6 +1,6 @@
 //! Who is shown the inputs of a run as they come.
 
-ghost use Rattle.std.specs.Prelude.{◌++◌, [], ◌∷◌, List, MatchResult};
+ghost use Rattle.std.specs.Prelude.{◌≡◌, ◌++◌, [], ◌∷◌, List, MatchResult, false};
 ghost use Rattle.napt_rules.specs.Prelude.{Arrival};
 
 use napt_records::Fault;
@@ -24,6 +24,10 @@ pub(crate) trait Observer {
     fn observe(&mut self, input: &Input) -> Result<(), Self::Fault>
         ensures { MatchResult result (λ _. sees self.old (input.now ∷ []) self.new)
             (λ fault. fails self.old (input.now ∷ []) fault self.new) };
+
+    /// Whether what it makes of the inputs may not all be at its destination yet.
+    fn needs_settling(&self) -> bool
+        ensures { result ≡ false → is_settled self.now };
 
     /// Brings what it makes of the inputs to its destination: a flush.
     fn settle(&mut self) -> Result<(), Self::Fault>
@@ -62,6 +66,10 @@ impl Observer for Unobserved {
 
     fn observe(&mut self, _input: &Input) -> Result<(), NoFault> {
         Ok(())
+    }
+
+    fn needs_settling(&self) -> bool {
+        false
     }
 
     fn settle(&mut self) -> Result<(), NoFault> {

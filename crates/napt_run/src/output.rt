@@ -1,5 +1,5 @@
 //! A capture that is written record by record, or another text that is written part by part.
-ghost use Rattle.std.specs.Prelude.{◌≡◌, ◌+◌, ◌-◌, min, ◌^◌, ◌≤◌, ◌<◌, [], length, take, OnOk, IfErr, IfOk, false};
+ghost use Rattle.std.specs.Prelude.{◌≡◌, ◌+◌, ◌-◌, min, ◌^◌, ◌≤◌, ◌<◌, [], length, take, OnOk, IfErr, false};
 ghost use Rattle.std.specs.Io.KnownBytes.{Appends};
 ghost use Rattle.napt_capture.specs.Device.{failed_calls};
 ghost use Rattle.napt_capture.specs.Text.{entry_of_packet, file_header, record_text};

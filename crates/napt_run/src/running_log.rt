@@ -26,7 +26,7 @@ pub(crate) struct RunningLog<'a, 'b, L: Sink> {
 }
 
 impl<'a, 'b, L: Sink> RunningLog<'a, 'b, L> {
-    ghost use Rattle.napt_run.specs.RunningLogs.{Adds, IsAt, IsFlushedAt, StepFails, StepsTo};
+    ghost use Rattle.napt_run.specs.RunningLogs.{Adds, FailsMore, IsAt, IsFlushedAt, StepFails, StepsTo};
 
     /// The log of a run that has begun, with nothing written yet.
     pub(crate) fn over(
@@ -81,6 +81,8 @@ impl<'a, 'b, L: Sink> RunningLog<'a, 'b, L> {
         ensures same { self.new.output.device.ghost_name ≡ self.old.output.device.ghost_name }
         ensures kept { Appends (L.contents self.old.output.device.now)
             (L.contents self.new.output.device.now) [] }
+        ensures counts { FailsMore self.old.output.is_broken
+            (L.failed self.old.output.device.now) (L.failed self.new.output.device.now) }
         ensures flushed { IsFlushedAt halt.now → self.new.output ≡ self.old.output }
     {
         if let Halt::Run(Fault::Run(_) | Fault::Write(..)) = halt {
@@ -155,6 +157,10 @@ impl<L: Sink> Observer for RunningLog<'_, '_, L> {
         let text = self.step(input)?;
         self.output.put_text(text.as_bytes())?;
         Ok(())
+    }
+
+    fn needs_settling(&self) -> bool {
+        true
     }
 
     fn settle(&mut self) -> Result<(), LoggedFault> {

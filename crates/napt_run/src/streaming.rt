@@ -3,9 +3,9 @@ ghost use Rattle.std.specs.Prelude.{◌≡◌, ◌-◌, ◌^◌, ◌<◌, []};
 ghost use Rattle.napt_capture.specs.Text.{file_header};
 ghost use Rattle.napt_records.specs.Counts.{AreCountsOf};
 ghost use Rattle.napt_run.specs.Leaving.{AreSound};
-ghost use Rattle.napt_run.specs.Runs.{DeviceGets, ResultSays, RunsTo};
+ghost use Rattle.napt_run.specs.Runs.{ResultSays, RunsTo};
 ghost use Rattle.napt_run.specs.Observers.{Observes, as_run};
-ghost use Rattle.napt_run.specs.Streams.{HasRead, IsOfRun};
+ghost use Rattle.napt_run.specs.Streams.{DeviceGets, HasRead, IsOfRun};
 
 use crate::leaving::Leaving;
 use crate::observer::{Halt, Observer};

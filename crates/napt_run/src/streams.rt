@@ -1,9 +1,8 @@
 //! A run over captures as they arrive.
-ghost use Rattle.std.specs.Prelude.{◌≡◌, ◌+◌, ◌-◌, ◌^◌, ◌<◌, IfErr, OnOk, true, false};
+ghost use Rattle.std.specs.Prelude.{◌≡◌, ◌-◌, ◌^◌, ◌<◌, IfErr, true, false};
 ghost use Rattle.napt_records.specs.Faults.{tells_shut_gate};
-ghost use Rattle.napt_run.specs.Captures.{failed_writings};
 ghost use Rattle.napt_run.specs.Observers.{as_run};
-ghost use Rattle.napt_run.specs.Streams.{Explains, HasRead, IsOfRun, IsSettledBy, Reports, Streams};
+ghost use Rattle.napt_run.specs.Streams.{DeviceGets, Explains, HasRead, IsOfRun, ReportGets};
 
 use crate::observer::{Halt, Unobserved};
 use crate::passing::{Setting, Totals};
@@ -29,9 +28,9 @@ fn unobserved(streamed: Result<Totals, Halt<NoFault>>) -> Result<Totals, Fault>
 }
 
 /// Translates both captures, and writes what leaves to each side, and a report, as `run_captures` does, but as the packets
-/// arrive: each is read, translated and written before a device is asked for more. Memory is bounded by the bindings (an expired one stays until a new one is made at its address), the 131,072
-/// packets that may be in flight, and 16,384 buffers that are kept. If it succeeds, each output holds exactly what
-/// `run_captures` writes. Captures may be of any length.
+/// arrive: each is read, translated and written before a device is asked for more. Memory is bounded by the bindings (an
+/// expired one stays until a new one is made at its address), the 131,072 packets that may be in flight, and 16,384 buffers
+/// that are kept. If it succeeds, each output holds exactly what `run_captures` writes. Captures may be of any length.
 ///
 /// The header of each output is written before anything is read. Before a device is asked for more bytes, every packet read
 /// so far has been answered, written and flushed. Merging needs the next record of both sides; an empty record lets time
@@ -69,30 +68,18 @@ pub fn run_streams<
     requires to_outside { W.failed to_outside.old < 2 ^ 64 - 1 }
     requires to_inside { V.failed to_inside.old < 2 ^ 64 - 1 }
     requires report { U.failed report.old < 2 ^ 64 - 1 }
-    ensures to_outside { Streams config.now Which.Outside result
-        (R.remaining inside.old) (Q.remaining outside.old)
-        (W.contents to_outside.old) (W.contents to_outside.new) }
-    ensures to_inside { Streams config.now Which.Inside result
-        (R.remaining inside.old) (Q.remaining outside.old)
-        (V.contents to_inside.old) (V.contents to_inside.new) }
-    ensures report { Reports config.now result
-        (R.remaining inside.old) (Q.remaining outside.old)
-        (U.contents report.old) (U.contents report.new) }
+    ensures to_outside { DeviceGets W.Sink config.now Which.Outside (R.remaining inside.old)
+        (Q.remaining outside.old) result to_outside.old to_outside.new }
+    ensures to_inside { DeviceGets V.Sink config.now Which.Inside (R.remaining inside.old)
+        (Q.remaining outside.old) result to_inside.old to_inside.new }
+    ensures report { ReportGets U.Sink config.now (R.remaining inside.old)
+        (Q.remaining outside.old) result report.old report.new }
     ensures fault { IfErr result
         (Explains (R.remaining inside.old) (Q.remaining outside.old)) }
     ensures gate { G.is_open ≡ true → IfErr result (λ fault. tells_shut_gate fault ≡ false) }
-    // Unless the run itself failed, the failed call is the reported one; a failed write may hide a failed read.
+    // Unless the run itself failed, the failed read is the reported one; a failed write may hide it.
     ensures readings { (¬ IsOfRun result) → HasRead R.failed Q.failed
         inside.old inside.new outside.old outside.new result }
-    ensures outside_writings { (¬ IsOfRun result) → W.failed to_outside.new
-        ≡ W.failed to_outside.old + failed_writings Which.Outside result }
-    ensures inside_writings { (¬ IsOfRun result) → V.failed to_inside.new
-        ≡ V.failed to_inside.old + failed_writings Which.Inside result }
-    ensures report_writings { U.failed report.new
-        ≡ U.failed report.old + failed_writings Which.Report result }
-    ensures outside_flushed { IsSettledBy result → W.is_flushed to_outside.new }
-    ensures inside_flushed { IsSettledBy result → V.is_flushed to_inside.new }
-    ensures report_flushed { OnOk result (U.is_flushed report.new) }
 {
     let setting = Setting {
         rt,

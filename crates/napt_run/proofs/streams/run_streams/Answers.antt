@@ -1,8 +1,8 @@
-use Rattle.std.proofs.Common.{◌+◌, ◌∙◌, ap, subst, sym}
+use Rattle.std.proofs.Common.{subst, sym}
 use Rattle.napt_records.specs.declared.Which.TheVariants.{Inside, Outside}
-use Rattle.napt_run.specs.Runs.{DeviceGets, ResultSays}
-use Rattle.napt_run.specs.Streams.{HasRead, IsOfRun}
-use Rattle.napt_run.proofs.Endings.{Ends, closed, ends_and, explains_ends, gate_ends, inside_by, inside_ends, outside_by, outside_ends, reads_by, report_ends, same_contents, settled_by, written_all, written_fails, written_flushed}
+use Rattle.napt_run.specs.Runs.{ResultSays}
+use Rattle.napt_run.specs.Streams.{DeviceGets, HasRead, IsOfRun}
+use Rattle.napt_run.proofs.Endings.{Ends, closed, ends_and, explains_ends, gate_ends, inside_by, outside_by, reads_by, report_by}
 use Rattle.napt_run.proofs.streams.run_streams.Given.{Over}
 use Rattle.napt_run.proofs.streams.run_streams.Goals as goal
 use Rattle.napt_run.proofs.streams.run_streams.Goals.{After-and}
@@ -42,21 +42,20 @@ reads g c = subst (λ r. (¬ IsOfRun r) → HasRead g.R.Source.failed g.Q.Source
 
 pub returns-clause-to_outside : goal.returns-clause-to_outside
 returns-clause-to_outside g c =
-    outside_ends _ _ _ _ _ c.unobserved-told.result c.and.result (ends g c) (to_outside g c).gets
+    outside_by c.unobserved-told.result c.and.result (ends g c) g.W.Sink _ _ _ _ _ (to_outside g c)
 
 pub returns-clause-to_inside : goal.returns-clause-to_inside
 returns-clause-to_inside g c =
-    inside_ends _ _ _ _ _ c.unobserved-told.result c.and.result (ends g c) (to_inside g c).gets
+    inside_by c.unobserved-told.result c.and.result (ends g c) g.V.Sink _ _ _ _ _ (to_inside g c)
 
 pub returns-clause-report : goal.returns-clause-report
 returns-clause-report g c =
-    report_ends c.args.config.now (g.R.Source.remaining c.args.inside.now)
-    (g.Q.Source.remaining c.args.outside.now) (g.U.Sink.contents c.args.report.now)
-    (g.U.Sink.contents c.reported-written.new.output) c.unobserved-told.result c.and.result (ends g c)
-    (says g c).told (closed _ c.unobserved-told.result (says g c).stop)
-    (same_contents g.U.Sink.contents _ _ c.unobserved-told.result c.reported-written.ensures.untouched)
-    (written_all c.unobserved-told.result c.reported-written.result c.and.result _ _ c.and.ensures
-    c.reported-written.ensures.written)
+    report_by g.U.Sink c.args.config.now (g.R.Source.remaining c.args.inside.now)
+    (g.Q.Source.remaining c.args.outside.now) c.args.report.now c.reported-written.new.output
+    c.unobserved-told.result c.reported-written.result c.and.result c.and.ensures c.reported-written.ensures.fault
+    (says g c).told (closed _ c.unobserved-told.result (says g c).stop) c.reported-written.ensures.untouched
+    c.reported-written.ensures.nothing c.reported-written.ensures.written c.reported-written.ensures.flushed
+    c.reported-written.ensures.count
 
 pub returns-clause-fault : goal.returns-clause-fault
 returns-clause-fault g c =
@@ -70,31 +69,3 @@ pub returns-clause-readings : goal.returns-clause-readings
 returns-clause-readings g c =
     reads_by c.unobserved-told.result c.and.result (ends g c) g.R.Source.failed g.Q.Source.failed c.args.inside.now
     c.stream-streamed.new.inside c.args.outside.now c.stream-streamed.new.outside (reads g c)
-
-pub returns-clause-outside_writings : goal.returns-clause-outside_writings
-returns-clause-outside_writings g c =
-    outside_by c.unobserved-told.result c.and.result (ends g c) _ _ (to_outside g c).count
-
-pub returns-clause-inside_writings : goal.returns-clause-inside_writings
-returns-clause-inside_writings g c =
-    inside_by c.unobserved-told.result c.and.result (ends g c) _ _ (to_inside g c).count
-
-pub returns-clause-report_writings : goal.returns-clause-report_writings
-returns-clause-report_writings g c =
-    c.reported-written.ensures.count
-    ∙ ap (λ n. g.U.Sink.failed c.args.report.now + n) (written_fails c.unobserved-told.result c.reported-written.result
-    c.and.result c.and.ensures c.reported-written.ensures.nothing
-    (closed _ c.unobserved-told.result (says g c).stop))
-
-pub returns-clause-outside_flushed : goal.returns-clause-outside_flushed
-returns-clause-outside_flushed g c =
-    settled_by c.unobserved-told.result c.and.result (ends g c) (to_outside g c).settled
-
-pub returns-clause-inside_flushed : goal.returns-clause-inside_flushed
-returns-clause-inside_flushed g c =
-    settled_by c.unobserved-told.result c.and.result (ends g c) (to_inside g c).settled
-
-pub returns-clause-report_flushed : goal.returns-clause-report_flushed
-returns-clause-report_flushed g c =
-    written_flushed _ c.unobserved-told.result c.reported-written.result c.and.result c.and.ensures
-    c.reported-written.ensures.flushed

@@ -18,5 +18,6 @@ returns-in-Err-clause-err g c sound = record {
   within = omega arith;
   counted = λ a is. omega (arith, is);
   appended = keeps_as_none _ _ c.in-Err.ensures.bytes;
+  broken = refl;
   failed_once = search rules;
 }

@@ -4,7 +4,7 @@ use Rattle.napt_wire.specs.declared.Side.TheVariants as sides
 use Rattle.napt_records.specs.declared.Fault.TheVariants.{Capture}
 use Rattle.napt_run.specs.Captures.{failed_readings}
 use Rattle.napt_run.proofs.Shown.{unread_observes}
-use Rattle.napt_run.proofs.Headers.{header_failed, header_of, inside_refused, more_after, outside_refused}
+use Rattle.napt_run.proofs.Headers.{header_failed, header_of, inside_refused, more_after, none_taken, outside_refused}
 use Rattle.napt_run.proofs.passing.Setting.run_over.Goals as goal
 
 pub returns-in_err-ours-clause-runs : goal.returns-in_err-ours-clause-runs
@@ -30,7 +30,7 @@ returns-clause-runs g c =
 pub returns-in_err-ours-clause-readings : goal.returns-in_err-ours-clause-readings
 returns-in_err-ours-clause-readings g c not_run =
     let p = err_from_is_err_and c.from_residual.result c.from_residual.ensures.1 in
-    let (fault, is) = header_of sides.Inside c.in_err-ours.field-0.0 _ _ c.in_err-ours.ensures.fault in
+    let (fault, is, _) = header_of sides.Inside c.in_err-ours.field-0.0 _ _ c.in_err-ours.ensures.fault in
     rw (p.1, p.2, is) (
       Err (Capture sides.Inside fault),
       refl,
@@ -41,7 +41,7 @@ returns-in_err-ours-clause-readings g c not_run =
 pub returns-in_err-theirs-clause-readings : goal.returns-in_err-theirs-clause-readings
 returns-in_err-theirs-clause-readings g c not_run =
     let p = err_from_is_err_and c.from_residual-in_err-theirs.result c.from_residual-in_err-theirs.ensures.1 in
-    let (fault, is) = header_of sides.Outside c.in_err-theirs.field-0.0 _ _ c.in_err-theirs.ensures.fault in
+    let (fault, is, _) = header_of sides.Outside c.in_err-theirs.field-0.0 _ _ c.in_err-theirs.ensures.fault in
     rw (p.1, p.2, is) (
       Err (Capture sides.Outside fault),
       refl,
@@ -61,18 +61,20 @@ returns-clause-readings g c not_run =
 pub returns-in_err-ours-clause-observes : goal.returns-in_err-ours-clause-observes
 returns-in_err-ours-clause-observes g c =
     let p = err_from_is_err_and c.from_residual.result c.from_residual.ensures.1 in
-    let (fault, is) = header_of sides.Inside c.in_err-ours.field-0.0 _ _ c.in_err-ours.ensures.fault in
+    let (fault, is, heads) = header_of sides.Inside c.in_err-ours.field-0.0 _ _ c.in_err-ours.ensures.fault in
     rw (p.1, p.2, is) (unread_observes g.O.Observer.sees g.O.Observer.fails g.O.Observer.is_settled
     (g.R.Source.remaining c.args.inside.now) (g.Q.Source.remaining c.args.outside.now) c.args.observer.now
-    (g.met.O.Observer.sees_none c.args.observer.now) c.requires.observer sides.Inside fault)
+    (g.met.O.Observer.sees_none c.args.observer.now) c.requires.observer sides.Inside fault
+    (none_taken _ _ sides.Inside fault (inside_refused _ _ _ fault heads)))
 
 pub returns-in_err-theirs-clause-observes : goal.returns-in_err-theirs-clause-observes
 returns-in_err-theirs-clause-observes g c =
     let p = err_from_is_err_and c.from_residual-in_err-theirs.result c.from_residual-in_err-theirs.ensures.1 in
-    let (fault, is) = header_of sides.Outside c.in_err-theirs.field-0.0 _ _ c.in_err-theirs.ensures.fault in
+    let (fault, is, heads) = header_of sides.Outside c.in_err-theirs.field-0.0 _ _ c.in_err-theirs.ensures.fault in
     rw (p.1, p.2, is) (unread_observes g.O.Observer.sees g.O.Observer.fails g.O.Observer.is_settled
     (g.R.Source.remaining c.args.inside.now) (g.Q.Source.remaining c.args.outside.now) c.args.observer.now
-    (g.met.O.Observer.sees_none c.args.observer.now) c.requires.observer sides.Outside fault)
+    (g.met.O.Observer.sees_none c.args.observer.now) c.requires.observer sides.Outside fault
+    (none_taken _ _ sides.Outside fault (outside_refused _ _ _ _ _ fault c.in_ok-ours.ensures.header.header heads)))
 
 pub returns-clause-observes : goal.returns-clause-observes
 returns-clause-observes g c =

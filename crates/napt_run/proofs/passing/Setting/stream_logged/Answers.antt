@@ -1,7 +1,6 @@
-use Rattle.std.proofs.Common.{◌≡◌, [], rules, inl, inr, refl, sym, ◌∙◌, ap, subst}
+use Rattle.std.proofs.Common.{[], rules, inl, inr, refl}
 use Rattle.std.proofs.lemmas.Result.{err_from_is_err_and}
 use Rattle.napt_records.specs.declared.Which.TheVariants as outputs
-use Rattle.napt_run.specs.RunningLogs.{GoesOn, IsAt}
 use Rattle.napt_run.proofs.Endings.{closed}
 use Rattle.napt_run.proofs.Logged.{adds_fault, device_after, device_halted, ended_badly, ended_well, halt_is, halt_reads, halt_says, halted, opening, text_says, text_stops, unopened}
 use Rattle.napt_run.proofs.passing.Setting.stream_logged.Goals as goal
@@ -158,8 +157,8 @@ returns-in-Err-clause-log g c =
     rw c.fault_of.ensures (halted c.args.self.config.now (g.R.Source.remaining c.args.inside.now)
     (g.Q.Source.remaining c.args.outside.now) c.args.log.now c.open.new.self c.stream.new.observer
     c.requires.written (c.in_ok-open.ensures c.args.self.config.now c.requires.at).on c.flush_after.new.self.output
-    c.flush_after.ensures.same c.flush_after.ensures.kept c.in-Err.halt c.in-Err.ensures.observes (closed
-    g.G.Gate.is_open _ c.in-Err.ensures.says.stop) c.flush_after.ensures.flushed)
+    c.flush_after.ensures.same c.flush_after.ensures.kept c.flush_after.ensures.counts c.in-Err.halt
+    c.in-Err.ensures.observes (closed g.G.Gate.is_open _ c.in-Err.ensures.says.stop) c.flush_after.ensures.flushed)
 
 pub returns-in-Err-clause-says : goal.returns-in-Err-clause-says
 returns-in-Err-clause-says g c =

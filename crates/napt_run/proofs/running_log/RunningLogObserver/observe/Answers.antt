@@ -1,4 +1,4 @@
-use Rattle.std.proofs.Common.{[], ◌∷◌, ◌∙◌}
+use Rattle.std.proofs.Common.{[], ◌∷◌}
 use Rattle.std.proofs.lemmas.Result.{err_from_is_err_and}
 use Rattle.napt_run.proofs.Stepping.{step_failed, step_written}
 use Rattle.napt_run.proofs.running_log.RunningLogObserver.observe.Goals as goal
