@@ -1,9 +1,10 @@
 //! The same captures under two configurations: which packets end differently.
 
 use crate::counted_run::CountedRun;
+use crate::digits::{add_number, add_seconds};
 use crate::following::copied;
 use crate::lines::leaves_with;
-use crate::names::{Seconds, side_name};
+use crate::names::side_column;
 use crate::options::{Choice, Options, Outside};
 use crate::outcome_counts::OutcomeCounts;
 use crate::passed::Consumer;
@@ -15,7 +16,6 @@ use napt_records::cause_name;
 use napt_sequential::{Input, Outcome};
 use napt_wire::Cause;
 use std::alloc::{AllocError, Global};
-use std::fmt::Write;
 
 /// Runs under two configurations, side by side, and how many packets ended differently so far.
 #[derive(Drop)]
@@ -84,8 +84,8 @@ impl<'a> Against<'a> {
         let pair = Pair {
             number,
             input,
-            first: &first.outcome,
-            second: &second.outcome,
+            first: &first,
+            second: &second,
         };
         if pair.ends_alike() {
             return Ok(());
@@ -193,10 +193,12 @@ impl<'a> Pair<'a> {
 
     /// The line of the packet, with its outcome under the first and the second configuration.
     fn text(self, alloc: Global) -> Result<String, AllocError> {
-        let (number, input) = (self.number, self.input);
-        let time = Seconds(input.time);
-        let side = side_name(input.side);
-        let mut text = format!(in alloc; "{number} {time} {side:<7} ")?;
+        let input = self.input;
+        let mut text = String::new(alloc);
+        add_number(&mut text, self.number)?;
+        text.push_str(" ")?;
+        add_seconds(&mut text, input.time, 1)?;
+        text.push_str(side_column(input.side))?;
         add_arrival(alloc, &mut text, input.side, &input.bytes)?;
         text.push_str(" | ")?;
         add_outcome(&mut text, self.first)?;
@@ -209,7 +211,10 @@ impl<'a> Pair<'a> {
 /// Appends an outcome, such as `out: udp 203.0.113.1:5000 > 198.51.100.7:3000`.
 fn add_outcome(text: &mut String, outcome: &Outcome) -> Result<(), AllocError> {
     match outcome {
-        Outcome::Dropped(cause) => write!(text, "dropped, {}", cause_name(*cause)),
+        Outcome::Dropped(cause) => {
+            text.push_str("dropped, ")?;
+            text.push_str(cause_name(*cause))
+        }
         Outcome::ToOutside(packet) => {
             text.push_str("out: ")?;
             add_packet(text, packet)

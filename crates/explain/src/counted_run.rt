@@ -1,16 +1,16 @@
-//! A run of which packets are counted, for forms that make several runs.
+//! A run of which the packets are counted.
 
 use crate::losses::Losses;
 use crate::outcome_counts::OutcomeCounts;
-use napt_account::{KnownRun, Listed, LoggedStep};
+use crate::plain_run::PlainRun;
 use napt_config::Config;
-use napt_sequential::{Input, RunFault};
+use napt_sequential::{Input, Outcome, RunFault};
 use std::alloc::{AllocError, Global};
 
 /// A run after some packets, with what became of them.
 #[derive(Drop)]
 pub struct CountedRun<'a> {
-    run: KnownRun<'a>,
+    run: PlainRun<'a>,
     pub counts: OutcomeCounts,
     pub losses: Losses,
 }
@@ -19,7 +19,7 @@ impl<'a> CountedRun<'a> {
     /// Before the first packet.
     pub fn begin(alloc: Global, config: &'a Config) -> Result<CountedRun<'a>, AllocError> {
         Ok(CountedRun {
-            run: KnownRun::begin(alloc, config)?,
+            run: PlainRun::begin(alloc, config)?,
             counts: OutcomeCounts::new(),
             losses: Losses::new(alloc, config)?,
         })
@@ -29,16 +29,11 @@ impl<'a> CountedRun<'a> {
         self.run.config()
     }
 
-    /// The bindings that live; before the first packet, the redirects.
-    pub fn living(&self, alloc: Global) -> Result<Vec<Listed>, AllocError> {
-        self.run.living(alloc)
-    }
-
-    /// Passes the next packet through the run.
-    pub fn step(&mut self, alloc: Global, input: &Input) -> Result<LoggedStep, RunFault> {
-        let step = self.run.step(alloc, input)?;
-        self.counts.take(&step.outcome);
-        self.losses.take(self.run.config(), input, &step.outcome);
-        Ok(step)
+    /// Passes the next packet through the run, and tells what becomes of it.
+    pub fn step(&mut self, alloc: Global, input: &Input) -> Result<Outcome, RunFault> {
+        let outcome = self.run.step(alloc, input)?;
+        self.counts.take(&outcome);
+        self.losses.take(self.run.config(), input, &outcome);
+        Ok(outcome)
     }
 }

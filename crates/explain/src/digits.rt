@@ -2,12 +2,14 @@
 //! `write!`.
 
 use itoa::Buffer;
-use napt_log_text::add_address;
-pub use napt_log_text::add_endpoint;
+pub use napt_log_text::{add_address, add_endpoint, add_number};
 use std::alloc::{AllocError, Global};
 
-/// As many spaces as the widest column needs.
-const SPACES: &str = "                                                  ";
+/// As many spaces as the widest column needs, and the bar that ends a column.
+const SPACES_AND_BAR: &str = "                                                   | ";
+
+/// How many of them are spaces in front of the bar.
+const SPACES: usize = 50;
 
 /// Appends a number in decimal, padded on the left to at least this width.
 pub fn add_number_within(text: &mut String, number: u64, wide: usize) -> Result<(), AllocError> {
@@ -36,10 +38,19 @@ pub fn add_seconds(text: &mut String, time: u64, wide: usize) -> Result<(), Allo
 
 /// Appends this many spaces, at most the width of the widest column.
 pub fn add_spaces(text: &mut String, many: usize) -> Result<(), AllocError> {
-    text.push_str(SPACES.get(..many).unwrap_or(SPACES))
+    if many == 0 {
+        return Ok(());
+    }
+    text.push_str(SPACES_AND_BAR.get(..many.min(SPACES)).unwrap_or(""))
 }
 
-/// Appends spaces until what starts at `begin` has this width.
-pub fn pad(text: &mut String, begin: usize, wide: usize) -> Result<(), AllocError> {
-    add_spaces(text, wide.saturating_sub(text.len().saturating_sub(begin)))
+/// Ends the column that starts at `begin`: appends spaces until it has this width, at most that of the widest, and the
+/// bar.
+pub fn end_column(text: &mut String, begin: usize, wide: usize) -> Result<(), AllocError> {
+    let many = wide.saturating_sub(text.len().saturating_sub(begin));
+    text.push_str(
+        SPACES_AND_BAR
+            .get(SPACES.saturating_sub(many)..)
+            .unwrap_or(SPACES_AND_BAR),
+    )
 }

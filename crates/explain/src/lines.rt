@@ -1,6 +1,7 @@
 //! The lines of packets.
 
-use crate::digits::{add_number_within, add_seconds, pad};
+use crate::digits::{add_number_within, add_seconds, end_column};
+use crate::names::side_column;
 use crate::options::Choice;
 use crate::passed::Passing;
 use crate::replies::Replies;
@@ -14,7 +15,6 @@ use napt_sequential::{Input, Outcome};
 use napt_table::Row;
 use napt_wire::{Cause, Endpoint, Kind, Packet, Side};
 use std::alloc::{AllocError, Global};
-use std::fmt::Write;
 
 /// A packet of a run: its number, from 1, its arrival, and its outcome.
 #[derive(Clone, Copy)]
@@ -87,39 +87,37 @@ impl<'a> Line<'a> {
         add_number_within(text, self.number, widths.number())?;
         text.push_str(" ")?;
         add_seconds(text, input.time, widths.seconds())?;
-        text.push_str(match input.side {
-            Side::Inside => " inside  ",
-            Side::Outside => " outside ",
-        })?;
+        text.push_str(side_column(input.side))?;
         let begin = text.len();
         add_arrival(alloc, text, input.side, &input.bytes)?;
-        pad(text, begin, BEFORE)?;
-        text.push_str(" | ")?;
+        end_column(text, begin, BEFORE)?;
         self.add_rest(text)?;
-        text.push('\n')
+        text.push_str("\n")
     }
 
     /// Appends what happened to it, and the packet as it leaves.
     fn add_rest(self, text: &mut String) -> Result<(), AllocError> {
-        let (input, outcome) = (self.input, self.outcome);
-        let side = input.side;
-        let (packet, way) = match outcome {
+        let input = self.input;
+        let (packet, is_hairpin) = match self.outcome {
             Outcome::Dropped(cause) => return self.add_loss(text, *cause),
-            Outcome::ToInside(packet) if side == Side::Inside => (packet, "hairpin: "),
-            Outcome::ToInside(packet) | Outcome::ToOutside(packet) => (packet, ""),
+            Outcome::ToInside(packet) => (packet, input.side == Side::Inside),
+            Outcome::ToOutside(packet) => (packet, false),
         };
         let begin = text.len();
         text.push_str(used(packet, self.note))?;
-        pad(text, begin, HAPPENED)?;
-        text.push_str(" | ")?;
-        text.push_str(way)?;
+        end_column(text, begin, HAPPENED)?;
+        if is_hairpin {
+            text.push_str("hairpin: ")?;
+        }
         add_packet(text, packet)
     }
 
     /// Appends why it was dropped.
     fn add_loss(self, text: &mut String, cause: Cause) -> Result<(), AllocError> {
-        let (name, input) = (cause_name(cause), self.input);
-        write!(text, "dropped, {name}: ")?;
+        let input = self.input;
+        text.push_str("dropped, ")?;
+        text.push_str(cause_name(cause))?;
+        text.push_str(": ")?;
         if let (Some(replies), Some(end)) = (self.replies, self.end) {
             if replies.add_loss(text, cause, end, &input.bytes)? {
                 return Ok(());

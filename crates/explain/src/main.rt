@@ -31,6 +31,7 @@ mod page;
 mod passed;
 mod pictures;
 mod places;
+mod plain_run;
 mod plan;
 mod progress;
 mod reading;

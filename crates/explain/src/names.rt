@@ -4,10 +4,11 @@ use jiff::Timestamp;
 use napt_wire::Side;
 use std::fmt;
 
-pub fn side_name(side: Side) -> &'static str {
+/// The column of a side, with a space in front and at least one behind.
+pub fn side_column(side: Side) -> &'static str {
     match side {
-        Side::Inside => "inside",
-        Side::Outside => "outside",
+        Side::Inside => " inside  ",
+        Side::Outside => " outside ",
     }
 }
 

@@ -1,15 +1,14 @@
 //! The line of a single packet, and the bindings that it used.
 
+use crate::digits::add_seconds;
+use crate::ended::add_binding;
 use crate::lines::Line;
-use crate::names::Seconds;
 use crate::page::Page;
 use crate::passed::Passing;
 use crate::stop::Stop;
 use crate::widths::Widths;
 use napt_account::{Entry, Listed};
-use napt_records::{EndpointText, protocol_name};
 use std::alloc::{AllocError, Global};
-use std::fmt::Write;
 
 /// A binding that the packet used: its number in the log, from 1, and its entry once it ended.
 #[derive(Clone, Copy)]
@@ -116,14 +115,16 @@ fn add_used(text: &mut String, way: &str, used: Option<Used>) -> Result<(), Allo
     let Some(entry) = used.and_then(|used| used.entry) else {
         return Ok(());
     };
-    let binding = entry.binding;
-    let name = protocol_name(binding.protocol);
-    let (inside, external) = (EndpointText(binding.inside), EndpointText(binding.external));
-    write!(text, "  {way} through {name} {inside} at {external}")?;
-    if binding.fixed {
-        text.push_str(", a redirect\n")
-    } else {
-        let (made, used) = (Seconds(entry.made), Seconds(entry.last));
-        writeln!(text, ", made at {made}, last packet at {used}")
+    text.push_str("  ")?;
+    text.push_str(way)?;
+    text.push_str(" through ")?;
+    add_binding(text, &entry.binding)?;
+    if entry.binding.fixed {
+        return text.push_str(", a redirect\n");
     }
+    text.push_str(", made at ")?;
+    add_seconds(text, entry.made, 1)?;
+    text.push_str(", last packet at ")?;
+    add_seconds(text, entry.last, 1)?;
+    text.push_str("\n")
 }

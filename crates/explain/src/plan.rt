@@ -54,7 +54,7 @@ impl<'a> Plans<'a> {
     ) -> Result<(), Stop> {
         let mut lines = Vec::new(rt.alloc());
         for (path, run) in options.plans.iter().zip(&self.runs) {
-            tell_warning(rt, options.outside, Some(path), &run.run.losses);
+            tell_warning(rt, options.outside, Some(path), &run.losses);
             lines.push(run.figures(rt.alloc())?)?;
         }
         match options.form {

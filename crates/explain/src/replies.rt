@@ -1,8 +1,8 @@
 //! Replies that were dropped, in a user's words.
 
+use crate::digits::{add_address, add_endpoint};
 use crate::losses::{Losses, Origin};
 use napt_config::{Address, Config};
-use napt_records::EndpointText;
 use napt_sequential::Input;
 use napt_wire::{Cause, Endpoint, Packet, Side, Way};
 use std::alloc::{AllocError, Global};
@@ -74,16 +74,17 @@ impl<'a> Replies<'a> {
     ) -> Result<bool, AllocError> {
         match cause {
             Cause::NoBinding => {
-                let end = EndpointText(end);
-                write!(text, "its inside endpoint {end} has no live binding here")?;
+                text.push_str("its inside endpoint ")?;
+                add_endpoint(text, end)?;
+                text.push_str(" has no live binding here")?;
             }
             Cause::NotOurs => {
-                let address = Address(end.address);
-                write!(text, "it is not to an inside host, but to {address}")?;
+                text.push_str("it is not to an inside host, but to ")?;
+                add_address(text, end.address)?;
             }
             Cause::Spoofed => match Origin::of(self.config, bytes) {
-                Origin::Inside => write!(text, "from an inside address: {FROM_INSIDE}")?,
-                Origin::Pool(_) => write!(text, "from an address of the pool: {FROM_POOL}")?,
+                Origin::Inside => add_both(text, "from an inside address: ", FROM_INSIDE)?,
+                Origin::Pool(_) => add_both(text, "from an address of the pool: ", FROM_POOL)?,
                 Origin::Remote => return Ok(false),
             },
             _ => return Ok(false),
@@ -130,6 +131,11 @@ impl<'a> Replies<'a> {
         }
         Ok(())
     }
+}
+
+fn add_both(text: &mut String, first: &str, second: &str) -> Result<(), AllocError> {
+    text.push_str(first)?;
+    text.push_str(second)
 }
 
 /// What to do if many replies are dropped for a cause, where that is not what it is for other packets.

@@ -1,13 +1,10 @@
 //! Packets in the style of tcpdump.
 
-use crate::digits::add_endpoint;
+use crate::digits::{add_address, add_endpoint, add_number};
 use napt_account::Party;
-use napt_config::Address;
 use napt_records::protocol_name;
 use napt_wire::{Endpoint, Flags, Kind, Packet, Side};
 use std::alloc::{AllocError, Global};
-use std::fmt;
-use std::fmt::Write;
 
 /// Appends a packet, such as `udp 10.0.0.2:5000 > 198.51.100.7:3000`.
 pub fn add_packet(text: &mut String, packet: &Packet) -> Result<(), AllocError> {
@@ -16,25 +13,38 @@ pub fn add_packet(text: &mut String, packet: &Packet) -> Result<(), AllocError> 
         Kind::Udp => add_ends(text, "udp ", source, destination),
         Kind::Tcp(flags) => {
             add_ends(text, "tcp ", source, destination)?;
-            write!(text, " [{}]", FlagsText(flags))
+            text.push_str(flags_text(flags))
         }
         Kind::Echo => {
-            let (from, to) = (Address(source.address), Address(destination.address));
-            let number = source.number.max(destination.number);
-            let kind = if is_reply(packet.bytes()) {
-                "reply"
+            let begin = if is_reply(packet.bytes()) {
+                "icmp echo reply "
             } else {
-                "request"
+                "icmp echo request "
             };
-            write!(text, "icmp echo {kind} {from} > {to} id {number}")
+            add_hosts(text, begin, source.address, destination.address)?;
+            text.push_str(" id ")?;
+            add_number(text, u64::from(source.number.max(destination.number)))
         }
         Kind::ErrorOf(inner) => {
-            let (from, to) = (Address(source.address), Address(destination.address));
-            let name = protocol_name(inner.protocol);
-            write!(text, "icmp error {from} > {to} about {name} ")?;
-            add_ends(text, "", inner.source, inner.destination)
+            add_hosts(text, "icmp error ", source.address, destination.address)?;
+            text.push_str(" about ")?;
+            text.push_str(protocol_name(inner.protocol))?;
+            add_ends(text, " ", inner.source, inner.destination)
         }
     }
+}
+
+/// Appends `first` and the addresses of a packet.
+fn add_hosts(
+    text: &mut String,
+    first: &str,
+    source: u32,
+    destination: u32,
+) -> Result<(), AllocError> {
+    text.push_str(first)?;
+    add_address(text, source)?;
+    text.push_str(" > ")?;
+    add_address(text, destination)
 }
 
 /// Appends `first` and the endpoints of a packet.
@@ -58,17 +68,25 @@ fn is_reply(bytes: &[u8]) -> bool {
     }
 }
 
-/// Flags as tcpdump writes them: `S`, `S.`, `F.`, `R`, `.`.
-#[derive(Clone, Copy)]
-struct FlagsText(Flags);
-
-impl fmt::Display for FlagsText {
-    fn fmt<W: fmt::Write>(&self, f: &mut fmt::Formatter<W>) -> fmt::Result {
-        let fin = if self.0.fin { "F" } else { "" };
-        let syn = if self.0.syn { "S" } else { "" };
-        let rst = if self.0.rst { "R" } else { "" };
-        let ack = if self.0.ack { "." } else { "" };
-        write!(f, "{fin}{syn}{rst}{ack}")
+/// Flags in brackets as tcpdump writes them, such as `[S]`, `[S.]`, `[F.]`, `[R]` and `[.]`, with a space in front.
+fn flags_text(flags: Flags) -> &'static str {
+    match (flags.fin, flags.syn, flags.rst, flags.ack) {
+        (false, false, false, false) => " []",
+        (false, false, false, true) => " [.]",
+        (false, false, true, false) => " [R]",
+        (false, false, true, true) => " [R.]",
+        (false, true, false, false) => " [S]",
+        (false, true, false, true) => " [S.]",
+        (false, true, true, false) => " [SR]",
+        (false, true, true, true) => " [SR.]",
+        (true, false, false, false) => " [F]",
+        (true, false, false, true) => " [F.]",
+        (true, false, true, false) => " [FR]",
+        (true, false, true, true) => " [FR.]",
+        (true, true, false, false) => " [FS]",
+        (true, true, false, true) => " [FS.]",
+        (true, true, true, false) => " [FSR]",
+        (true, true, true, true) => " [FSR.]",
     }
 }
 
@@ -91,31 +109,35 @@ pub fn add_arrival(
     }
 }
 
+/// Appends what is known of bytes that are no packet.
 fn add_unread(text: &mut String, bytes: &[u8]) -> Result<(), AllocError> {
-    let many = bytes.len();
     if is_arp(bytes) {
-        return write!(text, "arp, {many} bytes");
-    }
-    match (version(bytes), addresses(bytes), bytes.get(9)) {
-        (4, Some((from, to)), Some(protocol)) => {
-            write!(text, "ip {from} > {to} protocol {protocol}, {many} bytes")
+        text.push_str("arp, ")?;
+    } else {
+        match (
+            version(bytes),
+            source_of(bytes),
+            destination_of(bytes),
+            bytes.get(9),
+        ) {
+            (4, Some(from), Some(to), Some(protocol)) => {
+                add_hosts(text, "ip ", from, to)?;
+                text.push_str(" protocol ")?;
+                add_number(text, u64::from(*protocol))?;
+                text.push_str(", ")?;
+            }
+            (6, _, _, _) => text.push_str("ipv6, ")?,
+            _ => {}
         }
-        (6, _, _) => write!(text, "ipv6, {many} bytes"),
-        _ => write!(text, "{many} bytes"),
     }
+    add_number(text, bytes.len() as u64)?;
+    text.push_str(" bytes")
 }
 
 /// Whether bytes without an Ethernet header are ARP for IPv4 over Ethernet (RFC 826): hardware type 1, protocol type
 /// 0x0800, and address lengths 6 and 4.
 fn is_arp(bytes: &[u8]) -> bool {
     bytes.starts_with(&[0, 1, 8, 0, 6, 4])
-}
-
-/// The source and the destination in an IPv4 header.
-fn addresses(bytes: &[u8]) -> Option<(Address, Address)> {
-    let from = address_at(bytes, 12)?;
-    let to = address_at(bytes, 16)?;
-    Some((Address(from), Address(to)))
 }
 
 /// The source in an IPv4 header.

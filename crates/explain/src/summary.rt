@@ -1,6 +1,7 @@
 //! The lines of a run as it goes on, and its summary: the live bindings, and what became of the packets.
 
-use crate::ended::add_end;
+use crate::digits::add_seconds;
+use crate::ended::{add_binding, add_end};
 use crate::lines::{Line, has_party};
 use crate::living::Living;
 use crate::losses::Losses;
@@ -14,7 +15,7 @@ use crate::stop::Stop;
 use crate::widths::Widths;
 use napt_account::{Entry, Listed};
 use napt_display::reasons::{advice, meaning};
-use napt_records::{EndpointText, cause_name, protocol_name};
+use napt_records::cause_name;
 use napt_table::Row;
 use napt_wire::Cause;
 use std::alloc::{AllocError, Global};
@@ -176,21 +177,18 @@ impl Lines {
 impl Bindings<'_> {
     /// Appends the line of a binding.
     fn add(self, text: &mut String, row: &Row) -> Result<(), AllocError> {
-        let name = protocol_name(row.protocol);
-        let inside = EndpointText(row.inside);
-        let external = EndpointText(row.external);
-        write!(text, "  {name} {inside} at {external}")?;
+        text.push_str("  ")?;
+        add_binding(text, row)?;
         if row.fixed {
             return text.push_str(", a redirect\n");
         }
         if let Some(entry) = self.living.entry_of(row.protocol, row.external) {
-            let made = Seconds(self.last.saturating_sub(entry.made));
-            let used = Seconds(self.last.saturating_sub(entry.last_sent));
-            write!(
-                text,
-                ", made {made} s ago, last used from inside {used} s ago"
-            )?;
+            text.push_str(", made ")?;
+            add_seconds(text, self.last.saturating_sub(entry.made), 1)?;
+            text.push_str(" s ago, last used from inside ")?;
+            add_seconds(text, self.last.saturating_sub(entry.last_sent), 1)?;
+            text.push_str(" s ago")?;
         }
-        text.push('\n')
+        text.push_str("\n")
     }
 }

@@ -1,11 +1,13 @@
 //! A run of a plan.
 
-use crate::counted_run::CountedRun;
 use crate::following::copied;
+use crate::losses::Losses;
 use crate::options::Outside;
+use crate::outcome_counts::OutcomeCounts;
 use crate::plan::figures::Figures;
 use crate::sizes::usage::Usage;
 use crate::stop::Stop;
+use napt_account::KnownRun;
 use napt_config::Config;
 use napt_sequential::Input;
 use std::alloc::{AllocError, Global};
@@ -13,23 +15,32 @@ use std::alloc::{AllocError, Global};
 /// A run of a plan after some packets.
 #[derive(Drop)]
 pub struct PlannedRun<'a> {
-    pub run: CountedRun<'a>,
+    run: KnownRun<'a>,
     usage: Usage,
+    counts: OutcomeCounts,
+    pub losses: Losses,
 }
 
 impl<'a> PlannedRun<'a> {
     /// Before the first packet.
     pub fn begin(alloc: Global, config: &'a Config) -> Result<PlannedRun<'a>, AllocError> {
-        let run = CountedRun::begin(alloc, config)?;
+        let run = KnownRun::begin(alloc, config)?;
         let opening = run.living(alloc)?;
-        let usage = Usage::of(alloc, config, &opening)?;
-        Ok(PlannedRun { run, usage })
+        Ok(PlannedRun {
+            run,
+            usage: Usage::of(alloc, config, &opening)?,
+            counts: OutcomeCounts::new(),
+            losses: Losses::new(alloc, config)?,
+        })
     }
 
     /// Takes the next packet.
     pub fn take(&mut self, alloc: Global, input: &Input) -> Result<(), Stop> {
+        let config = self.run.config();
         let step = self.run.step(alloc, input)?;
-        self.usage.take(self.run.config(), &step)?;
+        self.counts.take(&step.outcome);
+        self.losses.take(config, input, &step.outcome);
+        self.usage.take(config, &step)?;
         Ok(())
     }
 
@@ -49,6 +60,6 @@ impl<'a> PlannedRun<'a> {
 
     /// Its figures.
     pub fn figures(&self, alloc: Global) -> Result<Figures, AllocError> {
-        Figures::of(alloc, self.run.config(), &self.usage, &self.run.counts)
+        Figures::of(alloc, self.run.config(), &self.usage, &self.counts)
     }
 }
