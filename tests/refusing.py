@@ -104,8 +104,8 @@ class AllOrNothing(Growths):
 class Calls(Sweep):
     """The k-th read or write is refused, for each k."""
 
-    def __init__(self, program, folder, named):
-        super().__init__(program, folder, "refuse_call", named)
+    def __init__(self, program, folder, named, inputs=EXAMPLE):
+        super().__init__(program, folder, "refuse_call", named, inputs)
 
     def sweep(self, name):
         """Sweeps over the calls of this name, and returns how many were refused."""

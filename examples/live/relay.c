@@ -20,12 +20,15 @@
 #include <time.h>
 #include <unistd.h>
 
+// the number is the first in CHANGES
+static const char VERSION[] = "0.1.0\nnot proved: tested by tests/live";
+
 static const char HELP[] =
     "Runs a translator between two TUN devices: what they receive goes to it as captures over pipes, while it comes, and\n"
     "what it writes leaves through them.\n"
     "\n"
     "usage: %s [--keep DIR] [--ready-fd N] INSIDE OUTSIDE PROGRAM [WORD ..]\n"
-    "       %s --help\n"
+    "       %s --help | --version\n"
     "\n"
     "INSIDE and OUTSIDE are the names of TUN devices that are there; NAME@FILE is one of another network namespace, as\n"
     "outside0@/run/netns/outside. PROGRAM (%s) is started with the words given, and with --inside, --outside,\n"
@@ -33,19 +36,24 @@ static const char HELP[] =
     "says that it is ready.\n"
     "\n"
     "  --keep DIR      keeps the captures that went to PROGRAM and came from it in DIR, under the names of its options, with\n"
-    "                  .pcap behind them\n"
+    "                  .pcap behind them. Where one of an earlier run is there the relay ends at once; where it ends before it\n"
+    "                  is ready it leaves none. Where one cannot be written any more, as on a full disk, a line says so, and\n"
+    "                  the captures end as after SIGTERM\n"
     "  --ready-fd N    writes the line 'ready' to the open file N too, and closes it; it is closed without the line where the\n"
     "                  relay ends before\n"
     "\n"
     "A packet is a record of raw IP (link type 101) with the time at which it was read; the times of all records differ and\n"
-    "grow. Behind the packets that were there at once, the other side gets a record without bytes: it tells that time has\n"
-    "passed, so that no packet waits for the next one of the other side. These records are no packets: captures that are\n"
-    "kept do not have them, and in the report (--report FILE of the words) the relay takes them from the packets and from\n"
-    "those that are truncated.\n"
+    "grow. They go on from the real time at which the relay began as the monotonic clock does, whatever the system's clock is\n"
+    "set to meanwhile; where both come apart by more than a second, a line says so.\n"
+    "\n"
+    "Behind the packets that were there at once, the other side gets a record without bytes: it tells that time has passed,\n"
+    "so that no packet waits for the next one of the other side. These records are no packets: captures that are kept do not\n"
+    "have them, and in the report (--report FILE of the words) the relay takes them from the packets and from those that are\n"
+    "truncated.\n"
     "\n"
     "SIGTERM, SIGINT and SIGHUP end the captures: what came is translated and leaves, and PROGRAM writes the report and the log\n"
     "(--log FILE of the words) to their ends. Where PROGRAM ends by itself the relay ends too. The status is that of PROGRAM; it\n"
-    "is 1 where a device, a folder or PROGRAM cannot be opened, and 2 for a mistake in the words.\n";
+    "is 1 where a device, a folder or PROGRAM cannot be opened or a capture cannot be kept, and 2 for a mistake in the words.\n";
 
 enum {
     HEADER_BYTES = 24,
@@ -59,7 +67,11 @@ enum {
     PIECE = 1 << 18,
     // how long a device may take until it carries packets, in milliseconds
     MOST_CARRIER = 2000,
+    // what is kept, each way on both sides
+    KEPT = 4,
 };
+
+static const uint64_t SECOND = 1000000000;
 
 static const char *name = "relay";
 
@@ -110,14 +122,34 @@ static void put(Bytes *bytes, const void *data, size_t many) {
 
 // THE CLOCK
 
+// what the real clock was ahead of the monotonic one as the relay began, in nanoseconds
+static uint64_t ahead;
+
+static uint64_t time_of(clockid_t clock) {
+    struct timespec time;
+    clock_gettime(clock, &time);
+    return (uint64_t)time.tv_sec * SECOND + (uint64_t)time.tv_nsec;
+}
+
+// What the real clock is ahead of the monotonic one, which goes on while the system sleeps.
+static uint64_t lead_of_real(void) { return time_of(CLOCK_REALTIME) - time_of(CLOCK_BOOTTIME); }
+
 // Tells the time in nanoseconds, and no time twice.
 static uint64_t now(void) {
     static uint64_t last;
-    struct timespec time;
-    clock_gettime(CLOCK_REALTIME, &time);
-    uint64_t told = (uint64_t)time.tv_sec * 1000000000u + (uint64_t)time.tv_nsec;
+    uint64_t told = time_of(CLOCK_BOOTTIME) + ahead;
     last = told > last ? told : last + 1;
     return last;
+}
+
+// Says where the real clock has come apart from the times of packets by more than a second since that was said last.
+static void watch_clock(void) {
+    static int64_t said;
+    int64_t apart = (int64_t)(lead_of_real() - ahead);
+    if (llabs(apart - said) <= (int64_t)SECOND) return;
+    said = apart;
+    fprintf(stderr, "%s: the system's clock was set: it differs by %+.1f s from the times of packets, which go on as before\n", name,
+            (double)apart / (double)SECOND);
 }
 
 // DEVICES
@@ -187,28 +219,59 @@ static void wait_for_carrier(const Device *device) {
 
 // CAPTURES
 
-static FILE *kept_file(const char *folder, const char *option) {
-    char path[4096];
-    if (!folder) return NULL;
-    snprintf(path, sizeof path, "%s/%s.pcap", folder, option);
-    FILE *file = fopen(path, "wbe");
-    if (!file) fail(1, "%s: %s", path, strerror(errno));
-    setvbuf(file, NULL, _IOFBF, PIECE);
-    return file;
+// set where the captures are to end
+static volatile sig_atomic_t is_over;
+
+// A capture that is kept; no file where none is.
+typedef struct {
+    FILE *file;
+    char *path;
+} Kept;
+
+// the paths of those that were made, whether the relay was ready, and whether all could be written so far
+static char *made[KEPT];
+static int many_made;
+static bool is_ready, are_whole = true;
+
+// Leaves no capture of a run that was never ready.
+static void take_back(void) {
+    while (!is_ready && many_made > 0) unlink(made[--many_made]);
 }
 
-static void keep(FILE *file, const void *data, size_t many) {
-    if (file) fwrite(data, 1, many, file);
+static Kept kept_file(const char *folder, const char *option) {
+    Kept kept = {0};
+    if (!folder) return kept;
+    if (asprintf(&kept.path, "%s/%s.pcap", folder, option) < 0) some(NULL);
+    kept.file = fopen(kept.path, "wbex");
+    if (!kept.file && errno == EEXIST)
+        fail(1, "%s: a capture of an earlier run is there: --keep names a folder without any", kept.path);
+    if (!kept.file) fail(1, "%s: %s", kept.path, strerror(errno));
+    made[many_made++] = kept.path;
+    setvbuf(kept.file, NULL, _IOFBF, PIECE);
+    return kept;
 }
 
-static bool close_kept(FILE *file) { return !file || fclose(file) == 0; }
+// Ends the captures where one cannot be written, and says so of the first.
+static void note_fault(const Kept *kept) {
+    if (are_whole) fprintf(stderr, "%s: %s: %s: the captures end\n", name, kept->path, strerror(errno));
+    are_whole = false;
+    is_over = 1;
+}
+
+static void keep(const Kept *kept, const void *data, size_t many) {
+    if (kept->file && are_whole && fwrite(data, 1, many, kept->file) < many) note_fault(kept);
+}
+
+static void close_kept(const Kept *kept) {
+    if (kept->file && fclose(kept->file)) note_fault(kept);
+}
 
 // The packets of a device, on their way to the program.
 typedef struct {
     Device *device;
     int pipe, far;
     Bytes waiting;
-    FILE *kept;
+    Kept kept;
     // records without bytes
     uint64_t clocks;
     bool is_open;
@@ -224,7 +287,7 @@ static void pipe_of(int *reads, int *writes) {
 
 static void set_record(uint8_t *record, uint32_t bytes) {
     uint64_t time = now();
-    uint32_t fields[4] = {(uint32_t)(time / 1000000000u), (uint32_t)(time % 1000000000u), bytes, bytes};
+    uint32_t fields[4] = {(uint32_t)(time / SECOND), (uint32_t)(time % SECOND), bytes, bytes};
     memcpy(record, fields, RECORD_BYTES);
 }
 
@@ -235,7 +298,7 @@ static Side side_of(Device *device, const char *folder, const char *option) {
     pipe_of(&side.far, &side.pipe);
     fcntl(side.pipe, F_SETFL, O_NONBLOCK);
     put(&side.waiting, HEADER, HEADER_BYTES);
-    keep(side.kept, HEADER, HEADER_BYTES);
+    keep(&side.kept, HEADER, HEADER_BYTES);
     return side;
 }
 
@@ -254,7 +317,7 @@ static bool read_packets(Side *side) {
         ssize_t many = read(side->device->file, record + RECORD_BYTES, MOST_PACKET);
         if (many <= 0) return taken > 0;
         set_record(record, (uint32_t)many);
-        keep(side->kept, record, RECORD_BYTES + (size_t)many);
+        keep(&side->kept, record, RECORD_BYTES + (size_t)many);
         side->waiting.end += RECORD_BYTES + (size_t)many;
     }
     return true;
@@ -280,7 +343,7 @@ typedef struct {
     Device *device;
     int pipe, far;
     Bytes text;
-    FILE *kept;
+    Kept kept;
     bool has_begun, is_open;
 } Exit;
 
@@ -312,7 +375,7 @@ static void read_on(Exit *leaves) {
         leaves->is_open = false;
         return;
     }
-    keep(leaves->kept, leaves->text.at + leaves->text.end, (size_t)many);
+    keep(&leaves->kept, leaves->text.at + leaves->text.end, (size_t)many);
     leaves->text.end += (size_t)many;
     if (!leaves->has_begun && length(&leaves->text) >= HEADER_BYTES) {
         leaves->text.begin += HEADER_BYTES;
@@ -384,12 +447,9 @@ typedef struct {
     Report report;
     pid_t program;
     int ready_fd;
-    bool is_ready;
     // signals that were blocked at first: those that end the captures come while the relay waits, and at no other time
     sigset_t mask;
 } Relay;
-
-static volatile sig_atomic_t is_over;
 
 static void note_end(int number) {
     (void)number;
@@ -426,6 +486,7 @@ static void start(Relay *relay, char **given, int many) {
     if (relay->program < 0) fail(1, "fork: %s", strerror(errno));
     if (relay->program == 0) {
         signal(SIGPIPE, SIG_DFL);
+        signal(SIGXFSZ, SIG_DFL);
         sigprocmask(SIG_SETMASK, &relay->mask, NULL);
         if (relay->ready_fd >= 0) close(relay->ready_fd);
         add_option(words, &many, "--inside", relay->sides[0].far);
@@ -449,8 +510,8 @@ static void start(Relay *relay, char **given, int many) {
 
 // Says that packets get through, once the program has begun both captures that it writes.
 static void tell_ready(Relay *relay) {
-    if (relay->is_ready || !relay->exits[0].has_begun || !relay->exits[1].has_begun) return;
-    relay->is_ready = true;
+    if (is_ready || !relay->exits[0].has_begun || !relay->exits[1].has_begun) return;
+    is_ready = true;
     for (int at = 0; at < 2; at++) wait_for_carrier(relay->sides[at].device);
     fprintf(stderr, "%s: ready\n", name);
     if (relay->ready_fd >= 0) {
@@ -504,6 +565,7 @@ static void run(Relay *relay) {
         hand_on(relay);
         watch(relay, files);
         if (ppoll(files, 7, NULL, &relay->mask) < 0) continue;
+        watch_clock();
         take_packets(relay, files);
         for (int at = 0; at < 2; at++)
             if (files[4 + at].revents) read_on(&relay->exits[at]);
@@ -523,20 +585,23 @@ static void note_signals(Relay *relay) {
     }
     sigprocmask(SIG_BLOCK, &blocked, &relay->mask);
     signal(SIGPIPE, SIG_IGN);
+    // a file that may not grow is told as any that cannot be written
+    signal(SIGXFSZ, SIG_IGN);
 }
 
 static int end_of(Relay *relay) {
     int status = 0;
     for (int at = 0; at < 2; at++) close_side(&relay->sides[at]);
     while (waitpid(relay->program, &status, 0) < 0 && errno == EINTR) continue;
-    bool are_kept = write_report(&relay->report, relay->sides[0].clocks + relay->sides[1].clocks);
     for (int at = 0; at < 2; at++) {
-        are_kept = close_kept(relay->sides[at].kept) && are_kept;
-        are_kept = close_kept(relay->exits[at].kept) && are_kept;
+        close_kept(&relay->sides[at].kept);
+        close_kept(&relay->exits[at].kept);
     }
+    bool is_written = write_report(&relay->report, relay->sides[0].clocks + relay->sides[1].clocks);
     if (WIFSIGNALED(status)) fail(128 + WTERMSIG(status), "the program was ended by signal %d", WTERMSIG(status));
-    if (WEXITSTATUS(status) == 0 && !are_kept) fail(1, "a capture or the report could not be written");
-    return WEXITSTATUS(status);
+    int told = WEXITSTATUS(status);
+    if (told == 0 && !is_written) fail(1, "%s: the report cannot be written", relay->report.path);
+    return told || are_whole ? told : 1;
 }
 
 // WORDS
@@ -561,6 +626,9 @@ int main(int many, char **words) {
     const char *slash = strrchr(words[0], '/');
     if (strcmp(slash ? slash + 1 : words[0], "napt-relay") == 0) name = "napt-relay";
     if (many == 2 && (strcmp(words[1], "--help") == 0 || strcmp(words[1], "-h") == 0)) return help();
+    if (many == 2 && (strcmp(words[1], "--version") == 0 || strcmp(words[1], "-V") == 0)) return printf("%s %s\n", name, VERSION) < 0;
+    ahead = lead_of_real();
+    atexit(take_back);
     Relay relay = {.ready_fd = -1};
     const char *folder = NULL;
     int at = 1;

@@ -6,13 +6,12 @@ use crate::following::copied;
 use crate::lines::leaves_with;
 use crate::names::side_column;
 use crate::options::{Choice, Options, Outside};
-use crate::outcome_counts::OutcomeCounts;
 use crate::passed::Consumer;
 use crate::shown::{add_arrival, add_packet, is_end_of_arrival};
 use crate::stop::Stop;
 use crate::warning::tell_warning;
 use napt_config::Config;
-use napt_records::cause_name;
+use napt_records::{Counts, cause_name};
 use napt_sequential::{Input, Outcome};
 use napt_wire::Cause;
 use std::alloc::{AllocError, Global};
@@ -116,15 +115,17 @@ impl<'a> Against<'a> {
     /// Prints how many packets end differently, and the counts under each configuration.
     fn tell_counts<R: Print>(&self, rt: &R) -> Result<(), Stop> {
         let (first, second) = (&self.first.counts, &self.second.counts);
-        let (packets, different) = (first.packets, self.different);
+        let (packets, different) = (first.packets(), self.different);
         println!(rt; "packets: {packets}, of which {different} differ")?;
         println!(rt;
             "  {} and {} to the outside",
-            first.to_outside, second.to_outside
+            first.to_outside(),
+            second.to_outside()
         )?;
         println!(rt;
             "  {} and {} to the inside",
-            first.to_inside, second.to_inside
+            first.to_inside(),
+            second.to_inside()
         )?;
         tell_drops(rt, first, second)
     }
@@ -141,7 +142,7 @@ impl<R: Print + AllocGlobal> Consumer<R> for Against<'_> {
 }
 
 /// Prints for each cause how many packets were dropped for it under each configuration, if any were.
-fn tell_drops<R: Print>(rt: &R, first: &OutcomeCounts, second: &OutcomeCounts) -> Result<(), Stop> {
+fn tell_drops<R: Print>(rt: &R, first: &Counts, second: &Counts) -> Result<(), Stop> {
     for cause in Cause::ALL {
         let (one, other) = (first.dropped(cause), second.dropped(cause));
         if one > 0 || other > 0 {

@@ -1,9 +1,9 @@
 //! A run of which the packets are counted.
 
 use crate::losses::Losses;
-use crate::outcome_counts::OutcomeCounts;
 use crate::plain_run::PlainRun;
 use napt_config::Config;
+use napt_records::Counts;
 use napt_sequential::{Input, Outcome, RunFault};
 use std::alloc::{AllocError, Global};
 
@@ -11,7 +11,7 @@ use std::alloc::{AllocError, Global};
 #[derive(Drop)]
 pub struct CountedRun<'a> {
     run: PlainRun<'a>,
-    pub counts: OutcomeCounts,
+    pub counts: Counts,
     pub losses: Losses,
 }
 
@@ -20,7 +20,7 @@ impl<'a> CountedRun<'a> {
     pub fn begin(alloc: Global, config: &'a Config) -> Result<CountedRun<'a>, AllocError> {
         Ok(CountedRun {
             run: PlainRun::begin(alloc, config)?,
-            counts: OutcomeCounts::new(),
+            counts: Counts::new(),
             losses: Losses::new(alloc, config)?,
         })
     }
@@ -32,7 +32,7 @@ impl<'a> CountedRun<'a> {
     /// Passes the next packet through the run, and tells what becomes of it.
     pub fn step(&mut self, alloc: Global, input: &Input) -> Result<Outcome, RunFault> {
         let outcome = self.run.step(alloc, input)?;
-        self.counts.take(&outcome);
+        self.counts.count(&outcome);
         self.losses.take(self.run.config(), input, &outcome);
         Ok(outcome)
     }

@@ -44,9 +44,9 @@ enum Told<'a> {
 
 /// What is asked for of a run, as it goes on. `W` is a file.
 #[derive(Drop)]
-pub struct Explanation<'a, W> {
+pub struct Explanation<'a, 'b, W> {
     options: &'a Options<'a>,
-    replies: Option<Replies<'a>>,
+    replies: Option<Replies<'b>>,
     running: KnownRun<'a>,
     told: Told<'a>,
     log: Option<LogFile<'a, W>>,
@@ -153,13 +153,13 @@ impl<'a> Told<'a> {
 }
 
 /// What is asked for of a run under a configuration, before the first packet. The packets from outside may be replies.
-pub fn begin_explanation<'a, R: Files + Eprint + AllocGlobal>(
+pub fn begin_explanation<'a, 'b, R: Files + Eprint + AllocGlobal>(
     rt: &R,
     options: &'a Options<'a>,
     config: &'a Config,
     asked: &'a [Asked],
-    replies: Option<Replies<'a>>,
-) -> Result<Explanation<'a, R::File>, Stop> {
+    replies: Option<Replies<'b>>,
+) -> Result<Explanation<'a, 'b, R::File>, Stop> {
     let alloc = rt.alloc();
     let running = KnownRun::begin(alloc, config)?;
     let opening = running.living(alloc)?;
@@ -182,7 +182,7 @@ pub fn begin_explanation<'a, R: Files + Eprint + AllocGlobal>(
     })
 }
 
-impl<'a, W: Write + Drop> Explanation<'a, W> {
+impl<'a, 'b, W: Write + Drop> Explanation<'a, 'b, W> {
     /// Writes what was told so far.
     fn write<R: Print + Eprint>(&mut self, rt: &R) -> Result<(), Stop> {
         if let Some(log) = &mut self.log {
@@ -264,7 +264,7 @@ fn tell_summary<R: Print>(
     page.end(rt)
 }
 
-impl<R: Print + Eprint + AllocGlobal, W: Write + Drop> Consumer<R> for Explanation<'_, W> {
+impl<R: Print + Eprint + AllocGlobal, W: Write + Drop> Consumer<R> for Explanation<'_, '_, W> {
     fn take(&mut self, rt: &R, number: u64, input: &Input) -> Result<(), Stop> {
         let alloc = rt.alloc();
         let config = self.running.config();

@@ -5,7 +5,7 @@ use crate::requests::Asked;
 use crate::stop::Stop;
 use crate::wanted::Wanted;
 use crate::who::{Known, tell_answers};
-use napt_account::{Entry, Listed};
+use napt_account::{Listed, in_order_of_making};
 use napt_config::Config;
 use std::alloc::{AllocError, Global};
 
@@ -62,11 +62,4 @@ impl<'a> Holders<'a> {
         };
         tell_answers(rt, self.asked, known)
     }
-}
-
-/// The entries in the order in which their bindings were made.
-fn in_order_of_making(alloc: Global, listed: Vec<Listed>) -> Result<Vec<Entry>, AllocError> {
-    let mut listed = listed;
-    listed.sort_by_key(|one| one.number)?;
-    listed.iter().map(|one| one.entry).collect(alloc)
 }

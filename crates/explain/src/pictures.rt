@@ -1,9 +1,9 @@
 //! The picture of a run.
 
+use crate::pictured_run::PicturedRun;
 use crate::places::{Output, tell_unwritten};
 use crate::scene::{Part, Shown, scene_of};
 use crate::stop::Stop;
-use napt_account::account_of;
 use napt_config::Config;
 use napt_display::picture::drawing_of;
 use napt_sequential::Input;
@@ -20,11 +20,11 @@ pub fn draw<R: Files + Eprint + AllocGlobal>(
     config: &Config,
     inputs: &[Input],
 ) -> Result<(), Stop> {
-    let account = account_of(rt.alloc(), config, inputs)?;
+    let run = PicturedRun::of(rt.alloc(), config, inputs)?;
     let shown = Shown {
         config,
         inputs,
-        account: &account,
+        run: &run,
         part,
     };
     let text = drawing(rt.alloc(), shown)?;

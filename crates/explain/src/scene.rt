@@ -1,12 +1,13 @@
 //! What the picture of a run shows, in the words of the printed lines.
 
 use crate::names::Seconds;
+use crate::pictured_run::{PicturedRun, Turn};
 use jiff::Timestamp;
-use napt_account::{Account, Entry};
+use napt_account::Entry;
 use napt_config::{Address, Config};
 use napt_display::picture::{Binding, BindingKind, MOST_BARS, Pass, Scene};
 use napt_records::{EndpointText, cause_name, protocol_name};
-use napt_sequential::{Input, Outcome};
+use napt_sequential::Input;
 use napt_wire::{Cause, Protocol};
 use std::alloc::{AllocError, Global};
 use std::fmt::Write;
@@ -16,7 +17,7 @@ use std::fmt::Write;
 pub struct Shown<'a> {
     pub config: &'a Config,
     pub inputs: &'a [Input],
-    pub account: &'a Account,
+    pub run: &'a PicturedRun,
     pub part: Part,
 }
 
@@ -33,11 +34,6 @@ impl<'a> Shown<'a> {
     /// The time of the first packet.
     fn zero(self) -> u64 {
         self.inputs.first().map_or(0, |input| input.clock)
-    }
-
-    /// The time of the last packet.
-    pub fn last(self) -> u64 {
-        self.inputs.last().map_or(0, |input| input.clock)
     }
 
     /// Converts a time since the first packet into ns since 1970.
@@ -57,7 +53,7 @@ impl<'a> Shown<'a> {
 
     /// How many bindings are live in the part shown.
     fn bindings(self) -> usize {
-        let entries = self.account.log.entries.iter();
+        let entries = self.run.entries.iter();
         entries.filter(|entry| self.has(*entry)).count()
     }
 
@@ -91,14 +87,14 @@ pub fn scene_of(alloc: Global, shown: Shown<'_>) -> Result<Scene, AllocError> {
     };
     add_lanes(alloc, &mut scene.lanes, shown.config)?;
     add_bindings(alloc, &mut scene.bindings, shown)?;
-    add_packets(alloc, &mut scene, shown.inputs, shown.account)?;
+    add_packets(alloc, &mut scene, &shown.run.turns)?;
     Ok(scene)
 }
 
 /// The line above the picture: how many packets and bindings of the run it shows, and the date of the first packet, from
 /// which times are counted.
 fn head_of(alloc: Global, shown: Shown<'_>) -> Result<String, AllocError> {
-    let entries = &shown.account.log.entries;
+    let entries = &shown.run.entries;
     let mut head = String::new(alloc);
     let packets = shown.inputs.len();
     add_share(&mut head, shown.packets(), packets, "packet")?;
@@ -142,7 +138,7 @@ fn add_bindings(
     shown: Shown<'_>,
 ) -> Result<(), AllocError> {
     let has_bars = shown.has_bars();
-    for entry in &shown.account.log.entries {
+    for entry in &shown.run.entries {
         let mut binding = binding_of(alloc, shown.config, entry);
         if has_bars && shown.has(entry) {
             binding.label = label_of(alloc, entry)?;
@@ -220,10 +216,10 @@ fn title_of(alloc: Global, entry: &Entry, label: &str, zero: u64) -> Result<Stri
 }
 
 /// The causes for which packets were dropped.
-fn causes_of(alloc: Global, outcomes: &[Outcome]) -> Result<Vec<Cause>, AllocError> {
+fn causes_of(alloc: Global, turns: &[Turn]) -> Result<Vec<Cause>, AllocError> {
     let mut causes = Vec::new(alloc);
     for cause in Cause::ALL {
-        if outcomes.iter().any(|outcome| is_dropped(cause, outcome)) {
+        if turns.iter().any(|turn| turn.cause == Some(cause)) {
             causes.push(cause)?;
         }
     }
@@ -231,15 +227,10 @@ fn causes_of(alloc: Global, outcomes: &[Outcome]) -> Result<Vec<Cause>, AllocErr
 }
 
 /// What each packet did, and a row for each cause for which there are drops.
-fn add_packets(
-    alloc: Global,
-    scene: &mut Scene,
-    inputs: &[Input],
-    account: &Account,
-) -> Result<(), AllocError> {
-    let causes = causes_of(alloc, &account.run.outcomes)?;
+fn add_packets(alloc: Global, scene: &mut Scene, turns: &[Turn]) -> Result<(), AllocError> {
+    let causes = causes_of(alloc, turns)?;
     add_rows(alloc, &mut scene.causes, &causes)?;
-    add_passes(&mut scene.passes, inputs, account, &causes)
+    add_passes(&mut scene.passes, turns, &causes)
 }
 
 /// A row for each of the causes.
@@ -251,39 +242,14 @@ fn add_rows(alloc: Global, rows: &mut Vec<String>, causes: &[Cause]) -> Result<(
 }
 
 /// What each packet did; `causes` has the cause of every drop.
-fn add_passes(
-    passes: &mut Vec<Pass>,
-    inputs: &[Input],
-    account: &Account,
-    causes: &[Cause],
-) -> Result<(), AllocError> {
-    for (at, input) in inputs.iter().enumerate() {
-        passes.push(pass_of(at, input.clock, account, causes))?;
+fn add_passes(passes: &mut Vec<Pass>, turns: &[Turn], causes: &[Cause]) -> Result<(), AllocError> {
+    for turn in turns {
+        passes.push(Pass {
+            clock: turn.clock,
+            out: turn.used.out,
+            into: turn.used.into,
+            dropped: causes.iter().position(|cause| turn.cause == Some(*cause)),
+        })?;
     }
     Ok(())
-}
-
-fn pass_of(at: usize, clock: u64, account: &Account, causes: &[Cause]) -> Pass {
-    let (out, into) = match account.uses.get(at) {
-        Some(used) => (used.out, used.into),
-        None => (None, None),
-    };
-    let dropped = match account.outcome_at(at) {
-        Some(Outcome::Dropped(cause)) => causes.iter().position(|other| other == cause),
-        _ => None,
-    };
-    Pass {
-        clock,
-        out,
-        into,
-        dropped,
-    }
-}
-
-/// Whether a packet was dropped for a cause.
-fn is_dropped(cause: Cause, outcome: &Outcome) -> bool {
-    match outcome {
-        Outcome::Dropped(given) => *given == cause,
-        Outcome::ToOutside(_) | Outcome::ToInside(_) => false,
-    }
 }

@@ -96,10 +96,8 @@ impl<'a> Setting<'a> {
         let Begun { head, reader } = self.refusing().begin(rt, Side::Outside, outside)?;
         let mut source = Watched::new(head.as_slice().chain(reader));
         let outside = self.refusing().open(rt, Side::Outside, &head, &mut source)?;
-        self.explain(
-            rt,
-            Captures::of(rt.alloc(), self.refusing(), inside, outside),
-        )
+        let mut captures = Captures::of(rt.alloc(), self.refusing(), inside, outside);
+        self.explain(rt, &mut captures)
     }
 
     /// The same without an outside capture.
@@ -110,17 +108,15 @@ impl<'a> Setting<'a> {
     ) -> Result<(), Stop> {
         let mut source = NoPackets::new();
         let outside = self.refusing().open(rt, Side::Outside, &[], &mut source)?;
-        self.explain(
-            rt,
-            Captures::of(rt.alloc(), self.refusing(), inside, outside),
-        )
+        let mut captures = Captures::of(rt.alloc(), self.refusing(), inside, outside);
+        self.explain(rt, &mut captures)
     }
 
     /// Explains the packets of the captures.
     fn explain<R: Files + Print + Eprint + AllocGlobal, A: Source, B: Source>(
         self,
         rt: &R,
-        captures: Captures<'_, A, B>,
+        captures: &mut Captures<'_, A, B>,
     ) -> Result<(), Stop> {
         if !self.streams.output {
             return Err(Stop::NoOutput);
@@ -139,12 +135,11 @@ impl<'a> Setting<'a> {
     fn explain_against<R: Print + Eprint + AllocGlobal, A: Source, B: Source>(
         self,
         rt: &R,
-        captures: Captures<'_, A, B>,
+        captures: &mut Captures<'_, A, B>,
         path: &str,
-        other: &Config,
+        other: &'a Config,
     ) -> Result<(), Stop> {
         let options = self.options;
-        let mut captures = captures;
         let configs = [&self.written.config, other];
         let mut against = Against::begin(rt.alloc(), options.choice, configs)?;
         if options.outside.follows() {
@@ -161,10 +156,9 @@ impl<'a> Setting<'a> {
     fn explain_plans<R: Print + Eprint + AllocGlobal, A: Source, B: Source>(
         self,
         rt: &R,
-        captures: Captures<'_, A, B>,
+        captures: &mut Captures<'_, A, B>,
     ) -> Result<(), Stop> {
         let options = self.options;
-        let mut captures = captures;
         let mut plans = Plans::begin(rt.alloc(), self.plans)?;
         if options.outside.follows() {
             let inputs = captures.all(rt)?;
@@ -180,9 +174,8 @@ impl<'a> Setting<'a> {
     fn explain_passing<R: Files + Print + Eprint + AllocGlobal, A: Source, B: Source>(
         self,
         rt: &R,
-        captures: Captures<'_, A, B>,
+        captures: &mut Captures<'_, A, B>,
     ) -> Result<(), Stop> {
-        let mut captures = captures;
         let mut explanation = begin_explanation(
             rt,
             self.options,
@@ -198,10 +191,9 @@ impl<'a> Setting<'a> {
     fn explain_kept<R: Files + Print + Eprint + AllocGlobal, A: Source, B: Source>(
         self,
         rt: &R,
-        captures: Captures<'_, A, B>,
+        captures: &mut Captures<'_, A, B>,
     ) -> Result<(), Stop> {
         let (options, config) = (self.options, &self.written.config);
-        let mut captures = captures;
         let mut inputs = captures.all(rt)?;
         let ends = named_ends(rt.alloc(), options, &mut inputs)?;
         let inputs = options.outside.inputs_under(rt.alloc(), config, inputs)?;

@@ -7,7 +7,6 @@ use crate::living::Living;
 use crate::losses::Losses;
 use crate::names::Seconds;
 use crate::options::Choice;
-use crate::outcome_counts::OutcomeCounts;
 use crate::page::Page;
 use crate::remotes::Remotes;
 use crate::replies::{Replies, advice_of_replies};
@@ -15,7 +14,7 @@ use crate::stop::Stop;
 use crate::widths::Widths;
 use napt_account::{Entry, Listed};
 use napt_display::reasons::{advice, meaning};
-use napt_records::cause_name;
+use napt_records::{Counts, cause_name};
 use napt_table::Row;
 use napt_wire::Cause;
 use std::alloc::{AllocError, Global};
@@ -31,7 +30,7 @@ addresses: give what inside hosts got as --replies";
 pub struct Lines {
     choice: Choice,
     widths: Widths,
-    counts: OutcomeCounts,
+    counts: Counts,
     remotes: Remotes,
 }
 
@@ -56,7 +55,7 @@ impl Lines {
         Lines {
             choice,
             widths: Widths::new(),
-            counts: OutcomeCounts::new(),
+            counts: Counts::new(),
             remotes: Remotes::new(alloc),
         }
     }
@@ -70,7 +69,7 @@ impl Lines {
         line: Line<'_>,
         ended: &[Listed],
     ) -> Result<(), AllocError> {
-        self.counts.take(line.outcome);
+        self.counts.count(line.outcome);
         if line.replies.is_none() {
             self.remotes.take(line.input, line.outcome)?;
         }
@@ -118,9 +117,9 @@ impl Lines {
         outside: FromOutside<'_>,
     ) -> Result<(), AllocError> {
         let counts = &self.counts;
-        writeln!(text, "packets: {}", counts.packets)?;
-        writeln!(text, "  {} to the outside", counts.to_outside)?;
-        writeln!(text, "  {} to the inside", counts.to_inside)?;
+        writeln!(text, "packets: {}", counts.packets())?;
+        writeln!(text, "  {} to the outside", counts.to_outside())?;
+        writeln!(text, "  {} to the inside", counts.to_inside())?;
         for cause in Cause::ALL {
             self.add_cause(text, outside, cause)?;
         }
@@ -142,7 +141,7 @@ impl Lines {
         if let Some(replies) = outside.replies {
             replies.add_losses(text, cause, outside.losses)?;
         }
-        if many > self.counts.packets / 5 {
+        if many > self.counts.packets() / 5 {
             self.add_advice(text, outside, cause)?;
         }
         Ok(())

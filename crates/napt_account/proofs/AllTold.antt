@@ -266,19 +266,6 @@ closed_since was now le xs =
           | false ↦ λ e. elim (is_before was end) as (λ v. (not v && true) ≡ not v) [ true ↦ refl | false ↦ refl ]
         ] refl
 
--- one more
-pub joined_more : {X : Type 0} (gives : List Arrival → Arrival → List X) (before inputs : List Arrival)
-    (input : Arrival) →
-    joined gives before (inputs ++ input ∷ []) ≡ joined gives before inputs ++ gives (before ++ inputs) input
-joined_more gives before [] input = append-nil (gives before input)
-    ∙ ap (λ (all : List Arrival). gives all input) (sym (append-nil before))
-joined_more gives before (first ∷ inputs) input =
-    let given : List _ = gives before first in
-    let rest : List _ = joined gives (before ++ first ∷ []) inputs in
-    ap (λ (xs : List _). given ++ xs) (joined_more gives (before ++ first ∷ []) inputs input)
-    ∙ (sym (append_assoc given rest (gives ((before ++ first ∷ []) ++ inputs) input))
-    ∙ ap (λ (all : List Arrival). (given ++ rest) ++ gives all input) (append_assoc before (first ∷ []) inputs))
-
 module _ (rules : Rules) (keeps : KeepsRules rules) where
   abbrev ended_by : List Arrival → Arrival → List Listed
   ended_by before input = (told_by rules before input).ended

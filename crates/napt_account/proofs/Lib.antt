@@ -4,11 +4,8 @@ pub mod Entries
 pub mod Moves
 pub mod Retold
 pub mod Books
-pub mod Placed
 pub mod Queue
 pub mod Begun
-pub mod Latest
-pub mod Told
 pub mod Lists
 pub mod Ended
 pub mod EndOrder

@@ -1,5 +1,5 @@
 -- What is kept of the entries that have not ended: what is put, changed and taken out.
-use Rattle.std.proofs.Common.{◌≡◌, ◌≢◌, ℕ, ◌+◌, ◌<◌, ◌≤◌, inl, inr, Bool, true, false, ◌&&◌, cond, List, [], ◌∷◌, ◌++◌, length, map, set, Option, Some, None, refl, sym, ◌∙◌, ap, subst, arith, eqb, eqb-true, length-append, length-set}
+use Rattle.std.proofs.Common.{◌≡◌, ◌≢◌, ℕ, ◌+◌, ◌<◌, ◌≤◌, inl, inr, true, false, ◌&&◌, cond, List, [], ◌∷◌, ◌++◌, length, map, set, Option, Some, None, refl, sym, ◌∙◌, ap, subst, arith, eqb, eqb-true, length-append, length-set}
 use Rattle.std.specs.Prelude.{◌==◌}
 use Rattle.std.specs.List.{slice_get, list_any}
 use Rattle.std.specs.Option.{option_map}
@@ -81,11 +81,6 @@ under all indexed x l at =
     let o = listed_open all x l at in
     (indexed.placed x o.0 o.1).0 ∙ ap (λ (m : Listed). external_key m.entry.binding) o.2
 
-pub listed_cond : (v : Bool) (w o : Option Open) → option_map (λ (o : Open). o.listed) (cond v w o)
-    ≡ cond v (option_map (λ (o : Open). o.listed) w) (option_map (λ (o : Open). o.listed) o)
-listed_cond true w o = refl
-listed_cond false w o = refl
-
 pub indexed_but : (all : OpenEntries) → IsIndexed all → (x : ExternalKey) → IsIndexedBut x (due_at all x) all
 indexed_but all indexed x = record {
   placed = indexed.placed;
@@ -120,11 +115,6 @@ module _ (old new : OpenEntries) (x : ExternalKey) (was : Option ℕ) (indexed :
           | false ↦ λ e. indexed.queued d ∙ ap (λ v. is_at (cond v was (due_at old d.key)) d.at) e
         ] refl ∙ ap (λ (o : Option Open). is_at (due_of o) d.at) (sym (opens d.key)));
   }
-
-  pub moved_listed : (y : ExternalKey) → listed_at new y
-      ≡ cond (external_eq x y) (option_map (λ (o : Open). o.listed) next) (listed_at old y)
-  moved_listed y = ap (option_map (λ (o : Open). o.listed)) (opens y)
-      ∙ listed_cond (external_eq x y) next (open_at old y)
 
 -- ONE IS WRITTEN: at its endpoint, where no other was
 

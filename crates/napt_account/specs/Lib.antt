@@ -1,10 +1,7 @@
 pub mod AllTold
 pub mod Attribution
 pub mod Book
-pub mod Latest
-pub mod Places
 pub mod Ended
-pub mod Fronts
 pub mod Log
 pub mod OpenEntries
 pub mod LoggedRuns

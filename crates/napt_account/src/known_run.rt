@@ -1,6 +1,6 @@
 //! A run with its log as it runs, of which contracts see the inputs.
 
-ghost use Rattle.std.specs.Prelude.{◌≡◌, ◌++◌, [], ◌∷◌, OnOk, IfErr, IfOk, false};
+ghost use Rattle.std.specs.Prelude.{◌≡◌, ◌↔◌, ◌+◌, ◌^◌, ◌≤◌, ◌++◌, [], ◌∷◌, length, OnOk, Err, IfErr, IfOk, false};
 ghost use Rattle.napt_account.specs.Telling.{living_of, told_by};
 ghost use Rattle.napt_rules.specs.Sequential as model;
 ghost use Rattle.napt_account.specs.KnownRuns.{IsOfInputs, told_of};
@@ -81,8 +81,8 @@ impl<'a> KnownRun<'a> {
     /// Passes the next input through the run, as `LoggedRun::step` does. After a fault the run does not go on, and each
     /// later step fails with `RunFault::Memory`.
     ///
-    /// Fails with `RunFault::TooMany` only if it took 4,294,967,295 inputs before, with `RunFault::Memory` only if memory
-    /// is refused or a step failed before, and never with `RunFault::Pool`.
+    /// Fails with `RunFault::TooMany` exactly if it took 4,294,967,295 inputs before and no step failed, with
+    /// `RunFault::Memory` only if memory is refused or a step failed before, and never with `RunFault::Pool`.
     pub fn step(&mut self, alloc: Global, input: &Input) -> Result<LoggedStep, RunFault>
         ensures tells { self.old.is_stopped ≡ false → IfOk result (λ step. told_of step
             ≡ told_by self.old.rules self.old.inputs input.now) }
@@ -90,6 +90,8 @@ impl<'a> KnownRun<'a> {
             ≡ record self.old { inputs = self.old.inputs ++ input.now ∷ [] }) }
         ensures err { self.old.is_stopped ≡ false →
             IfErr result (IsOfInputs (self.old.inputs ++ input.now ∷ [])) }
+        ensures too_many { self.old.is_stopped ≡ false →
+            (result ≡ Err RunFault.TooMany) ↔ (2 ^ 32 ≤ length self.old.inputs + 1) }
     {
         if self.is_stopped {
             return Err(RunFault::Memory);

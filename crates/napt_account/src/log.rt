@@ -1,11 +1,10 @@
 //! The log of a run: who had which external endpoint, from when and until when (RFC 6888, section 4).
 
-ghost use Rattle.std.specs.Prelude.{◌≡◌, ◌↔◌, ◌≤◌, ◌^◌, List, map, IfOk, IfErr, Err, length};
+ghost use Rattle.std.specs.Prelude.{◌≡◌, List, map, IfOk};
 ghost use Rattle.std.specs.List.Sorted.{IsPermutation};
-ghost use Rattle.napt_sequential.specs.Faults.{IsOneThreadFault};
 ghost use Rattle.napt_config.specs.Rules.{pair_of};
 ghost use Rattle.napt_rules.specs.Prelude.{redirected, row};
-ghost use Rattle.napt_account.specs.Log.{is_shortage, log_of};
+ghost use Rattle.napt_account.specs.Log.{is_shortage};
 ghost use Rattle.napt_account.specs.Attribution.{LogNamesTheHolders, LogListsTheLiving};
 ghost use Rattle.napt_account.specs.Ended.{EndedEntriesStay};
 ghost use Rattle.napt_account.specs.AllTold.{ToldIsTheLog};
@@ -13,9 +12,7 @@ ghost use Rattle.napt_account.specs.Telling.{numbered};
 ghost use Rattle.napt_account.specs.declared.log.Entry.{Entry as Logged};
 ghost use Rattle.napt_binding.specs.Ends.{EndsAreFirst, is_before};
 
-use crate::account::account_of;
 use napt_config::{Config, Redirect};
-use napt_sequential::{Input, RunFault};
 use napt_table::{Row, TimedRow, opening_is_sound};
 use napt_wire::{Cause, Endpoint, Protocol};
 use std::alloc::{AllocError, Global};
@@ -133,30 +130,6 @@ pub struct Shortage {
     pub protocol: Protocol,
     /// The address of the inside host that sent it.
     pub host: u32,
-}
-
-/// The log of a run.
-#[derive(Drop)]
-pub struct Log {
-    /// One for each binding that was ever made, redirects too, in the order in which they were made.
-    pub entries: Vec<Entry>,
-    /// One for each packet for which no binding could be made, in their order.
-    pub shortages: Vec<Shortage>,
-}
-
-/// The log of the run over the inputs.
-///
-/// Fails with `RunFault::TooMany` if and only if there are more than 4,294,967,295 inputs, with `RunFault::Memory` only
-/// if memory is refused, and never with `RunFault::Pool`.
-pub fn log_of(alloc: Global, config: &Config, inputs: &[Input]) -> Result<Log, RunFault>
-    ensures entries { IfOk result (λ log.
-        log.entries.items ≡ (log_of config.now inputs.now).entries) }
-    ensures shortages { IfOk result (λ log.
-        log.shortages.items ≡ (log_of config.now inputs.now).shortages) }
-    ensures too_many { (result ≡ Err RunFault.TooMany) ↔ (2 ^ 32 ≤ length inputs.now) }
-    ensures never_pool { IfErr result IsOneThreadFault }
-{
-    Ok(account_of(alloc, config, inputs)?.log)
 }
 
 /// The entries in the order in which their bindings were made, of all entries of a log in any order. Fails only if

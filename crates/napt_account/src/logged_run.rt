@@ -107,13 +107,4 @@ impl LoggedRun {
         let bindings = self.run.bindings(alloc)?;
         Ok(bindings)
     }
-
-    /// How many legs acted at each external address, in the order of the pool. Fails only if memory is refused.
-    pub fn legs(&self, alloc: Global) -> Result<Vec<u64>, AllocError>
-        ensures { (rules : Rules) (inputs : List Arrival) → IsLogged rules inputs self.now →
-            IfOk result (λ made. made.items ≡ (model.ran rules inputs).legs) }
-    {
-        let legs = self.run.legs(alloc)?;
-        Ok(legs)
-    }
 }

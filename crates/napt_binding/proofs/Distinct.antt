@@ -3,7 +3,6 @@ use Rattle.std.proofs.Common.{◌≡◌, ℕ, zero, suc, ◌+◌, ◌<◌, Bool,
 use Rattle.std.specs.Prelude.{filter}
 use Rattle.std.specs.List.{list_any}
 use Rattle.std.proofs.lemmas.Bool.{or_parts, true≢false}
-use Rattle.std.proofs.lemmas.List.{length_push}
 use Rattle.napt_wire.specs.declared.Endpoint.{Endpoint}
 use Rattle.napt_wire.specs.declared.Protocol.{Protocol}
 use Rattle.napt_config.specs.declared.settings.Timers.{Timers}
@@ -129,15 +128,6 @@ pub put_next : (new middle old : List (Option Flow)) (done : List Flow) (flow : 
     middle ≡ old → somes old ≡ done → somes new ≡ done ++ flow ∷ []
 put_next new middle old done flow put same is = ap somes put
     ∙ (somes_pushed middle flow ∙ ap (λ (l : List Flow). l ++ flow ∷ []) (ap somes same ∙ is))
-
-pub put_count : (new middle old : List (Option Flow)) (done more : List Flow) (flow : Flow) → new
-    ≡ middle ++ Some flow ∷ [] → middle ≡ old → length old ≡ length done → more ≡ done ++ flow ∷ [] →
-    length new ≡ length more
-put_count new middle old done more flow put same is next =
-    ap (λ (l : List (Option Flow)). length l) put
-    ∙ (length_push middle (Some flow)
-    ∙ (ap (λ (n : ℕ). n + 1) (ap (λ (l : List (Option Flow)). length l) same ∙ is)
-    ∙ sym (ap (λ (l : List Flow). length l) next ∙ length_push done flow)))
 
 pub next_slot : (slots : List (Option Flow)) (i : ℕ) (flow : Flow) → Stands slots i flow → somes (take (i + 1) slots)
     ≡ somes (take i slots) ++ flow ∷ []

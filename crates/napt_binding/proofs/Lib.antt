@@ -6,3 +6,5 @@ mod Timed
 mod Manys
 mod Distinct
 mod Few
+pub mod Used
+mod Restored

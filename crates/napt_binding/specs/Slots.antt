@@ -1,6 +1,7 @@
 -- Flows in slots, in the order in which they began; a flow that goes leaves its slot empty.
-use Rattle.std.specs.Prelude.{◌≡◌, ℕ, ◌==◌, Bool, false, cond, List, [], ◌∷◌, slice_get, sum_by, Option, Some, None}
+use Rattle.std.specs.Prelude.{◌≡◌, ℕ, ◌==◌, ◌≤◌, Bool, false, cond, List, [], ◌∷◌, All, Contains, slice_get, sum_by, Option, Some, None}
 use Rattle.std.specs.List.{list_any}
+use Rattle.std.specs.List.Sorted.{IsNonDecreasingBy}
 use Rattle.napt_rules.specs.declared.Flow.{Flow}
 use Rattle.napt_rules.specs.Prelude.{is_established, is_recent, is_flow_of}
 
@@ -14,6 +15,16 @@ somes (Some x ∷ slots) = x ∷ somes slots
 abbrev pub AreDistinct : List Flow → Type 0
 AreDistinct [] = Unit {0}
 AreDistinct (flow ∷ flows) = (list_any (is_flow_of flow.remote) flows ≡ false) × AreDistinct flows
+
+-- no flow was last used after the time
+abbrev pub NoneUsedAfter : List Flow → ℕ → Type 0
+NoneUsedAfter flows now = All (λ flow. flow.last ≤ now) flows
+
+-- each flow with its place, the one that was used first going first
+pub record AreByLastUse (flows : List Flow) (entries : List (ℕ × Flow)) : Type 0 where
+  pub rising : IsNonDecreasingBy (λ entry. entry.1.last) entries
+  pub each : (place : ℕ) (flow : Flow) → slice_get flows place ≡ Some flow → Contains entries (place, flow)
+  pub known : All (λ entry. slice_get flows entry.0 ≡ Some entry.1) entries
 
 -- it stands in the slot
 abbrev pub Stands : {X : Type 0} → List (Option X) → ℕ → X → Type 0

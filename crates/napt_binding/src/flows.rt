@@ -10,7 +10,7 @@ ghost use Rattle.napt_binding.specs.Kept.{flows_of, IsKept};
 ghost use Rattle.napt_binding.specs.Kept as storage;
 ghost use Rattle.napt_rules.specs.Prelude.{change_first};
 ghost use Rattle.napt_binding.specs.Sent as packets;
-ghost use Rattle.napt_binding.specs.Slots.{AreDistinct, somes};
+ghost use Rattle.napt_binding.specs.Slots.{AreDistinct, NoneUsedAfter, somes};
 ghost use Rattle.napt_binding.specs.Many.{IsMany};
 ghost use Rattle.napt_rules.specs.Traffic as traffic;
 
@@ -100,7 +100,8 @@ fn use_kept(
     timers: IdleTimers,
     sent: Sent,
 ) -> Result<(), AllocError>
-    requires { IsKept kept.old }
+    requires kept { IsKept kept.old }
+    requires rising { NoneUsedAfter (flows_of kept.old) sent.now }
     ensures kept { IsKept kept.new }
     ensures ok { OnOk result (packets.standing_at timers sent (flows_of kept.new)
         ≡ packets.used_by sent (packets.standing_at timers sent (flows_of kept.old))) }
@@ -240,6 +241,7 @@ impl Flows {
         timers: IdleTimers,
         sent: Sent,
     ) -> Result<(), AllocError>
+        requires { NoneUsedAfter self.old sent.now }
         ensures ok { OnOk result (packets.standing_at timers sent self.new
             ≡ packets.used_by sent (packets.standing_at timers sent self.old)) }
         ensures live { OnOk result (list_any (life.is_live_flow timers sent.now) self.new ≡ true) }
@@ -250,6 +252,7 @@ impl Flows {
 
     /// Marks the remote's flow, if any, as used now by an incoming segment.
     pub(crate) fn refresh_flow(&mut self, now: u64, remote: Endpoint, flags: Flags)
+        requires { NoneUsedAfter self.old now }
         ensures { self.new ≡ change_first (traffic.is_flow_of remote)
             (traffic.used Protocol.Tcp Way.Incoming flags now) self.old }
     {

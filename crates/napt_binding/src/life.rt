@@ -79,6 +79,7 @@ pub(crate) fn is_standing(flow: &Flow, timers: IdleTimers, now: u64, protocol: P
 
 /// Whether the binding is live at `now` (ns): it was used less than its timer ago (RFC 4787, REQ-5 and REQ-6; RFC 5508, REQ-2),
 /// in TCP one of its flows was (RFC 5382, REQ-5). A redirect always is.
+#[inline(always)]
 pub fn is_live(binding: &Binding, timers: IdleTimers, now: u64) -> bool
     ensures { result ≡ life.is_live timers now binding.now }
 {

@@ -7,6 +7,7 @@ ghost use Rattle.napt_rules.specs.Marks as marks;
 ghost use Rattle.napt_rules.specs.Steps as steps;
 ghost use Rattle.napt_rules.specs.Traffic as traffic;
 ghost use Rattle.napt_binding.specs.Entering.{left_by, entered};
+ghost use Rattle.napt_binding.specs.Slots.{NoneUsedAfter};
 
 use crate::Binding;
 use crate::idle_timers::IdleTimers;
@@ -65,13 +66,15 @@ fn permits(binding: &Binding, inbound: Inbound, remote: Endpoint) -> bool
 }
 
 /// Sends a packet out through the binding, under the binding's protocol. A redirect does not change. Dead flows may
-/// stay, and do not count. `AllocError`, and nothing changed, if memory for a new flow is refused.
+/// stay, and do not count. No flow may have been used later. `AllocError`, and nothing changed, if memory for a new flow
+/// is refused.
 pub fn send(
     binding: &mut Binding,
     alloc: Global,
     timers: IdleTimers,
     packet: Sent,
 ) -> Result<(), AllocError>
+    requires { NoneUsedAfter binding.old.flows packet.now }
     ensures ok { OnOk result (life.with_live_flows timers packet.now binding.new
         ≡ steps.sent_by packet (life.with_live_flows timers packet.now binding.old)) }
     ensures live { OnOk result (life.is_live timers packet.now binding.new ≡ true) }
@@ -100,6 +103,7 @@ fn is_refreshed(binding: &Binding, refresh: Refresh) -> bool
 
 /// Records a packet that the binding lets in.
 fn receive(binding: &mut Binding, inbound: Inbound, packet: Received)
+    requires { NoneUsedAfter binding.old.flows packet.now }
     ensures { binding.new ≡ steps.received_by inbound packet binding.old }
 {
     if let Protocol::Tcp = binding.row.protocol() {
@@ -111,13 +115,15 @@ fn receive(binding: &mut Binding, inbound: Inbound, packet: Received)
 }
 
 /// Takes in a packet through the binding, under the binding's protocol, and removes its dead flows. Returns the inside
-/// endpoint, or `Filtered` if the filter refuses the remote (RFC 4787, REQ-8). It takes no memory.
+/// endpoint, or `Filtered` if the filter refuses the remote (RFC 4787, REQ-8). No flow may have been used later. It takes
+/// no memory.
 pub fn take_in(
     binding: &mut Binding,
     timers: IdleTimers,
     inbound: Inbound,
     packet: Received,
 ) -> Result<Endpoint, Cause>
+    requires { NoneUsedAfter binding.old.flows packet.now }
     ensures answer { result ≡ entered inbound packet
         (life.with_live_flows timers packet.now binding.old) }
     ensures left { binding.new ≡ left_by inbound packet

@@ -22,12 +22,6 @@ Keeps-read (Some x) None old new bytes consumed is = absurd consumed
 Keeps-read (Some x) (Some y) old new bytes consumed is =
     ap (λ l. l ++ y) is ∙ append_assoc old bytes y ∙ ap (λ l. old ++ l) (sym consumed)
 
-pub Keeps-unread : (a b : Option (List ℕ)) (old new : List ℕ) → Keeps a b → new ≡ old →
-    Keeps (prepend_known old a) (prepend_known new b)
-Keeps-unread None b old new kept is = tt
-Keeps-unread (Some x) None old new kept is = absurd kept
-Keeps-unread (Some x) (Some y) old new kept is = ap (λ l. l ++ y) is ∙ ap (λ l. old ++ l) kept
-
 -- what a read put behind the part that begins a buffer
 pub slice_range-read : (end room count : ℕ) (xs ys : List ℕ) → end ≤ length xs → count ≤ length ys →
     slice_range (put_mid end room xs ys) 0 (end + count) ≡ slice_range xs 0 end ++ take count ys

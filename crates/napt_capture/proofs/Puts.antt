@@ -1,5 +1,11 @@
 -- Texts that are written one behind the other.
-use Rattle.std.proofs.Common.{◌≡◌, ℕ, ◌+◌, ◌*◌, ◌^◌, ◌<◌, ◌≤◌, List, [], ◌∷◌, ◌++◌, length, take, drop, get_or, All, Option, Result, Ok, Err, OnOk, IfErr, refl, sym, ap, ◌∙◌, subst, arith, length-append, take_all, append_assoc, append-nil, take-append-drop}
+use Rattle.std.proofs.Common.{◌≡◌, ℕ, zero, suc, nat_eq, false, rules, ◌+◌, ◌*◌, ◌^◌, ◌<◌, ◌≤◌, List, [], ◌∷◌, ◌++◌, length, take, drop, get_or, All, Option, Result, Ok, Err, OnOk, IfErr, refl, sym, ap, ◌∙◌, subst, arith, length-append, length-drop, length-take-le, take_all, append_assoc, append-nil, take-append-drop}
+use lib.Seq.{take-add}
+use Rattle.std.specs.Io.{WritesAtMost}
+use Rattle.std.specs.Io.KnownBytes.{WriteAppends}
+use Rattle.std.specs.Result.{result_unwrap_or}
+use Rattle.napt_capture.specs.Device.{failed_writes}
+use Rattle.napt_capture.specs.declared.device.DeviceFault.{DeviceFault}
 use Rattle.std.proofs.Math.Seq.{take-append-add}
 use Rattle.std.proofs.lemmas.List.{take-append-le, take_more}
 use Rattle.std.proofs.lemmas.List.Elements.{All-head, All-tail}
@@ -45,6 +51,45 @@ PutsFront-longer {old} {new} xs ys p = record {
   counted = p.counted;
   appended = subst (Appends old new) (sym (take-append-le p.taken xs ys p.within)) p.appended;
 }
+
+-- a write of the rest that took some bytes
+pub takes_more : (r : Result ℕ DeviceFault) (old mid new : Option (List ℕ)) (bytes : List ℕ)
+    (done count failed-0 failed-1 failed-2 : ℕ)
+    → count ≡ result_unwrap_or r 0 → (count ≡ 0 → ⊥) → WritesAtMost r (drop done bytes) →
+    WriteAppends mid new r (drop done bytes)
+    → failed-2 ≡ failed-1 + failed_writes r (drop done bytes)
+    → done ≤ length bytes → Appends old mid (take done bytes) → failed-1 ≡ failed-0
+    → (done + count ≤ length bytes) × Appends old new (take (done + count) bytes) × (failed-2 ≡ failed-0)
+takes_more (Err _) old mid new bytes done count f0 f1 f2 is some most appended counted within before same =
+    absurd (some is)
+takes_more (Ok zero) old mid new bytes done count f0 f1 f2 is some most appended counted within before same =
+    absurd (some is)
+takes_more (Ok (suc n)) old mid new bytes done count f0 f1 f2 is some most appended counted within before same =
+    let all : take done bytes ++ take (suc n) (drop done bytes) ≡ take (done + count) bytes =
+    sym (take-add done (suc n) bytes) ∙ ap (λ m. take (done + m) bytes) (sym is) in
+    let none : failed_writes {E = DeviceFault} (Ok (suc n)) (drop done bytes) ≡ 0 = let isnt : nat_eq (suc n) 0
+    ≡ false = search rules in rw isnt refl in (
+      omega (arith, is, most, length-drop done bytes),
+      subst (Appends old new) all
+          (Appends-trans old mid new _ _ before appended),
+      omega (arith, counted, none, same),
+    )
+
+-- a first write that took some
+pub takes_first : (r : Result ℕ DeviceFault) (old new : Option (List ℕ)) (bytes : List ℕ) (count : ℕ)
+    → count ≡ result_unwrap_or r 0 → (count ≡ 0 → ⊥) → WritesAtMost r bytes → WriteAppends old new r bytes
+    → (count ≤ length bytes) × Appends old new (take count bytes)
+takes_first (Err _) old new bytes count is some most appended = absurd (some is)
+takes_first (Ok n) old new bytes count is some most appended = rw is (most, appended)
+
+-- and then the rest was put
+pub puts_more : (before count : ℕ) (old mid new : Option (List ℕ)) (bytes : List ℕ) (r : Result ℕ WriteFault)
+    → count ≤ length bytes → Appends old mid (take count bytes) → Puts (before + count) mid new (drop count bytes) r →
+    Puts before old new bytes r
+puts_more before count old mid new bytes r within appended rest =
+    subst (λ text. Puts before old new text r) (take-append-drop count bytes)
+    (Puts-append old mid new (take count bytes) (drop count bytes) r
+    (record { counted = omega (arith, length-take-le count bytes within); appended = appended }) rest)
 
 -- a fault that counts from the front of the text says how much of it was written
 pub PutsFront-fault : {old new : Option (List ℕ)} {fault : WriteFault} (xs : List ℕ)

@@ -1,6 +1,6 @@
 -- What the steps of reading a capture do, over the bytes left in the source before and after.
-use Rattle.std.specs.Prelude.{ℕ, ◌+◌, ◌<◌, ◌≤◌, ◌≡◌, ◌⊎◌, ⊤, nat_lt, if◌then◌else◌, min, List, [], ◌++◌, length, take, drop, Option, Some, None, IfSome, Result, Ok, Err}
-use Rattle.napt_capture.specs.declared.TheConstants.{MOST_ASKED}
+use Rattle.std.specs.Prelude.{ℕ, ◌+◌, ◌*◌, ◌^◌, ◌<◌, ◌≤◌, ◌≡◌, ◌⊎◌, ⊤, nat_lt, if◌then◌else◌, min, List, [], ◌++◌, length, take, drop, Option, Some, None, IfSome, Result, Ok, Err}
+use Rattle.napt_capture.specs.declared.TheConstants.{LARGEST_RECORD, MOST_ASKED}
 use Rattle.napt_capture.specs.declared.fault.CaptureFault.{CaptureFault}
 use Rattle.napt_capture.specs.declared.fault.CaptureFault.TheVariants.{TooLarge, Read, Memory}
 use Rattle.napt_capture.specs.declared.reading.Next.{Next}
@@ -34,6 +34,18 @@ pub record HasFields (s : Spelling) (number : ℕ) (header : List ℕ) (f : Fiel
   pub size : size_in s number header ≡ Ok f.captured
   pub time : f.time ≡ time_of s header
   pub original : f.original ≡ original_of s header
+
+-- a whole record of these fields, that of this number, is in what was read ahead
+pub record StandsWhole (s : Spelling) (number : ℕ) (ahead : List ℕ) (fields : Fields) : Type 0 where
+  pub next : next_in s number ahead
+      ≡ Ok (Whole (record {
+        time = fields.time;
+        bytes = take fields.captured (drop 16 ahead);
+        original = fields.original;
+      }))
+  pub time : fields.time < 2 ^ 32 * 1000000000
+  pub captured : fields.captured ≤ LARGEST_RECORD
+  pub whole : 16 + fields.captured ≤ length ahead
 
 -- what is next, to a reader that has asked for so many bytes
 abbrev pub next_within : Spelling → ℕ → ℕ → List ℕ → Result Next CaptureFault

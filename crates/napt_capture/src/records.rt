@@ -1,12 +1,7 @@
 //! Reading a capture record after record, as it comes.
-ghost use Rattle.std.specs.Prelude.{◌≡◌, ◌≢◌, ◌+◌, ◌-◌, ◌^◌, ◌<◌, [], length, nat_lt, take, drop, Bool, true, false, Some, IfOk, IfErr, IfSome, IfNone, OnOk, OnErr, Ok, Err};
-ghost use Rattle.std.specs.Io.KnownBytes.{IsAtEnd};
-ghost use Rattle.napt_capture.specs.Capture.{failed_reads, spelling_in};
-ghost use Rattle.napt_capture.specs.Device.{failed_calls};
-ghost use Rattle.napt_capture.specs.declared.fault.CaptureFault.TheVariants.{Read};
-ghost use Rattle.napt_capture.specs.declared.reading.Next.TheVariants.{End};
-ghost use Rattle.napt_capture.specs.Reading.{Gives, IsWritableNext, Says};
-ghost use Rattle.napt_capture.specs.Records.{Asks, KeepsLeft, StandsWhole, Tells, next_number, next_of, left_of, spelling_of_reader};
+ghost use Rattle.std.specs.Prelude.{◌≡◌, IfOk};
+ghost use Rattle.std.specs.Option.{ForSome};
+ghost use Rattle.napt_capture.specs.Reading.{StandsWhole};
 
 use crate::ahead::Ahead;
 use crate::contents::Record;
@@ -24,9 +19,21 @@ pub struct Records {
     /// The number of the next record, which saturates.
     number: u64,
     ahead: Ahead,
+    /// The fields of the next record, if it is known to be whole in what was read ahead.
+    whole: Option<Fields>,
+    ghost stands: { ForSome whole (StandsWhole spelling number ahead) },
 }
 
 impl Records {
+    ghost use Rattle.std.specs.Prelude.{◌≡◌, ◌≢◌, ◌+◌, ◌-◌, ◌^◌, ◌<◌, [], length, nat_lt, take, drop, Bool, true, false, Some, IfOk, IfErr, IfSome, IfNone, OnOk, OnErr, Ok, Err};
+    ghost use Rattle.std.specs.Io.KnownBytes.{IsAtEnd};
+    ghost use Rattle.napt_capture.specs.Capture.{failed_reads, spelling_in};
+    ghost use Rattle.napt_capture.specs.Device.{failed_calls};
+    ghost use Rattle.napt_capture.specs.declared.fault.CaptureFault.TheVariants.{Memory, Read};
+    ghost use Rattle.napt_capture.specs.declared.reading.Next.TheVariants.{End};
+    ghost use Rattle.napt_capture.specs.Reading.{Gives, IsWritableNext, Says};
+    ghost use Rattle.napt_capture.specs.Records.{Asks, KeepsLeft, Tells, next_number, next_of, left_of, spelling_of_reader};
+
     /// Reads the header of the file, its first 24 bytes. Returns `NoHeader`, `BadMagic`, `BadVersion` or `BadLink` by
     /// that header, `Read` if and only if a read failed, and `Memory`, before any read, if the buffer is refused.
     pub fn open<R: Source>(alloc: Global, source: &mut R) -> Result<Records, CaptureFault>
@@ -36,6 +43,7 @@ impl Records {
             (spelling_in (take 24 bytes) ≡ spelling_of_reader result) × (left ≡ drop 24 bytes))) }
         ensures empty { IfOk result (λ records. records.ahead ≡ []) }
         ensures first { IfOk result (λ records. records.number ≡ 1) }
+        ensures unread { result ≡ Err Memory → source.new ≡ source.old }
         ensures count { R.failed source.new ≡ R.failed source.old + failed_reads result }
     {
         let ahead = Ahead::new(alloc)?;
@@ -44,11 +52,13 @@ impl Records {
             spelling,
             number: 1,
             ahead,
+            whole: None,
         })
     }
 
     /// Whether the next record, or the fault in its place, was already read, so that [`Records::next`] doesn't ask the
     /// source.
+    #[inline(always)]
     pub fn has_whole(&self) -> bool
         ensures whole { result ≡ true → ¬ Asks self.now }
         ensures part { result ≡ false → Asks self.now }
@@ -62,6 +72,7 @@ impl Records {
     /// Returns `BadFraction` or `TooLong` by the record's header, `Read` if and only if a read failed, `Memory` if the
     /// vector could not grow. The end and a fault lose nothing: a later call goes on from there, and returns the end,
     /// or the header's fault, again.
+    #[inline(always)]
     pub fn next<R: Source>(&mut self, source: &mut R, vector: Vec<u8>) -> Result<Next, CaptureFault>
         requires can_fail { R.failed source.old < 2 ^ 64 - 1 }
         ensures next { Says result (Gives (left_of self.old (R.remaining source.old))
@@ -81,8 +92,37 @@ impl Records {
 
     /// What the bytes read ahead begin with: the fields of a whole record, `None` if it is not whole, or the fault of
     /// its header.
+    #[inline(always)]
     fn front(&self) -> Result<Option<Fields>, CaptureFault>
-        ensures whole { IfOk result (λ front. IfSome front (StandsWhole self.now)) }
+        ensures whole { IfOk result (λ front. IfSome front
+            (StandsWhole self.now.spelling self.now.number self.now.ahead)) }
+        ensures part { IfOk result (λ front. IfNone front
+            (next_of self.now self.now.ahead ≡ Ok (End (nat_lt 0 (length self.now.ahead))))) }
+        ensures fault { IfErr result (λ fault. next_of self.now self.now.ahead ≡ Err fault) }
+    {
+        match self.whole {
+            Some(fields) => Ok(Some(fields)),
+            None => self.first_front(),
+        }
+    }
+
+    /// The same where it is not known yet: behind what was just read.
+    #[inline(never)]
+    fn first_front(&self) -> Result<Option<Fields>, CaptureFault>
+        ensures whole { IfOk result (λ front. IfSome front
+            (StandsWhole self.now.spelling self.now.number self.now.ahead)) }
+        ensures part { IfOk result (λ front. IfNone front
+            (next_of self.now self.now.ahead ≡ Ok (End (nat_lt 0 (length self.now.ahead))))) }
+        ensures fault { IfErr result (λ fault. next_of self.now self.now.ahead ≡ Err fault) }
+    {
+        self.read_front()
+    }
+
+    /// The same, from the bytes.
+    #[inline(always)]
+    fn read_front(&self) -> Result<Option<Fields>, CaptureFault>
+        ensures whole { IfOk result (λ front. IfSome front
+            (StandsWhole self.now.spelling self.now.number self.now.ahead)) }
         ensures part { IfOk result (λ front. IfNone front
             (next_of self.now self.now.ahead ≡ Ok (End (nat_lt 0 (length self.now.ahead))))) }
         ensures fault { IfErr result (λ fault. next_of self.now self.now.ahead ≡ Err fault) }
@@ -98,7 +138,19 @@ impl Records {
         Ok(Some(fields))
     }
 
+    /// The fields of a whole record that the bytes read ahead begin with, if they do.
+    #[inline(always)]
+    fn whole_front(&self) -> Option<Fields>
+        ensures { IfSome result (StandsWhole self.now.spelling self.now.number self.now.ahead) }
+    {
+        match self.read_front() {
+            Ok(front) => front,
+            Err(_) => None,
+        }
+    }
+
     /// Reads until what is next is known, or to the end.
+    #[inline(always)]
     fn read_ahead<R: Source>(&mut self, source: &mut R) -> Result<(), DeviceFault>
         requires can_fail { R.failed source.old < 2 ^ 64 - 1 }
         ensures kept { KeepsLeft self.old (R.remaining source.old)
@@ -108,6 +160,7 @@ impl Records {
         ensures count { R.failed source.new ≡ R.failed source.old + failed_calls result }
     {
         while !self.has_whole() {
+            self.whole = None;
             if self.ahead.read_more(source)? == 0 {
                 return Ok(());
             }
@@ -116,6 +169,7 @@ impl Records {
     }
 
     /// Takes what is next from the bytes read ahead.
+    #[inline(always)]
     fn take(&mut self, vector: Vec<u8>) -> Result<Next, CaptureFault>
         ensures next { Says result (Tells self.old result self.old.ahead self.new.ahead) }
         ensures number { IfOk result (λ next. self.new.number ≡ next_number next self.old.number) }
@@ -131,6 +185,8 @@ impl Records {
         let bytes = copied(&self.ahead.as_slice()[RECORD_HEADER..size], vector)?;
         self.ahead.consume(size);
         self.number = self.number.saturating_add(1);
+        self.whole = None;
+        self.whole = self.whole_front();
         Ok(Next::Whole(Record {
             time: fields.time,
             bytes,
@@ -140,6 +196,7 @@ impl Records {
 }
 
 /// These bytes, in the vector's room.
+#[inline(always)]
 fn copied(bytes: &[u8], vector: Vec<u8>) -> Result<Vec<u8>, AllocError>
     ensures { IfOk result (λ copy. copy.items ≡ bytes.now) }
 {

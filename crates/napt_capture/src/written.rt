@@ -59,6 +59,7 @@ impl Written {
 
     /// Writes the record of a whole packet that arrived at `time`, in ns since 1970-01-01 00:00:00 UTC.
     #[tactic(auto, unfolding(crate::specs::Text::record_text))]
+    #[inline(always)]
     pub fn record<W: Sink>(
         self,
         writer: &mut W,
@@ -92,8 +93,35 @@ impl Written {
         }
     }
 
-    /// Appends these bytes to what is written.
+    /// Appends these bytes to what is written. Most devices take all at once.
+    #[inline(always)]
     pub(crate) fn put<W: Sink>(self, writer: &mut W, bytes: &[u8]) -> Result<Written, WriteFault>
+        requires can_fail { W.failed writer.old < 2 ^ 64 - 1 }
+        requires room { self + length bytes.now < 2 ^ 64 }
+        ensures puts { Puts self (W.contents writer.old) (W.contents writer.new) bytes.now result }
+        ensures count { W.failed writer.new ≡ W.failed writer.old + failed_calls result }
+    {
+        if bytes.is_empty() {
+            return Ok(self);
+        }
+        let count = writer.write(bytes).unwrap_or(0);
+        let written = Written {
+            bytes: self.bytes + count as u64,
+        };
+        if count == bytes.len() {
+            return Ok(written);
+        }
+        if count == 0 {
+            return Err(WriteFault {
+                written: self.bytes,
+            });
+        }
+        written.put_rest(writer, &bytes[count..])
+    }
+
+    /// The same, in as many writes as it takes.
+    #[inline(never)]
+    fn put_rest<W: Sink>(self, writer: &mut W, bytes: &[u8]) -> Result<Written, WriteFault>
         requires can_fail { W.failed writer.old < 2 ^ 64 - 1 }
         requires room { self + length bytes.now < 2 ^ 64 }
         ensures puts { Puts self (W.contents writer.old) (W.contents writer.new) bytes.now result }
@@ -118,6 +146,7 @@ impl Written {
 
 /// Seconds, nanoseconds, and the number of bytes, twice.
 #[tactic(auto, unfolding(crate::specs::Text::record_header))]
+#[inline(always)]
 fn record_header(time: u64, bytes: &[u8]) -> [u8; 16]
     requires { IsWritable (entry_of_packet time bytes.now) }
     ensures { result ≡ header_of (entry_of_packet time bytes.now) }

@@ -1,7 +1,6 @@
 pub mod Words
 pub mod Rows
 pub mod Least
-pub mod Same
-pub mod Trees
-pub mod Raises
-pub mod Bounded
+pub mod Orders
+pub mod Placed
+pub mod Nodes

@@ -22,3 +22,8 @@ IsEarliest times (Some e) = StandsAt times e.0 e.1 × EachTime times (λ other. 
 abbrev pub IsLatest : List (Option ℕ) → Option ℕ → Type 0
 IsLatest times None = HasNoTime times
 IsLatest times (Some time) = ((place : ℕ) × StandsAt times time place) × EachTime times (λ other. other ≤ time)
+
+-- no time is after this one, if it is one
+abbrev pub NoneAfter : List (Option ℕ) → Option ℕ → Type 0
+NoneAfter times None = Unit {0}
+NoneAfter times (Some time) = EachTime times (λ other. other ≤ time)

@@ -3,5 +3,6 @@ pub mod SetKept
 pub mod Queue
 pub mod Bounds
 pub mod PlacedTimes
-pub mod Spans
+pub mod Links
+pub mod Orders
 pub mod TimesKept

@@ -4,7 +4,7 @@
 
 mod bits;
 mod due;
-mod span;
+mod links;
 mod times;
 mod word;
 

@@ -1,5 +1,5 @@
 -- What is true of a worker after legs were offered and answers taken.
-use Rattle.std.proofs.Common.{◌≡◌, ◌≢◌, ◌⊎◌, ◌||◌, ℕ, zero, suc, ◌+◌, ◌<◌, Bool, true, false, List, [], ◌∷◌, ◌++◌, length, refl, sym, ◌∙◌, ap, subst, arith, inl, inr}
+use Rattle.std.proofs.Common.{◌≡◌, ◌≢◌, ◌⊎◌, ◌||◌, ℕ, zero, suc, ◌+◌, ◌<◌, Bool, true, false, List, [], ◌∷◌, ◌++◌, length, Option, Some, None, IfSome, refl, sym, ◌∙◌, ap, subst, arith, inl, inr}
 use Rattle.std.specs.Prelude.{slice_get, slice_set}
 use Rattle.std.proofs.lemmas.List.{length-append, length-map, set-get_or}
 use Rattle.napt_rules.specs.declared.Leg.{Leg}
@@ -8,19 +8,18 @@ use Rattle.napt_rules.specs.declared.Outcome.{Outcome}
 use Rattle.napt_pool.specs.declared.pool.Pool.{Pool}
 use Rattle.napt_pool.specs.Pools.{starts, accepts, takes, capacity_of}
 use Rattle.napt_dispatch.specs.declared.dispatcher.Dispatcher.{Dispatcher}
+use Rattle.napt_dispatch.specs.declared.dispatcher.holding.Front.TheVariants as fronts
 use Rattle.napt_dispatch.specs.declared.dispatcher.holding.Held.{Held}
 use Rattle.napt_dispatch.specs.declared.dispatcher.holding.Held.TheVariants.{Ready, Place}
-use Rattle.napt_dispatch.specs.declared.dispatcher.holding.Owed.{Owed}
 use Rattle.napt_dispatch.specs.declared.dispatcher.progress.Progress.{Progress}
-use Rattle.napt_dispatch.specs.declared.dispatcher.progress.Progress.TheVariants.{Awaited, EndedOut}
-use Rattle.napt_dispatch.specs.declared.dispatcher.progress.Second.TheVariants as seconds
+use Rattle.napt_dispatch.specs.declared.dispatcher.progress.Progress.TheVariants.{Awaited, Told}
 use Rattle.napt_dispatch.specs.Dispatch.{of_worker}
-use Rattle.napt_dispatch.specs.QueueStates.{QueueState, unused, queue_of, many_owed, with_first, with_offer, with_oldest, with_queue}
+use Rattle.napt_dispatch.specs.QueueStates.{QueueState, unused, queue_of, many_owed, with_first, with_offer, with_offers, with_oldest, with_queue, owed_of, front_of, OffersAt}
 use Rattle.napt_dispatch.specs.Windows.{Window, progress_in, is_unknown, IsWritten, IsMarked}
-use Rattle.napt_dispatch.specs.Standing.{Journal, journal_of, state_with, state_of, added, owed_of, Keeps, KeepsAt, Noted, NotesAll, IsSecond, Forgets, IsSame, TakesFirst, first_waits, waits_at, Readies, HasTaken, HasOffered, OffersOnlyTo}
+use Rattle.napt_dispatch.specs.Standing.{Journal, journal_of, state_with, state_of, added, Keeps, KeepsAt, Noted, NotesAll, IsSecond, Forgets, IsSame, TakesFirst, first_waits, waits_at, Readies, HasTaken, HasOffered, OffersOnlyTo}
 use Rattle.napt_dispatch.proofs.Lanes.{added_own, added_other, added_none, added_more, set_added}
 use Rattle.napt_dispatch.proofs.QueueStates.{queue_own, queue_other, length_with, sum_with}
-use Rattle.napt_dispatch.proofs.Standing.{queues_keep, offer_keeps, gone_keeps, next_keeps, answer_keeps}
+use Rattle.napt_dispatch.proofs.Standing.{queues_keep, offers_keep, gone_keeps, next_keeps, answer_keeps}
 
 -- WHAT STANDS FIRST
 
@@ -60,9 +59,14 @@ module _ (w : ℕ) (d later : Dispatcher) (within : w < length d.queues) where
     inside : w < length later.queues
     inside = rw (ap length out ∙ length_with later.queues w (with_first (Place number))) at within
 
-    -- a placeholder without a leg
-    pub takes_gone : IsSecond number d.progress later.progress seconds.Never → TakesFirst w d later later.queues
-    takes_gone is = record {
+    -- a placeholder that does not wait
+    pub goes_first : waits_at d w ≡ false → is_unknown (slice_get (progress_in d.progress) number) ≡ false
+    goes_first goes = rw (out, queue_own later.queues w (with_first (Place number)) inside) at goes
+
+    -- one without a leg
+    pub takes_gone : waits_at d w ≡ false → IsSecond number d.progress later.progress None →
+        TakesFirst w d later later.queues
+    takes_gone goes is = record {
       first = Place number;
       out = out;
       journal_stays = marked_same number false d.progress later.progress is.0;
@@ -70,13 +74,13 @@ module _ (w : ℕ) (d later : Dispatcher) (within : w < length d.queues) where
       keeps = λ offered taken. queues_keep w d later later.queues (with_first (Place number)) (λ q. q) offered offered
           taken taken inside out (sym (set-get_or later.queues w unused)) (λ v n. (refl, refl))
           (λ rules all. rw is.0.progress_stays (gone_keeps rules all w number (offered w) (taken w)
-          (queue_of later.queues w) (progress_in d.progress) is.1 is.2));
+          (queue_of later.queues w) (progress_in d.progress) (goes_first goes) is.1));
     }
 
-    -- one with its leg
-    pub takes_next : (leg : Leg) → IsSecond number d.progress later.progress (seconds.Known leg) →
+    -- one with a leg
+    takes_next : (leg : Leg) → waits_at d w ≡ false → IsSecond number d.progress later.progress (Some leg) →
         TakesFirst w d later (with_queue w (with_first (Ready leg)) later.queues)
-    takes_next leg is = record {
+    takes_next leg goes is = record {
       first = Place number;
       out = out;
       journal_stays = written_same number Awaited d.progress later.progress is.0;
@@ -86,12 +90,13 @@ module _ (w : ℕ) (d later : Dispatcher) (within : w < length d.queues) where
           (with_first (Place number)) (with_first (Ready leg)) offered offered taken taken inside out refl
           (λ v n. (refl, refl))
           (λ rules all. rw is.0.progress_is (next_keeps rules all w number (offered w) (taken w)
-          (queue_of later.queues w) (progress_in d.progress) leg is.1 is.2));
+          (queue_of later.queues w) (progress_in d.progress) leg (goes_first goes) is.1));
     }
 
-    -- a placeholder that waits
-    pub waits_first : is_unknown (slice_get (progress_in d.progress) number) ≡ true → waits_at d w ≡ true
-    waits_first is = rw (out, queue_own later.queues w (with_first (Place number)) inside) is
+    pub takes_second : waits_at d w ≡ false → (second : Option Leg) → IsSecond number d.progress later.progress second →
+        IfSome second (λ leg. TakesFirst w d later (with_queue w (with_first (Ready leg)) later.queues))
+    takes_second goes None is = tt
+    takes_second goes (Some leg) is = takes_next leg goes is
 
   -- one less is held
   pub taken_less : (queues : List QueueState) → TakesFirst w d later queues →
@@ -103,6 +108,31 @@ module _ (w : ℕ) (d later : Dispatcher) (within : w < length d.queues) where
       ap (λ qs. length (queue_of qs w).held) t.out
       ∙ ap (λ q. length q.held) (queue_own later.queues w (with_first t.first) lt) in
       omega (arith, was)
+
+-- something is held where that does not wait
+pub some_goes : (progress : List Progress) (held : List Held) → first_waits progress held ≡ false → 0 < length held
+some_goes progress [] goes = absurd cc
+some_goes progress (x ∷ rest) goes = omega arith
+
+-- nothing is held, or a placeholder that waits is first
+pub waits_none : (progress : List Progress) (held : List Held) → front_of held ≡ fronts.Nothing →
+    first_waits progress held ≡ true
+waits_none progress [] is = refl
+waits_none progress (Ready leg ∷ rest) is = absurd cc
+waits_none progress (Place number ∷ rest) is = absurd cc
+
+pub waits_first : (progress : List Progress) (held : List Held) (number : ℕ) →
+    front_of held ≡ fronts.FirstPlace number → first_waits progress held ≡ is_unknown (slice_get progress number)
+waits_first progress [] number is = absurd cc
+waits_first progress (Ready leg ∷ rest) number is = absurd cc
+waits_first progress (Place other ∷ rest) number is =
+    let same : other ≡ number = cc in ap (λ n. is_unknown (slice_get progress n)) same
+
+pub waits_not : (progress : List Progress) (held : List Held) → front_of held ≡ fronts.FirstLeg →
+    first_waits progress held ≡ false
+waits_not progress [] is = absurd cc
+waits_not progress (Ready leg ∷ rest) is = refl
+waits_not progress (Place number ∷ rest) is = absurd cc
 
 -- OFFERS
 
@@ -136,6 +166,23 @@ readies_gone w legs d later t = record {
   forgets = t.forgets;
 }
 
+-- the first legs held were taken out, and counted as offered
+pub readies_all : (w : ℕ) (legs : List Leg) (d later : Dispatcher) → w < length d.queues →
+    OffersAt w legs d.queues later.queues → later.progress ≡ d.progress → Readies w [] d legs later
+readies_all w legs d later within o same = record {
+  journal_stays = ap journal_of same;
+  keeps = λ offered taken.
+      subst (λ (f : ℕ → List Leg). Keeps (state_with f taken d) (state_with (added w legs offered) taken later))
+      (sym (added_none w offered))
+      (queues_keep w d later d.queues (λ q. q) (with_offers legs o.rest) offered (added w legs offered) taken taken
+      within (sym (set-get_or d.queues w unused)) o.later_is (λ v n. (added_other w legs offered v n, refl))
+      (λ rules all. rw (added_own w legs offered, same)
+      (offers_keep rules all w legs o.rest (offered w) (taken w) (queue_of d.queues w) (progress_in d.progress)
+      o.held_is)));
+  others = λ v n. ap (λ qs. queue_of qs v) o.later_is ∙ queue_other d.queues w (with_offers legs o.rest) v n;
+  forgets = λ number h. rw same h;
+}
+
 -- a leg was taken out, and counted as offered
 pub readies_next : (w : ℕ) (legs more : List Leg) (leg : Leg) (d mid later : Dispatcher) → w < length mid.queues →
     more ≡ legs ++ leg ∷ [] → TakesFirst w d mid (with_queue w (with_first (Ready leg)) mid.queues) →
@@ -153,8 +200,8 @@ readies_next w legs more leg d mid later within more_is t offers same = record {
       (added w (leg ∷ []) (added w legs offered)) taken taken within refl offers
       (λ v n. (added_other w (leg ∷ []) (added w legs offered) v n, refl))
       (λ rules all. rw (added_own w (leg ∷ []) (added w legs offered), same)
-      (offer_keeps rules all w leg (added w legs offered w) (taken w) (queue_of mid.queues w)
-      (progress_in mid.progress)))
+      (offers_keep rules all w (leg ∷ []) (queue_of mid.queues w).held (added w legs offered w) (taken w)
+      (with_first (Ready leg) (queue_of mid.queues w)) (progress_in mid.progress) refl))
       rules done all (t.keeps (added w legs offered) taken rules done all s));
   others = λ v n. ap (λ qs. queue_of qs v) offers
       ∙ (queue_other mid.queues w (with_offer (owed_of leg)) v n
@@ -252,7 +299,8 @@ module _ (w : ℕ) (answer : Answer) (mid later : Dispatcher) (within : w < leng
   pub notes_more : (answers : List Answer) (d : Dispatcher) → NotesAll w answers d mid →
       NotesAll w (answers ++ answer ∷ []) d later
   notes_more answers d a = record {
-    journal_stays = written_same answer.number n.progress mid.progress later.progress n.written ∙ a.journal_stays;
+    journal_stays = written_same answer.number (Told n.owed answer.end) mid.progress later.progress n.written
+        ∙ a.journal_stays;
     keeps = λ offered taken. subst (λ (f : ℕ → List Answer). Keeps (state_with offered taken d)
         (state_with offered f later)) (sym (added_more w answers taken (answer ∷ []))) (λ rules done all s.
         queues_keep w mid later later.queues (with_oldest n.owed) (λ q. q) offered offered (added w answers taken)
@@ -260,7 +308,7 @@ module _ (w : ℕ) (answer : Answer) (mid later : Dispatcher) (within : w < leng
         (sym (set-get_or later.queues w unused))
         (λ v m. (refl, added_other w (answer ∷ []) (added w answers taken) v m))
         (λ rules all. rw (added_own w (answer ∷ []) (added w answers taken), n.written.progress_is)
-        (answer_keeps rules all w answer n.owed n.progress n.told (offered w) (added w answers taken w)
+        (answer_keeps rules all w answer n.owed (offered w) (added w answers taken w)
         (queue_of later.queues w) (progress_in mid.progress)))
         rules done all (a.keeps offered taken rules done all s));
   }

@@ -1,12 +1,15 @@
 -- The queues of one worker change.
-use Rattle.std.proofs.Common.{◌≡◌, ◌≢◌, ℕ, zero, suc, ◌+◌, ◌<◌, ◌≤◌, ◌^◌, List, [], ◌∷◌, length, set, get_or, refl, sym, ◌∙◌, ap, arith, replicate, Option, Some, None, MatchOption, Result, Ok, Err, OnOk}
+use Rattle.std.proofs.Common.{◌≡◌, ◌≢◌, ℕ, zero, suc, ◌+◌, ◌-◌, ◌<◌, ◌≤◌, ◌^◌, List, [], ◌∷◌, ◌++◌, length, map, take, drop, set, get_or, refl, sym, ◌∙◌, ap, arith, append_assoc, replicate, Option, Some, None, MatchOption, Result, Ok, Err, OnOk}
 use Rattle.std.specs.Prelude.{slice_index_or}
 use Rattle.std.specs.List.{sum_by}
-use Rattle.std.proofs.lemmas.List.{length-set, length-replicate, set-set, set-get_or, get_or_default, get_or-set_same, get_or-set_other}
+use Rattle.std.proofs.lemmas.List.{length-append, length-map, length-set, length-replicate, set-set, set-get_or, get_or_default, get_or-set_same, get_or-set_other}
 use Rattle.std.proofs.lemmas.List.Sums.{sum_by-cons, sum_by-set}
+use Rattle.napt_rules.specs.declared.Leg.{Leg}
+use Rattle.napt_dispatch.specs.declared.dispatcher.holding.Front.TheVariants.{FirstLeg}
 use Rattle.napt_dispatch.specs.declared.dispatcher.holding.Held.{Held}
+use Rattle.napt_dispatch.specs.declared.dispatcher.holding.Held.TheVariants.{Ready}
 use Rattle.napt_dispatch.specs.declared.dispatcher.holding.Owed.{Owed}
-use Rattle.napt_dispatch.specs.QueueStates.{QueueState, unused, queue_of, many_held, AreCounted, with_first, with_oldest, with_queue}
+use Rattle.napt_dispatch.specs.QueueStates.{QueueState, unused, queue_of, many_held, AreCounted, front_of, held_behind, with_first, with_oldest, with_queue}
 
 module _ (queues : List QueueState) (w : ℕ) (change : QueueState → QueueState) where
   pub queue_own : w < length queues → queue_of (with_queue w change queues) w ≡ change (queue_of queues w)
@@ -63,6 +66,15 @@ module _ (queues : List QueueState) (w : ℕ) (queue later : QueueState) (lt : w
       AreCounted many (set queues w later)
   counted_same many e c = counted_by many many (ap (λ xs. many + length xs) (sym e)) c.few c
 
+  -- what is held first was taken out
+  pub released : (held : Held) (many : ℕ) → queue ≡ with_first held later → AreCounted many queues →
+      (0 < many) × AreCounted (many - 1) (set queues w later)
+  released held many out c =
+      let one : length queue.held ≡ length (held ∷ later.held) = ap (λ (q : QueueState). length q.held) out in (
+        omega (arith, sum_held, one, c.counted),
+        counted_by many (many - 1) (omega (arith, sum_held, one, c.counted)) (omega (arith, c.few)) c,
+      )
+
   -- the oldest leg was answered, if there was one
   pub answered_by : (o : Option Owed) → MatchOption o (queue.owed ≡ []) (λ owed. queue.owed ≡ owed ∷ later.owed) →
       later ≡ record queue { owed = later.owed } →
@@ -75,14 +87,37 @@ module _ (queues : List QueueState) (w : ℕ) (queue later : QueueState) (lt : w
     held = sym (ap (λ (q : QueueState). q.held) e) i;
   })
 
--- what is held first was taken out
-pub taken_out : (held : Held) (queue later : QueueState) → queue.held ≡ held ∷ later.held →
-    later ≡ record queue { held = later.held } → queue ≡ with_first held later
-taken_out held queue later first e = λ i. record {
-  offered = sym (ap (λ (q : QueueState). q.offered) e) i;
-  owed = sym (ap (λ (q : QueueState). q.owed) e) i;
-  held = first i;
-}
+-- LEGS, AND WHAT IS HELD BEHIND THEM
+
+pub behind_leg : (legs : List Leg) (leg : Leg) (rest : List Held) → rest ≡ [] →
+    held_behind (legs ++ leg ∷ []) rest ≡ held_behind legs rest ++ Ready leg ∷ []
+behind_leg [] leg rest none = rw none refl
+behind_leg (l ∷ legs) leg rest none = ap (λ (hs : List Held). Ready l ∷ hs) (behind_leg legs leg rest none)
+
+pub behind_more : (legs : List Leg) (rest : List Held) (held : Held) →
+    held_behind legs (rest ++ held ∷ []) ≡ held_behind legs rest ++ held ∷ []
+behind_more legs rest held = sym (append_assoc (map (λ leg. Ready leg) legs) rest (held ∷ []))
+
+pub behind_parts : (n : ℕ) (legs : List Leg) (rest : List Held) →
+    held_behind legs rest ≡ held_behind (take n legs) (held_behind (drop n legs) rest)
+behind_parts zero legs rest = refl
+behind_parts (suc n) [] rest = refl
+behind_parts (suc n) (l ∷ legs) rest = ap (λ (hs : List Held). Ready l ∷ hs) (behind_parts n legs rest)
+
+pub length_behind : (legs : List Leg) (rest : List Held) →
+    length (held_behind legs rest) ≡ length legs + length rest
+length_behind legs rest =
+    length-append (map (λ leg. Ready leg) legs) rest ∙ ap (λ n. n + length rest) (length-map legs (λ leg. Ready leg))
+
+-- the first of some legs
+pub behind_first : (legs later : List Leg) (first : Leg) (rest : List Held) → 0 < length legs →
+    first ≡ get_or legs 0 first → later ≡ drop 1 legs → held_behind legs rest ≡ Ready first ∷ held_behind later rest
+behind_first [] later first rest some is left = absurd (omega arith)
+behind_first (l ∷ legs) later first rest some is left = rw (left, is) refl
+
+pub front_leg : (legs : List Leg) (rest : List Held) → 0 < length legs → front_of (held_behind legs rest) ≡ FirstLeg
+front_leg [] rest some = absurd (omega arith)
+front_leg (l ∷ legs) rest some = refl
 
 -- NOTHING
 

@@ -1,10 +1,9 @@
 -- What stands while a dispatcher hands out the legs of a run.
-use Rattle.std.proofs.Common.{◌≡◌, ◌≢◌, ℕ, suc, ◌+◌, ◌<◌, ◌≤◌, ◌==◌, max, Bool, true, false, cond, List, [], ◌∷◌, ◌++◌, length, map, replicate, Option, Some, None, Ok, Err, refl, sym, ◌∙◌, ap, subst, arith, inl, inr, append_assoc, append-nil, length-append}
-use Rattle.std.specs.Prelude.{IfSome, MatchOption, flat_map, slice_index, slice_index_or, slice_get, slice_set}
+use Rattle.std.proofs.Common.{◌≡◌, ◌≢◌, ℕ, suc, ◌+◌, ◌<◌, ◌≤◌, ◌==◌, max, Bool, true, false, cond, List, [], ◌∷◌, ◌++◌, length, map, replicate, Option, Some, None, option_to_list, Ok, Err, refl, sym, ◌∙◌, ap, subst, arith, inl, inr, append_assoc, append-nil, length-append}
+use Rattle.std.specs.Prelude.{IfSome, MatchOption, flat_map, slice_index, slice_get, slice_set}
 use Rattle.std.proofs.lemmas.Bool.{cases_eq, eq-eqb, ne_eqb}
-use Rattle.std.proofs.lemmas.List.{length_push, map-append, length-replicate, length-map, get_or-map, set-get_or}
+use Rattle.std.proofs.lemmas.List.{length_push, map-append, length-replicate, length-map, get_or-map}
 use Rattle.std.proofs.lemmas.Grind.{flat_map-append}
-use Rattle.std.proofs.lemmas.Simd.{map-map}
 use Rattle.napt_wire.specs.declared.Way.{Way}
 use Rattle.napt_wire.specs.declared.Way.TheVariants.{Outgoing, Incoming}
 use Rattle.napt_wire.specs.declared.Cause.{Cause}
@@ -24,9 +23,9 @@ use Rattle.napt_dispatch.specs.declared.dispatcher.holding.Held.{Held}
 use Rattle.napt_dispatch.specs.declared.dispatcher.holding.Held.TheVariants.{Ready, Place}
 use Rattle.napt_dispatch.specs.declared.dispatcher.holding.Owed.{Owed}
 use Rattle.napt_dispatch.specs.declared.dispatcher.progress.Progress.{Progress}
-use Rattle.napt_dispatch.specs.declared.dispatcher.progress.Progress.TheVariants.{Awaited, Onward, EndedOut, EndedIn}
+use Rattle.napt_dispatch.specs.declared.dispatcher.progress.Progress.TheVariants.{Awaited, Told}
 use Rattle.napt_dispatch.specs.declared.dispatcher.Dispatcher.{Dispatcher}
-use Rattle.napt_laws.specs.Dispatching.{IsFront, outcome_told, IsTold, IsForetold, OnwardIsForetold}
+use Rattle.napt_laws.specs.Dispatching.{IsFront, IsTold, IsForetold, OnwardIsForetold}
 use Rattle.napt_laws.specs.Places.{first_act, second_legs, second_of, IsSeconded}
 use Rattle.napt_laws.proofs.Dispatched.{right_answers, answers_tell}
 use Rattle.napt_laws.proofs.Grown.{outcomes_long}
@@ -38,13 +37,13 @@ use Rattle.napt_pool.specs.Pools.{accepts, takes}
 use Rattle.napt_dispatch.specs.Dispatch.{of_worker, fresh, Distinct, IsDispatched, Right}
 use Rattle.napt_dispatch.specs.Collecting.{outcome_of}
 use Rattle.napt_dispatch.specs.Passing.{timed}
-use Rattle.napt_dispatch.specs.QueueStates.{QueueState, unused, queue_of, counts_in, with_last, with_first, with_offer, with_oldest, with_queue}
-use Rattle.napt_dispatch.specs.Windows.{Window, progress_in, times_in, next_leg, IsKnown, AllKnown}
-use Rattle.napt_dispatch.specs.Standing.{Grows, Lane, DispatchState, state_with, state_of, added, owed_of, IsOwed, LaneStands, resolved, lane_legs, IsRight, AreRight, Reaches, Stands, Keeps, ended, IsToldBy, Admits, IsDone}
+use Rattle.napt_dispatch.specs.QueueStates.{QueueState, unused, queue_of, counts_in, with_last, with_first, with_offers, with_oldest, with_queue, held_behind, owed_of}
+use Rattle.napt_dispatch.specs.Windows.{progress_in, times_in, is_incoming, is_unknown, refused, asked, Asks, IsKnown, AllKnown}
+use Rattle.napt_dispatch.specs.Standing.{Grows, Lane, DispatchState, state_with, state_of, LaneStands, resolved, lane_legs, IsRight, AreRight, Reaches, Stands, Keeps, Admits, IsDone}
 use Rattle.napt_dispatch.proofs.Ended.{map_at}
-use Rattle.napt_dispatch.proofs.Lanes.{added_own, added_other, fronts_both, place_within}
+use Rattle.napt_dispatch.proofs.Lanes.{fronts_both, place_within}
 use Rattle.napt_dispatch.proofs.QueueStates.{queue_own, queue_other, length_with, of_replicate}
-use Rattle.napt_dispatch.proofs.Windows.{known_set, known_push, left_front, left_whole, timed_outcomes}
+use Rattle.napt_dispatch.proofs.Windows.{known_set, awaited_set, ended_known, second_known, left_front, left_whole, timed_outcomes}
 
 -- FRONTS
 
@@ -57,13 +56,6 @@ short_front (x ∷ xs) (y ∷ ys) zs le h =
     let rest : xs ++ h.0 ≡ ys ++ zs = cc (h.1) in
     let more = short_front xs ys zs (omega arith) (h.0, rest) in
     (more.0, (cc))
-
-replies_push : (rules : Rules) (address : ℕ) (legs : List Leg) (leg : Leg) (kept : Kept) → (last : Answer)
-    × (kept_replies rules address (legs ++ leg ∷ []) kept ≡ kept_replies rules address legs kept ++ last ∷ [])
-replies_push rules address [] leg kept = (kept_answer rules address leg kept, refl)
-replies_push rules address (l ∷ legs) leg kept =
-    let more = replies_push rules address legs leg (kept_after rules address l kept) in
-    (more.0, ap (λ (xs : List Answer). kept_answer rules address l kept ∷ xs) more.1)
 
 length_replies : (rules : Rules) (address : ℕ) (legs : List Leg) (kept : Kept) →
     length (kept_replies rules address legs kept) ≡ length legs
@@ -219,29 +211,38 @@ known_keeps many lane progress later known = λ rules done all s. record {
 
 -- AN OFFER
 
--- the leg held first is counted as offered
-pub offer_keeps : (rules : Rules) (all : List Arrival) (w : ℕ) (leg : Leg) (offered : List Leg) (taken : List Answer)
-    (q : QueueState) (progress : List Progress) → LaneKeeps rules all w
-    (record { offered = offered; taken = taken; queue = with_first (Ready leg) q })
-    (record { offered = offered ++ leg ∷ []; taken = taken; queue = with_offer (owed_of leg) q }) progress progress
-offer_keeps rules all w leg offered taken q progress =
+-- the legs held first are counted as offered
+legs_resolved : (acts : List Act) (legs : List Leg) (rest : List Held) →
+    flat_map (resolved acts) (held_behind legs rest) ≡ legs ++ flat_map (resolved acts) rest
+legs_resolved acts [] rest = refl
+legs_resolved acts (leg ∷ legs) rest = ap (λ (ls : List Leg). leg ∷ ls) (legs_resolved acts legs rest)
+
+pub offers_keep : (rules : Rules) (all : List Arrival) (w : ℕ) (legs : List Leg) (rest : List Held)
+    (offered : List Leg) (taken : List Answer) (q : QueueState) (progress : List Progress) →
+    q.held ≡ held_behind legs rest →
+    LaneKeeps rules all w (record { offered = offered; taken = taken; queue = q })
+    (record { offered = offered ++ legs; taken = taken; queue = with_offers legs rest q }) progress progress
+offers_keep rules all w legs rest offered taken q progress held_is =
     let address : ℕ = slice_index rules.pool w in
-    let more = replies_push rules address offered leg (fresh rules address) in
+    let more = replies_more rules address offered legs (fresh rules address) in
     let replies = length_replies rules address offered (fresh rules address) in
     record {
       stands = λ o. record {
         before = o.before;
-        rest = o.rest ++ leg ∷ [];
-        parts = ap (λ ls. ls ++ leg ∷ []) o.parts ∙ append_assoc o.before o.rest (leg ∷ []);
+        rest = o.rest ++ legs;
+        parts = ap (λ ls. ls ++ legs) o.parts ∙ append_assoc o.before o.rest legs;
         long = o.long;
-        owed_is = ap (λ os. os ++ owed_of leg ∷ []) o.owed_is ∙ sym (map-append owed_of o.rest (leg ∷ []));
-        counted = ap (λ n. n + 1) o.counted ∙ sym (length_push offered leg);
+        owed_is = ap (λ os. os ++ map owed_of legs) o.owed_is ∙ sym (map-append owed_of o.rest legs);
+        counted = ap (λ n. n + length legs) o.counted ∙ sym (length-append offered legs);
       };
       right = λ o right.
           let all = ap length o.parts ∙ length-append o.before o.rest in
-          short_front taken (kept_replies rules address offered (fresh rules address)) (more.0 ∷ [])
+          short_front taken (kept_replies rules address offered (fresh rules address)) more.0
           (omega (arith, all, o.long, replies)) (rw more.1 at right);
-      legs = λ known. append_assoc offered (leg ∷ []) (flat_map (resolved (run rules all (opening rules)).acts) q.held);
+      legs = λ known.
+          let acts = (run rules all (opening rules)).acts in
+          append_assoc offered legs (flat_map (resolved acts) rest)
+          ∙ ap (λ ls. offered ++ ls) (sym (ap (flat_map (resolved acts)) held_is ∙ legs_resolved acts legs rest));
       known = λ o right front known. known;
     }
 
@@ -250,29 +251,29 @@ offer_keeps rules all w leg offered taken q progress =
 module _ (rules : Rules) (all : List Arrival) (w number : ℕ) (offered : List Leg) (taken : List Answer) (q : QueueState)
     (progress : List Progress) where
   -- a placeholder that stands for no leg
-  pub gone_keeps : (outcome : Outcome) → slice_get progress number ≡ Some (EndedOut outcome) → LaneKeeps rules all w
+  pub gone_keeps : is_unknown (slice_get progress number) ≡ false → Asks number progress None → LaneKeeps rules all w
       (record { offered = offered; taken = taken; queue = with_first (Place number) q })
       (record { offered = offered; taken = taken; queue = q }) progress progress
-  gone_keeps outcome is = record {
+  gone_keeps goes asks = record {
     stands = λ o. o;
     right = λ o right. right;
     legs = λ known. ap (λ ls. offered ++ (ls ++ flat_map (resolved (run rules all (opening rules)).acts) q.held))
-        (sym (known number (EndedOut outcome) is).1);
+        (sym (second_known (run rules all (opening rules)) progress number None goes asks known));
     known = λ o right front known. known;
   }
 
   -- one that stands for a leg that is known
-  pub next_keeps : (leg : Leg) → slice_get progress number ≡ Some (Onward leg.now leg.packet) →
-      leg ≡ next_leg number leg.now leg.packet → LaneKeeps rules all w
+  pub next_keeps : (leg : Leg) → is_unknown (slice_get progress number) ≡ false → Asks number progress (Some leg) →
+      LaneKeeps rules all w
       (record { offered = offered; taken = taken; queue = with_first (Place number) q })
       (record { offered = offered; taken = taken; queue = with_first (Ready leg) q }) progress
       (slice_set progress number Awaited)
-  next_keeps leg is leg_is = record {
+  next_keeps leg goes asks = record {
     stands = λ o. o;
     right = λ o right. right;
     legs = λ known. ap (λ ls. offered ++ (ls ++ flat_map (resolved (run rules all (opening rules)).acts) q.held))
-        (ap (λ l. l ∷ []) leg_is ∙ sym (known number (Onward leg.now leg.packet) is));
-    known = λ o right front known. known_set (run rules all (opening rules)) progress number Awaited tt known;
+        (sym (second_known (run rules all (opening rules)) progress number (Some leg) goes asks known));
+    known = λ o right front known. awaited_set (run rules all (opening rules)) progress number known;
   }
 
 -- AN ANSWER
@@ -311,38 +312,33 @@ act_at P (a ∷ acts) (l ∷ before) more leg [] rest answer long each legs answ
 act_at P (a ∷ acts) (l ∷ before) more leg (t ∷ taken) rest answer long each legs answers =
     act_at P acts before more leg taken rest answer (omega arith) each.1 (cc (legs)) (cc (answers))
 
-ended_known : (course : Course) (n : ℕ) (way : Way) (o : Outcome) → slice_get course.outcomes n ≡ Some o →
-    (way ≡ Outgoing → second_legs n course.acts ≡ []) → IsKnown course n (ended way o)
-ended_known course n Outgoing o tells none = (tells, none refl)
-ended_known course n Incoming o tells none = tells
-
-told_known : (course : Course) (leg : Leg) (e : End) (p : Progress) →
-    IfSome (outcome_told e) (λ o. slice_get course.outcomes leg.number ≡ Some o) →
-    (leg.way ≡ Outgoing → second_legs leg.number course.acts ≡ second_of leg e) →
-    IsToldBy (owed_of leg) e p → IsKnown course leg.number p
-told_known course leg (ends.ToOutside packet) p tells seconded h =
-    rw h (ended_known course leg.number leg.way (outcomes.ToOutside packet) tells seconded)
-told_known course leg (ends.ToInside packet) p tells seconded h =
-    rw h (ended_known course leg.number leg.way (outcomes.ToInside packet) tells seconded)
-told_known course leg (ends.Dropped cause) p tells seconded h =
-    rw h (ended_known course leg.number leg.way (outcomes.Dropped cause) tells seconded)
-told_known course leg (ends.Onward place packet) p tells seconded h = rw h.1 (seconded h.0)
-
 abbrev Tells : Course → Act → Type 0
 Tells course a = IsTold course.outcomes a × IsSeconded course.acts a
 
-act_tells : (course : Course) (leg : Leg) (answer : Answer) (p : Progress) → ActOf (Tells course) leg answer →
-    IsToldBy (owed_of leg) answer.end p → IsKnown course answer.number p
-act_tells course leg answer p x h =
-    rw (← x.answer_is) (told_known course x.a.leg x.a.end p x.holds.0 x.holds.1 (rw (← x.leg_is, ← x.answer_is) at h))
+second_asked : (leg : Leg) (e : End) → second_of leg e ≡ option_to_list (asked leg.number (Told (owed_of leg) e))
+second_asked leg (ends.ToOutside packet) = refl
+second_asked leg (ends.ToInside packet) = refl
+second_asked leg (ends.Onward place packet) = refl
+second_asked leg (ends.Dropped cause) = refl
+
+is_outgoing : (way : Way) → is_incoming way ≡ false → way ≡ Outgoing
+is_outgoing Outgoing h = refl
+is_outgoing Incoming h = absurd cc
+
+act_tells : (course : Course) (leg : Leg) (answer : Answer) → ActOf (Tells course) leg answer →
+    IsKnown course answer.number (Told (owed_of leg) answer.end)
+act_tells course leg answer x =
+    subst (λ (l : Leg). IsKnown course answer.number (Told (owed_of l) answer.end)) x.leg_is
+    (subst (λ (a : Answer). IsKnown course a.number (Told (owed_of x.a.leg) a.end)) x.answer_is
+    (x.holds.0, λ out. x.holds.1 (is_outgoing x.a.leg.way out) ∙ second_asked x.a.leg x.a.end))
 
 first_owed : (legs : List Leg) (o : Owed) (os : List Owed) → o ∷ os ≡ map owed_of legs → (leg : Leg) × (rest : List Leg)
     × (legs ≡ leg ∷ rest) × (o ≡ owed_of leg) × (os ≡ map owed_of rest)
 first_owed [] o os h = cc
 first_owed (leg ∷ legs) o os h = (leg, legs, refl, cc, cc)
 
-module _ (rules : Rules) (all : List Arrival) (w : ℕ) (answer : Answer) (owed : Owed) (p : Progress)
-    (told : IsToldBy owed answer.end p) (offered : List Leg) (taken : List Answer) (q : QueueState) where
+module _ (rules : Rules) (all : List Arrival) (w : ℕ) (answer : Answer) (owed : Owed) (offered : List Leg)
+    (taken : List Answer) (q : QueueState) where
   abbrev course : Course
   course = run rules all (opening rules)
 
@@ -360,7 +356,7 @@ module _ (rules : Rules) (all : List Arrival) (w : ℕ) (answer : Answer) (owed 
   head o = first_owed o.rest owed q.owed o.owed_is
 
   answer_known : LaneStands one → IsRight rules w two → IsFront offered (legs_at address course.acts) →
-      IsKnown course answer.number p
+      IsKnown course answer.number (Told owed answer.end)
   answer_known o right front =
       let first = head o in
       let told_front = right_answers rules all (opening rules) address offered (taken ++ answer ∷ []) front right in
@@ -369,11 +365,12 @@ module _ (rules : Rules) (all : List Arrival) (w : ℕ) (answer : Answer) (owed 
       course.acts (answers_tell rules all (opening rules)) (answers_fill rules all (opening rules))) in
       let legs : o.before ++ first.0 ∷ (first.1 ++ front.0) ≡ map (λ (a : Act). a.leg) (acts_at address course.acts) =
       rw (o.parts, first.2, append_assoc) at front.1 in
-      act_tells course first.0 answer p (act_at (Tells course) (acts_at address course.acts) o.before
-      (first.1 ++ front.0) first.0 taken told_front.0 answer o.long each legs told_front.1) (rw first.3 at told)
+      subst (λ (o : Owed). IsKnown course answer.number (Told o answer.end)) (sym first.3)
+      (act_tells course first.0 answer (act_at (Tells course) (acts_at address course.acts) o.before
+      (first.1 ++ front.0) first.0 taken told_front.0 answer o.long each legs told_front.1))
 
   pub answer_keeps : (progress : List Progress) →
-      LaneKeeps rules all w one two progress (slice_set progress answer.number p)
+      LaneKeeps rules all w one two progress (slice_set progress answer.number (Told owed answer.end))
   answer_keeps progress = record {
     stands = λ o.
         let first = head o in
@@ -387,7 +384,8 @@ module _ (rules : Rules) (all : List Arrival) (w : ℕ) (answer : Answer) (owed 
         };
     right = λ o right. front_less taken (answer ∷ []) (kept_replies rules address offered (fresh rules address)) right;
     legs = λ known. refl;
-    known = λ o right front known. known_set course progress answer.number p (answer_known o right front) known;
+    known = λ o right front known. known_set course progress answer.number (Told owed answer.end)
+        (answer_known o right front) known;
   }
 
 -- ONE INPUT MORE
@@ -475,7 +473,7 @@ module _ (rules : Rules) (distinct : Distinct rules.pool) (done rest : List Arri
   }
 
   pub refused_stands : (cause : Cause) → admission rules input ≡ Err cause → later.queues ≡ d.queues →
-      progress_in later.progress ≡ slice_set (progress_in d.progress) number (EndedIn (outcomes.Dropped cause)) →
+      progress_in later.progress ≡ slice_set (progress_in d.progress) number (refused cause) →
       Stands rules done all_of (state_with offered taken d) →
       Stands rules now_done all_of (state_with offered taken later)
   refused_stands cause is queues written =
@@ -495,7 +493,7 @@ module _ (rules : Rules) (distinct : Distinct rules.pool) (done rest : List Arri
       grown_stands (λ v. []) (ap length queues) (λ v. rw (queues, append-nil) refl)
       (λ v lt. rw (acts, append-nil) refl)
       (λ known. rw written (known_set (run rules all_of (opening rules)) (progress_in d.progress) number
-      (EndedIn (outcomes.Dropped cause)) there known))
+      (refused cause) (ended_known (run rules all_of (opening rules)) number (outcomes.Dropped cause) there) known))
 
   module _ (packet : List ℕ) (admitted : admission rules input ≡ Ok packet) (foretold : OnwardIsForetold)
       (is : IsPacket packet) (w : ℕ) (within : w < length rules.pool) (served : at_place w
@@ -572,7 +570,7 @@ module _ (rules : Rules) (distinct : Distinct rules.pool) (done rest : List Arri
 -- an input that is dropped before any leg
 pub refused_admits : (rules : Rules) (number now : ℕ) (input : Arrival) (d later : Dispatcher) (cause : Cause) →
     Distinct rules.pool → admission rules input ≡ Err cause → later.queues ≡ d.queues →
-    progress_in later.progress ≡ slice_set (progress_in d.progress) number (EndedIn (outcomes.Dropped cause)) →
+    progress_in later.progress ≡ slice_set (progress_in d.progress) number (refused cause) →
     Admits rules number now input d later
 refused_admits rules number now input d later cause distinct is queues written =
     λ offered taken done rest long clock s.

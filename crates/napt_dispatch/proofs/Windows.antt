@@ -1,20 +1,21 @@
 -- What is known of the inputs that were read.
-use Rattle.std.proofs.Common.{◌≡◌, ◌⊎◌, inl, inr, ℕ, zero, suc, ◌+◌, ◌<◌, ◌≤◌, Bool, true, false, List, [], ◌∷◌, ◌++◌, length, map, set, get_or, Some, refl, sym, ◌∙◌, ap, subst, arith, append-nil, append_assoc, length-append}
+use Rattle.std.proofs.Common.{◌≡◌, ◌⊎◌, inl, inr, ℕ, zero, suc, ◌+◌, ◌<◌, ◌≤◌, Bool, true, false, List, [], ◌∷◌, ◌++◌, length, map, set, get_or, Option, Some, None, option_to_list, refl, sym, ◌∙◌, ap, subst, arith, append-nil, append_assoc, length-append}
 use Rattle.std.specs.Prelude.{slice_get, slice_set}
-use Rattle.std.proofs.lemmas.List.{map-set, map-append, get_or-map, length-map, set-get_or}
+use Rattle.std.proofs.lemmas.List.{map-set, map-append, get_or-map, length-map}
 use Rattle.napt_pool.proofs.Lists.{map-kept}
+use Rattle.napt_rules.specs.declared.Leg.{Leg}
 use Rattle.napt_rules.specs.declared.Outcome.{Outcome}
+use Rattle.napt_rules.specs.declared.Outcome.TheVariants as outcomes
 use Rattle.napt_rules.specs.Prelude.{Arrival, Course}
-use Rattle.napt_laws.specs.Dispatching.{IsFront}
+use Rattle.napt_laws.specs.Dispatching.{IsFront, outcome_told}
+use Rattle.napt_laws.specs.Places.{second_legs}
 use Rattle.napt_dispatch.specs.declared.dispatcher.progress.Progress.{Progress}
-use Rattle.napt_dispatch.specs.declared.dispatcher.progress.Progress.TheVariants.{Awaited, Onward, EndedOut, EndedIn}
+use Rattle.napt_dispatch.specs.declared.dispatcher.progress.Progress.TheVariants.{Awaited}
 use Rattle.napt_dispatch.specs.declared.dispatcher.progress.OpenInput.{OpenInput}
-use Rattle.napt_dispatch.specs.declared.dispatcher.progress.Second.{Second}
-use Rattle.napt_dispatch.specs.declared.dispatcher.progress.Second.TheVariants as seconds
 use Rattle.napt_dispatch.specs.Collecting.{outcome_of}
 use Rattle.napt_dispatch.specs.Standing.{IsSecond, IsSecondOf}
 use Rattle.napt_dispatch.specs.Passing.{timed}
-use Rattle.napt_dispatch.specs.Windows.{Window, time_in, ended_in, unmarked, known_in, arrived, mark_of, progress_in, times_in, marks_in, outcome_in, is_unknown, opened, expecting, IsUnmarked, IsWritten, HasMark, IsMarked, Leaves, IsKnown, AllKnown, IsHandedOver}
+use Rattle.napt_dispatch.specs.Windows.{Window, time_in, end_of, ended, ended_in, asked, Asks, unmarked, known_in, arrived, mark_of, progress_in, times_in, marks_in, outcome_in, is_unknown, opened, expecting, IsUnmarked, IsWritten, HasMark, IsMarked, Leaves, IsKnown, AllKnown, IsHandedOver}
 
 -- LISTS
 
@@ -58,20 +59,45 @@ get_push [] x (suc i) y h = cc
 get_push (z ∷ xs) x zero y h = inl h
 get_push (z ∷ xs) x (suc i) y h = get_push xs x i y h
 
+awaited_known : (course : Course) (n : ℕ) → IsKnown course n Awaited
+awaited_known course n = (tt, λ h. absurd cc)
+
+pub awaited_set : (course : Course) (progress : List Progress) (n : ℕ) → AllKnown course progress →
+    AllKnown course (slice_set progress n Awaited)
+awaited_set course progress n known = known_set course progress n Awaited (awaited_known course n) known
+
+told_end : (o : Outcome) → outcome_told (end_of o) ≡ Some o
+told_end (outcomes.ToOutside packet) = refl
+told_end (outcomes.ToInside packet) = refl
+told_end (outcomes.Dropped cause) = refl
+
+pub ended_known : (course : Course) (n : ℕ) (o : Outcome) → slice_get course.outcomes n ≡ Some o →
+    IsKnown course n (ended o)
+ended_known course n o is = (rw (told_end o) is, λ h. absurd cc)
+
 -- nothing is known of one more
 pub known_push : (course : Course) (progress : List Progress) → AllKnown course progress →
     AllKnown course (progress ++ Awaited ∷ [])
 known_push course progress known = λ i p h. elim (get_push progress Awaited i p h) [
   | inl e ↦ known i p e
-  | inr e ↦ subst (IsKnown course i) e tt
+  | inr e ↦ subst (IsKnown course i) e (awaited_known course i)
 ]
 
 known_outcome : (course : Course) (i : ℕ) (p : Progress) (o : Outcome) → outcome_in p ≡ Some o → IsKnown course i p →
     slice_get course.outcomes i ≡ Some o
-known_outcome course i Awaited o is known = cc
-known_outcome course i (Onward now packet) o is known = cc
-known_outcome course i (EndedOut outcome) o is known = known.0 ∙ is
-known_outcome course i (EndedIn outcome) o is known = known ∙ is
+known_outcome course i p o is known = rw is at known.0
+
+-- the outcomes that have left
+left_known : (course : Course) (i : ℕ) (pair : ℕ × Outcome) → IsKnown course i (ended_in pair) →
+    slice_get course.outcomes i ≡ Some pair.1
+left_known course i pair known = known_outcome course i (ended_in pair) pair.1 (told_end pair.1) known
+
+-- the second leg that is asked for
+pub second_known : (course : Course) (progress : List Progress) (number : ℕ) (second : Option Leg) →
+    is_unknown (slice_get progress number) ≡ false → Asks number progress second → AllKnown course progress →
+    second_legs number course.acts ≡ option_to_list second
+second_known course progress number second goes asks known =
+    (known number asks.p asks.there).1 (rw asks.there at goes) ∙ ap option_to_list asks.asked_is
 
 -- A WINDOW
 
@@ -144,24 +170,16 @@ module _ (left : List (ℕ × Outcome)) (items : List OpenInput) (window : Windo
       marks_in (window_of left (set items place later)) ≡ marks_in window
   open_unmarked later same = reads_same unmarked mark_of left items number place later o at same ∙ ap marks_in is
 
-  -- it stays as it was
-  pub open_kept : (later : OpenInput) → later ≡ o → window_of left (set items place later) ≡ window
-  open_kept later same =
-      ap (λ xs. window_of left xs) (ap (set items place) (same ∙ at) ∙ set-get_or items place o) ∙ is
-
   -- its second leg
-  pub open_second : (later : OpenInput) (second : Second) → IsSecondOf number o later second →
+  pub open_second : (later : OpenInput) (second : Option Leg) → IsSecondOf number o later second →
       IsSecond number window (window_of left (set items place later)) second
-  open_second later seconds.Unknown s = (open_kept later s.0, ap is_unknown open_get ∙ s.1)
-  open_second later seconds.Never s = (
+  open_second later None s = (
     open_marked later false (ap arrived s.0) (ap known_in s.0) (ap mark_of s.0),
-    s.1,
-    open_get ∙ ap Some s.2,
+    record { p = o.progress; there = open_get; asked_is = s.1 },
   )
-  open_second later (seconds.Known leg) s = (
+  open_second later (Some leg) s = (
     open_written later Awaited (ap arrived s.0) (ap known_in s.0),
-    open_get ∙ ap Some s.1,
-    s.2,
+    record { p = o.progress; there = open_get; asked_is = s.1 },
     open_has_mark later false (ap mark_of s.0),
   )
 
@@ -260,8 +278,8 @@ leaves_over pair window later l =
           ∙ sym (ap (λ xs. map unmarked window.left ++ map mark_of xs) l.first)));
       known = λ course known.
           rw set_is (known_set course (progress_in window) (length window.left) (ended_in pair)
-          (known_outcome course (length window.left) l.progress pair.1 l.ended (known (length window.left) l.progress
-          there)) known);
+          (ended_known course (length window.left) pair.1 (known_outcome course (length window.left) l.progress pair.1
+          l.ended (known (length window.left) l.progress there))) known);
     }
 
 pub over_none : (window : Window) → IsHandedOver [] window window
@@ -309,7 +327,8 @@ pub left_front : (course : Course) (window : Window) (inputs : List Arrival) →
     length course.outcomes ≡ length inputs → IsFront window.left (timed inputs course.outcomes)
 left_front course window inputs times known long =
     front_by window.left (map arrived window.under_way) inputs course.outcomes long times
-    (λ i pair g. known i (ended_in pair) (get_left window.left (map known_in window.under_way) i pair g))
+    (λ i pair g. left_known course i pair (known i (ended_in pair)
+    (get_left window.left (map known_in window.under_way) i pair g)))
 
 -- the same where more inputs came than were read
 pub left_front_of : (course : Course) (window : Window) (inputs unread : List Arrival) →
@@ -320,7 +339,8 @@ left_front_of course window inputs unread times known long =
     front_by window.left (map arrived window.under_way ++ more) (inputs ++ unread) course.outcomes long
     (sym (append_assoc (map time_in window.left) (map arrived window.under_way) more)
     ∙ (ap (λ ts. ts ++ more) times ∙ sym (map-append (λ (i : Arrival). i.time) inputs unread)))
-    (λ i pair g. known i (ended_in pair) (get_left window.left (map known_in window.under_way) i pair g))
+    (λ i pair g. left_known course i pair (known i (ended_in pair)
+    (get_left window.left (map known_in window.under_way) i pair g)))
 
 no_more : {X : Type 0} (xs ys zs : List X) → xs ++ ys ≡ zs → length xs ≡ length zs → xs ≡ zs
 no_more [] [] zs e long = e

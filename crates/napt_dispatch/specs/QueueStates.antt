@@ -1,7 +1,11 @@
 -- The queues of workers, and how they change.
 use Rattle.std.specs.Prelude.{◌≡◌, ℕ, ◌+◌, ◌<◌, ◌≤◌, ◌^◌, List, [], ◌∷◌, ◌++◌, map, length, slice_set, slice_index_or}
 use Rattle.std.specs.List.{sum_by}
+use Rattle.napt_rules.specs.declared.Leg.{Leg}
+use Rattle.napt_dispatch.specs.declared.dispatcher.holding.Front.{Front}
+use Rattle.napt_dispatch.specs.declared.dispatcher.holding.Front.TheVariants as fronts
 use Rattle.napt_dispatch.specs.declared.dispatcher.holding.Held.{Held}
+use Rattle.napt_dispatch.specs.declared.dispatcher.holding.Held.TheVariants.{Ready, Place}
 use Rattle.napt_dispatch.specs.declared.dispatcher.holding.Owed.{Owed}
 
 -- one worker: the number of legs offered, the legs not answered yet, and what is held
@@ -36,9 +40,18 @@ pub record AreCounted (many : ℕ) (queues : List QueueState) : Type 0 where
   pub some : 0 < length queues
   pub numbered : length queues < 2 ^ 32
 
--- x is the first element
-abbrev pub BeginsWith : {X : Type 0} → X → List X → Type 0
-BeginsWith {X} x xs = (rest : List X) × (xs ≡ x ∷ rest)
+-- what is held first
+abbrev pub front_of : List Held → Front
+front_of [] = fronts.Nothing
+front_of (Ready leg ∷ rest) = fronts.FirstLeg
+front_of (Place number ∷ rest) = fronts.FirstPlace number
+
+-- legs are held, and this behind them
+abbrev pub held_behind : List Leg → List Held → List Held
+held_behind legs rest = map (λ leg. Ready leg) legs ++ rest
+
+abbrev pub owed_of : Leg → Owed
+owed_of leg = record { way = leg.way; now = leg.now }
 
 -- STEPS
 
@@ -53,6 +66,14 @@ with_first held q = record q { held = held ∷ q.held }
 abbrev pub with_offer : Owed → QueueState → QueueState
 with_offer owed q = record q { offered = q.offered + 1; owed = q.owed ++ owed ∷ [] }
 
+-- these legs were offered, of those that were held first, and this is still held
+abbrev pub with_offers : List Leg → List Held → QueueState → QueueState
+with_offers legs rest q = record { offered = q.offered + length legs; owed = q.owed ++ map owed_of legs; held = rest }
+
+pub record OffersFirst (legs : List Leg) (q later : QueueState) : Type 0 where
+  pub held_is : q.held ≡ held_behind legs later.held
+  pub later_is : later ≡ with_offers legs later.held q
+
 -- a leg awaits its answer before all others
 abbrev pub with_oldest : Owed → QueueState → QueueState
 with_oldest owed q = record q { owed = owed ∷ q.owed }
@@ -60,3 +81,9 @@ with_oldest owed q = record q { owed = owed ∷ q.owed }
 -- the queues of worker w change, and no other
 abbrev pub with_queue : ℕ → (QueueState → QueueState) → List QueueState → List QueueState
 with_queue w change queues = slice_set queues w (change (queue_of queues w))
+
+-- the same at worker w
+pub record OffersAt (w : ℕ) (legs : List Leg) (queues later : List QueueState) : Type 0 where
+  pub rest : List Held
+  pub held_is : (queue_of queues w).held ≡ held_behind legs rest
+  pub later_is : later ≡ with_queue w (with_offers legs rest) queues

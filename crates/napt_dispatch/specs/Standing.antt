@@ -3,38 +3,29 @@
 -- For each worker, the legs offered and then those held are its legs of the run over the inputs read so far. A
 -- placeholder takes the place of a second leg (RFC 4787, REQ-9) until the first is answered. That the answers are
 -- right is a premise here: it is proved once the workers are joined.
-use Rattle.std.specs.Prelude.{◌≡◌, ◌≢◌, ◌⊎◌, ℕ, ◌+◌, ◌<◌, ◌≤◌, ◌==◌, max, Bool, true, false, if◌then◌else◌, List, [], ◌∷◌, ◌++◌, map, flat_map, length, slice_index, slice_get, Some, Result, MatchResult}
-use Rattle.napt_wire.specs.declared.Way.{Way}
-use Rattle.napt_wire.specs.declared.Way.TheVariants.{Outgoing, Incoming}
+use Rattle.std.specs.Prelude.{◌≡◌, ◌≢◌, ◌⊎◌, ℕ, ◌+◌, ◌<◌, ◌≤◌, ◌==◌, max, Bool, true, false, if◌then◌else◌, List, [], ◌∷◌, ◌++◌, map, flat_map, length, slice_index, slice_get, Option, Some, None, Result, MatchResult}
 use Rattle.napt_config.specs.Rules.{Rules}
 use Rattle.napt_rules.specs.Prelude.{opening, Arrival, Act, run, last_clock, legs_at, kept_replies}
 use Rattle.napt_rules.specs.declared.Leg.{Leg}
 use Rattle.napt_rules.specs.declared.Answer.{Answer}
-use Rattle.napt_rules.specs.declared.End.{End}
-use Rattle.napt_rules.specs.declared.End.TheVariants as ends
 use Rattle.napt_pool.specs.declared.pool.Pool.{Pool}
 use Rattle.napt_pool.specs.Pools.{starts, accepts, takes, capacity_of}
 use Rattle.napt_sequential.specs.declared.fault.RunFault.{RunFault}
 use Rattle.napt_rules.specs.declared.Outcome.{Outcome}
-use Rattle.napt_rules.specs.declared.Outcome.TheVariants as outcomes
 use Rattle.napt_laws.specs.Dispatching.{IsFront}
 use Rattle.napt_laws.specs.Places.{second_legs}
 use Rattle.napt_dispatch.specs.declared.dispatcher.Dispatcher.{Dispatcher}
-use Rattle.napt_dispatch.specs.declared.dispatcher.holding.First.{First}
-use Rattle.napt_dispatch.specs.declared.dispatcher.holding.First.TheVariants as firsts
 use Rattle.napt_dispatch.specs.declared.dispatcher.holding.Held.{Held}
 use Rattle.napt_dispatch.specs.declared.dispatcher.holding.Held.TheVariants.{Ready, Place}
 use Rattle.napt_dispatch.specs.declared.dispatcher.holding.Owed.{Owed}
 use Rattle.napt_dispatch.specs.declared.dispatcher.progress.OpenInput.{OpenInput}
 use Rattle.napt_dispatch.specs.declared.dispatcher.progress.Progress.{Progress}
-use Rattle.napt_dispatch.specs.declared.dispatcher.progress.Progress.TheVariants.{Awaited, Onward, EndedOut, EndedIn}
-use Rattle.napt_dispatch.specs.declared.dispatcher.progress.Second.{Second}
-use Rattle.napt_dispatch.specs.declared.dispatcher.progress.Second.TheVariants as seconds
+use Rattle.napt_dispatch.specs.declared.dispatcher.progress.Progress.TheVariants.{Awaited, Told}
 use Rattle.napt_dispatch.specs.declared.dispatcher.taking.Until.{Until}
 use Rattle.napt_dispatch.specs.declared.dispatcher.taking.Until.TheVariants as untils
 use Rattle.napt_dispatch.specs.Dispatch.{of_worker, fresh, IsDispatchFault}
-use Rattle.napt_dispatch.specs.QueueStates.{QueueState, queue_of, many_owed, many_held, with_first, with_oldest, with_queue}
-use Rattle.napt_dispatch.specs.Windows.{Window, progress_in, times_in, is_unknown, next_leg, AllKnown, IsWritten, HasMark, IsMarked}
+use Rattle.napt_dispatch.specs.QueueStates.{QueueState, queue_of, owed_of, many_owed, many_held, with_first, with_oldest, with_queue}
+use Rattle.napt_dispatch.specs.Windows.{Window, progress_in, times_in, is_unknown, asked, Asks, AllKnown, IsWritten, HasMark, IsMarked}
 
 -- A DISPATCHER'S STATE
 
@@ -66,9 +57,6 @@ abbrev pub added : {X : Type 0} → ℕ → List X → (ℕ → List X) → ℕ 
 added w xs lists v = if v == w then lists v ++ xs else lists v
 
 -- THE INVARIANT
-
-abbrev pub owed_of : Leg → Owed
-owed_of leg = record { way = leg.way; now = leg.now }
 
 -- a worker has answered the first of the legs that it was offered, and owes the answers to the others
 pub record IsOwed (offered : List Leg) (taken : List Answer) (count : ℕ) (owed : List Owed) : Type 0 where
@@ -177,44 +165,24 @@ ContinuesUnlessFault open_gate pool d later_pool later result =
 
 -- STEPS
 
-abbrev pub ended : Way → Outcome → Progress
-ended Outgoing outcome = EndedOut outcome
-ended Incoming outcome = EndedIn outcome
-
--- the progress of an input after an answer to one of its legs
-abbrev pub IsToldBy : Owed → End → Progress → Type 0
-IsToldBy owed (ends.ToOutside packet) p = p ≡ ended owed.way (outcomes.ToOutside packet)
-IsToldBy owed (ends.ToInside packet) p = p ≡ ended owed.way (outcomes.ToInside packet)
-IsToldBy owed (ends.Onward place packet) p = (owed.way ≡ Outgoing) × (p ≡ Onward owed.now packet)
-IsToldBy owed (ends.Dropped cause) p = p ≡ ended owed.way (outcomes.Dropped cause)
-
 -- an answer of worker w was noted
 pub record Noted (w : ℕ) (answer : Answer) (d later : Dispatcher) : Type 0 where
   pub owed : Owed
-  pub progress : Progress
-  pub told : IsToldBy owed answer.end progress
   pub answered : d.queues ≡ with_queue w (with_oldest owed) later.queues
-  pub written : IsWritten answer.number progress d.progress later.progress
+  pub written : IsWritten answer.number (Told owed answer.end) d.progress later.progress
 
--- taking out the second leg of an open input
-abbrev pub IsSecondOf : ℕ → OpenInput → OpenInput → Second → Type 0
-IsSecondOf number input later seconds.Unknown = (later ≡ input) × (is_unknown (Some input.progress) ≡ true)
-IsSecondOf number input later seconds.Never = (later ≡ record input { has_place = false })
-    × (outcome : Outcome) × (input.progress ≡ EndedOut outcome)
-IsSecondOf number input later (seconds.Known leg) = (later ≡ record input { progress = Awaited; has_place = false })
-    × (input.progress ≡ Onward leg.now leg.packet) × (leg ≡ next_leg number leg.now leg.packet)
+-- taking out the second leg of an open input, if it has one
+abbrev pub IsSecondOf : ℕ → OpenInput → OpenInput → Option Leg → Type 0
+IsSecondOf number input later None =
+    (later ≡ record input { has_place = false }) × (asked number input.progress ≡ None)
+IsSecondOf number input later (Some leg) =
+    (later ≡ record input { progress = Awaited; has_place = false }) × (asked number input.progress ≡ Some leg)
 
 -- the same for an input by its number
-abbrev pub IsSecond : ℕ → Window → Window → Second → Type 0
-IsSecond number window later seconds.Unknown =
-    (later ≡ window) × (is_unknown (slice_get (progress_in window) number) ≡ true)
-IsSecond number window later seconds.Never =
-    IsMarked number false window later
-    × (outcome : Outcome) × (slice_get (progress_in window) number ≡ Some (EndedOut outcome))
-IsSecond number window later (seconds.Known leg) =
-    IsWritten number Awaited window later
-    × (slice_get (progress_in window) number ≡ Some (Onward leg.now leg.packet))
-    × (leg ≡ next_leg number leg.now leg.packet)
+abbrev pub IsSecond : ℕ → Window → Window → Option Leg → Type 0
+IsSecond number window later None = IsMarked number false window later × Asks number (progress_in window) None
+IsSecond number window later (Some leg) =
+    IsWritten number Awaited window later × Asks number (progress_in window) (Some leg)
     × HasMark number false window later
 
 -- if it was not known whether an input has a second leg, it still is not
@@ -242,12 +210,6 @@ first_waits progress (Place number ∷ rest) = is_unknown (slice_get progress nu
 
 abbrev pub waits_at : Dispatcher → ℕ → Bool
 waits_at d w = first_waits (progress_in d.progress) (queue_of d.queues w).held
-
--- the first leg or placeholder held for worker w stays there, is dropped as there is no second leg, or is taken out
-abbrev pub IsFirst : ℕ → Dispatcher → Dispatcher → First → Type 0
-IsFirst w d later firsts.Waits = IsSame d later × (waits_at d w ≡ true)
-IsFirst w d later firsts.Gone = TakesFirst w d later later.queues
-IsFirst w d later (firsts.Next leg) = TakesFirst w d later (with_queue w (with_first (Ready leg)) later.queues)
 
 -- one more input was read
 abbrev pub Admits : Rules → ℕ → ℕ → Arrival → Dispatcher → Dispatcher → Type 0

@@ -1,13 +1,19 @@
 -- The inputs that were read: those whose outcomes have left, and the open ones.
-use Rattle.std.specs.Prelude.{◌≡◌, ℕ, ◌≤◌, ◌++◌, List, [], ◌∷◌, length, Bool, true, false, Option, Some, None, map, slice_get, slice_set}
-use Rattle.napt_wire.specs.declared.Way.TheVariants.{Incoming}
+use Rattle.std.specs.Prelude.{◌≡◌, ℕ, ◌≤◌, ◌++◌, List, [], ◌∷◌, length, Bool, true, false, Option, Some, None, IfSome, is_some, option_to_list, map, slice_get, slice_set}
+use Rattle.napt_wire.specs.declared.Cause.{Cause}
+use Rattle.napt_wire.specs.declared.Way.{Way}
+use Rattle.napt_wire.specs.declared.Way.TheVariants.{Outgoing, Incoming}
+use Rattle.napt_rules.specs.declared.End.{End}
+use Rattle.napt_rules.specs.declared.End.TheVariants as ends
 use Rattle.napt_rules.specs.declared.Leg.{Leg}
 use Rattle.napt_rules.specs.Prelude.{Course}
 use Rattle.napt_laws.specs.Places.{second_legs}
 use Rattle.napt_rules.specs.declared.Outcome.{Outcome}
+use Rattle.napt_rules.specs.declared.Outcome.TheVariants as outcomes
+use Rattle.napt_laws.specs.Dispatching.{outcome_told}
 use Rattle.napt_dispatch.specs.declared.dispatcher.progress.OpenInput.{OpenInput}
 use Rattle.napt_dispatch.specs.declared.dispatcher.progress.Progress.{Progress}
-use Rattle.napt_dispatch.specs.declared.dispatcher.progress.Progress.TheVariants.{Awaited, Onward, EndedOut, EndedIn}
+use Rattle.napt_dispatch.specs.declared.dispatcher.progress.Progress.TheVariants.{Awaited, Told}
 
 -- the outcomes that have left, with their arrival times, then the open inputs, all in the order of the inputs
 pub record Window : Type 0 where
@@ -17,9 +23,21 @@ pub record Window : Type 0 where
 abbrev pub time_in : {X : Type 0} → ℕ × X → ℕ
 time_in pair = pair.0
 
+abbrev pub end_of : Outcome → End
+end_of (outcomes.ToOutside packet) = ends.ToOutside packet
+end_of (outcomes.ToInside packet) = ends.ToInside packet
+end_of (outcomes.Dropped cause) = ends.Dropped cause
+
+-- ended, with no second leg
+abbrev pub ended : Outcome → Progress
+ended outcome = Told (record { way = Incoming; now = 0 }) (end_of outcome)
+
+abbrev pub refused : Cause → Progress
+refused cause = ended (outcomes.Dropped cause)
+
 -- once its outcome has left, an input counts as ended, with no placeholder
 abbrev pub ended_in : ℕ × Outcome → Progress
-ended_in pair = EndedIn pair.1
+ended_in pair = ended pair.1
 
 abbrev pub unmarked : ℕ × Outcome → Bool
 unmarked pair = false
@@ -45,26 +63,23 @@ times_in window = map time_in window.left ++ map arrived window.under_way
 abbrev pub marks_in : Window → List Bool
 marks_in window = map unmarked window.left ++ map mark_of window.under_way
 
--- the outcome is known
-abbrev pub has_ended : Progress → Bool
-has_ended Awaited = false
-has_ended (Onward now packet) = false
-has_ended (EndedOut outcome) = true
-has_ended (EndedIn outcome) = true
-
+-- the outcome, if it is known
 abbrev pub outcome_in : Progress → Option Outcome
 outcome_in Awaited = None
-outcome_in (Onward now packet) = None
-outcome_in (EndedOut outcome) = Some outcome
-outcome_in (EndedIn outcome) = Some outcome
+outcome_in (Told owed end) = outcome_told end
+
+abbrev pub has_ended : Progress → Bool
+has_ended progress = is_some (outcome_in progress)
 
 -- it is not known if the input has a second leg (RFC 4787, REQ-9)
+abbrev pub is_incoming : Way → Bool
+is_incoming Incoming = true
+is_incoming Outgoing = false
+
 abbrev pub is_unknown : Option Progress → Bool
 is_unknown None = true
 is_unknown (Some Awaited) = true
-is_unknown (Some (Onward now packet)) = false
-is_unknown (Some (EndedOut outcome)) = false
-is_unknown (Some (EndedIn outcome)) = true
+is_unknown (Some (Told owed end)) = is_incoming owed.way
 
 -- an input is open, and not marked
 pub record IsUnmarked (number : ℕ) (window : Window) : Type 0 where
@@ -115,13 +130,24 @@ pub record Leaves (pair : ℕ × Outcome) (window later : Window) : Type 0 where
 abbrev pub next_leg : ℕ → ℕ → List ℕ → Leg
 next_leg number now packet = record { number = number; now = now; way = Incoming; packet = packet }
 
+-- the second leg that the last answer asks for
+abbrev pub asked : ℕ → Progress → Option Leg
+asked number Awaited = None
+asked number (Told owed (ends.ToOutside packet)) = None
+asked number (Told owed (ends.ToInside packet)) = None
+asked number (Told owed (ends.Onward place packet)) = Some (next_leg number owed.now packet)
+asked number (Told owed (ends.Dropped cause)) = None
+
+pub record Asks (number : ℕ) (progress : List Progress) (second : Option Leg) : Type 0 where
+  pub p : Progress
+  pub there : slice_get progress number ≡ Some p
+  pub asked_is : asked number p ≡ second
+
 -- the progress of an input agrees with the run
 abbrev pub IsKnown : Course → ℕ → Progress → Type 0
-IsKnown course number Awaited = Unit {0}
-IsKnown course number (Onward now packet) = second_legs number course.acts ≡ next_leg number now packet ∷ []
-IsKnown course number (EndedOut outcome) = (slice_get course.outcomes number ≡ Some outcome)
-    × (second_legs number course.acts ≡ [])
-IsKnown course number (EndedIn outcome) = slice_get course.outcomes number ≡ Some outcome
+IsKnown course number progress =
+    IfSome (outcome_in progress) (λ outcome. slice_get course.outcomes number ≡ Some outcome)
+    × (is_unknown (Some progress) ≡ false → second_legs number course.acts ≡ option_to_list (asked number progress))
 
 abbrev pub AllKnown : Course → List Progress → Type 0
 AllKnown course progress = (i : ℕ) (p : Progress) → slice_get progress i ≡ Some p → IsKnown course i p

@@ -38,12 +38,15 @@ use std::sync::Wait;
 use vectors::Vectors;
 use worker_queues::WorkerQueues;
 
+/// The number of legs in a message, if the ring has room for four times as many. A power of 2.
+const BATCH: usize = 32;
+
 /// The dispatcher's state: the queues of each worker and the progress of each input.
 #[derive(Drop)]
 pub(crate) struct Dispatcher {
     alloc: Global,
-    /// The most legs that a worker may have been offered and not answered yet.
-    ring: usize,
+    /// The number of legs in a message where none waits for another reason, less one. It has ones alone as bits.
+    mask: usize,
     queues: WorkerQueues,
     progress: RunProgress,
     vectors: Vectors,
@@ -59,7 +62,7 @@ impl Dispatcher {
     {
         Ok(Dispatcher {
             alloc,
-            ring,
+            mask: mask_of(ring),
             queues: WorkerQueues::new(alloc, workers)?,
             progress: RunProgress::new(alloc),
             vectors: Vectors::new(alloc),
@@ -171,5 +174,18 @@ impl<A, D> Ending<A, D> {
             None => Ending::Whole,
             Some(fault) => Ending::Arrival(fault),
         }
+    }
+}
+
+/// Returns the number of legs that are offered in one message where none waits for another reason, less one: 32, or the
+/// greatest power of 2 in a quarter of the ring where that is less.
+fn mask_of(ring: usize) -> usize {
+    match ring / 4 {
+        0 | 1 => 0,
+        2 | 3 => 1,
+        4..=7 => 3,
+        8..=15 => 7,
+        16..=31 => 15,
+        _ => BATCH - 1,
     }
 }

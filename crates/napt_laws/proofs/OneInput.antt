@@ -1,5 +1,5 @@
 -- One input more.
-use Rattle.std.proofs.Common.{◌≡◌, ℕ, zero, suc, ◌+◌, ◌<◌, max, List, [], ◌∷◌, ◌++◌, length, Some, Result, refl, sym, ◌∙◌, ap, arith, get_or, take, drop, length-take}
+use Rattle.std.proofs.Common.{◌≡◌, ℕ, zero, suc, ◌+◌, ◌<◌, max, List, [], ◌∷◌, ◌++◌, length, Some, Result, refl, sym, ◌∙◌, ap, arith, get_or, take, drop}
 use Rattle.std.proofs.lemmas.List.{take_more, take-append-drop}
 use Rattle.std.specs.Prelude.{slice_get}
 use Rattle.napt_wire.specs.declared.Cause.{Cause}
@@ -7,7 +7,7 @@ use Rattle.napt_config.specs.Rules.{Rules}
 use Rattle.napt_rules.specs.Prelude.{Binding, opening, Arrival, admission, Course, ahead, first_leg, step_as, step, run_from, run, last_clock}
 use Rattle.napt_rules.specs.declared.Outcome.{Outcome}
 use Rattle.napt_laws.specs.Dispatching.{IsFront}
-use Rattle.napt_laws.proofs.Grown.{run_append, clock_more}
+use Rattle.napt_laws.proofs.Grown.{run_append}
 use Rattle.napt_laws.proofs.Dispatched.{runs_grow}
 
 -- A RUN BEGINS AS THAT OF ITS FIRST INPUTS
@@ -48,11 +48,3 @@ module _ (inputs : List Arrival) (n : ℕ) (lt : n < length inputs) (none : Arri
   pub whole : (take n inputs ++ get_or inputs n none ∷ []) ++ drop (n + 1) inputs ≡ inputs
   whole = ap (λ (l : List Arrival). l ++ drop (n + 1) inputs) (sym (take_more inputs n none lt))
       ∙ take-append-drop (n + 1) inputs
-
-  pub clock_taken : (now : ℕ) → max (last_clock 0 (take n inputs)) (get_or inputs n none).clock ≡ now →
-      last_clock 0 (take (n + 1) inputs) ≡ now
-  clock_taken now e = ap (last_clock 0) (take_more inputs n none lt)
-      ∙ (clock_more 0 (take n inputs) (get_or inputs n none) ∙ e)
-
-  pub long_taken : length (take n inputs) ≡ n
-  long_taken = simp length-take (omega arith)

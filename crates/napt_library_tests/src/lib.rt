@@ -36,6 +36,6 @@ mod remotes;
 #[cfg(test)]
 mod sizes;
 #[cfg(test)]
-mod tree_of_times;
+mod times;
 #[cfg(test)]
 mod twins;

@@ -1,11 +1,12 @@
 -- What stops a program: its arguments, what it opens, or its run.
-use Rattle.std.specs.Prelude.{◌≡◌, ◌||◌, Bool, true, false, not, is_some}
+use Rattle.std.specs.Prelude.{◌≡◌, ◌||◌, Bool, true, false, not, is_some, if◌then◌else◌}
 use Rattle.napt_program.specs.CommandLine.{Files, Line, files, help, mistake, version}
 use Rattle.napt_program.specs.declared.role.Role.{Role}
 use Rattle.napt_program.specs.declared.role.Role.TheVariants as role
 use Rattle.napt_program.specs.declared.stop.Stop.{Stop}
 use Rattle.napt_program.specs.declared.stop.Stop.TheVariants as stop
 use Rattle.napt_program.specs.declared.streams.Streams.{Streams}
+use Rattle.napt_program.specs.declared.stop.TheConstants.{MEMORY}
 use Rattle.napt_records.specs.Faults.{tells_shut_gate}
 use Rattle.napt_records.specs.declared.Fault.{Fault}
 use Rattle.napt_records.specs.declared.Fault.TheVariants.{Capture}
@@ -25,6 +26,13 @@ can_fail streams named role.Log = is_some named.log
 abbrev pub IsOfGiven : Files → Fault → Type 0
 IsOfGiven named (Capture Outside fault) = is_some named.outside ≡ true
 IsOfGiven named other = Unit {0}
+
+-- what a fault of a run over these files is told as: what stands for an outside capture that is not named has none, so
+-- memory was refused
+abbrev pub stop_after : Files → Fault → Stop
+stop_after named (Capture Outside fault) =
+    if is_some named.outside then stop.Run (Capture Outside fault) else MEMORY
+stop_after named fault = stop.Run fault
 
 -- what stops a run over these files, under a gate that always opens
 abbrev pub IsRunStop : Streams → Files → Stop → Type 0

@@ -1,14 +1,15 @@
 -- The result of opening the files of a run.
-use Rattle.std.specs.Prelude.{◌≡◌, true, option_map}
+use Rattle.std.specs.Prelude.{◌≡◌, ◌⊎◌, ◌||◌, true, option_map}
 use Rattle.either.specs.Either.{is_left}
 use Rattle.napt_program.specs.CommandLine.{Files}
-use Rattle.napt_program.specs.Standard.{is_dash, is_named, is_standard}
+use Rattle.napt_program.specs.Standard.{is_dash, is_named, is_standard, is_stream}
 use Rattle.napt_program.specs.declared.files.InputFiles.{InputFiles}
 use Rattle.napt_program.specs.declared.files.FilesWithLog.{FilesWithLog}
 use Rattle.napt_program.specs.declared.files.RunFiles.{RunFiles}
 use Rattle.napt_program.specs.declared.role.Role.TheVariants as role
 use Rattle.napt_program.specs.declared.stop.Stop.{Stop}
 use Rattle.napt_program.specs.declared.stop.Stop.TheVariants as stop
+use Rattle.napt_program.specs.declared.stop.TheConstants.{MEMORY}
 
 -- exactly the files that are named are there, a standard stream for `-`, and in place of a capture that is not named
 abbrev pub AreOpen : {S T F : Type 0} → Files → RunFiles S T F → Type 0
@@ -32,3 +33,8 @@ AreInputsOpen named files = (is_left files.inside ≡ is_standard named role.Ins
 abbrev pub IsFileStop : Files → Stop → Type 0
 IsFileStop named (stop.File role) = is_named named role ≡ true
 IsFileStop named other = ⊥
+
+-- the same, or memory was refused to the reader of standard input, which a capture comes from
+abbrev pub IsOpenStop : Files → Stop → Type 0
+IsOpenStop named s =
+    ((s ≡ MEMORY) × ((is_standard named role.Inside || is_stream named role.Outside) ≡ true)) ⊎ IsFileStop named s

@@ -4,7 +4,7 @@ ghost use Rattle.std.specs.Prelude.{◌≡◌, ◌≢◌, ◌⊎◌, Err, IfErr,
 ghost use Rattle.std.specs.IoError.{error_kind};
 ghost use Rattle.clap.specs.Words.{Text};
 ghost use Rattle.napt_program.specs.CommandLine.{files_of, files_with_log};
-ghost use Rattle.napt_program.specs.Command.{IsRunStop};
+ghost use Rattle.napt_program.specs.Command.{IsRunStop, stop_after};
 ghost use Rattle.napt_records.specs.Faults.{tells_shut_gate};
 ghost use Rattle.either.specs.Either.{is_left};
 ghost use Rattle.napt_program.specs.Devices.{AreFresh, failed_in};
@@ -130,7 +130,7 @@ pub fn stop_of_run(options: &Options, fault: Fault) -> Stop
     ensures stop { (streams : Streams) → IsRunStop streams (files_of options.now) result }
     ensures logged { (streams : Streams) (log : Option Text)
         → IsRunStop streams (record (files_of options.now) { log = log }) result }
-    ensures given { is_some (files_of options.now).outside ≡ true → result ≡ Stop.Run fault }
+    ensures exact { result ≡ stop_after (files_of options.now) fault }
 {
     match fault {
         Fault::Capture(Side::Outside, _) if options.outside.is_none() => MEMORY,

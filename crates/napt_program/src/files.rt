@@ -1,9 +1,9 @@
 //! The files of a run, opened in a fixed order.
 
-ghost use Rattle.std.specs.Prelude.{◌≡◌, ◌⊎◌, IfErr, IfOk, IsSome, false, option_map, string_bytes, true};
+ghost use Rattle.std.specs.Prelude.{◌≡◌, IfErr, IfOk, IsSome, false, option_map, string_bytes, true};
 ghost use Rattle.either.specs.Either.{is_left};
 ghost use Rattle.napt_program.specs.CommandLine.{files_of, files_with_log};
-ghost use Rattle.napt_program.specs.Files.{AreInputsOpen, AreOpen, AreOpenWithLog, IsFileStop};
+ghost use Rattle.napt_program.specs.Files.{AreInputsOpen, AreOpen, AreOpenWithLog, IsFileStop, IsOpenStop};
 ghost use Rattle.napt_program.specs.Standard.{is_dash};
 
 use crate::options::{Options, is_dash};
@@ -61,8 +61,7 @@ pub fn open_files<'r, R: Files + Input + Print + AllocGlobal>(
     options: &Options,
 ) -> Result<RunFiles<Box<R::Reader>, Printer<'r, R>, R::File>, Stop>
     ensures open { IfOk result (AreOpen (files_of options.now)) }
-    ensures refused { IfErr result (λ stop. (stop ≡ MEMORY)
-        ⊎ IsFileStop (files_of options.now) stop) }
+    ensures refused { IfErr result (IsOpenStop (files_of options.now)) }
 {
     let inputs = open_inputs(rt, options)?;
     with_outputs(rt, options, inputs)
@@ -75,8 +74,7 @@ pub fn open_files_with_log<'r, R: Files + Input + Print + AllocGlobal>(
     options: &OptionsWithLog,
 ) -> Result<FilesWithLog<Box<R::Reader>, Printer<'r, R>, R::File>, Stop>
     ensures open { IfOk result (AreOpenWithLog (files_with_log options.now)) }
-    ensures refused { IfErr result (λ stop. (stop ≡ MEMORY)
-        ⊎ IsFileStop (files_with_log options.now) stop) }
+    ensures refused { IfErr result (IsOpenStop (files_with_log options.now)) }
 {
     let inputs = open_inputs(rt, &options.files)?;
     if is_log_lost(rt, options) {
@@ -120,8 +118,7 @@ pub fn open_inputs<R: Files + Input + AllocGlobal>(
     options: &Options,
 ) -> Result<InputFiles<Box<R::Reader>, R::File>, Stop>
     ensures open { IfOk result (AreInputsOpen (files_of options.now)) }
-    ensures refused { IfErr result (λ stop. (stop ≡ MEMORY)
-        ⊎ IsFileStop (files_of options.now) stop) }
+    ensures refused { IfErr result (IsOpenStop (files_of options.now)) }
 {
     let inside = match &options.inside {
         None => Left(standard_input(rt)?),

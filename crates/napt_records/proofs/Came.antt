@@ -34,7 +34,7 @@ left_behind records (Some left) bytes header ahead number =
 
 module _ {R : Type 0} {G : Ghosts R} where
   begun_holds : (stream : Stream R G) (bytes : List ℕ) → IsBegun stream (Some bytes) →
-      stream_holds stream [] ≡ Some (captured bytes)
+      stream_holds stream None ≡ Some (captured bytes)
   begun_holds stream bytes p =
       ap (λ c. holds_by c [] (option_map (held_in stream.records []) (left_of stream.records
       (G.remaining stream.live.source.now)))) p.cut
@@ -59,10 +59,7 @@ module _ {R Q : Type 0} {G : Ghosts R} {H : Ghosts Q} where
       AreBegun begin bytes others → AreLive begin
   begun_live begin bytes others p = (
     (p.inside_begun.live, p.outside_begun.live),
-    (
-      subst (All IsWritable) (sym p.inside_first) (All-nil IsWritable),
-      subst (All IsWritable) (sym p.outside_first) (All-nil IsWritable),
-    ),
+    (rw p.inside_first (All-nil IsWritable), rw p.outside_first (All-nil IsWritable)),
   )
 
   begun_inputs : (begin : MergedStreams R Q G H) (bytes others : List ℕ) →

@@ -1,5 +1,5 @@
 -- What is taken of the records that were read is what merging takes of all that is left.
-use Rattle.std.proofs.Common.{◌≡◌, ℕ, Bool, true, false, All, List, [], ◌∷◌, ◌++◌, Option, None, Some, IfSome, IsSome, unwrap_or, Result, Ok, Err, refl, sym, ap, ◌∙◌, subst, subst₂, append-nil}
+use Rattle.std.proofs.Common.{◌≡◌, ℕ, Bool, true, false, All, List, [], ◌∷◌, ◌++◌, Option, None, Some, IfSome, IsSome, option_to_list, unwrap_or, Result, Ok, Err, refl, sym, ap, ◌∙◌, subst, subst₂, append-nil}
 use Rattle.std.specs.Option.{option_map}
 use Rattle.napt_wire.specs.declared.Side.{Side}
 use Rattle.napt_wire.specs.declared.Side.TheVariants.{Inside, Outside}
@@ -49,39 +49,43 @@ takes_more ins outs ins_left outs_left more others Outside entry (is, same, next
 
 -- ---- what a side holds behind the records that were read
 
-record More (firsts : List Entry) (later : List Entry → Option Held) (held : Held) : Type 0 where
+record More (first : Option Entry) (later : Option Entry → Option Held) (held : Held) : Type 0 where
   more : List Entry
-  is : held.records ≡ firsts ++ more
-  none : firsts ≡ [] → more ≡ []
+  is : held.records ≡ option_to_list first ++ more
+  none : option_to_list first ≡ [] → more ≡ []
   known : IsKnown held.records held.end
-  after : (left : List Entry) → later left ≡ Some (record { records = left ++ more; end = held.end })
+  after : (left : Option Entry) →
+      later left ≡ Some (record { records = option_to_list left ++ more; end = held.end })
 
-ended : (firsts : List Entry) (cut : Bool) → IsKnown firsts (Ok cut)
+ended : (entries : List Entry) (cut : Bool) → IsKnown entries (Ok cut)
 ended [] cut = tt
-ended (first ∷ firsts) cut = tt
+ended (entry ∷ entries) cut = tt
 
-more_ended : (firsts : List Entry) (cut : Bool) → More firsts
-    (λ left. Some (record { records = left; end = Ok cut }))
-    (record { records = firsts; end = Ok cut })
-more_ended firsts cut = record {
+more_ended : (first : Option Entry) (cut : Bool) → More first
+    (λ left. Some (record { records = option_to_list left; end = Ok cut }))
+    (record { records = option_to_list first; end = Ok cut })
+more_ended first cut = record {
   more = [];
-  is = sym (append-nil firsts);
+  is = sym (append-nil (option_to_list first));
   none = λ none. refl;
-  known = ended firsts cut;
-  after = λ left. ap (λ l. Some (record { records = l; end = Ok cut })) (sym (append-nil left));
+  known = ended (option_to_list first) cut;
+  after = λ left. ap (λ l. Some (record { records = l; end = Ok cut })) (sym (append-nil (option_to_list left)));
 }
 
-more_by : (cut : Option Bool) (records : Records) (text : Option (List ℕ)) (firsts : List Entry) (held : Held) →
-    (firsts ≡ [] → IsSome cut) → holds_by cut firsts (option_map (held_in records firsts) text) ≡ Some held
-    → More firsts (λ left. holds_by cut left (option_map (held_in records left) text)) held
-more_by (Some cut) records text firsts held told is =
-    let same : record { records = firsts; end = Ok cut } ≡ held = cc in
-    subst (More firsts (λ left. Some (record { records = left; end = Ok cut }))) same (more_ended firsts cut)
-more_by None records None firsts held told is = absurd cc
-more_by None records (Some text) [] held told is = let never : false ≡ true = told refl in absurd cc
-more_by None records (Some text) (first ∷ firsts) held told is =
-    let same : held_in records (first ∷ firsts) text ≡ held = cc in
-    subst (More (first ∷ firsts) (λ left. Some (held_in records left text))) same (record {
+more_by : (cut : Option Bool) (records : Records) (text : Option (List ℕ)) (first : Option Entry) (held : Held) →
+    (first ≡ None → IsSome cut)
+    → holds_by cut (option_to_list first) (option_map (held_in records (option_to_list first)) text) ≡ Some held
+    → More first (λ left. holds_by cut (option_to_list left) (option_map (held_in records (option_to_list left)) text))
+    held
+more_by (Some cut) records text first held told is =
+    let same : record { records = option_to_list first; end = Ok cut } ≡ held = cc in
+    subst (More first (λ left. Some (record { records = option_to_list left; end = Ok cut }))) same
+    (more_ended first cut)
+more_by None records None first held told is = absurd cc
+more_by None records (Some text) None held told is = let never : false ≡ true = told refl in absurd cc
+more_by None records (Some text) (Some entry) held told is =
+    let same : held_in records (entry ∷ []) text ≡ held = cc in
+    subst (More (Some entry) (λ left. Some (held_in records (option_to_list left) text))) same (record {
       more = (held_in records [] text).records;
       is = refl;
       none = λ never. absurd cc;
@@ -95,13 +99,12 @@ told_by None known some = let never : false ≡ true = some in absurd cc
 told_by (Some cut) known some = refl
 
 module _ {R : Type 0} {G : Ghosts R} where
-  more_of : (stream : Stream R G) (firsts : List Entry) → (firsts ≡ [] → IsSome stream.cut) → (held : Held) →
-      stream_holds stream firsts ≡ Some held → More firsts (stream_holds stream) held
-  more_of stream firsts told held is =
-      more_by stream.cut stream.records (left_of stream.records (G.remaining stream.live.source.now)) firsts held told
-      is
+  more_of : (stream : Stream R G) (first : Option Entry) → (first ≡ None → IsSome stream.cut) → (held : Held) →
+      stream_holds stream first ≡ Some held → More first (stream_holds stream) held
+  more_of stream first told held is =
+      more_by stream.cut stream.records (left_of stream.records (G.remaining stream.live.source.now)) first held told is
 
-  told_holds : (stream : Stream R G) → IsSome stream.cut → stream_holds stream []
+  told_holds : (stream : Stream R G) → IsSome stream.cut → stream_holds stream None
       ≡ Some (record { records = []; end = Ok (cut_of stream) })
   told_holds stream some =
       told_by stream.cut (option_map (held_in stream.records []) (left_of stream.records
@@ -128,8 +131,8 @@ stays_is None y a stays is = tt
 stays_is (Some x) None a stays is = absurd stays
 stays_is (Some x) (Some y) a stays is = let same : y ≡ a = cc in sym stays ∙ same
 
-takes_one : (ins outs ins_left outs_left : List Entry) (clock now : ℕ) (input : Arrival) (a b : Option Held)
-    (x y : List Entry → Option Held)
+takes_one : (ins outs ins_left outs_left : Option Entry) (clock now : ℕ) (input : Arrival) (a b : Option Held)
+    (x y : Option Entry → Option Held)
     → ((held : Held) → a ≡ Some held → More ins x held) → ((held : Held) → b ≡ Some held → More outs y held)
     → TakesFirst ins outs clock input ins_left outs_left now
     → Follows (both_hold clock a b) (input ∷ []) (both_hold now (x ins_left) (y outs_left))
@@ -138,14 +141,15 @@ takes_one ins outs ins_left outs_left clock now input (Some a) None x y first se
 takes_one ins outs ins_left outs_left clock now input (Some a) (Some b) x y first second taken =
     let p = first a refl in
     let q = second b refl in
-    let whole = takes_more ins outs ins_left outs_left p.more q.more taken.side taken.entry taken.taken p.none q.none in
-    let all : Takes a.records b.records (Some (taken.side, taken.entry)) (ins_left ++ p.more) (outs_left ++ q.more) =
-    subst₂ (λ i o. Takes i o (Some (taken.side, taken.entry)) (ins_left ++ p.more) (outs_left ++ q.more)) (sym p.is)
-    (sym q.is) whole in
+    let rest : List Entry = option_to_list ins_left ++ p.more in
+    let others : List Entry = option_to_list outs_left ++ q.more in
+    let whole = takes_more (option_to_list ins) (option_to_list outs) (option_to_list ins_left)
+    (option_to_list outs_left) p.more q.more taken.side taken.entry taken.taken p.none q.none in
+    let all : Takes a.records b.records (Some (taken.side, taken.entry)) rest others =
+    subst₂ (λ i o. Takes i o (Some (taken.side, taken.entry)) rest others) (sym p.is) (sym q.is) whole in
     let clock_is = taken.clock_is in
     rw (p.after ins_left, q.after outs_left, taken.input_is, clock_is)
-    (hands_until a.end b.end a.records b.records (ins_left ++ p.more) (outs_left ++ q.more) clock taken.side taken.entry
-    p.known q.known all)
+    (hands_until a.end b.end a.records b.records rest others clock taken.side taken.entry p.known q.known all)
 
 fault_inside : (clock : ℕ) (a b : Option Held) (fault : CaptureFault) →
     IfSome a (λ held. held ≡ record { records = []; end = Err fault })
@@ -184,23 +188,21 @@ module _ {R Q : Type 0} {G : Ghosts R} {H : Ghosts Q} where
 
   HandsOut-one : (old mid new : MergedStreams R Q G H) (input : Arrival) → AreSame old mid →
       (AreLive old → Looks old mid)
-      → TakesFirst mid.inside_first.items mid.outside_first.items mid.clock input new.inside_first.items
-      new.outside_first.items new.clock
+      → TakesFirst mid.inside_first mid.outside_first mid.clock input new.inside_first new.outside_first new.clock
       → new.inside ≡ mid.inside → new.outside ≡ mid.outside
       → HandsOut old (input ∷ []) new
   HandsOut-one old mid new input same looks first ins outs = (
     same_moved old mid new same ins outs,
     λ live.
         let looked = looks live in
-        let kept = takes_timely mid.inside_first.items mid.outside_first.items new.inside_first.items
-        new.outside_first.items new.clock first.side first.entry first.taken looked.live.1 in
-        let taken = takes_one mid.inside_first.items mid.outside_first.items new.inside_first.items
-        new.outside_first.items mid.clock new.clock input
-        (stream_holds mid.inside mid.inside_first.items)
-        (stream_holds mid.outside mid.outside_first.items)
+        let kept = takes_timely (option_to_list mid.inside_first) (option_to_list mid.outside_first)
+        (option_to_list new.inside_first) (option_to_list new.outside_first) new.clock first.side first.entry
+        first.taken looked.live.1 in
+        let taken = takes_one mid.inside_first mid.outside_first new.inside_first new.outside_first mid.clock new.clock
+        input (stream_holds mid.inside mid.inside_first) (stream_holds mid.outside mid.outside_first)
         (stream_holds mid.inside) (stream_holds mid.outside)
-        (more_of mid.inside mid.inside_first.items looked.inside_told)
-        (more_of mid.outside mid.outside_first.items looked.outside_told) first in
+        (more_of mid.inside mid.inside_first looked.inside_told)
+        (more_of mid.outside mid.outside_first looked.outside_told) first in
         record {
           live = (rw (ins, outs) looked.live.0, kept.1);
           inside_count = rw ins looked.inside_count;
@@ -214,11 +216,10 @@ module _ {R Q : Type 0} {G : Ghosts R} {H : Ghosts Q} where
 
   EndsWith-none : (old mid new : MergedStreams R Q G H) → AreSame old mid →
       (AreLive old → Looks old mid)
-      → TakesAny mid.inside_first.items mid.outside_first.items mid.clock None new.inside_first.items
-      new.outside_first.items new.clock
+      → TakesAny mid.inside_first mid.outside_first mid.clock None new.inside_first new.outside_first new.clock
       → new.inside ≡ mid.inside → new.outside ≡ mid.outside
       → EndsWith old None new
-  EndsWith-none old mid new same looks (((none, other), (now_none, other_now)), clock) ins outs = (
+  EndsWith-none old mid new same looks (none, other) ins outs = (
     same_moved old mid new same ins outs,
     λ live.
         let looked = looks live in
@@ -238,28 +239,27 @@ module _ {R Q : Type 0} {G : Ghosts R} {H : Ghosts Q} where
   )
 
   pub stops_inside : (old : MergedStreams R Q G H) (fault : CaptureFault)
-      → StopsBy fault (IfSome (stream_holds old.inside old.inside_first.items)
+      → StopsBy fault (IfSome (stream_holds old.inside old.inside_first)
       (λ held. held ≡ record { records = []; end = Err fault }))
       → StopsBy fault (IfSome (inputs_of old) (λ inputs. inputs ≡ at_fault Inside fault))
   stops_inside old fault p =
-      StopsBy-then fault (fault_inside old.clock (stream_holds old.inside old.inside_first.items)
-      (stream_holds old.outside old.outside_first.items) fault) p
+      StopsBy-then fault (fault_inside old.clock (stream_holds old.inside old.inside_first)
+      (stream_holds old.outside old.outside_first) fault) p
 
-  pub stops_outside : (old : MergedStreams R Q G H) (now : Stream R G) (firsts : List Entry) (fault : CaptureFault)
-      → (firsts ≡ [] → IsSome now.cut)
-      → Stays (stream_holds old.inside old.inside_first.items) (stream_holds now firsts)
-      → StopsBy fault (IfSome (stream_holds old.outside old.outside_first.items)
+  pub stops_outside : (old : MergedStreams R Q G H) (now : Stream R G) (first : Option Entry) (fault : CaptureFault)
+      → (first ≡ None → IsSome now.cut)
+      → Stays (stream_holds old.inside old.inside_first) (stream_holds now first)
+      → StopsBy fault (IfSome (stream_holds old.outside old.outside_first)
       (λ held. held ≡ record { records = []; end = Err fault }))
       → StopsBy fault (IfSome (inputs_of old) (λ inputs. inputs ≡ at_fault Outside fault))
-  stops_outside old now firsts fault told stays p =
-      StopsBy-then fault (fault_outside old.clock (stream_holds old.inside old.inside_first.items)
-      (stream_holds old.outside old.outside_first.items) (stream_holds now firsts) fault stays
-      (λ held is. (more_of now firsts told held is).known)) p
+  stops_outside old now first fault told stays p =
+      StopsBy-then fault (fault_outside old.clock (stream_holds old.inside old.inside_first)
+      (stream_holds old.outside old.outside_first) (stream_holds now first) fault stays
+      (λ held is. (more_of now first told held is).known)) p
 
   pub Hands-any : (old mid new : MergedStreams R Q G H) (taken : Option Arrival) → AreSame old mid →
       (AreLive old → Looks old mid)
-      → TakesAny mid.inside_first.items mid.outside_first.items mid.clock taken new.inside_first.items
-      new.outside_first.items new.clock
+      → TakesAny mid.inside_first mid.outside_first mid.clock taken new.inside_first new.outside_first new.clock
       → new.inside ≡ mid.inside → new.outside ≡ mid.outside
       → Hands HandsOut EndsWith old
       (Ok taken)

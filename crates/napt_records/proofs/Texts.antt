@@ -1,5 +1,6 @@
 -- Texts that grow piece by piece.
-use Rattle.std.proofs.Common.{◌≡◌, ℕ, List, [], ◌∷◌, ◌++◌, ◌∙◌, refl, ap, append_assoc, flat_map}
+use Rattle.std.proofs.Common.{◌≡◌, ℕ, ◌+◌, List, [], ◌∷◌, ◌++◌, length, ◌∙◌, refl, ap, append_assoc, flat_map, arith}
+use Rattle.napt_capture.specs.Text.{entry_of_packet, record_header, record_text}
 
 pub two_pieces : (old a b first second : List ℕ) → first ≡ old ++ a → second ≡ first ++ b → second ≡ old ++ (a ++ b)
 two_pieces old a b first second is then = then ∙ ap (λ (t : List ℕ). t ++ b) is ∙ append_assoc old a b
@@ -20,3 +21,8 @@ pub same_pieces : {X : Type 0} (f g : X → List ℕ) → ((x : X) → f x ≡ g
     ≡ flat_map g xs
 same_pieces f g same [] = refl
 same_pieces f g same (x ∷ xs) = rw (same x) (ap (λ (rest : List ℕ). g x ++ rest) (same_pieces f g same xs))
+
+pub length-record : (time : ℕ) (packet : List ℕ) → length (record_text (entry_of_packet time packet)) ≡ 16
+    + length packet
+unfolding record_text record_header
+length-record time packet = omega arith

@@ -20,6 +20,6 @@ pub record AreBegun {R Q : Type 0} {G : Ghosts R} {H : Ghosts Q} (both : MergedS
     (bytes others : List ℕ) : Type 0 where
   pub inside_begun : IsBegun both.inside (Some bytes)
   pub outside_begun : IsBegun both.outside (Some others)
-  pub inside_first : both.inside_first.items ≡ []
-  pub outside_first : both.outside_first.items ≡ []
+  pub inside_first : both.inside_first ≡ None
+  pub outside_first : both.outside_first ≡ None
   pub clock : both.clock ≡ 0

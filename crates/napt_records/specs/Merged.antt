@@ -1,5 +1,5 @@
 -- What two captures hand out as they arrive.
-use Rattle.std.specs.Prelude.{◌≡◌, ◌⊎◌, ℕ, ◌+◌, max, Bool, false, All, List, [], Option, None, Some, IfSome, IsSome, unwrap_or, Result, Ok, Err}
+use Rattle.std.specs.Prelude.{◌≡◌, ◌⊎◌, ℕ, ◌+◌, max, Bool, false, All, List, Option, option_to_list, None, Some, IfSome, IsSome, unwrap_or, Result, Ok, Err}
 use Rattle.napt_wire.specs.declared.Side.{Side}
 use Rattle.napt_wire.specs.declared.Side.TheVariants.{Inside, Outside}
 use Rattle.napt_capture.specs.declared.device.Source.{Ghosts}
@@ -42,18 +42,18 @@ cut_of stream = unwrap_or stream.cut false
 -- WHO IS ASKED
 
 -- the next record is not known, so the source is read
-abbrev pub AsksSource : {R : Type 0} {G : Ghosts R} → Stream R G → List Entry → Type 0
-AsksSource stream firsts = ((firsts ≡ []) × (stream.cut ≡ None)) × Asks stream.records
+abbrev pub AsksSource : {R : Type 0} {G : Ghosts R} → Stream R G → Option Entry → Type 0
+AsksSource stream first = ((first ≡ None) × (stream.cut ≡ None)) × Asks stream.records
 
 abbrev pub AsksDevice : {R Q : Type 0} {G : Ghosts R} {H : Ghosts Q} → MergedStreams R Q G H → Type 0
-AsksDevice both = AsksSource both.inside both.inside_first.items
-    ⊎ AsksSource both.outside both.outside_first.items
+AsksDevice both = AsksSource both.inside both.inside_first ⊎ AsksSource both.outside both.outside_first
 
 -- BOTH
 
 -- the records that were read but not handed out can be written
 abbrev pub AreWritable : {R Q : Type 0} {G : Ghosts R} {H : Ghosts Q} → MergedStreams R Q G H → Type 0
-AreWritable both = All IsWritable both.inside_first.items × All IsWritable both.outside_first.items
+AreWritable both = All IsWritable (option_to_list both.inside_first)
+    × All IsWritable (option_to_list both.outside_first)
 
 -- and no read failed
 abbrev pub AreLive : {R Q : Type 0} {G : Ghosts R} {H : Ghosts Q} → MergedStreams R Q G H → Type 0
@@ -69,12 +69,10 @@ pub record Looks {R Q : Type 0} {G : Ghosts R} {H : Ghosts Q} (old new : MergedS
   pub inside_count : NoneFailed old.inside new.inside
   pub outside_count : NoneFailed old.outside new.outside
   pub clock : new.clock ≡ old.clock
-  pub inside_told : new.inside_first.items ≡ [] → IsSome new.inside.cut
-  pub outside_told : new.outside_first.items ≡ [] → IsSome new.outside.cut
-  pub inside_stays : Stays (stream_holds old.inside old.inside_first.items)
-      (stream_holds new.inside new.inside_first.items)
-  pub outside_stays : Stays (stream_holds old.outside old.outside_first.items)
-      (stream_holds new.outside new.outside_first.items)
+  pub inside_told : new.inside_first ≡ None → IsSome new.inside.cut
+  pub outside_told : new.outside_first ≡ None → IsSome new.outside.cut
+  pub inside_stays : Stays (stream_holds old.inside old.inside_first) (stream_holds new.inside new.inside_first)
+  pub outside_stays : Stays (stream_holds old.outside old.outside_first) (stream_holds new.outside new.outside_first)
 
 -- how many reads of a side failed, by the fault and its side
 abbrev pub failed_by : Side → Side → CaptureFault → ℕ
@@ -96,18 +94,19 @@ LooksOrMeets old (Ok done) new = Looks old new
 LooksOrMeets old (Err fault) new = Meets old fault new
 
 -- the next of the records that were read became an input
-pub record TakesFirst (ins outs : List Entry) (clock : ℕ) (input : Arrival) (ins_left outs_left : List Entry)
+pub record TakesFirst (first other : Option Entry) (clock : ℕ) (input : Arrival) (first_left other_left : Option Entry)
     (now : ℕ) : Type 0 where
   pub side : Side
   pub entry : Entry
-  pub taken : Takes ins outs (Some (side, entry)) ins_left outs_left
+  pub taken : Takes (option_to_list first) (option_to_list other) (Some (side, entry)) (option_to_list first_left)
+      (option_to_list other_left)
   pub clock_is : now ≡ max clock entry.time
   pub input_is : input ≡ input_of side now entry
 
-abbrev pub TakesAny : List Entry → List Entry → ℕ → Option Arrival → List Entry → List Entry → ℕ → Type 0
-TakesAny ins outs clock None ins_left outs_left now =
-    (((ins ≡ []) × (outs ≡ [])) × ((ins_left ≡ []) × (outs_left ≡ []))) × (now ≡ clock)
-TakesAny ins outs clock (Some input) ins_left outs_left now = TakesFirst ins outs clock input ins_left outs_left now
+abbrev pub TakesAny : Option Entry → Option Entry → ℕ → Option Arrival → Option Entry → Option Entry → ℕ → Type 0
+TakesAny first other clock None first_left other_left now = (first ≡ None) × (other ≡ None)
+TakesAny first other clock (Some input) first_left other_left now =
+    TakesFirst first other clock input first_left other_left now
 
 -- WHAT IS HANDED OUT
 

@@ -1,10 +1,10 @@
 -- The records that a run writes: the outcomes to a side in the order of their inputs, each with the arrival time of its
 -- input.
-use Rattle.std.specs.Prelude.{ℕ, ◌*◌, ◌<◌, ◌^◌, List, [], filter_map, zip, Option, Some, None}
+use Rattle.std.specs.Prelude.{ℕ, ◌*◌, ◌<◌, ◌^◌, List, filter_map, zip, Option, Some, None}
 use Rattle.napt_wire.specs.declared.Side.{Side}
 use Rattle.napt_wire.specs.declared.Side.TheVariants.{Inside, Outside}
 use Rattle.napt_capture.specs.Contents.{Entry}
-use Rattle.napt_capture.specs.Text.{entry_of_packet, record_text}
+use Rattle.napt_capture.specs.Text.{entry_of_packet}
 use Rattle.napt_rules.specs.declared.Outcome.{Outcome}
 use Rattle.napt_rules.specs.declared.Outcome.TheVariants.{ToOutside, ToInside}
 use Rattle.napt_rules.specs.Prelude.{Arrival}
@@ -24,15 +24,6 @@ record_to side pair = record_at pair.0.time (packet_to side pair.1)
 
 abbrev pub records_to : Side → List Arrival → List Outcome → List Entry
 records_to side arrivals outcomes = filter_map (record_to side) (zip arrivals outcomes)
-
--- the same, from the arrival times alone
-abbrev pub records_at : Side → List ℕ → List Outcome → List Entry
-records_at side times outcomes = filter_map (λ pair. record_at pair.0 (packet_to side pair.1)) (zip times outcomes)
-
--- the text of a record, if there is one
-abbrev pub text_of_record : Option Entry → List ℕ
-text_of_record (Some entry) = record_text entry
-text_of_record None = []
 
 -- arrival times that fit a record's header
 abbrev pub IsTime : ℕ → Type 0

@@ -1,5 +1,5 @@
 -- What is left of two captures that are read as they arrive.
-use Rattle.std.specs.Prelude.{◌≡◌, ⊤, ℕ, Bool, List, ◌++◌, Option, Some, None, Ok}
+use Rattle.std.specs.Prelude.{◌≡◌, ⊤, ℕ, Bool, List, ◌++◌, Option, Some, None, Ok, option_to_list}
 use Rattle.std.specs.Option.{option_map}
 use Rattle.napt_capture.specs.declared.device.Source.{Ghosts}
 use Rattle.napt_capture.specs.declared.records.Records.{Records}
@@ -24,10 +24,11 @@ holds_by (Some cut) firsts known = Some (record { records = firsts; end = Ok cut
 holds_by None firsts known = known
 
 -- of a stream, if its bytes are known
-abbrev pub stream_holds : {R : Type 0} {G : Ghosts R} → Stream R G → List Entry → Option Held
-stream_holds {R} {G} stream firsts =
-    holds_by stream.cut firsts
-    (option_map (held_in stream.records firsts) (left_of stream.records (G.remaining stream.live.source.now)))
+abbrev pub stream_holds : {R : Type 0} {G : Ghosts R} → Stream R G → Option Entry → Option Held
+stream_holds {R} {G} stream first =
+    holds_by stream.cut (option_to_list first)
+    (option_map (held_in stream.records (option_to_list first))
+    (left_of stream.records (G.remaining stream.live.source.now)))
 
 abbrev pub both_hold : ℕ → Option Held → Option Held → Option Inputs
 both_hold clock (Some a) (Some b) = Some (inputs_from a.end b.end a.records clock b.records)
@@ -37,8 +38,7 @@ both_hold clock None b = None
 -- what merging will hand out
 abbrev pub inputs_of : {R Q : Type 0} {G : Ghosts R} {H : Ghosts Q} → MergedStreams R Q G H → Option Inputs
 inputs_of both =
-    both_hold both.clock (stream_holds both.inside both.inside_first.items)
-    (stream_holds both.outside both.outside_first.items)
+    both_hold both.clock (stream_holds both.inside both.inside_first) (stream_holds both.outside both.outside_first)
 
 -- what is known stays
 abbrev pub Stays : {X : Type 0} → Option X → Option X → Type 0

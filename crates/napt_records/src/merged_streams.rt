@@ -1,11 +1,12 @@
 //! The inputs of a run over captures that are read as they arrive.
-use crate::merging::take_next;
+ghost use Rattle.std.specs.Prelude.{option_to_list};
+ghost use Rattle.napt_records.specs.Taking.{Takes};
+
 use crate::stream::Stream;
 use napt_capture::{CaptureFault, Record, Source};
 use napt_sequential::{Arrivals, Input};
 use napt_wire::Side;
 use std::alloc::Global;
-use std::collections::VecDeque;
 
 /// A side's capture has a fault or could not be read.
 #[derive(Clone, Copy, Debug, PartialEq, Eq)]
@@ -21,6 +22,23 @@ pub struct Cuts {
     pub outside: bool,
 }
 
+/// Takes the earlier of two records, with its side; on a tie, the inside one.
+#[inline(always)]
+fn take_first(inside: &mut Option<Record>, outside: &mut Option<Record>) -> Option<(Side, Record)>
+    ensures { Takes (option_to_list inside.old) (option_to_list outside.old) result
+        (option_to_list inside.new) (option_to_list outside.new) }
+{
+    let is_inside = match (&*inside, &*outside) {
+        (Some(first), Some(other)) => first.time <= other.time,
+        (first, _) => first.is_some(),
+    };
+    if is_inside {
+        Some((Side::Inside, inside.take()?))
+    } else {
+        Some((Side::Outside, outside.take()?))
+    }
+}
+
 /// Merges two captures into the inputs of a run while they arrive. Once the next record of each side is known, the earlier
 /// one is handed out; on a tie, the inside one.
 #[derive(Drop)]
@@ -28,15 +46,15 @@ pub struct MergedStreams<'a, 'b, R: Source, Q: Source> {
     alloc: Global,
     inside: Stream<'a, R>,
     outside: Stream<'b, Q>,
-    /// Records that were read but not handed out, at most one per side.
-    inside_first: VecDeque<Record>,
-    outside_first: VecDeque<Record>,
+    /// The record of each side that was read but not handed out.
+    inside_first: Option<Record>,
+    outside_first: Option<Record>,
     /// The latest arrival time so far, in ns.
     clock: u64,
 }
 
 impl<'a, 'b, R: Source, Q: Source> MergedStreams<'a, 'b, R, Q> {
-    ghost use Rattle.std.specs.Prelude.{◌≡◌, []};
+    ghost use Rattle.std.specs.Prelude.{◌≡◌, None};
     ghost use Rattle.napt_records.specs.Merged.{AreLive, AreSame, LooksOrMeets, TakesAny, cut_of};
 
     /// Merges these captures, whose headers have been read.
@@ -47,16 +65,16 @@ impl<'a, 'b, R: Source, Q: Source> MergedStreams<'a, 'b, R, Q> {
     ) -> MergedStreams<'a, 'b, R, Q>
         ensures inside { result.inside ≡ inside.entry }
         ensures outside { result.outside ≡ outside.entry }
-        ensures inside_first { result.inside_first.items ≡ [] }
-        ensures outside_first { result.outside_first.items ≡ [] }
+        ensures inside_first { result.inside_first ≡ None }
+        ensures outside_first { result.outside_first ≡ None }
         ensures clock { result.clock ≡ 0 }
     {
         MergedStreams {
             alloc,
             inside,
             outside,
-            inside_first: VecDeque::new(alloc),
-            outside_first: VecDeque::new(alloc),
+            inside_first: None,
+            outside_first: None,
             clock: 0,
         }
     }
@@ -81,6 +99,7 @@ impl<'a, 'b, R: Source, Q: Source> MergedStreams<'a, 'b, R, Q> {
     }
 
     /// Reads until the next record of each side is known. The first record read reuses the spare vector.
+    #[inline(always)]
     fn look(&mut self, spare: &mut Vec<u8>) -> Result<(), SideFault>
         ensures same { AreSame self.old self.new }
         ensures looks { AreLive self.old → LooksOrMeets self.old result self.new }
@@ -104,14 +123,14 @@ impl<'a, 'b, R: Source, Q: Source> MergedStreams<'a, 'b, R, Q> {
     }
 
     /// Takes the next record, of those that were read.
+    #[inline(always)]
     fn take(&mut self) -> Option<Input>
-        ensures takes { TakesAny self.old.inside_first.items self.old.outside_first.items
-            self.old.clock result self.new.inside_first.items self.new.outside_first.items
-            self.new.clock }
+        ensures takes { TakesAny self.old.inside_first self.old.outside_first self.old.clock
+            result self.new.inside_first self.new.outside_first self.new.clock }
         ensures inside { self.new.inside ≡ self.old.inside }
         ensures outside { self.new.outside ≡ self.old.outside }
     {
-        let (side, record) = take_next(&mut self.inside_first, &mut self.outside_first)?;
+        let (side, record) = take_first(&mut self.inside_first, &mut self.outside_first)?;
         self.clock = self.clock.max(record.time);
         Some(Input {
             side,
@@ -146,6 +165,7 @@ impl<'a, 'b, R: Source, Q: Source> Arrivals for MergedStreams<'a, 'b, R, Q> {
         self.inside.asks_device(&self.inside_first) || self.outside.asks_device(&self.outside_first)
     }
 
+    #[inline(always)]
     fn next(&mut self, spare: Vec<u8>) -> Result<Option<Input>, SideFault> {
         let mut spare = spare;
         self.look(&mut spare)?;

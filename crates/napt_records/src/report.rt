@@ -1,5 +1,5 @@
 //! The report: how many packets arrived and what became of them, which captures were cut, and the bindings.
-ghost use Rattle.std.specs.Prelude.{◌≡◌, ◌-◌, ◌^◌, ◌<◌, ◌++◌, ◌∷◌, [], List, IfOk, OnOk, codes, flat_map, length, slice_index, string_bytes};
+ghost use Rattle.std.specs.Prelude.{◌≡◌, ◌-◌, ◌^◌, ◌<◌, ◌++◌, ◌∷◌, [], List, IfOk, OnOk, codes, count_by, flat_map, length, slice_index, string_bytes};
 ghost use Rattle.napt_rules.specs.declared.Outcome.{Outcome};
 ghost use Rattle.napt_records.specs.Counts.{AreCountsOf, place_of};
 ghost use Rattle.napt_records.specs.Report as model;
@@ -39,6 +39,30 @@ impl Counts {
             result ≡ length outcomes }
     {
         self.packets
+    }
+
+    /// How many left to the outside.
+    pub fn to_outside(&self) -> u64
+        ensures { (outcomes : List Outcome) → AreCountsOf outcomes self.now →
+            result ≡ count_by model.is_to_outside outcomes }
+    {
+        self.to_outside
+    }
+
+    /// How many left to the inside.
+    pub fn to_inside(&self) -> u64
+        ensures { (outcomes : List Outcome) → AreCountsOf outcomes self.now →
+            result ≡ count_by model.is_to_inside outcomes }
+    {
+        self.to_inside
+    }
+
+    /// How many were dropped for a cause.
+    pub fn dropped(&self, cause: Cause) -> u64
+        ensures { (outcomes : List Outcome) → AreCountsOf outcomes self.now →
+            result ≡ count_by (model.is_dropped cause) outcomes }
+    {
+        self.dropped[cause as usize]
     }
 
     /// Counts one more input by its outcome. Each count saturates.

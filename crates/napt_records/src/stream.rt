@@ -3,7 +3,6 @@ ghost use Rattle.std.specs.Prelude.{◌≡◌, ◌^◌, ◌-◌, ◌<◌, None};
 
 use napt_capture::{CaptureFault, Next, Record, Records, Source};
 use std::alloc::Global;
-use std::collections::VecDeque;
 use std::mem;
 
 /// The source of a capture, and the fault that ended reading it.
@@ -31,6 +30,7 @@ impl<'a, R: Source> Live<'a, R> {
     ghost use Rattle.napt_capture.specs.Records.{Asks, KeepsLeft, Tells, next_number, left_of};
 
     /// Reads the next record. After a fault, reads nothing and returns the same fault.
+    #[inline(always)]
     fn next(&mut self, records: &mut Records, vector: Vec<u8>) -> Result<Next, CaptureFault>
         ensures name { self.new.source.ghost_name ≡ self.old.source.ghost_name }
         ensures next { self.old.fault ≡ None → Says result (Gives
@@ -63,7 +63,7 @@ impl<'a, R: Source> Live<'a, R> {
 }
 
 impl<'a, R: Source> Stream<'a, R> {
-    ghost use Rattle.std.specs.Prelude.{◌≡◌, ◌+◌, ◌^◌, ◌-◌, ◌<◌, None, All, IfSome, IfErr, Err, OnErr, OnOk, IsSome, [], false, true};
+    ghost use Rattle.std.specs.Prelude.{◌≡◌, ◌+◌, ◌^◌, ◌-◌, ◌<◌, None, All, IfSome, IfErr, Err, OnErr, OnOk, IsSome, option_to_list, [], false, true};
     ghost use Rattle.napt_capture.specs.Capture.{failed_reads};
     ghost use Rattle.napt_capture.specs.Reading.{StopsBy};
     ghost use Rattle.napt_capture.specs.Text.{IsWritable};
@@ -90,55 +90,52 @@ impl<'a, R: Source> Stream<'a, R> {
         }
     }
 
-    /// Reads the next record into the list, unless the list has one or the end was reached. The record takes over the spare
-    /// vector, which a new one replaces. A fault loses nothing of the rest.
+    /// Reads the next record, unless there is one or the end was reached. It takes over the spare vector, which a new one
+    /// replaces. A fault loses nothing of the rest.
+    #[inline(always)]
     pub fn look(
         &mut self,
         alloc: Global,
-        firsts: &mut VecDeque<Record>,
+        first: &mut Option<Record>,
         spare: &mut Vec<u8>,
     ) -> Result<(), CaptureFault>
         ensures name { IsSame self.old self.new }
         ensures live { OnOk result (self.new.live.fault ≡ self.old.live.fault) }
         ensures rest { IsLive self.old → OnOk result (Stays
-            (stream_holds self.old firsts.old.items)
-            (stream_holds self.new firsts.new.items)) }
+            (stream_holds self.old first.old) (stream_holds self.new first.new)) }
         ensures fault { IsLive self.old → IfErr result (λ fault. StopsBy fault
-            (IfSome (stream_holds self.old firsts.old.items)
+            (IfSome (stream_holds self.old first.old)
             (λ held. held ≡ record { records = []; end = Err fault }))) }
-        ensures told { OnOk result (firsts.new.items ≡ [] → IsSome self.new.cut) }
+        ensures told { OnOk result (first.new ≡ None → IsSome self.new.cut) }
         ensures kept { IsLive self.old → OnErr result (KeepsLeft
             self.old.records (R.remaining self.old.live.source.now)
             self.new.records (R.remaining self.new.live.source.now)) }
         ensures unchanged { OnErr result ((self.new.cut ≡ self.old.cut)
-            × (firsts.new.items ≡ firsts.old.items)) }
-        ensures writable { OnOk result (All IsWritable firsts.old.items →
-            All IsWritable firsts.new.items) }
-        ensures count { IsLive self.old →
-            Counts self.old (failed_reads result) self.new }
+            × (first.new ≡ first.old)) }
+        ensures writable { OnOk result (All IsWritable (option_to_list first.old) →
+            All IsWritable (option_to_list first.new)) }
+        ensures count { IsLive self.old → Counts self.old (failed_reads result) self.new }
         // The source is read only if the next record isn't known without it.
-        ensures asks { (¬ AsksSource self.old firsts.old.items) →
+        ensures asks { (¬ AsksSource self.old first.old) →
             self.new.live.source.now ≡ self.old.live.source.now }
     {
-        if !firsts.is_empty() || self.cut.is_some() {
+        if first.is_some() || self.cut.is_some() {
             return Ok(());
         }
-        firsts.reserve(1)?;
         let vector = mem::replace(spare, Vec::new(alloc));
         match self.live.next(&mut self.records, vector)? {
-            Next::Whole(record) => firsts.push_back_reserved(record),
+            Next::Whole(record) => *first = Some(record),
             Next::End(cut) => self.cut = Some(cut),
         }
         Ok(())
     }
 
     /// Whether `look` would read the source.
-    #[tactic(auto, using(crate::proofs::Left::none_of))]
-    pub fn asks_device(&self, firsts: &VecDeque<Record>) -> bool
-        ensures quiet { result ≡ false → ¬ AsksSource self.now firsts.now.items }
-        ensures needed { result ≡ true → AsksSource self.now firsts.now.items }
+    pub fn asks_device(&self, first: &Option<Record>) -> bool
+        ensures quiet { result ≡ false → ¬ AsksSource self.now first.now }
+        ensures needed { result ≡ true → AsksSource self.now first.now }
     {
-        firsts.is_empty() && self.cut.is_none() && !self.records.has_whole()
+        first.is_none() && self.cut.is_none() && !self.records.has_whole()
     }
 
     /// Whether the capture ends inside a record; `None` until its end is reached.

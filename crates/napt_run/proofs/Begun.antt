@@ -1,5 +1,5 @@
 -- Streams of captures whose headers were read, and how many reads failed behind them.
-use Rattle.std.proofs.Common.{◌≡◌, ◌⊎◌, inl, inr, ℕ, ◌+◌, List, [], take, drop, All, Option, Some, None, Result, Ok, Err, refl, sym, ◌∙◌, ap, subst, add-zero}
+use Rattle.std.proofs.Common.{◌≡◌, ◌⊎◌, inl, inr, ℕ, ◌+◌, List, take, drop, Option, Some, None, Result, Ok, Err, refl, sym, ◌∙◌, ap, subst, add-zero}
 use Rattle.std.proofs.lemmas.List.Elements.{All-nil}
 use Rattle.napt_wire.specs.declared.Side.{Side}
 use Rattle.napt_wire.specs.declared.Side.TheVariants as sides
@@ -46,11 +46,11 @@ stream_begun {R} {G} stream records source bytes behind same value live cut = re
 }
 
 pub begun_live : {R Q : Type 0} {G : Ghosts R} {H : Ghosts Q} (begin : MergedStreams R Q G H) →
-    begin.inside.live.fault ≡ None → begin.outside.live.fault ≡ None → begin.inside_first.items ≡ [] →
-    begin.outside_first.items ≡ [] → AreLive begin
+    begin.inside.live.fault ≡ None → begin.outside.live.fault ≡ None → begin.inside_first ≡ None →
+    begin.outside_first ≡ None → AreLive begin
 begun_live begin inside outside first second = (
   (inside, outside),
-  (subst (All IsWritable) (sym first) (All-nil IsWritable), subst (All IsWritable) (sym second) (All-nil IsWritable)),
+  (rw first (All-nil IsWritable), rw second (All-nil IsWritable)),
 )
 
 -- FAILED READS

@@ -9,23 +9,18 @@ use Rattle.napt_capture.specs.Contents.{Contents}
 use Rattle.napt_capture.specs.Capture.{failed_reads, read_whole}
 use Rattle.napt_capture.specs.Reading.{Gives, IsForRecords, ReadsWhole, Says}
 use Rattle.napt_capture.specs.declared.fault.WriteFault.{WriteFault}
-use Rattle.napt_capture.specs.Text.{text}
 use Rattle.napt_capture.specs.declared.fault.CaptureFault.{CaptureFault}
 use Rattle.napt_config.specs.Rules.{Rules}
 use Rattle.napt_records.specs.declared.Fault.{Fault}
 use Rattle.napt_records.specs.declared.Fault.TheVariants.{Capture, Run, Write}
-use Rattle.napt_records.specs.Output.{records_at, records_to}
 use Rattle.napt_records.proofs.Left.{StopsBy-says, StopsBy-then}
-use Rattle.napt_records.proofs.Sends.{records_by_time}
-use Rattle.napt_rules.specs.Prelude.{ran}
-use Rattle.napt_rules.specs.declared.Outcome.{Outcome}
 use Rattle.napt_sequential.specs.declared.fault.RunFault.{RunFault}
 use Rattle.napt_sequential.specs.declared.fault.RunFault.TheVariants.{Memory, TooMany, Pool}
 use Rattle.napt_records.specs.declared.Which.{Which}
 use Rattle.napt_records.specs.declared.Which.TheVariants.{Outside, Inside, Report}
 use Rattle.napt_run.specs.declared.captures.Captures.{Captures}
 use Rattle.napt_run.specs.declared.captures.Outputs.{Outputs}
-use Rattle.napt_run.specs.Captures.{Answers, AreOutputs, AreTooMany, Explains, Gets, IfKnown, IsPastInside, IsReadFrom, IsReadable, IsUnread, IsWriteFaultOf, Receives, Share, arrivals_of, both_by, failed_readings, front, nothing, share_of, text_to, texts, texts_by, texts_made, whole}
+use Rattle.napt_run.specs.Captures.{Answers, AreOutputs, AreTooMany, Explains, Gets, IfKnown, IsPastInside, IsReadFrom, IsReadable, IsUnread, IsWriteFaultOf, Receives, Share, both_by, failed_readings, front, nothing, share_of, text_to, texts, texts_by, texts_made, whole}
 
 IfKnown-more : {P Q : List ℕ → List ℕ → Type 0} (inside outside : Option (List ℕ))
     → ((bytes others : List ℕ) → P bytes others → Q bytes others) → IfKnown inside outside P →

@@ -86,6 +86,7 @@ impl<'a, 'b, W: Sink, V: Sink> Leaving<'a, 'b, W, V> {
     }
 
     /// Counts the outcome of an input, and writes the record of its packet, if any, with the arrival time in ns.
+    #[inline(always)]
     fn write(&mut self, time: u64, outcome: &Outcome) -> Result<(), OutputFault>
         ensures { MatchResult result
             (λ _. Takes self.old ((time, outcome.now) ∷ []) self.new)
@@ -116,6 +117,7 @@ impl<W: Sink, V: Sink> Departures for Leaving<'_, '_, W, V> {
 
     ghost is_settled = { λ x. IsSettled x };
 
+    #[inline(always)]
     fn leave(&mut self, time: u64, outcome: Outcome) -> Result<Option<Vec<u8>>, OutputFault> {
         match self.write(time, &outcome) {
             Ok(()) => Ok(vector_of(outcome)),

@@ -97,6 +97,7 @@ impl<'o, A: Arrivals, O: Observer> Arrivals for Observed<'o, A, O> {
         self.arrivals.asks_device()
     }
 
+    #[inline(always)]
     fn next(&mut self, spare: Vec<u8>) -> Result<Option<Input>, Interruption<A::Fault, O::Fault>> {
         match self.arrivals.next(spare) {
             Ok(Some(input)) => match self.show(&input) {

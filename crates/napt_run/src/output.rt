@@ -73,6 +73,7 @@ impl<'a, W: Sink> Output<'a, W> {
     }
 
     /// Writes the record of a packet, with its arrival time in ns.
+    #[inline(always)]
     pub(crate) fn put(&mut self, time: u64, bytes: &[u8]) -> Result<(), WriteFault>
         requires { length bytes.now < 2 ^ 16 }
         ensures ok { IsTime time → OnOk result (Grows self.old

@@ -1,7 +1,7 @@
-//! Who had an external endpoint, by the log of a run and by the call that tells its holders.
+//! Who had an external endpoint, by what a run tells of its log.
 
 use crate::sample_inputs::input;
-use napt_account::{Entry, Note, Shortage, account_of, holders, log_of};
+use napt_account::{Entry, KnownRun, Note, Shortage, Use, in_order_of_making};
 use napt_config::Config;
 use napt_run::Input;
 use napt_samples::hosts::{CLIENT, RESOLVER, SECOND, SECOND_CLIENT, external, host};
@@ -37,8 +37,24 @@ fn assert_holder<R: Abort + AllocGlobal>(
 ) -> Result<(), Fail> {
     let alloc = rt.alloc();
     let config = Config::read(alloc, ONE_ADDRESS.as_bytes())?;
-    let rows = holders(alloc, &config, two_hosts(alloc)?, external(1, 5000), at)?;
-    let told = rows.first().map(|row| row.inside);
+    let mut run = KnownRun::begin(alloc, &config)?;
+    for input in two_hosts(alloc)? {
+        if input.clock <= at {
+            run.step(alloc, &input)?;
+        }
+    }
+    // no packet, so it changes nothing but the time
+    run.step(
+        alloc,
+        &Input {
+            side: Side::Outside,
+            time: at,
+            clock: at,
+            bytes: Vec::new(alloc),
+        },
+    )?;
+    let living = run.living(alloc)?;
+    let told = living.first().map(|listed| listed.entry.binding.inside);
     assert_eq!(rt; told, holder);
     Ok(())
 }
@@ -65,11 +81,38 @@ pub(crate) fn one_packet(binding: Row, at: u64, end: u64) -> Entry {
     }
 }
 
+/// What a run told of the inputs in all.
+#[derive(Drop)]
+struct Told {
+    entries: Vec<Entry>,
+    shortages: Vec<Shortage>,
+    uses: Vec<Use>,
+}
+
+fn told_of(alloc: Global, config: &Config, inputs: &[Input]) -> Result<Told, Fail> {
+    let mut run = KnownRun::begin(alloc, config)?;
+    let mut ended = Vec::new(alloc);
+    let mut shortages = Vec::new(alloc);
+    let mut uses = Vec::new(alloc);
+    for input in inputs {
+        let mut step = run.step(alloc, input)?;
+        ended.append(&mut step.ended)?;
+        shortages.append(&mut step.refused)?;
+        uses.push(step.used)?;
+    }
+    ended.append(&mut run.living(alloc)?)?;
+    Ok(Told {
+        entries: in_order_of_making(alloc, ended)?,
+        shortages,
+        uses,
+    })
+}
+
 #[test]
 fn log_of_a_number_used_twice(rt: HostRuntime) -> Result<(), Fail> {
     let alloc = rt.alloc();
     let config = Config::read(alloc, ONE_ADDRESS.as_bytes())?;
-    let log = log_of(alloc, &config, &two_hosts(alloc)?)?;
+    let log = told_of(alloc, &config, &two_hosts(alloc)?)?;
     let first = one_packet(udp_row(CLIENT), 10 * SECOND, 310 * SECOND);
     let second = one_packet(udp_row(SECOND_CLIENT), 1000 * SECOND, 1300 * SECOND);
     assert_eq!(rt; log.entries.as_slice(), [first, second].as_slice());
@@ -88,7 +131,7 @@ fn log_of_a_hairpin_and_a_shortage(rt: HostRuntime) -> Result<(), Fail> {
     let mut inputs = Vec::new(alloc);
     inputs.push(input(alloc, Side::Inside, SECOND, CLIENT, external(1, 7000))?)?;
     inputs.push(input(alloc, Side::Inside, 2 * SECOND, host(2, 5001), RESOLVER)?)?;
-    let account = account_of(alloc, &config, &inputs)?;
+    let log = told_of(alloc, &config, &inputs)?;
     let redirect = Entry {
         binding: Row {
             protocol: Protocol::Udp,
@@ -110,12 +153,13 @@ fn log_of_a_hairpin_and_a_shortage(rt: HostRuntime) -> Result<(), Fail> {
         protocol: Protocol::Udp,
         host: CLIENT.address,
     };
-    assert_eq!(rt; account.log.entries.as_slice(), [redirect, made].as_slice());
-    assert_eq!(rt; account.log.shortages.as_slice(), [shortage].as_slice());
-    let used = account
-        .uses
-        .first()
-        .map(|used| (used.note, used.out, used.into));
-    assert_eq!(rt; used, Some((Note::Made, Some(1), Some(0))));
+    assert_eq!(rt; log.entries.as_slice(), [redirect, made].as_slice());
+    assert_eq!(rt; log.shortages.as_slice(), [shortage].as_slice());
+    let used = Use {
+        note: Note::Made,
+        out: Some(1),
+        into: Some(0),
+    };
+    assert_eq!(rt; log.uses.first().copied(), Some(used));
     Ok(())
 }

@@ -12,6 +12,7 @@ pub mod Keys
 pub mod Ends
 pub mod Queues
 pub mod Steps
+mod Used
 pub mod Sends
 pub mod Enters
 pub mod Granted

@@ -4,10 +4,12 @@
 //! number. Its queue entry has a time until which it is sure to live, kept lazily: a packet that keeps the binding alive
 //! does not move the entry, and when its time has come the binding is checked again.
 
-ghost use Rattle.std.specs.Prelude.{◌≡◌, ◌+◌, ◌^◌, ◌≤◌, ◌<◌, All, true, false, Some, None, OnOk, IfOk};
+ghost use Rattle.std.specs.Prelude.{◌≡◌, ℕ, ◌+◌, ◌*◌, ◌^◌, ◌≤◌, ◌<◌, All, true, false, Some, None, OnOk, IfOk};
 ghost use Rattle.std.specs.Option.{option_map, is_some};
+ghost use Rattle.napt_rules.specs.Prelude.{Binding, second, is_live};
+ghost use Rattle.napt_binding.specs.Ends.{least_timer};
 ghost use Rattle.napt_table.specs.Held.{HeldIsPurgedLater};
-ghost use Rattle.napt_table.specs.Holdings.{KeepsSeen};
+ghost use Rattle.napt_table.specs.Holdings.{KeepsSeen, held as held_at_key};
 ghost use Rattle.napt_table.specs.Bindings.{AreDue, AreDueBut, come_up};
 
 use crate::TimedRow;
@@ -65,6 +67,10 @@ fn requeue_or_remove(
     ensures due { AreDue timers at held.new due.new.entries }
     ensures keeps { KeepsSeen timers at held.old held.new }
     ensures come_up { come_up at due.new.entries ≤ come_up at due.old.entries }
+    // What is queued comes up no sooner than its binding may have ended.
+    ensures far { (b : Binding) (t : ℕ) → held_at_key held.old key ≡ Some b → b.row.fixed ≡ false →
+        t < 2 ^ 64 → t < at + least_timer b.row.protocol timers * second →
+        is_live timers t b ≡ true → come_up t due.new.entries ≤ come_up t due.old.entries }
     ensures room { 0 < held.old.room → 0 < held.new.room }
     ensures queue { due.old.room ≤ due.new.room + 1 }
 {

@@ -1,10 +1,11 @@
 -- What replaced words leave as it was, and what they do to the sum of the words of a part.
-use Rattle.std.proofs.Common.{◌≡◌, ℕ, zero, suc, ◌+◌, ◌-◌, ◌*◌, ◌/◌, ◌%◌, ◌<◌, ◌≤◌, ◌⊎◌, inl, inr, List, [], ◌∷◌, ◌++◌, length, take, drop, set, sum, slice_index, arith, refl, sym, ◌∙◌, ap, length-drop}
-use Rattle.std.proofs.lemmas.List.{length-take-le, length-set, get_or-set_same, get_or-set_other, take-set-le, drop-set-lt, get_or-drop, get_or-take, take_at}
+use Rattle.std.proofs.Common.{◌≡◌, ℕ, zero, suc, ◌+◌, ◌-◌, ◌*◌, ◌/◌, ◌%◌, ◌<◌, ◌≤◌, List, [], ◌∷◌, ◌++◌, length, min, take, drop, set, sum, slice_index, arith, refl, sym, ◌∙◌, ap, length-drop}
+use Rattle.std.proofs.lemmas.Grind.{same_number_lists}
+use Rattle.std.proofs.lemmas.List.{length-take, length-take-le, length-set, get_or-set_same, get_or-set_other, get_or-drop, get_or-take, take_at}
 use Rattle.std.proofs.Math.Seq.{take-set-lt}
 use Rattle.std.proofs.lemmas.List.{drop-set-add}
 use Rattle.napt_wire.proofs.Checksums.{sum-cons}
-use Rattle.napt_wire.specs.Bytes.{word_at, put_word, words}
+use Rattle.napt_wire.specs.Bytes.{word_at, long_at, put_word, words}
 use Rattle.napt_wire.specs.Rewriting.{changed, olds, news}
 use Rattle.napt_wire.specs.declared.rewrite.Change.{Change}
 
@@ -20,29 +21,89 @@ pub changed-append : (xs ys : List Change) (bytes : List ℕ) → changed (xs ++
 changed-append [] ys bytes = refl
 changed-append (c ∷ xs) ys bytes = changed-append xs ys (put_word c.place c.new bytes)
 
+-- the word at a place has no byte of a range
+abbrev pub IsClear : ℕ → ℕ → ℕ → Type 0
+IsClear at n place = at < place + 2 → place < at + n → ⊥
+
+-- none of the words has
+abbrev pub AreClear : ℕ → ℕ → List Change → Type 0
+AreClear at n [] = Unit {0}
+AreClear at n (c ∷ changes) = IsClear at n c.place × AreClear at n changes
+
+-- all of the words stand between two places
+abbrev pub AreWithin : ℕ → ℕ → List Change → Type 0
+AreWithin low high [] = Unit {0}
+AreWithin low high (c ∷ changes) = (low ≤ c.place) × (c.place + 2 ≤ high) × AreWithin low high changes
+
+-- so do these, an even number of bytes behind the lower one, no two share a byte, and each is of the word that stands
+-- there. For a list that is written out `omega arith` proves all of that
+abbrev pub AreEdits : ℕ → ℕ → List ℕ → List Change → Type 0
+AreEdits low high bytes [] = Unit {0}
+AreEdits low high bytes (c ∷ changes) =
+    (low ≤ c.place) × (c.place + 2 ≤ high) × ((c.place - low) % 2 ≡ 0) × (c.old ≡ word_at c.place bytes)
+    × AreClear c.place 2 changes × AreEdits low high bytes changes
+
+pub clear-within : (low high at n : ℕ) (changes : List Change) → AreWithin low high changes →
+    (low < at + n → at < high → ⊥) → AreClear at n changes
+clear-within low high at n [] within out = tt
+clear-within low high at n (c ∷ changes) within out =
+    ((λ h k. out (omega arith) (omega arith)), clear-within low high at n changes within.2 out)
+
+pub clear-append : (at n : ℕ) (xs ys : List Change) → AreClear at n xs → AreClear at n ys → AreClear at n (xs ++ ys)
+clear-append at n [] ys p q = q
+clear-append at n (c ∷ xs) ys p q = (p.0, clear-append at n xs ys p.1 q)
+
+pub clear-part : (at n i m : ℕ) (changes : List Change) → at ≤ i → i + m ≤ at + n → AreClear at n changes →
+    AreClear i m changes
+clear-part at n i m [] l h clear = tt
+clear-part at n i m (c ∷ changes) l h clear =
+    ((λ a b. clear.0 (omega arith) (omega arith)), clear-part at n i m changes l h clear.1)
+
+pub within-edits : (low high below above : ℕ) (bytes : List ℕ) (changes : List Change) → below ≤ low → high ≤ above →
+    AreEdits low high bytes changes → AreWithin below above changes
+within-edits low high below above bytes [] l h edits = tt
+within-edits low high below above bytes (c ∷ changes) l h edits =
+    (omega arith, omega arith, within-edits low high below above bytes changes l h edits.5)
+
+pub edits-higher : (low high above : ℕ) (bytes : List ℕ) (changes : List Change) → high ≤ above →
+    AreEdits low high bytes changes → AreEdits low above bytes changes
+edits-higher low high above bytes [] h edits = tt
+edits-higher low high above bytes (c ∷ changes) h edits =
+    (edits.0, omega arith, edits.2, edits.3, edits.4, edits-higher low high above bytes changes h edits.5)
+
+-- edits, and more of them before
+pub edits-append : (below above low high : ℕ) (bytes : List ℕ) (xs ys : List Change) → below ≤ low → above ≤ low →
+    above ≤ high → (low - below) % 2 ≡ 0 → AreEdits low high bytes xs → AreEdits below above bytes ys →
+    AreEdits below high bytes (xs ++ ys)
+edits-append below above low high bytes [] [] l a h even p q = tt
+edits-append below above low high bytes [] (d ∷ ys) l a h even p q =
+    (q.0, omega arith, q.2, q.3, q.4, edits-append below above low high bytes [] ys l a h even tt q.5)
+edits-append below above low high bytes (c ∷ xs) ys l a h even p q = (
+  omega arith,
+  p.1,
+  omega (arith, p.0, p.2),
+  p.3,
+  clear-append c.place 2 xs ys p.4
+      (clear-within below above c.place 2 ys (within-edits below above below above bytes ys (omega arith) (omega arith)
+      q) (omega arith)),
+  edits-append below above low high bytes xs ys l a h even p.5 q,
+)
+
+-- THE WORDS OUTSIDE, AND THOSE WRITTEN
+
 -- a byte that is not of the word stays
-pub slice_index-put_word_other : (place word i : ℕ) (bytes : List ℕ) → (i < place) ⊎ (place + 2 ≤ i) →
+pub slice_index-put_word_other : (place word i : ℕ) (bytes : List ℕ) → IsClear i 1 place →
     slice_index (put_word place word bytes) i ≡ slice_index bytes i
-slice_index-put_word_other place word i bytes (inl h) =
-    get_or-set_other (set bytes place (word / 256)) (place + 1) i (word % 256) 0 (λ e. omega arith)
-    ∙ get_or-set_other bytes place i (word / 256) 0 (λ e. omega arith)
-slice_index-put_word_other place word i bytes (inr h) =
+slice_index-put_word_other place word i bytes clear =
     get_or-set_other (set bytes place (word / 256)) (place + 1) i (word % 256) 0 (λ e. omega arith)
     ∙ get_or-set_other bytes place i (word / 256) 0 (λ e. omega arith)
 
-pub word_at-put_word_other : (place word i : ℕ) (bytes : List ℕ) → (i + 2 ≤ place) ⊎ (place + 2 ≤ i) →
+pub word_at-put_word_other : (place word i : ℕ) (bytes : List ℕ) → IsClear i 2 place →
     word_at i (put_word place word bytes) ≡ word_at i bytes
-word_at-put_word_other place word i bytes (inl h) =
+word_at-put_word_other place word i bytes clear =
     rw (
-      slice_index-put_word_other place word i bytes (inl (omega arith)),
-      slice_index-put_word_other place word
-          (i + 1) bytes (inl (omega arith)),
-    ) refl
-word_at-put_word_other place word i bytes (inr h) =
-    rw (
-      slice_index-put_word_other place word i bytes (inr (omega arith)),
-      slice_index-put_word_other place word
-          (i + 1) bytes (inr (omega arith)),
+      slice_index-put_word_other place word i bytes (omega arith),
+      slice_index-put_word_other place word (i + 1) bytes (omega arith),
     ) refl
 
 -- what was written is read
@@ -56,55 +117,109 @@ word_at-put_word place word bytes h =
     get_or-set_same (set bytes place (word / 256)) (place + 1) (word % 256) 0 (rw length-set (omega arith)) in
     omega (arith, high, low)
 
--- all of the words stand between two places
-abbrev pub AreWithin : ℕ → ℕ → List Change → Type 0
-AreWithin low high [] = Unit {0}
-AreWithin low high (c ∷ changes) = (low ≤ c.place) × (c.place + 2 ≤ high) × AreWithin low high changes
+pub word-stays : (i : ℕ) (changes : List Change) (bytes : List ℕ) → AreClear i 2 changes →
+    word_at i (changed changes bytes) ≡ word_at i bytes
+word-stays i [] bytes clear = refl
+word-stays i (c ∷ changes) bytes clear =
+    word-stays i changes (put_word c.place c.new bytes) clear.1
+    ∙ word_at-put_word_other c.place c.new i bytes clear.0
 
--- all of them stand before a range, or behind it
-abbrev pub AreBeyond : ℕ → ℕ → List Change → Type 0
-AreBeyond low high [] = Unit {0}
-AreBeyond low high (c ∷ changes) = ((c.place + 2 ≤ low) ⊎ (high ≤ c.place)) × AreBeyond low high changes
+pub byte-stays : (i : ℕ) (changes : List Change) (bytes : List ℕ) → AreClear i 1 changes →
+    slice_index (changed changes bytes) i ≡ slice_index bytes i
+byte-stays i [] bytes clear = refl
+byte-stays i (c ∷ changes) bytes clear =
+    byte-stays i changes (put_word c.place c.new bytes) clear.1
+    ∙ slice_index-put_word_other c.place c.new i bytes clear.0
 
 pub slice_index-changed : (low high i : ℕ) (changes : List Change) (bytes : List ℕ) → AreWithin low high changes →
-    (i < low) ⊎ (high ≤ i) →
-    slice_index (changed changes bytes) i ≡ slice_index bytes i
-slice_index-changed low high i [] bytes within out = refl
-slice_index-changed low high i (c ∷ changes) bytes within (inl h) =
-    slice_index-changed low high i changes (put_word c.place c.new bytes) within.2 (inl h)
-    ∙ slice_index-put_word_other c.place c.new i bytes (inl (omega arith))
-slice_index-changed low high i (c ∷ changes) bytes within (inr h) =
-    slice_index-changed low high i changes (put_word c.place c.new bytes) within.2 (inr h)
-    ∙ slice_index-put_word_other c.place c.new i bytes (inr (omega arith))
+    (low < i + 1 → i < high → ⊥) → slice_index (changed changes bytes) i ≡ slice_index bytes i
+slice_index-changed low high i changes bytes within out =
+    byte-stays i changes bytes (clear-within low high i 1 changes within out)
 
-pub word_at-changed : (low high i : ℕ) (changes : List Change) (bytes : List ℕ) → AreWithin low high changes →
-    (i + 2 ≤ low) ⊎ (high ≤ i) →
-    word_at i (changed changes bytes) ≡ word_at i bytes
-word_at-changed low high i changes bytes within (inl h) =
+-- each word that was written stands there
+abbrev pub Stands : List Change → List ℕ → Type 0
+Stands [] bytes = Unit {0}
+Stands (c ∷ changes) bytes = (word_at c.place bytes ≡ c.new) × Stands changes bytes
+
+pub stands-edits : (low high : ℕ) (old : List ℕ) (changes : List Change) (bytes : List ℕ) →
+    AreEdits low high old changes → high ≤ length bytes → Stands changes (changed changes bytes)
+stands-edits low high old [] bytes edits fits = tt
+stands-edits low high old (c ∷ changes) bytes edits fits =
+    let next : List ℕ = put_word c.place c.new bytes in (
+      word-stays c.place changes next edits.4 ∙ word_at-put_word c.place c.new bytes (omega arith),
+      stands-edits low high old changes next edits.5 (omega (arith, length-put_word c.place c.new bytes)),
+    )
+
+pub stands-append : (xs ys : List Change) (bytes : List ℕ) → Stands (xs ++ ys) bytes → Stands xs bytes × Stands ys bytes
+stands-append [] ys bytes stands = (tt, stands)
+stands-append (c ∷ xs) ys bytes stands =
+    let rest = stands-append xs ys bytes stands.1 in ((stands.0, rest.0), rest.1)
+
+pub stands-join : (xs ys : List Change) (bytes : List ℕ) → Stands xs bytes → Stands ys bytes → Stands (xs ++ ys) bytes
+stands-join [] ys bytes p q = q
+stands-join (c ∷ xs) ys bytes p q = (p.0, stands-join xs ys bytes p.1 q)
+
+-- From a place on, what was written stands there, and each other byte stays.
+pub record IsWritten (low : ℕ) (changes : List Change) (bytes after : List ℕ) : Type 0 where
+  pub stands : Stands changes after
+  pub stays : (i : ℕ) → low ≤ i → AreClear i 1 changes → slice_index after i ≡ slice_index bytes i
+
+pub written-edits : (low high : ℕ) (changes : List Change) (bytes : List ℕ) → AreEdits low high bytes changes →
+    high ≤ length bytes → IsWritten low changes bytes (changed changes bytes)
+written-edits low high changes bytes edits fits = record {
+  stands = stands-edits low high bytes changes bytes edits fits;
+  stays = λ i h clear. byte-stays i changes bytes clear;
+}
+
+pub word-same : (low i : ℕ) (changes : List Change) (bytes after : List ℕ) → IsWritten low changes bytes after →
+    low ≤ i → AreClear i 2 changes → word_at i after ≡ word_at i bytes
+word-same low i changes bytes after w h clear =
     rw (
-      slice_index-changed low high i changes bytes within (inl (omega arith)),
-      slice_index-changed low high
-          (i + 1) changes bytes within (inl (omega arith)),
+      w.stays i h (clear-part i 2 i 1 changes (omega arith) (omega arith) clear),
+      w.stays (i + 1) (omega arith) (clear-part i 2 (i + 1) 1 changes (omega arith) (omega arith) clear),
     ) refl
-word_at-changed low high i changes bytes within (inr h) =
+
+pub long-same : (low i : ℕ) (changes : List Change) (bytes after : List ℕ) → IsWritten low changes bytes after →
+    low ≤ i → AreClear i 4 changes → long_at i after ≡ long_at i bytes
+long-same low i changes bytes after w h clear =
     rw (
-      slice_index-changed low high i changes bytes within (inr (omega arith)),
-      slice_index-changed low high
-          (i + 1) changes bytes within (inr (omega arith)),
+      word-same low i changes bytes after w h (clear-part i 4 i 2 changes (omega arith) (omega arith) clear),
+      word-same low (i + 2) changes bytes after w (omega arith)
+          (clear-part i 4 (i + 2) 2 changes (omega arith) (omega arith) clear),
     ) refl
+
+-- so it is of the first of them, where the others stand before
+pub written-front : (low start below above : ℕ) (xs ys : List Change) (bytes after : List ℕ) → low ≤ start →
+    above ≤ start → AreWithin below above ys → IsWritten low (xs ++ ys) bytes after → IsWritten start xs bytes after
+written-front low start below above xs ys bytes after l h within w = record {
+  stands = (stands-append xs ys after w.stands).0;
+  stays = λ i behind clear. w.stays i (omega arith)
+      (clear-append i 1 xs ys clear (clear-within below above i 1 ys within (omega arith)));
+}
 
 -- a part of the bytes
 abbrev pub part : ℕ → ℕ → List ℕ → List ℕ
 part at n bytes = take n (drop at bytes)
 
--- a word before a part, behind it, or of it
-pub part-put_word_before : (at n place word : ℕ) (bytes : List ℕ) → place + 2 ≤ at →
-    part at n (put_word place word bytes) ≡ part at n bytes
-part-put_word_before at n place word bytes h =
-    ap (take n) (drop-set-lt at (set bytes place (word / 256)) (place + 1) (word % 256) (omega arith)
-    ∙ drop-set-lt at bytes place (word / 256) (omega arith))
+pub slice_index-part : (at n i : ℕ) (bytes : List ℕ) → i < n → slice_index (part at n bytes) i
+    ≡ slice_index bytes (at + i)
+slice_index-part at n i bytes h = get_or-take n (drop at bytes) i 0 h ∙ get_or-drop at bytes i 0
 
-pub drop-put_word : (at j word : ℕ) (bytes : List ℕ) → drop at (put_word (at + j) word bytes)
+-- a part that has none of the words stays
+pub part-changed_other : (at n low high : ℕ) (changes : List Change) (bytes : List ℕ) → AreWithin low high changes →
+    (low < at + n → at < high → ⊥) → part at n (changed changes bytes) ≡ part at n bytes
+part-changed_other at n low high changes bytes within out =
+    let long = length-changed changes bytes in
+    same_number_lists (part at n (changed changes bytes)) (part at n bytes) (simp (length-take, length-drop, long) refl)
+    (λ k h.
+    let below : k < min n (length (drop at (changed changes bytes))) = simp length-take at h in
+    slice_index-part at n k (changed changes bytes) (omega (arith, below))
+    ∙ byte-stays (at + k) changes bytes (clear-within low high (at + k) 1 changes within (λ a b.
+    out (omega (arith, below)) (omega arith)))
+    ∙ sym (slice_index-part at n k bytes (omega (arith, below))))
+
+-- a word of a part is replaced
+drop-put_word : (at j word : ℕ) (bytes : List ℕ) → drop at (put_word (at + j) word bytes)
     ≡ put_word j word (drop at bytes)
 drop-put_word at j word bytes =
     let next : at + j + 1 ≡ at + (j + 1) = omega arith in
@@ -114,38 +229,12 @@ drop-put_word at j word bytes =
       drop-set-add at bytes j (word / 256),
     ) refl
 
-pub part-put_word_behind : (at n j word : ℕ) (bytes : List ℕ) → n ≤ j → part at n (put_word (at + j) word bytes)
-    ≡ part at n bytes
-part-put_word_behind at n j word bytes h =
-    rw drop-put_word
-    (take-set-le n (set (drop at bytes) j (word / 256)) (j + 1) (word % 256) (omega arith)
-    ∙ take-set-le n (drop at bytes) j (word / 256) h)
-
-pub part-put_word_other : (at n place word : ℕ) (bytes : List ℕ) → (place + 2 ≤ at) ⊎ (at + n ≤ place) →
-    part at n (put_word place word bytes) ≡ part at n bytes
-part-put_word_other at n place word bytes (inl h) = part-put_word_before at n place word bytes h
-part-put_word_other at n place word bytes (inr h) =
-    let here : place ≡ at + (place - at) = omega arith in
-    ap (λ (p : ℕ). part at n (put_word p word bytes)) here ∙ part-put_word_behind at n (place - at) word bytes
-    (omega arith)
-
 pub part-put_word : (at n j word : ℕ) (bytes : List ℕ) → j + 2 ≤ n → part at n (put_word (at + j) word bytes)
     ≡ put_word j word (part at n bytes)
 part-put_word at n j word bytes fits =
     rw drop-put_word
     (take-set-lt n (set (drop at bytes) j (word / 256)) (j + 1) (word % 256) (omega arith)
     ∙ ap (λ (xs : List ℕ). set xs (j + 1) (word % 256)) (take-set-lt n (drop at bytes) j (word / 256) (omega arith)))
-
-pub part-changed_other : (at n low high : ℕ) (changes : List Change) (bytes : List ℕ) → AreWithin low high changes →
-    (high ≤ at) ⊎ (at + n ≤ low) →
-    part at n (changed changes bytes) ≡ part at n bytes
-part-changed_other at n low high [] bytes within out = refl
-part-changed_other at n low high (c ∷ changes) bytes within (inl h) =
-    part-changed_other at n low high changes (put_word c.place c.new bytes) within.2 (inl h)
-    ∙ part-put_word_other at n c.place c.new bytes (inl (omega arith))
-part-changed_other at n low high (c ∷ changes) bytes within (inr h) =
-    part-changed_other at n low high changes (put_word c.place c.new bytes) within.2 (inr h)
-    ∙ part-put_word_other at n c.place c.new bytes (inr (omega arith))
 
 -- the sum of the words where one of them is replaced
 put_word_further : (a b j word : ℕ) (rest : List ℕ) → put_word (suc (suc j)) word (a ∷ b ∷ rest) ≡ a ∷ b
@@ -177,77 +266,62 @@ sum-words-put_word (suc k) word (a ∷ b ∷ rest) h =
       sum-cons (256 * a + b) (words rest),
     ))
 
-pub slice_index-part : (at n i : ℕ) (bytes : List ℕ) → i < n → slice_index (part at n bytes) i
-    ≡ slice_index bytes (at + i)
-slice_index-part at n i bytes h = get_or-take n (drop at bytes) i 0 h ∙ get_or-drop at bytes i 0
-
 pub word_at-part : (at n i : ℕ) (bytes : List ℕ) → i + 2 ≤ n → word_at i (part at n bytes) ≡ word_at (at + i) bytes
 word_at-part at n i bytes h =
     let next : at + (i + 1) ≡ at + i + 1 = omega arith in
     rw (slice_index-part at n i bytes (omega arith), slice_index-part at n (i + 1) bytes (omega arith), next) refl
 
--- each change is of the word that stands at its place
-abbrev pub AreOf : List Change → List ℕ → Type 0
-AreOf [] bytes = Unit {0}
-AreOf (c ∷ changes) bytes = (c.old ≡ word_at c.place bytes) × AreOf changes bytes
-
--- no two words share a byte
-abbrev pub IsApart : Change → List Change → Type 0
-IsApart c [] = Unit {0}
-IsApart c (d ∷ changes) = ((c.place + 2 ≤ d.place) ⊎ (d.place + 2 ≤ c.place)) × IsApart c changes
-
-abbrev pub AreApart : List Change → Type 0
-AreApart [] = Unit {0}
-AreApart (c ∷ changes) = IsApart c changes × AreApart changes
-
--- each word is one of a part's words, counted from the part's begin
-abbrev pub AreWords : ℕ → ℕ → List Change → Type 0
-AreWords at n [] = Unit {0}
-AreWords at n (c ∷ changes) = ((k : ℕ) × (c.place ≡ at + 2 * k) × (2 * k + 2 ≤ n)) × AreWords at n changes
-
-are_of-put_word : (c : Change) (changes : List Change) (bytes : List ℕ) → IsApart c changes → AreOf changes bytes →
-    AreOf changes (put_word c.place c.new bytes)
-are_of-put_word c [] bytes apart of = tt
-are_of-put_word c (d ∷ changes) bytes (inl h, apart) of = (
-  of.0 ∙ sym (word_at-put_word_other c.place c.new d.place bytes (inr h)),
-  are_of-put_word c changes bytes apart of.1,
-)
-are_of-put_word c (d ∷ changes) bytes (inr h, apart) of = (
-  of.0 ∙ sym (word_at-put_word_other c.place c.new d.place bytes (inl h)),
-  are_of-put_word c changes bytes apart of.1,
+-- edits stay edits where bytes behind them are replaced, or others of them
+pub edits-changed : (low high below above : ℕ) (outer changes : List Change) (bytes : List ℕ) →
+    AreWithin low high outer → above ≤ low → AreEdits below above bytes changes →
+    AreEdits below above (changed outer bytes) changes
+edits-changed low high below above outer [] bytes within out edits = tt
+edits-changed low high below above outer (c ∷ changes) bytes within out edits = (
+  edits.0,
+  edits.1,
+  edits.2,
+  edits.3 ∙ sym (word-stays c.place outer bytes (clear-within low high c.place 2 outer within (omega arith))),
+  edits.4,
+  edits-changed low high below above outer changes bytes within out edits.5,
 )
 
-pub are_of-changed : (low high : ℕ) (outer changes : List Change) (bytes : List ℕ) → AreWithin low high outer →
-    AreBeyond low high changes → AreOf changes bytes → AreOf changes (changed outer bytes)
-are_of-changed low high outer [] bytes within beyond of = tt
-are_of-changed low high outer (c ∷ changes) bytes within beyond of = (
-  of.0 ∙ sym (word_at-changed low high c.place outer bytes within beyond.0),
-  are_of-changed low high outer changes bytes within beyond.1 of.1,
+edits-put_word : (low high : ℕ) (c : Change) (changes : List Change) (bytes : List ℕ) → AreClear c.place 2 changes →
+    AreEdits low high bytes changes → AreEdits low high (put_word c.place c.new bytes) changes
+edits-put_word low high c [] bytes clear edits = tt
+edits-put_word low high c (d ∷ changes) bytes clear edits = (
+  edits.0,
+  edits.1,
+  edits.2,
+  edits.3 ∙ sym (word_at-put_word_other c.place c.new d.place bytes (λ h k. clear.0 k h)),
+  edits.4,
+  edits-put_word low high c changes bytes clear.1 edits.5,
 )
 
 -- the sum of a part's words where some of them are replaced
 pub sum-part-changed : (at n : ℕ) (changes : List Change) (bytes : List ℕ) → at + n ≤ length bytes →
-    AreWords at n changes → AreOf changes bytes → AreApart changes →
+    AreEdits at (at + n) bytes changes →
     sum (words (part at n (changed changes bytes))) + sum (olds changes) ≡ sum (words (part at n bytes))
     + sum (news changes)
-sum-part-changed at n [] bytes there are of apart = refl
-sum-part-changed at n (c ∷ changes) bytes there (here, are) of apart =
-    let k : ℕ = here.0 in
+sum-part-changed at n [] bytes there edits = refl
+sum-part-changed at n (c ∷ changes) bytes there edits =
+    let k : ℕ = (c.place - at) / 2 in
+    let here : c.place ≡ at + 2 * k = omega (arith, edits.0, edits.2) in
+    let fits : 2 * k + 2 ≤ n = omega (arith, here, edits.1) in
     let after : List ℕ = put_word c.place c.new bytes in
     let long : length (part at n bytes) ≡ n = length-take-le n (drop at bytes) (omega (arith, length-drop at bytes)) in
     let one : part at n after ≡ put_word (2 * k) c.new (part at n bytes) =
-    ap (λ (p : ℕ). part at n (put_word p c.new bytes)) here.1 ∙ part-put_word at n (2 * k) c.new bytes here.2 in
+    ap (λ (p : ℕ). part at n (put_word p c.new bytes)) here ∙ part-put_word at n (2 * k) c.new bytes fits in
     let stood : word_at (2 * k) (part at n bytes) ≡ c.old =
-    word_at-part at n (2 * k) bytes here.2 ∙ ap (λ (p : ℕ). word_at p bytes) (sym here.1) ∙ sym of.0 in
+    word_at-part at n (2 * k) bytes fits ∙ ap (λ (p : ℕ). word_at p bytes) (sym here) ∙ sym edits.3 in
     let single : sum (words (put_word (2 * k) c.new (part at n bytes))) + word_at (2 * k) (part at n bytes)
     ≡ sum (words (part at n bytes)) + c.new =
-    sum-words-put_word k c.new (part at n bytes) (omega (arith, long, here.2)) in
+    sum-words-put_word k c.new (part at n bytes) (omega (arith, long, fits)) in
     let whole : sum (words (part at n after)) ≡ sum (words (put_word (2 * k) c.new (part at n bytes))) =
     ap (λ (xs : List ℕ). sum (words xs)) one in
     let rest : sum (words (part at n (changed changes after))) + sum (olds changes) ≡ sum (words (part at n after))
     + sum (news changes) =
-    sum-part-changed at n changes after (omega (arith, there, length-put_word c.place c.new bytes)) are
-    (are_of-put_word c changes bytes apart.0 of.1) apart.1 in
+    sum-part-changed at n changes after (omega (arith, there, length-put_word c.place c.new bytes))
+    (edits-put_word at (at + n) c changes bytes edits.4 edits.5) in
     omega (arith, rest, whole, single, stood, sum-cons c.old (olds changes), sum-cons c.new (news changes))
 
 -- what a vector holds whose bytes were written to

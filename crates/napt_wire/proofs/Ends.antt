@@ -1,12 +1,12 @@
 -- What the replacement of an end leaves as it was.
-use Rattle.std.proofs.Common.{◌≡◌, ℕ, ◌+◌, ◌*◌, ◌/◌, ◌%◌, ◌≤◌, inl, Bool, true, false, List, [], ◌∷◌, ◌++◌, length, sum, arith, refl, nat_le, if◌then◌else◌}
+use Rattle.std.proofs.Common.{◌≡◌, ℕ, ◌+◌, ◌*◌, ◌/◌, ◌%◌, ◌≤◌, Bool, true, false, List, [], ◌∷◌, ◌++◌, length, sum, arith, refl, nat_le, if◌then◌else◌}
 use Rattle.std.proofs.lemmas.Bool.Decides.{nat_tests}
 use Rattle.std.proofs.lemmas.List.Elements.{All-cons, All-head, All-tail}
-use Rattle.napt_wire.proofs.Changes.{AreWithin, AreBeyond, AreOf, AreApart, AreWords, part, length-changed, sum-part-changed}
+use Rattle.napt_wire.proofs.Changes.{AreWithin, AreEdits, AreClear, IsClear, Stands, IsWritten, written-edits, written-front, long-same, clear-append, clear-within, stands-append, part, length-changed, sum-part-changed, within-edits, edits-append, edits-higher}
 use Rattle.napt_wire.specs.Bytes.{word_at, words}
 use Rattle.napt_wire.specs.Checksum.{canon}
-use Rattle.napt_wire.specs.Fields.{transport, form_at, number_place, end_at}
-use Rattle.napt_wire.specs.Rewriting.{changed, address_words, address_changes, checksum_changes, number_changes, end_changes}
+use Rattle.napt_wire.specs.Fields.{address, address_place, transport, form_at, number_place, end_at}
+use Rattle.napt_wire.specs.Rewriting.{change, changed, address_words, address_changes, number_changes, end_changes}
 use Rattle.napt_wire.specs.Room.{HasHeaders, AreThere}
 use Rattle.napt_wire.specs.declared.Endpoint.{Endpoint}
 use Rattle.napt_wire.specs.declared.rewrite.Change.{Change}
@@ -15,17 +15,6 @@ use Rattle.napt_wire.specs.declared.form.Form.TheVariants.{Udp, Tcp, Request, Re
 use Rattle.napt_wire.specs.declared.form.End.{End}
 use Rattle.napt_wire.specs.declared.form.End.TheVariants.{Source, Destination}
 
-pub within-append : (low high : ℕ) (xs ys : List Change) → AreWithin low high xs → AreWithin low high ys →
-    AreWithin low high (xs ++ ys)
-within-append low high [] ys a b = b
-within-append low high (c ∷ xs) ys a b = (a.0, a.1, within-append low high xs ys a.2 b)
-
-pub within-wider : (low high below above : ℕ) (xs : List Change) → below ≤ low → high ≤ above → AreWithin low high xs →
-    AreWithin below above xs
-within-wider low high below above [] l h a = tt
-within-wider low high below above (c ∷ xs) l h a =
-    (omega arith, omega arith, within-wider low high below above xs l h a.2)
-
 pub there-of_within : (low : ℕ) (xs : List Change) (bytes : List ℕ) → AreWithin low (length bytes) xs →
     AreThere xs bytes
 there-of_within low [] bytes a = λ k d h. absurd (omega arith)
@@ -33,32 +22,15 @@ there-of_within low (c ∷ xs) bytes a = All-cons (λ (d : Change). d.place + 2 
     (there-of_within low xs bytes a.2)
 
 -- an address and the IP checksum
+pub address-edits : (at : ℕ) (end : End) (new : ℕ) (bytes : List ℕ) →
+    AreEdits at (at + 20) bytes (address_changes at end new bytes)
+address-edits at Source new bytes = omega arith
+address-edits at Destination new bytes = omega arith
+
 pub address-within : (at : ℕ) (end : End) (new : ℕ) (bytes : List ℕ) →
     AreWithin (at + 10) (at + 20) (address_changes at end new bytes)
-address-within at Source new bytes =
-    (omega arith, omega arith, (omega arith, omega arith, (omega arith, omega arith, tt)))
-address-within at Destination new bytes =
-    (omega arith, omega arith, (omega arith, omega arith, (omega arith, omega arith, tt)))
-
-pub address-of : (at : ℕ) (end : End) (new : ℕ) (bytes : List ℕ) → AreOf (address_changes at end new bytes) bytes
-address-of at end new bytes = (refl, (refl, (refl, tt)))
-
-pub address-apart : (at : ℕ) (end : End) (new : ℕ) (bytes : List ℕ) → AreApart (address_changes at end new bytes)
-address-apart at Source new bytes = ((inl (omega arith), (inl (omega arith), tt)), ((inl (omega arith), tt), (tt, tt)))
-address-apart at Destination new bytes =
-    ((inl (omega arith), (inl (omega arith), tt)), ((inl (omega arith), tt), (tt, tt)))
-
-pub address-words : (at n : ℕ) (end : End) (new : ℕ) (bytes : List ℕ) → 20 ≤ n →
-    AreWords at n (address_changes at end new bytes)
-address-words at n Source new bytes h =
-    ((5, omega arith, omega arith), ((6, omega arith, omega arith), ((7, omega arith, omega arith), tt)))
-address-words at n Destination new bytes h =
-    ((5, omega arith, omega arith), ((8, omega arith, omega arith), ((9, omega arith, omega arith), tt)))
-
-pub address-beyond : (at low high : ℕ) (end : End) (new : ℕ) (bytes : List ℕ) → at + 20 ≤ low →
-    AreBeyond low high (address_changes at end new bytes)
-address-beyond at low high Source new bytes h = (inl (omega arith), (inl (omega arith), (inl (omega arith), tt)))
-address-beyond at low high Destination new bytes h = (inl (omega arith), (inl (omega arith), (inl (omega arith), tt)))
+address-within at Source new bytes = omega arith
+address-within at Destination new bytes = omega arith
 
 -- the header's sum stays a multiple of 65535, or none
 address_residue : (sum_new sum_old check high low new : ℕ) →
@@ -69,82 +41,143 @@ unfolding canon
 address_residue sum_new sum_old check high low new h = omega arith
 
 pub address-residue : (at n : ℕ) (end : End) (new : ℕ) (old bytes : List ℕ) → 20 ≤ n → at + n ≤ length bytes →
-    AreOf (address_changes at end new old) bytes →
+    AreEdits at (at + 20) bytes (address_changes at end new old) →
     sum (words (part at n (changed (address_changes at end new old) bytes))) % 65535
     ≡ sum (words (part at n bytes)) % 65535
-address-residue at n Source new old bytes h there of =
+address-residue at n Source new old bytes h there edits =
     address_residue _ _ (word_at (at + 10) old) (word_at (at + 12) old) (word_at (at + 12 + 2) old) new
-    (sum-part-changed at n (address_changes at Source new old) bytes there (address-words at n Source new old h) of
-    (address-apart at Source new old))
-address-residue at n Destination new old bytes h there of =
+    (sum-part-changed at n (address_changes at Source new old) bytes there
+    (edits-higher at (at + 20) (at + n) bytes (address_changes at Source new old) (omega arith) edits))
+address-residue at n Destination new old bytes h there edits =
     address_residue _ _ (word_at (at + 10) old) (word_at (at + 16) old) (word_at (at + 16 + 2) old) new
     (sum-part-changed at n (address_changes at Destination new old) bytes there
-    (address-words at n Destination new old h) of (address-apart at Destination new old))
+    (edits-higher at (at + 20) (at + n) bytes (address_changes at Destination new old) (omega arith) edits))
 
--- where a transport checksum stands
-abbrev pub checksum_place : Form → ℕ
-checksum_place Udp = 6
-checksum_place Tcp = 16
-checksum_place Request = 2
-checksum_place Reply = 2
-checksum_place Error = 2
+-- a number and its checksum, which a short quoted TCP header does not have
+tcp_edits : (b : Bool) (start high k number check : ℕ) (bytes : List ℕ) → (b ≡ true → start + 18 ≤ high) →
+    start + 8 ≤ high → k ≤ 2 → k % 2 ≡ 0 →
+    AreEdits start high bytes (change bytes (start + k) number
+    ∷ (if b then change bytes (start + 16) check ∷ [] else []))
+tcp_edits true start high k number check bytes there h small even =
+    let fits : start + 18 ≤ high = there refl in omega arith
+tcp_edits false start high k number check bytes there h small even = omega arith
 
-if_within : (b : Bool) (low high : ℕ) (c : Change) → (b ≡ true → (low ≤ c.place) × (c.place + 2 ≤ high)) →
-    AreWithin low high (if b then c ∷ [] else [])
-if_within true low high c h = ((h refl).0, (h refl).1, tt)
-if_within false low high c h = tt
+le_of : (a b : ℕ) → nat_le a b ≡ true → a ≤ b
+le_of a b h = grind (arith, nat_tests)
 
-pub checksum-within : (form : Form) (start : ℕ) (old new : Endpoint) (bytes : List ℕ) →
-    AreWithin (start + checksum_place form) (start + checksum_place form + 2)
-    (checksum_changes form start old new bytes)
-checksum-within Udp start old new bytes = (omega arith, omega arith, tt)
-checksum-within Tcp start old new bytes = if_within (nat_le (start + 18) (length bytes)) _ _ _ (λ h.
-    (omega arith, omega arith))
-checksum-within Request start old new bytes = (omega arith, omega arith, tt)
-checksum-within Reply start old new bytes = (omega arith, omega arith, tt)
-checksum-within Error start old new bytes = tt
-
-pub checksum-there : (form : Form) (start : ℕ) (old new : Endpoint) (bytes : List ℕ) → start + 8 ≤ length bytes →
-    AreWithin start (length bytes) (checksum_changes form start old new bytes)
-checksum-there Udp start old new bytes h = (omega arith, omega arith, tt)
-checksum-there Tcp start old new bytes h = if_within (nat_le (start + 18) (length bytes)) _ _ _ (λ e. let le : start
-    + 18 ≤ length bytes = grind (arith, nat_tests) in (omega arith, omega arith))
-checksum-there Request start old new bytes h = (omega arith, omega arith, tt)
-checksum-there Reply start old new bytes h = (omega arith, omega arith, tt)
-checksum-there Error start old new bytes h = tt
+pub number-edits : (form : Form) (end : End) (start : ℕ) (old new : Endpoint) (bytes : List ℕ) →
+    start + 8 ≤ length bytes →
+    AreEdits start (length bytes) bytes (number_changes (number_place form end) form start old new bytes)
+number-edits Udp Source start old new bytes h = omega arith
+number-edits Udp Destination start old new bytes h = omega arith
+number-edits Tcp Source start old new bytes h = tcp_edits (nat_le (start + 18) (length bytes)) start (length bytes) 0
+    new.number _ bytes (le_of (start + 18) (length bytes)) h (omega arith) (omega arith)
+number-edits Tcp Destination start old new bytes h = tcp_edits (nat_le (start + 18) (length bytes)) start (length bytes)
+    2 new.number _ bytes (le_of (start + 18) (length bytes)) h (omega arith) (omega arith)
+number-edits Request Source start old new bytes h = omega arith
+number-edits Request Destination start old new bytes h = tt
+number-edits Reply Source start old new bytes h = tt
+number-edits Reply Destination start old new bytes h = omega arith
+number-edits Error Source start old new bytes h = tt
+number-edits Error Destination start old new bytes h = tt
 
 pub number-there : (form : Form) (end : End) (start : ℕ) (old new : Endpoint) (bytes : List ℕ) →
     start + 8 ≤ length bytes →
     AreWithin start (length bytes) (number_changes (number_place form end) form start old new bytes)
-number-there Udp Source start old new bytes h = (omega arith, omega arith, checksum-there Udp start old new bytes h)
-number-there Udp Destination start old new bytes h =
-    (omega arith, omega arith, checksum-there Udp start old new bytes h)
-number-there Tcp Source start old new bytes h = (omega arith, omega arith, checksum-there Tcp start old new bytes h)
-number-there Tcp Destination start old new bytes h =
-    (omega arith, omega arith, checksum-there Tcp start old new bytes h)
-number-there Request Source start old new bytes h =
-    (omega arith, omega arith, checksum-there Request start old new bytes h)
-number-there Request Destination start old new bytes h = tt
-number-there Reply Source start old new bytes h = tt
-number-there Reply Destination start old new bytes h =
-    (omega arith, omega arith, checksum-there Reply start old new bytes h)
-number-there Error Source start old new bytes h = tt
-number-there Error Destination start old new bytes h = tt
+number-there form end start old new bytes h =
+    within-edits start (length bytes) start (length bytes) bytes _ (omega arith) (omega arith)
+    (number-edits form end start old new bytes h)
+
+-- an end of the datagram at a place, and an end of the one that an error quotes with what goes with it
+pub end-edits : (at : ℕ) (end : End) (new : Endpoint) (bytes : List ℕ) → HasHeaders at bytes →
+    AreEdits at (length bytes) bytes (end_changes at end new bytes)
+unfolding end_changes
+end-edits at end new bytes room =
+    edits-append at (at + 20) (transport at bytes) (length bytes) bytes _ (address_changes at end new.address bytes)
+    (omega (arith, room.header)) room.header (omega (arith, room.header, room.transport_start)) (omega arith)
+    (number-edits (form_at at bytes) end (transport at bytes) (end_at at end bytes) new bytes room.transport_start)
+    (address-edits at end new.address bytes)
+
+abbrev pub numbers : Form → End → ℕ → Endpoint → Endpoint → List ℕ → List Change
+numbers form end start old new bytes = number_changes (number_place form end) form start old new bytes
+
+pub end-written : (at : ℕ) (end : End) (new : Endpoint) (bytes : List ℕ) → HasHeaders at bytes →
+    IsWritten at (end_changes at end new bytes) bytes (changed (end_changes at end new bytes) bytes)
+end-written at end new bytes room =
+    written-edits at (length bytes) (end_changes at end new bytes) bytes (end-edits at end new bytes room) (omega arith)
+
+-- an address that was written is read
+halves : (n a b : ℕ) → a ≡ n / 65536 → b ≡ n % 65536 → 65536 * a + b ≡ n
+halves n a b ha hb = omega arith
+
+pub address_stands : (at : ℕ) (end : End) (new : ℕ) (old bytes : List ℕ) →
+    Stands (address_changes at end new old) bytes → address at end bytes ≡ new
+address_stands at Source new old bytes stands = halves new _ _ stands.1.0 stands.1.1.0
+address_stands at Destination new old bytes stands = halves new _ _ stands.1.0 stands.1.1.0
+
+abbrev pub other : End → End
+other Source = Destination
+other Destination = Source
+
+-- the header of a datagram whose end is replaced, but for the IP checksum and the address
+pub end-clear : (at i n : ℕ) (end : End) (new : Endpoint) (bytes : List ℕ) → HasHeaders at bytes → i + n ≤ at + 20 →
+    AreClear i n (address_changes at end new.address bytes) → AreClear i n (end_changes at end new bytes)
+unfolding end_changes
+end-clear at i n end new bytes room before clear =
+    clear-append i n _ (address_changes at end new.address bytes)
+    (clear-within (transport at bytes) (length bytes) i n _ (number-there (form_at at bytes) end (transport at bytes)
+    (end_at at end bytes) new bytes room.transport_start) (omega (arith, room.header))) clear
+
+pub other_clear : (at : ℕ) (end : End) (new : ℕ) (bytes : List ℕ) →
+    AreClear (at + address_place (other end)) 4 (address_changes at end new bytes)
+other_clear at Source new bytes = omega arith
+other_clear at Destination new bytes = omega arith
+
+-- the address of the end was written
+pub end_address : (at : ℕ) (end : End) (new : Endpoint) (bytes after : List ℕ) →
+    Stands (end_changes at end new bytes) after → address at end after ≡ new.address
+unfolding end_changes
+end_address at end new bytes after stands =
+    address_stands at end new.address bytes after
+    (stands-append _ (address_changes at end new.address bytes) after stands).1
+
+-- the other address stays
+pub address_same : (at : ℕ) (end : End) (new : Endpoint) (bytes after : List ℕ) → HasHeaders at bytes →
+    IsWritten at (end_changes at end new bytes) bytes after →
+    address at (other end) after ≡ address at (other end) bytes
+address_same at Source new bytes after room w =
+    long-same at (at + 16) (end_changes at Source new bytes) bytes after w (omega arith)
+    (end-clear at (at + 16) 4 Source new bytes room (omega arith) (other_clear at Source new.address bytes))
+address_same at Destination new bytes after room w =
+    long-same at (at + 12) (end_changes at Destination new bytes) bytes after w (omega arith)
+    (end-clear at (at + 12) 4 Destination new bytes room (omega arith) (other_clear at Destination new.address bytes))
+
+-- the numbers of an end that was replaced
+pub numbers-written : (at : ℕ) (end : End) (new : Endpoint) (bytes after : List ℕ) → HasHeaders at bytes →
+    IsWritten at (end_changes at end new bytes) bytes after →
+    IsWritten (transport at bytes) (numbers (form_at at bytes) end (transport at bytes) (end_at at end bytes) new bytes)
+    bytes after
+unfolding end_changes
+numbers-written at end new bytes after room w =
+    written-front at (transport at bytes) (at + 10) (at + 20) _ (address_changes at end new.address bytes) bytes after
+    (omega (arith, room.header)) room.header (address-within at end new.address bytes) w
+
+-- a TCP checksum that is there or is not
+abbrev pub if_there : Bool → Change → List Change
+if_there b c = if b then c ∷ [] else []
+
+pub there_clear : (b : Bool) (i n : ℕ) (c d : Change) → IsClear i n c.place → IsClear i n d.place →
+    AreClear i n (c ∷ if_there b d)
+there_clear true i n c d p q = (p, (q, tt))
+there_clear false i n c d p q = (p, tt)
 
 -- every word that is replaced is there
 pub end-there : (at : ℕ) (end : End) (new : Endpoint) (bytes : List ℕ) → HasHeaders at bytes →
     AreThere (end_changes at end new bytes) bytes
-unfolding end_changes
 end-there at end new bytes room =
-    let numbers : List Change = number_changes (number_place (form_at at bytes) end) (form_at at bytes)
-    (transport at bytes) (end_at at end bytes) new bytes in
-    there-of_within 0 (numbers ++ address_changes at end new.address bytes) bytes
-    (within-append 0 (length bytes) numbers (address_changes at end new.address bytes)
-    (within-wider (transport at bytes) (length bytes) 0 (length bytes) numbers (omega arith) (omega arith)
-    (number-there (form_at at bytes) end (transport at bytes) (end_at at end bytes) new bytes room.transport_start))
-    (within-wider (at + 10) (at + 20) 0 (length bytes) (address_changes at end new.address bytes) (omega arith)
-    (omega (arith, room.header, room.transport_start))
-    (address-within at end new.address bytes)))
+    there-of_within at (end_changes at end new bytes) bytes
+    (within-edits at (length bytes) at (length bytes) bytes (end_changes at end new bytes) (omega arith) (omega arith)
+    (end-edits at end new bytes room))
 
 pub there-front : (xs ys : List Change) (bytes : List ℕ) → AreThere (xs ++ ys) bytes → AreThere xs bytes
 there-front [] ys bytes h = λ k d l. absurd (omega arith)

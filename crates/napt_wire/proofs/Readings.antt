@@ -1,5 +1,6 @@
 -- What a packet that reads is, check by check.
-use Rattle.std.proofs.Common.{◌≡◌, ℕ, ◌<◌, ◌≤◌, Bool, true, false, List, [], ◌∷◌, ◌++◌, length, take, drop, Option, Some, None, Ok, Err, arith, refl, sym, ◌∙◌, ap, slice_index, length-drop}
+use Rattle.std.proofs.Common.{◌≡◌, ℕ, ◌<◌, ◌≤◌, Bool, true, false, List, [], ◌∷◌, ◌++◌, length, take, drop, Option, Some, None, Ok, arith, refl, sym, ◌∙◌, ap, slice_index, length-drop}
+use Rattle.std.specs.Option.{option_or}
 use Rattle.std.proofs.lemmas.Bool.Decides.{nat_tests}
 use Rattle.std.proofs.lemmas.Grind.{common_steps}
 use Rattle.napt_wire.specs.Fields.{version, header_length, total_length, transport, form_at}
@@ -14,21 +15,10 @@ use Rattle.napt_wire.specs.declared.form.Form.{Form}
 use Rattle.napt_wire.specs.declared.form.Form.TheVariants.{Udp, Tcp, Request, Reply, Error}
 
 -- the first part refuses, or the second judges
-pub refusal-append_some : (xs ys : List (Bool × Cause)) (cause : Cause) → refusal xs ≡ Some cause → refusal (xs ++ ys)
-    ≡ Some cause
-refusal-append_some [] ys cause h = cc
-refusal-append_some ((true, c) ∷ xs) ys cause h = h
-refusal-append_some ((false, c) ∷ xs) ys cause h = refusal-append_some xs ys cause h
-
-pub refusal-append_none : (xs ys : List (Bool × Cause)) → refusal xs ≡ None → refusal (xs ++ ys) ≡ refusal ys
-refusal-append_none [] ys h = refl
-refusal-append_none ((true, c) ∷ xs) ys h = cc
-refusal-append_none ((false, c) ∷ xs) ys h = refusal-append_none xs ys h
-
-pub refusal-prefix_none : (xs ys : List (Bool × Cause)) → refusal (xs ++ ys) ≡ None → refusal xs ≡ None
-refusal-prefix_none [] ys h = refl
-refusal-prefix_none ((true, c) ∷ xs) ys h = h
-refusal-prefix_none ((false, c) ∷ xs) ys h = refusal-prefix_none xs ys h
+refusal-append : (xs ys : List (Bool × Cause)) → refusal (xs ++ ys) ≡ option_or (refusal xs) (refusal ys)
+refusal-append [] ys = refl
+refusal-append ((true, c) ∷ xs) ys = refl
+refusal-append ((false, c) ∷ xs) ys = refusal-append xs ys
 
 -- each of these checks passed
 abbrev pub AllPass : List (Bool × Cause) → Type 0
@@ -44,57 +34,26 @@ pub none_refuses : (checks : List (Bool × Cause)) → AllPass checks → refusa
 none_refuses [] h = refl
 none_refuses ((b, cause) ∷ checks) h = rw h.0 (none_refuses checks h.1)
 
-pub reading_err : (side : Side) (bytes : List ℕ) (cause : Cause) →
-    refusal (length_checks bytes ++ header_checks (datagram bytes) ++ body_checks side (datagram bytes)) ≡ Some cause →
-    reading side bytes ≡ Err cause
+-- what reading answers, by its three parts
+pub reading_by : (side : Side) (bytes : List ℕ) (lengths headers bodies : Option Cause) →
+    refusal (length_checks bytes) ≡ lengths → refusal (header_checks (datagram bytes)) ≡ headers →
+    refusal (body_checks side (datagram bytes)) ≡ bodies →
+    reading side bytes ≡ read_unless (option_or (option_or lengths headers) bodies) (datagram bytes)
 unfolding reading
-reading_err side bytes cause h = rw h refl
+reading_by side bytes lengths headers bodies l h b =
+    ap (λ (r : Option Cause). read_unless r (datagram bytes))
+    (refusal-append (length_checks bytes ++ header_checks (datagram bytes)) (body_checks side (datagram bytes))
+    ∙ ap (λ (r : Option Cause). option_or r (refusal (body_checks side (datagram bytes))))
+    (refusal-append (length_checks bytes) (header_checks (datagram bytes)))
+    ∙ (λ i. option_or (option_or (l i) (h i)) (b i)))
 
-pub reading_ok : (side : Side) (bytes : List ℕ) →
-    refusal (length_checks bytes ++ header_checks (datagram bytes) ++ body_checks side (datagram bytes)) ≡ None →
-    reading side bytes ≡ Ok (datagram bytes)
-unfolding reading
-reading_ok side bytes h = rw h refl
-
-pub reading_ok_all : (side : Side) (bytes : List ℕ) →
-    refusal (length_checks bytes) ≡ None → refusal (header_checks (datagram bytes)) ≡ None →
-    refusal (body_checks side (datagram bytes)) ≡ None →
-    reading side bytes ≡ Ok (datagram bytes)
-reading_ok_all side bytes l h b =
-    reading_ok side bytes
-    (refusal-append_none (length_checks bytes ++ header_checks (datagram bytes)) (body_checks side (datagram bytes))
-    (refusal-append_none (length_checks bytes) (header_checks (datagram bytes)) l ∙ h)
-    ∙ b)
-
-pub reading_err_length : (side : Side) (bytes : List ℕ) (cause : Cause) → refusal (length_checks bytes) ≡ Some cause →
-    reading side bytes ≡ Err cause
-reading_err_length side bytes cause h =
-    reading_err side bytes cause
-    (refusal-append_some (length_checks bytes ++ header_checks (datagram bytes)) (body_checks side (datagram bytes))
-    cause
-    (refusal-append_some (length_checks bytes) (header_checks (datagram bytes)) cause h))
-
-pub reading_err_header : (side : Side) (bytes : List ℕ) (cause : Cause) → refusal (length_checks bytes) ≡ None →
-    refusal (header_checks (datagram bytes)) ≡ Some cause → reading side bytes ≡ Err cause
-reading_err_header side bytes cause l h =
-    reading_err side bytes cause
-    (refusal-append_some (length_checks bytes ++ header_checks (datagram bytes)) (body_checks side (datagram bytes))
-    cause
-    (refusal-append_none (length_checks bytes) (header_checks (datagram bytes)) l ∙ h))
-
-pub reading_err_body : (side : Side) (bytes : List ℕ) (cause : Cause) → refusal (length_checks bytes) ≡ None →
-    refusal (header_checks (datagram bytes)) ≡ None → refusal (body_checks side (datagram bytes)) ≡ Some cause →
-    reading side bytes ≡ Err cause
-reading_err_body side bytes cause l h b =
-    reading_err side bytes cause
-    (refusal-append_none (length_checks bytes ++ header_checks (datagram bytes)) (body_checks side (datagram bytes))
-    (refusal-append_none (length_checks bytes) (header_checks (datagram bytes)) l ∙ h)
-    ∙ b)
-
-read_unless_ok : (refused : Option Cause) (packet bytes : List ℕ) → read_unless refused packet ≡ Ok bytes →
-    (refused ≡ None) × (packet ≡ bytes)
-read_unless_ok None packet bytes h = (refl, cc)
-read_unless_ok (Some cause) packet bytes h = cc
+none_refused : (lengths headers bodies : Option Cause) (bytes packet : List ℕ) →
+    read_unless (option_or (option_or lengths headers) bodies) bytes ≡ Ok packet →
+    (lengths ≡ None) × (headers ≡ None) × (bodies ≡ None) × (bytes ≡ packet)
+none_refused None None None bytes packet h = (refl, refl, refl, cc)
+none_refused None None (Some cause) bytes packet h = cc
+none_refused None (Some cause) bodies bytes packet h = cc
+none_refused (Some cause) headers bodies bytes packet h = cc
 
 -- the lengths of an IPv4 header that passed
 pub record HasLengths (bytes : List ℕ) : Type 0 where
@@ -168,35 +127,20 @@ pub record Passes (side : Side) (bytes : List ℕ) : Type 0 where
   pub headers : AllPass (header_checks bytes)
   pub bodies : AllPass (body_checks side bytes)
 
-pub refusal-suffix_none : (xs ys : List (Bool × Cause)) → refusal (xs ++ ys) ≡ None → refusal ys ≡ None
-refusal-suffix_none xs ys h = sym (refusal-append_none xs ys (refusal-prefix_none xs ys h)) ∙ h
-
-pub reading_ok_gives : (side : Side) (bytes packet : List ℕ) → reading side bytes ≡ Ok packet →
-    (refusal (length_checks bytes ++ header_checks (datagram bytes) ++ body_checks side (datagram bytes)) ≡ None)
-    × (datagram bytes ≡ packet)
-unfolding reading
-reading_ok_gives side bytes packet h = read_unless_ok _ _ _ h
-
 pub passes_of_read : (side : Side) (bytes packet : List ℕ) → reading side bytes ≡ Ok packet → Passes side packet
 passes_of_read side bytes packet h =
-    let gives = reading_ok_gives side bytes packet h in
-    let front = refusal-prefix_none (length_checks bytes ++ header_checks (datagram bytes))
-    (body_checks side (datagram bytes)) gives.0 in
-    let has = lengths_of bytes (refusal-prefix_none (length_checks bytes) (header_checks (datagram bytes)) front) in
-    let again = datagram_again bytes packet (sym gives.1) has in
+    let parts = none_refused _ _ _ _ packet (sym (reading_by side bytes _ _ _ refl refl refl) ∙ h) in
+    let again = datagram_again bytes packet (sym parts.3) (lengths_of bytes parts.0) in
     record {
       whole = again.1;
       lengths = again.0;
-      headers = rw (← gives.1) (all_pass (header_checks (datagram bytes))
-          (refusal-suffix_none (length_checks bytes) (header_checks (datagram bytes)) front));
-      bodies = rw (← gives.1) (all_pass (body_checks side (datagram bytes))
-          (refusal-suffix_none (length_checks bytes ++ header_checks (datagram bytes))
-          (body_checks side (datagram bytes)) gives.0));
+      headers = rw (← parts.3) (all_pass (header_checks (datagram bytes)) parts.1);
+      bodies = rw (← parts.3) (all_pass (body_checks side (datagram bytes)) parts.2);
     }
 
 pub reads_of_passes : (side : Side) (bytes : List ℕ) → Passes side bytes → reading side bytes ≡ Ok bytes
 reads_of_passes side bytes p =
-    reading_ok_all side bytes (lengths_pass bytes p.lengths)
+    reading_by side bytes None None None (lengths_pass bytes p.lengths)
     (rw p.whole (none_refuses (header_checks bytes) p.headers))
     (rw p.whole (none_refuses (body_checks side bytes) p.bodies))
     ∙ ap Ok p.whole

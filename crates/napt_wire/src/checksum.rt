@@ -1,11 +1,12 @@
 //! Internet checksums: the sum over bytes, and its update when a word is replaced.
 
-ghost use Rattle.std.specs.Prelude.{◌≡◌, ◌≤◌, ◌==◌, [], ◌∷◌, length, sum, if◌then◌else◌};
+ghost use Rattle.std.specs.Prelude.{◌≡◌, ◌≤◌, ◌==◌, [], ◌∷◌, length, if◌then◌else◌};
 ghost use Rattle.napt_wire.specs.Checksum.{canon, canon_udp, is_right};
 ghost use Rattle.napt_wire.specs.Bytes.{words};
 ghost use Rattle.napt_wire.specs.Rewriting.{address_words, end_words};
 
 use crate::Endpoint;
+use crate::bytes::{read_long, read_word};
 
 /// The checksum after one 16-bit word that it covers changes from `old` to `new`. All three are
 /// numbers, highest byte first. The result is never 0xFFFF: where RFC 1624 equation 3 gives 0xFFFF,
@@ -70,27 +71,24 @@ pub(crate) fn fix_end_udp(check: u16, old: Endpoint, new: Endpoint) -> u16
     sent(fix_check(fixed, old.number, new.number))
 }
 
-/// Whether the checksum among these words is right (RFC 1071): their sum is a multiple of 65535.
+/// Whether the checksum among these words is right (RFC 1071), an odd last byte padded with a zero byte: their sum is a
+/// multiple of 65535, and so is that by 32-bit words (section 2 (B)).
 pub(crate) fn is_right(bytes: &[u8]) -> bool
     requires { length bytes.now ≤ 65535 }
     ensures { result ≡ is_right (words bytes.now) }
 {
-    sum_words(bytes) % 0xffff == 0
-}
-
-/// The sum of the 16-bit words of the bytes, an odd last byte padded with a zero byte.
-fn sum_words(bytes: &[u8]) -> u32
-    requires { length bytes.now ≤ 65535 }
-    ensures { result ≡ sum (words bytes.now) }
-{
-    let mut sum = 0;
+    let mut sum = 0u64;
     let mut rest = bytes;
-    while let [high, low, tail @ ..] = rest {
-        sum += u32::from(*high) * 256 + u32::from(*low);
+    while let [_, _, _, _, tail @ ..] = rest {
+        sum += u64::from(read_long(rest, 0));
+        rest = tail;
+    }
+    if let [_, _, tail @ ..] = rest {
+        sum += u64::from(read_word(rest, 0));
         rest = tail;
     }
     if let [last] = rest {
-        sum += u32::from(*last) * 256;
+        sum += u64::from(*last) * 256;
     }
-    sum
+    sum % 0xffff == 0
 }

@@ -42,6 +42,7 @@ impl Header {
     }
 
     /// An end of the datagram.
+    #[inline(always)]
     pub(crate) fn end(self, bytes: &[u8], end: End) -> Endpoint
         requires { IsHeader self.at self bytes.now }
         ensures { result ≡ end_at self.at end bytes.now }

@@ -58,6 +58,7 @@ impl Packet {
     /// Reads the bytes that arrived on a side as a packet, by the checks of RFC 791, 768, 9293, 792 and 5508 in
     /// order, except those on UDP, TCP and echo checksums. Bytes past the total length are cut off. If a check
     /// fails, returns its cause and the bytes unchanged.
+    #[inline(always)]
     pub fn read(side: Side, mut bytes: Vec<u8>) -> Result<Packet, (Cause, Vec<u8>)>
         ensures ok { IfOk result (λ packet. reading side bytes.items ≡ Ok packet) }
         ensures cause { IfErr result (λ refused. reading side bytes.items ≡ Err refused.0) }
@@ -114,6 +115,7 @@ impl Packet {
 
     /// What the packet is.
     #[tactic(auto, unfolding(crate::specs::Fields::kind))]
+    #[inline(always)]
     pub fn kind(&self) -> Kind
         ensures { result ≡ kind self.now }
     {
@@ -153,6 +155,7 @@ impl Packet {
     /// Replaces the source, and each checksum that covers it (RFC 3022 sections 4.1 and 4.2). In an echo reply
     /// only the address changes. Takes constant time.
     #[tactic(auto, unfolding(crate::specs::Rewriting::with_source))]
+    #[inline(always)]
     pub fn set_source(&mut self, source: Endpoint)
         requires plain { is_error (kind self.old) ≡ false }
         requires number { CanCarry (kind self.old) source.number }
@@ -168,6 +171,7 @@ impl Packet {
     /// Replaces the destination, and each checksum that covers it (RFC 3022 sections 4.1 and 4.2). In an echo
     /// request only the address changes. Takes constant time.
     #[tactic(auto, unfolding(crate::specs::Rewriting::with_destination))]
+    #[inline(always)]
     pub fn set_destination(&mut self, destination: Endpoint)
         requires plain { is_error (kind self.old) ≡ false }
         requires number { CanCarry (kind self.old) destination.number }
@@ -228,6 +232,7 @@ impl Packet {
     }
 
     /// An end of the packet.
+    #[inline(always)]
     fn end(&self, end: End) -> Endpoint
         ensures value { result ≡ end_at 0 end self.now }
         ensures reads { IsPacket self.now }
@@ -236,6 +241,7 @@ impl Packet {
     }
 
     /// Replaces an end, and each checksum that covers it.
+    #[inline(always)]
     fn set_end(&mut self, end: End, new: Endpoint)
         requires plain { is_error (kind self.old) ≡ false }
         requires number { CanCarry (kind self.old) new.number }

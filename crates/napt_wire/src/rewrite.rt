@@ -94,6 +94,7 @@ impl AddressRewrite {
 
 impl Header {
     /// What changes when an end of the datagram becomes `new`.
+    #[inline(always)]
     pub(crate) fn rewrite_end(self, bytes: &[u8], end: End, new: Endpoint) -> Rewrite
         requires { IsHeader self.at self bytes.now }
         ensures { changes_of result ≡ end_changes self.at end new bytes.now }

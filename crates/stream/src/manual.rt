@@ -26,9 +26,10 @@ Where it ends well, each output holds the bytes that napt writes. What differs:
   At a fault of a capture all packets before it have been translated and
   written. Outputs begin with their header whatever comes; the report is written
   at the end alone.
-  The log is that of explain --log. The rows of a packet are written before
-  it leaves, and flushed before more is asked for.
-  Captures may have any number of bytes and packets.
+  The log is that of explain --log. The rows of a packet go to a buffer of their
+  own before the packet goes to its; both are flushed before more is asked for.
+  Captures may have any number of bytes, and of packets without a log; with one
+  at most 4294967295 packets.
   Where standard error is a terminal, a run of more than two seconds tells there
   the packets read, how many a second, and the bindings held.
 

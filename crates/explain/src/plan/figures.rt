@@ -2,11 +2,11 @@
 
 ghost use Rattle.std.specs.Prelude.{◌≡◌, ◌↔◌, true};
 
-use crate::outcome_counts::OutcomeCounts;
 use crate::plan::fullest::{Fullest, fullest_of};
 use crate::sizes::hosts::percentile;
 use crate::sizes::usage::Usage;
 use napt_config::Config;
+use napt_records::Counts;
 use napt_wire::Cause;
 use std::alloc::{AllocError, Global};
 
@@ -49,14 +49,14 @@ impl Figures {
         alloc: Global,
         config: &Config,
         usage: &Usage,
-        counts: &OutcomeCounts,
+        counts: &Counts,
     ) -> Result<Figures, AllocError> {
         let ranked = usage.hosts.ranked(alloc)?;
         Ok(Figures {
             quota: config.quota().map(u64::from),
             block: config.block().map(u64::from),
-            to_outside: counts.to_outside,
-            to_inside: counts.to_inside,
+            to_outside: counts.to_outside(),
+            to_inside: counts.to_inside(),
             drops: Drops {
                 no_port: counts.dropped(Cause::NoPort),
                 over_quota: counts.dropped(Cause::OverQuota),

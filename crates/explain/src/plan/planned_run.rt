@@ -3,12 +3,12 @@
 use crate::following::copied;
 use crate::losses::Losses;
 use crate::options::Outside;
-use crate::outcome_counts::OutcomeCounts;
 use crate::plan::figures::Figures;
 use crate::sizes::usage::Usage;
 use crate::stop::Stop;
 use napt_account::KnownRun;
 use napt_config::Config;
+use napt_records::Counts;
 use napt_sequential::Input;
 use std::alloc::{AllocError, Global};
 
@@ -17,7 +17,7 @@ use std::alloc::{AllocError, Global};
 pub struct PlannedRun<'a> {
     run: KnownRun<'a>,
     usage: Usage,
-    counts: OutcomeCounts,
+    counts: Counts,
     pub losses: Losses,
 }
 
@@ -29,7 +29,7 @@ impl<'a> PlannedRun<'a> {
         Ok(PlannedRun {
             run,
             usage: Usage::of(alloc, config, &opening)?,
-            counts: OutcomeCounts::new(),
+            counts: Counts::new(),
             losses: Losses::new(alloc, config)?,
         })
     }
@@ -38,7 +38,7 @@ impl<'a> PlannedRun<'a> {
     pub fn take(&mut self, alloc: Global, input: &Input) -> Result<(), Stop> {
         let config = self.run.config();
         let step = self.run.step(alloc, input)?;
-        self.counts.take(&step.outcome);
+        self.counts.count(&step.outcome);
         self.losses.take(config, input, &step.outcome);
         self.usage.take(config, &step)?;
         Ok(())

@@ -8,7 +8,7 @@ ghost use Rattle.napt_binding.specs.Standing.{standing_flow_of};
 ghost use Rattle.napt_rules.specs.Prelude.{change_first};
 ghost use Rattle.napt_binding.specs.Ends.{last_end};
 ghost use Rattle.napt_binding.specs.Sent as packets;
-ghost use Rattle.napt_binding.specs.Slots.{somes, Stands, AreDistinct};
+ghost use Rattle.napt_binding.specs.Slots.{somes, Stands, AreDistinct, AreByLastUse, NoneUsedAfter};
 ghost use Rattle.napt_rules.specs.Traffic as traffic;
 
 use super::slots::Slots;
@@ -32,6 +32,18 @@ pub(crate) struct Many {
     /// The slot of a remote address and number.
     places: HashMap<(u32, u16), usize>,
     addresses: Addresses,
+}
+
+/// The flows with their places, the one that was used first going first.
+fn by_last_use(alloc: Global, flows: &[Flow]) -> Result<Vec<(usize, Flow)>, AllocError>
+    ensures { IfOk result (λ entries. AreByLastUse flows.now entries.items) }
+{
+    let mut entries = Vec::new(alloc);
+    for place in 0..flows.len() {
+        entries.push((place, flows[place]))?;
+    }
+    entries.sort_unstable_by_key(|entry| entry.1.last);
+    Ok(entries)
 }
 
 impl Many {
@@ -68,6 +80,7 @@ impl Many {
         requires many { IsMany self.old }
         requires room { HasRoom self.old }
         requires absent { place_at self.old flow.remote ≡ None }
+        requires rising { NoneUsedAfter (somes self.old.slots.slots) flow.last }
         ensures many { IsMany self.new }
         ensures slots { self.new.slots.slots ≡ self.old.slots.slots ++ Some flow ∷ [] }
     {
@@ -106,6 +119,7 @@ impl Many {
         requires many { IsMany self.old }
         requires stands { (was : Flow) × Stands self.old.slots.slots place was
             × (was.remote ≡ flow.remote) }
+        requires rising { NoneUsedAfter (somes self.old.slots.slots) flow.last }
         ensures many { IsMany self.new }
         ensures slots { self.new.slots.slots ≡ slice_set self.old.slots.slots place (Some flow) }
     {
@@ -215,15 +229,24 @@ impl Many {
     ghost use Rattle.napt_binding.specs.Many.{IsMany, HasRoom, is_sparse, most_slots, place_at};
 
     /// These flows, no two of one remote.
+    ///
+    /// Each is put as if it had never been used. Then each gets its last use, the one that was used first going first, so
+    /// that no use is before the latest.
     pub(super) fn of(alloc: Global, flows: &[Flow]) -> Result<Many, AllocError>
         requires { AreDistinct flows.now }
         ensures many { IfOk result IsMany }
         ensures flows { IfOk result (λ many. somes many.slots.slots ≡ flows.now) }
+        ensures none_empty { IfOk result (λ many. length many.slots.slots ≡ length flows.now) }
     {
         let mut many = Many::new(alloc);
         for flow in flows {
             many.reserve()?;
-            many.put(*flow);
+            many.put(Flow { last: 0, ..*flow });
+        }
+        let entries = by_last_use(alloc, flows)?;
+        for entry in &entries {
+            let (place, flow) = *entry;
+            many.change(place, flow);
         }
         Ok(many)
     }
@@ -236,14 +259,13 @@ impl Many {
         ensures none_empty { IfOk result (λ many. length many.slots.slots
             ≡ length (somes self.now.slots.slots)) }
     {
-        let mut many = Many::new(alloc);
+        let mut flows = Vec::new(alloc);
         for place in 0..self.slots.len() {
             if let Some(flow) = self.slots.get(place) {
-                many.reserve()?;
-                many.put(flow);
+                flows.push(flow)?;
             }
         }
-        Ok(many)
+        Many::of(alloc, &flows)
     }
 
     /// Whether most slots are empty, of so many that it matters.
@@ -277,6 +299,7 @@ impl Many {
     /// Uses the flow of the packet's remote, if it counts; returns whether it does.
     fn use_standing(&mut self, timers: IdleTimers, sent: Sent) -> bool
         requires many { IsMany self.old }
+        requires rising { NoneUsedAfter (somes self.old.slots.slots) sent.now }
         ensures many { IsMany self.new }
         ensures used { result ≡ true →
             packets.standing_at timers sent (somes self.new.slots.slots)
@@ -311,6 +334,7 @@ impl Many {
         sent: Sent,
     ) -> Result<(), AllocError>
         requires many { IsMany self.old }
+        requires rising { NoneUsedAfter (somes self.old.slots.slots) sent.now }
         ensures many { IsMany self.new }
         ensures ok { OnOk result (packets.standing_at timers sent (somes self.new.slots.slots)
             ≡ packets.used_by sent (packets.standing_at timers sent (somes self.old.slots.slots))) }
@@ -332,7 +356,8 @@ impl Many {
 
     /// Marks the remote's flow, if any, as used now by an incoming segment.
     pub(super) fn refresh_flow(&mut self, now: u64, remote: Endpoint, flags: Flags)
-        requires { IsMany self.old }
+        requires many { IsMany self.old }
+        requires rising { NoneUsedAfter (somes self.old.slots.slots) now }
         ensures many { IsMany self.new }
         ensures flows { somes self.new.slots.slots ≡ change_first (traffic.is_flow_of remote)
             (traffic.used Protocol.Tcp Way.Incoming flags now) (somes self.old.slots.slots) }

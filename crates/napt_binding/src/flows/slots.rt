@@ -6,7 +6,8 @@ ghost use Rattle.napt_rules.specs.declared.Flow.{Flow};
 ghost use Rattle.napt_rules.specs.Life as life;
 ghost use Rattle.napt_binding.specs.Ends.{last_end};
 ghost use Rattle.napt_binding.specs.Slots as slots;
-ghost use Rattle.napt_binding.specs.Slots.{somes, Stands, is_recent_time};
+ghost use Rattle.napt_binding.specs.Slots.{somes, Stands, NoneUsedAfter, is_recent_time};
+ghost use Rattle.napt_collections.specs.Bounds.{NoneAfter};
 
 use crate::idle_timers::IdleTimers;
 use crate::life::{end_after, is_recent, last_moment};
@@ -61,7 +62,8 @@ fn other_time(slot: Option<Flow>) -> Option<u64>
 
 /// Changes the time at a place from `before`, if it is another one.
 fn set_time(times: &mut Times, place: usize, before: Option<u64>, time: Option<u64>)
-    requires { slice_get times.old.times place ≡ Some before }
+    requires before { slice_get times.old.times place ≡ Some before }
+    requires rising { NoneAfter times.old.times time }
     ensures times { times.new.times ≡ slice_set times.old.times place time }
     ensures room { times.new.room ≡ times.old.room }
 {
@@ -167,7 +169,8 @@ impl Slots {
 
     /// Appends a slot with the flow, for which there is room; returns its place.
     pub(crate) fn put(&mut self, flow: Flow) -> usize
-        requires { 0 < self.old.room }
+        requires room { 0 < self.old.room }
+        requires rising { NoneUsedAfter (somes self.old.slots) flow.last }
         ensures place { result ≡ length self.old.slots }
         ensures fits { result + 1 < 2 ^ 64 }
         ensures slots { self.new.slots ≡ self.old.slots ++ Some flow ∷ [] }
@@ -183,7 +186,8 @@ impl Slots {
 
     /// Fills or empties a slot. It takes no memory.
     pub(crate) fn set(&mut self, place: usize, slot: Option<Flow>)
-        requires { place < length self.old.slots }
+        requires within { place < length self.old.slots }
+        requires rising { IfSome slot (λ flow. NoneUsedAfter (somes self.old.slots) flow.last) }
         ensures slots { self.new.slots ≡ slice_set self.old.slots place slot }
         ensures room { self.new.room ≡ self.old.room }
     {

@@ -1,14 +1,15 @@
 //! What is held for a worker and what it owes, and the progress of the inputs.
 
-ghost use Rattle.std.specs.Prelude.{◌≡◌, ◌↔◌, ◌^◌, ◌<◌, true, [], length, IfOk, IsOk, OnOk};
-ghost use Rattle.napt_dispatch.specs.Standing.{Noted, IsFirst, waits_at, IsDone};
+ghost use Rattle.std.specs.Prelude.{◌≡◌, ◌↔◌, ◌^◌, ◌<◌, true, false, [], length, None, IsOk, IfSome, OnOk};
+ghost use Rattle.napt_dispatch.specs.declared.dispatcher.holding.Held.TheVariants.{Ready};
+ghost use Rattle.napt_dispatch.specs.QueueStates.{with_first, with_queue};
+ghost use Rattle.napt_dispatch.specs.Standing.{Noted, TakesFirst, waits_at, IsDone};
 
 use crate::dispatcher::Dispatcher;
-use crate::dispatcher::progress::{Progress, Second};
+use crate::dispatcher::progress::Progress;
 use crate::stopped::ImpossibleAnswer;
-use napt_translate::{Answer, Leg};
+use napt_translate::{Answer, End, Leg};
 use napt_wire::Way;
-use std::alloc::AllocError;
 
 /// A leg, or a placeholder for one, that was not offered to its worker yet.
 #[derive(Drop)]
@@ -19,6 +20,15 @@ pub(crate) enum Held {
     Place(u64),
 }
 
+/// What is held first for a worker.
+#[derive(Clone, Copy)]
+pub(crate) enum Front {
+    Nothing,
+    FirstLeg,
+    /// A placeholder for the second leg of the input with this number.
+    FirstPlace(u64),
+}
+
 /// A leg that was offered to a worker and is not answered yet.
 #[derive(Clone, Copy)]
 pub(crate) struct Owed {
@@ -27,34 +37,20 @@ pub(crate) struct Owed {
     pub(crate) now: u64,
 }
 
-/// The first leg or placeholder held for a worker.
-#[derive(Drop)]
-pub(super) enum First {
-    /// Nothing is held, or a placeholder that still waits. It stays first.
-    Waits,
-    /// A placeholder whose input has no second leg. It was removed.
-    Gone,
-    Next(Leg),
-}
-
 impl Dispatcher {
-    /// Takes out the first leg held for worker `w`, if it can be offered.
-    pub(super) fn first(&mut self, w: u32) -> Result<First, AllocError>
+    /// Takes out what is held first for worker `w`, which does not wait. Returns the leg, or `None` where that was a placeholder
+    /// whose input has no second leg.
+    pub(super) fn next_leg(&mut self, w: u32) -> Option<Leg>
         requires place { w < length self.old.queues }
+        requires goes { waits_at self.old w ≡ false }
         ensures many { length self.new.queues ≡ length self.old.queues }
-        ensures first { IfOk result (IsFirst w self.old self.new) }
+        ensures gone { result ≡ None → TakesFirst w self.old self.new self.new.queues }
+        ensures next { IfSome result (λ leg. TakesFirst w self.old self.new
+            (with_queue w (with_first (Ready leg)) self.new.queues)) }
     {
         match self.queues.release(w) {
-            None => Ok(First::Waits),
-            Some(Held::Ready(leg)) => Ok(First::Next(leg)),
-            Some(Held::Place(number)) => match self.progress.second_leg(number) {
-                Second::Unknown => {
-                    self.queues.put_back(w, Held::Place(number))?;
-                    Ok(First::Waits)
-                }
-                Second::Never => Ok(First::Gone),
-                Second::Known(leg) => Ok(First::Next(leg)),
-            },
+            Held::Ready(leg) => Some(leg),
+            Held::Place(number) => self.progress.second_leg(number),
         }
     }
 
@@ -63,14 +59,15 @@ impl Dispatcher {
         requires { w < length self.now.queues }
         ensures { result ≡ waits_at self.now w }
     {
-        match self.queues.first(w) {
-            None => true,
-            Some(Held::Ready(_)) => false,
-            Some(Held::Place(number)) => self.progress.is_unknown(*number),
+        match self.queues.front(w) {
+            Front::Nothing => true,
+            Front::FirstLeg => false,
+            Front::FirstPlace(number) => self.progress.is_unknown(number),
         }
     }
 
-    /// Notes an answer taken from worker `w`.
+    /// Notes an answer taken from worker `w`. Fails if an incoming leg goes onward.
+    #[inline(always)]
     pub(super) fn note(&mut self, w: u32, answer: Answer) -> Result<(), ImpossibleAnswer>
         requires { w < length self.old.queues }
         ensures many { length self.new.queues ≡ length self.old.queues }
@@ -80,8 +77,10 @@ impl Dispatcher {
             return Err(ImpossibleAnswer);
         };
         let Answer { number, end } = answer;
-        let progress = Progress::told_by(owed, end)?;
-        self.progress.write(number, progress)?;
+        if matches!(end, End::Onward(..)) && matches!(owed.way, Way::Incoming) {
+            return Err(ImpossibleAnswer);
+        }
+        self.progress.write(number, Progress::Told(owed, end))?;
         Ok(())
     }
 

@@ -3,12 +3,12 @@
 ghost use Rattle.std.specs.Prelude.{◌≡◌, ◌⊎◌, ◌+◌, ◌<◌, ◌≤◌, [], ◌∷◌, ◌++◌, Bool, true, length, slice_set, vec_len, IfOk, IfErr, OnOk, OnErr, MatchBool};
 ghost use Rattle.napt_pool.specs.Pools.{starts, accepts, takes, capacity_of};
 ghost use Rattle.napt_dispatch.specs.Dispatch.{of_worker, IsDispatchFault};
-ghost use Rattle.napt_dispatch.specs.QueueStates.{queue_of, with_offer, with_queue};
-ghost use Rattle.napt_dispatch.specs.Standing.{owed_of, waits_at, IsSizedFor, ContinuesUnlessFault, Readies, HasOffered, HasOfferedAll, OffersOnlyTo};
+ghost use Rattle.napt_dispatch.specs.QueueStates.{queue_of, owed_of, with_offer, with_queue};
+ghost use Rattle.napt_dispatch.specs.Standing.{waits_at, IsSizedFor, ContinuesUnlessFault, Readies, HasOffered, HasOfferedAll, OffersOnlyTo};
 
 use crate::Worker;
 use crate::dispatcher::Dispatcher;
-use crate::dispatcher::holding::{First, Owed};
+use crate::dispatcher::holding::Owed;
 use crate::stopped::ImpossibleAnswer;
 use napt_pool::{Answered, Batch, Gate, OfferRefused, Pool};
 use napt_sequential::RunFault;
@@ -50,10 +50,12 @@ impl Dispatcher {
             (waits_at self.new w ≡ true)) }
         ensures fault { (open_gate : Bool) → IfErr result (IsDispatchFault open_gate) }
     {
-        match self.first(w)? {
-            First::Waits => Ok(false),
-            First::Gone => Ok(true),
-            First::Next(leg) => {
+        if self.first_waits(w) {
+            return Ok(false);
+        }
+        match self.next_leg(w) {
+            None => Ok(true),
+            Some(leg) => {
                 self.ready(w, leg, legs)?;
                 Ok(true)
             }
@@ -72,7 +74,7 @@ impl Dispatcher {
             ⊎ (vec_len legs ≡ most)) }
         ensures fault { (open_gate : Bool) → IfErr result (IsDispatchFault open_gate) }
     {
-        let mut legs = none;
+        let mut legs = self.queues.offer_ready(w, most, none)?;
         let many = self.queues.many_held(w);
         for _ in 0..many {
             if legs.len() >= most {

@@ -7,12 +7,10 @@ ghost use Rattle.napt_wire.specs.Packet.{IsPacket};
 ghost use Rattle.napt_wire.specs.Reading.{reading};
 ghost use Rattle.napt_config.specs.Rules.{KeepsRules, place_of};
 ghost use Rattle.napt_rules.specs.Prelude.{way_from, served_at, admission_as};
-ghost use Rattle.napt_rules.specs.declared.Outcome.TheVariants.{Dropped};
 ghost use Rattle.napt_dispatch.specs.declared.dispatcher.holding.Held.TheVariants.{Ready, Place};
-ghost use Rattle.napt_dispatch.specs.declared.dispatcher.progress.Progress.TheVariants.{EndedIn};
 ghost use Rattle.napt_dispatch.specs.Dispatch.{IsDispatchFault};
 ghost use Rattle.napt_dispatch.specs.QueueStates.{many_held, with_last, with_queue};
-ghost use Rattle.napt_dispatch.specs.Windows.{progress_in, IsUnmarked, IsWritten};
+ghost use Rattle.napt_dispatch.specs.Windows.{progress_in, refused, IsUnmarked, IsWritten};
 ghost use Rattle.napt_dispatch.specs.Standing.{journal_of, Admits};
 
 use crate::dispatcher::Dispatcher;
@@ -20,7 +18,7 @@ use crate::dispatcher::holding::Held;
 use crate::dispatcher::progress::Progress;
 use crate::stopped::ImpossibleAnswer;
 use napt_config::Config;
-use napt_sequential::{Input, Outcome, RunFault, places_stand_for_legs, right_answers, way_from};
+use napt_sequential::{Input, RunFault, places_stand_for_legs, right_answers, way_from};
 use napt_translate::{Leg, onward, route};
 use napt_wire::{Cause, Packet, Side};
 use std::alloc::AllocError;
@@ -47,6 +45,7 @@ impl Dispatcher {
     }
 
     /// Holds a first leg for worker `w`, and a placeholder at worker `to`, if there is one.
+    #[inline(always)]
     fn hold_first(&mut self, w: u32, leg: Leg, to: Option<u32>) -> Result<(), AllocError>
         requires place { w < length self.old.queues }
         requires to { IfSome to (λ v. v < length self.old.queues) }
@@ -70,16 +69,16 @@ impl Dispatcher {
     /// Notes that the input with this number is dropped and has no leg.
     fn note_dropped(&mut self, number: u64, cause: Cause) -> Result<(), ImpossibleAnswer>
         ensures same { self.new.queues ≡ self.old.queues }
-        ensures noted { OnOk result (IsWritten number (EndedIn (Dropped cause))
+        ensures noted { OnOk result (IsWritten number (refused cause)
             self.old.progress self.new.progress) }
     {
-        let dropped = Progress::EndedIn(Outcome::Dropped(cause));
-        self.progress.write(number, dropped)?;
+        self.progress.write(number, Progress::refused(cause))?;
         Ok(())
     }
 
     /// Reads the input with this number, at a time in ns, and holds its first leg. Returns the worker that it is held for, if
     /// the input has a leg.
+    #[inline(always)]
     pub(super) fn admit(
         &mut self,
         config: &Config,
@@ -122,6 +121,7 @@ impl Dispatcher {
 }
 
 /// Returns the place in the pool of the address that a first leg may be answered onward to.
+#[inline(always)]
 fn second_place(config: &Config, side: Side, packet: &Packet) -> Option<u32>
     ensures some { IfSome result (λ place. (side ≡ InsideSide)
         × (place_of config.now (destination packet.now).address ≡ Some place)) }
@@ -139,6 +139,7 @@ fn second_place(config: &Config, side: Side, packet: &Packet) -> Option<u32>
 
 /// Reads a packet from a side. Returns the place in the pool of the address that serves it and the packet, or why it is
 /// dropped.
+#[inline(always)]
 fn read_and_route(config: &Config, side: Side, bytes: Vec<u8>) -> Result<(u32, Packet), Cause>
     requires keeps { KeepsRules config.now }
     ensures admitted { IfOk result (λ first.

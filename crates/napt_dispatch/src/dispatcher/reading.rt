@@ -19,25 +19,24 @@ use std::sync::Wait;
 
 /// The number of inputs between two looks at a worker's answers. The workers take turns. A look may fetch a cache line that
 /// another processor wrote, so fewer looks cost less.
-const LOOK_EACH: u64 = 16;
-
-/// The number of legs in a message, if the ring has room for four times as many.
-const BATCH: usize = 32;
+const LOOK_EACH: u64 = 64;
 
 impl Dispatcher {
     /// Returns worker `place` again, if there is one and the legs held for it are due as a message.
+    #[inline(always)]
     fn due(&self, place: Option<u32>) -> Option<u32>
         requires { IfSome place (λ w. w < length self.now.queues) }
         ensures { IfSome result (λ w. w < length self.now.queues) }
     {
         let w = place?;
-        if self.queues.many_held(w) % batch_of(self.ring) > 0 {
+        if self.queues.many_held(w) & self.mask > 0 {
             return None;
         }
         Some(w)
     }
 
     /// Looks at a worker, if there is one.
+    #[inline(always)]
     fn look_if<R: Wait, G: Gate>(
         &mut self,
         rt: &R,
@@ -55,6 +54,7 @@ impl Dispatcher {
     }
 
     /// Reads an input at a time in ns, and looks at the worker of its leg, if a message is due, and at the one whose turn it is.
+    #[inline(always)]
     fn serve<R: Wait, G: Gate>(
         &mut self,
         rt: &R,
@@ -81,6 +81,7 @@ impl Dispatcher {
     }
 
     /// Makes room for one more input. If a device is asked for it, lets every outcome leave and settles them first.
+    #[inline(always)]
     fn make_ready<R: Wait, G: Gate, D: Departures>(
         &mut self,
         rt: &R,
@@ -96,14 +97,17 @@ impl Dispatcher {
             × D.is_settled departures.new) }
     {
         if asks_device {
-            self.settle(rt, pool, departures)
-        } else {
-            self.go_on_until(rt, pool, departures, Until::Room)
+            return self.settle(rt, pool, departures);
         }
+        if !self.progress.take_told() && self.has_room() {
+            return Ok(());
+        }
+        self.go_on_until(rt, pool, departures, Until::Room)
     }
 
     /// Returns the next input, which may use the buffer of a packet that has left. A device is asked for it only if every
     /// outcome has left and is settled; the departures are passed for that clause alone.
+    #[inline(always)]
     fn next_input<A: Arrivals, D: Departures>(
         &mut self,
         arrivals: &mut A,
@@ -191,18 +195,11 @@ impl<F> EndOfInputs<F> {
     }
 }
 
-/// Returns the number of legs that are offered in one message where none waits for another reason: 32, or a quarter of the ring
-/// where that is less.
-fn batch_of(ring: usize) -> usize
-    ensures { 1 ≤ result }
-{
-    (ring / 4).max(1).min(BATCH)
-}
-
 /// Returns the worker whose answers are looked at after the input with this number, if it is anyone's turn.
+#[inline(always)]
 fn turn_after(number: u64, count: u32) -> Option<u32>
     requires { 0 < count }
-    ensures turn { result ≡ cond (number % 16 == 0) (Some (number / 16 % count)) None }
+    ensures turn { result ≡ cond (number % 64 == 0) (Some (number / 64 % count)) None }
     ensures place { IfSome result (λ w. w < count) }
 {
     if number % LOOK_EACH > 0 {

@@ -1,6 +1,6 @@
 //! The progress of the inputs that were read.
 
-ghost use Rattle.std.specs.Prelude.{◌≡◌, ◌↔◌, ◌⊎◌, ◌+◌, ◌^◌, ◌<◌, ◌≤◌, Bool, [], length, slice_get, true, IfOk, IfErr, OnOk, OnErr, MatchOption, MatchResult};
+ghost use Rattle.std.specs.Prelude.{◌≡◌, ◌↔◌, ◌⊎◌, ◌+◌, ◌^◌, ◌<◌, ◌≤◌, Bool, [], length, slice_get, true, false, IfOk, IfErr, OnOk, OnErr, MatchOption, MatchResult};
 ghost use Rattle.napt_sequential.specs.declared.fault.RunFault.TheVariants.{Memory};
 ghost use Rattle.napt_dispatch.specs.Dispatch.{IsDispatchFault};
 ghost use Rattle.napt_dispatch.specs.Windows.{progress_in, marks_in, expecting, is_unknown, FirstMayLeave, IsWritten, IsMarked, Leaves};
@@ -8,11 +8,12 @@ ghost use Rattle.napt_dispatch.specs.Passing.{HandsOver, FailsOver};
 ghost use Rattle.napt_dispatch.specs.Standing.{IsSecond};
 
 use crate::departures::Departures;
-use crate::dispatcher::progress::{OpenInput, Progress, Second};
+use crate::dispatcher::progress::{OpenInput, Progress};
 use crate::dispatcher::spares::Spares;
 use crate::stopped::ImpossibleAnswer;
 use http_server::Log;
 use napt_sequential::{Outcome, RunFault};
+use napt_translate::Leg;
 use std::alloc::Global;
 use std::collections::VecDeque;
 use std::marker::Model;
@@ -34,6 +35,8 @@ pub(crate) struct RunProgress {
     spares: Spares,
     /// Whether the progress of an input was set for whose second leg a placeholder is held.
     is_freed: bool,
+    /// Whether an outcome may have become ready to leave.
+    is_told: bool,
 }
 
 impl Model for RunProgress {
@@ -64,6 +67,7 @@ impl RunProgress {
             past: Log::new(),
             spares: Spares::new(alloc),
             is_freed: false,
+            is_told: false,
         }
     }
 
@@ -98,6 +102,7 @@ impl RunProgress {
 
     /// Opens the next input, which arrived at a time in ns. Returns its number, which is below `u64::MAX`. Fails where memory is
     /// refused, or after 2^64 - 1 inputs.
+    #[inline(always)]
     pub(crate) fn expect(&mut self, time: u64) -> Result<u64, RunFault>
         requires { length self.old.under_way < 131072 }
         ensures number { IfOk result (λ number. number ≡ length (progress_in self.old)) }
@@ -123,6 +128,7 @@ impl RunProgress {
     }
 
     /// Returns the index of the open input with this number. `None` if its outcome has left or it was not read.
+    #[inline(always)]
     fn place_of(&self, number: u64) -> Option<usize>
         ensures { MatchOption result ((is_unknown (slice_get (progress_in self.now) number) ≡ true)
             × ((number < length self.now.left)
@@ -142,6 +148,7 @@ impl RunProgress {
     }
 
     /// Sets the progress of the open input with this number. Fails if there is none, since no worker answers for it.
+    #[inline(always)]
     pub(crate) fn write(&mut self, number: u64, progress: Progress) -> Result<(), ImpossibleAnswer>
         ensures ok { OnOk result (IsWritten number progress self.old self.new) }
         ensures marks { marks_in self.new ≡ marks_in self.old }
@@ -151,8 +158,10 @@ impl RunProgress {
         let Some(place) = self.place_of(number) else {
             return Err(ImpossibleAnswer);
         };
-        self.is_freed = self.is_freed || self.under_way[place].has_place;
-        self.under_way[place].progress = progress;
+        let input = &mut self.under_way[place];
+        self.is_freed = self.is_freed || input.has_place;
+        input.progress = progress;
+        self.is_told = true;
         Ok(())
     }
 
@@ -162,6 +171,13 @@ impl RunProgress {
         ensures { self.new ≡ self.old }
     {
         mem::replace(&mut self.is_freed, false)
+    }
+
+    /// Returns whether an outcome may have become ready to leave since the last call.
+    pub(crate) fn take_told(&mut self) -> bool
+        ensures { self.new ≡ self.old }
+    {
+        mem::replace(&mut self.is_told, false)
     }
 
     /// Notes that a placeholder is held for the second leg of the input with this number.
@@ -184,14 +200,15 @@ impl RunProgress {
         }
     }
 
-    /// Takes out the second leg of the input with this number, if it is known. The caller drops the placeholder if it is, or
-    /// if there is no second leg.
-    pub(crate) fn second_leg(&mut self, number: u64) -> Second
+    /// Takes out the second leg of the input with this number, if it has one. The caller drops the placeholder.
+    pub(crate) fn second_leg(&mut self, number: u64) -> Option<Leg>
+        requires { is_unknown (slice_get (progress_in self.old) number) ≡ false }
         ensures { IsSecond number self.old self.new result }
     {
         let Some(place) = self.place_of(number) else {
-            return Second::Unknown;
+            unreachable!();
         };
+        self.is_told = true;
         self.under_way[place].second_leg(number)
     }
 

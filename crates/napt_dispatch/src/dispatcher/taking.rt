@@ -182,7 +182,7 @@ impl Dispatcher {
     }
 
     /// Returns whether one more input may be read: there is room for it and for two more legs or placeholders.
-    fn has_room(&self) -> bool
+    pub(super) fn has_room(&self) -> bool
         ensures { (result ≡ true) ↔ HasRoom self.now }
     {
         self.queues.has_room() && self.progress.has_room()
@@ -247,6 +247,7 @@ impl Dispatcher {
 
     /// Takes the answers of worker `w` that are there, and offers it the legs that can then be offered. If a placeholder waited
     /// for one of the answers, offers those of all workers.
+    #[inline(never)]
     pub(super) fn look_at<R: Wait, G: Gate>(
         &mut self,
         rt: &R,

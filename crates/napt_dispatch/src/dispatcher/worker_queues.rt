@@ -1,12 +1,13 @@
 //! The queues of all workers.
 
-ghost use Rattle.std.specs.Prelude.{◌≡◌, ◌↔◌, ◌+◌, ◌<◌, ◌≤◌, ℕ, Bool, [], length, replicate, true, IfOk, IfErr, OnOk, IfSome, MatchOption};
+ghost use Rattle.std.specs.Prelude.{◌≡◌, ◌↔◌, ◌+◌, ◌<◌, ◌≤◌, ℕ, Bool, [], length, replicate, true, vec_len, IfOk, IfErr, OnOk, MatchOption};
 ghost use Rattle.napt_dispatch.specs.Dispatch.{IsDispatchFault};
-ghost use Rattle.napt_dispatch.specs.QueueStates.{BeginsWith, unused, queue_of, counts_in, many_held, with_last, with_first, with_offer, with_oldest, with_queue};
+ghost use Rattle.napt_dispatch.specs.QueueStates.{OffersAt, front_of, unused, queue_of, counts_in, many_held, with_last, with_first, with_offer, with_oldest, with_queue};
 
-use crate::dispatcher::holding::{Held, Owed};
+use crate::dispatcher::holding::{Front, Held, Owed};
 use crate::dispatcher::worker_queue::WorkerQueue;
 use napt_sequential::RunFault;
+use napt_translate::Leg;
 use std::alloc::{AllocError, Global};
 use std::marker::Model;
 
@@ -62,6 +63,7 @@ impl WorkerQueues {
     }
 
     /// Holds a leg or a placeholder for worker `w`, behind everything held for it.
+    #[inline(always)]
     pub(crate) fn hold(&mut self, w: u32, held: Held) -> Result<(), AllocError>
         requires place { w < length self.old }
         requires room { many_held self.old < 65536 }
@@ -74,41 +76,46 @@ impl WorkerQueues {
         Ok(())
     }
 
-    /// Holds a leg or a placeholder for worker `w`, in front of everything held for it.
-    pub(crate) fn put_back(&mut self, w: u32, held: Held) -> Result<(), AllocError>
-        requires place { w < length self.old }
-        requires room { many_held self.old < 65536 }
-        ensures many { length self.new ≡ length self.old }
-        ensures holds { OnOk result (self.new ≡ with_queue w (with_first held) self.old) }
-    {
-        let queue = &mut self.queues[w as usize];
-        queue.put_back(held)?;
-        self.many += 1;
-        Ok(())
-    }
-
-    /// Takes out the first leg or placeholder held for worker `w`, if there is one.
-    pub(crate) fn release(&mut self, w: u32) -> Option<Held>
-        requires { w < length self.old }
-        ensures many { length self.new ≡ length self.old }
-        ensures first { MatchOption result
-            ((self.new ≡ self.old) × ((queue_of self.old w).held ≡ []))
-            (λ held. self.old ≡ with_queue w (with_first held) self.new) }
-        ensures room { IfSome result (λ held. many_held self.new < 65536) }
-    {
-        let queue = &mut self.queues[w as usize];
-        let held = queue.release()?;
-        self.many -= 1;
-        Some(held)
-    }
-
-    /// Returns the first leg or placeholder held for worker `w`, if there is one.
-    pub(crate) fn first(&self, w: u32) -> Option<&Held>
+    /// Returns what is held first for worker `w`.
+    pub(crate) fn front(&self, w: u32) -> Front
         requires { w < length self.now }
-        ensures { MatchOption result ((queue_of self.now w).held ≡ []) (λ held.
-            BeginsWith held.now (queue_of self.now w).held) }
+        ensures { result ≡ front_of (queue_of self.now w).held }
     {
-        self.queues[w as usize].first()
+        self.queues[w as usize].front()
+    }
+
+    /// Takes out the first leg or placeholder held for worker `w`.
+    pub(crate) fn release(&mut self, w: u32) -> Held
+        requires place { w < length self.old }
+        requires some { 0 < length (queue_of self.old w).held }
+        ensures many { length self.new ≡ length self.old }
+        ensures first { self.old ≡ with_queue w (with_first result) self.new }
+    {
+        let queue = &mut self.queues[w as usize];
+        let held = queue.release();
+        self.many -= 1;
+        held
+    }
+
+    /// Takes out the first legs held for worker `w`, at most so many: all up to the first placeholder, if not more fit.
+    /// Counts them as offered, and notes them as not answered yet. Returns them in the vector `none`.
+    pub(crate) fn offer_ready(
+        &mut self,
+        w: u32,
+        most: usize,
+        none: Vec<Leg>,
+    ) -> Result<Vec<Leg>, RunFault>
+        requires place { w < length self.old }
+        requires none { none.items ≡ [] }
+        ensures many { length self.new ≡ length self.old }
+        ensures offers { IfOk result (λ legs. OffersAt w legs.items self.old self.new) }
+        ensures few { IfOk result (λ legs. vec_len legs ≤ most) }
+        ensures fault { (open_gate : Bool) → IfErr result (IsDispatchFault open_gate) }
+    {
+        let queue = &mut self.queues[w as usize];
+        let legs = queue.offer_ready(most, none)?;
+        self.many -= legs.len() as u64;
+        Ok(legs)
     }
 
     /// Returns the number of legs and placeholders held for worker `w`.
@@ -138,6 +145,7 @@ impl WorkerQueues {
     }
 
     /// Takes out the oldest leg that worker `w` has not answered yet, if there is one.
+    #[inline(always)]
     pub(crate) fn note_answer(&mut self, w: u32) -> Option<Owed>
         requires { w < length self.old }
         ensures many { length self.new ≡ length self.old }

@@ -200,7 +200,7 @@ impl Held {
     ghost use Rattle.napt_rules.specs.Prelude.{Binding};
     ghost use Rattle.napt_table.specs.Held.{seen};
     ghost use Rattle.napt_table.specs.Keys.{external_key};
-    ghost use Rattle.napt_table.specs.Holdings.{held_at, HoldsSame, ChangesOne, WentOut};
+    ghost use Rattle.napt_table.specs.Holdings.{held_at, AreUsedUpTo, HoldsSame, ChangesOne, WentOut};
 
     /// Sends a packet out through the live binding of its inside endpoint, if there is one; returns its number. If
     /// memory is refused nothing that is held changes.
@@ -210,6 +210,7 @@ impl Held {
         timers: IdleTimers,
         packet: Sent,
     ) -> Result<Option<u16>, AllocError>
+        requires { AreUsedUpTo packet.now self.old }
         ensures went { IfOk result (WentOut timers packet self.old self.new) }
         ensures refused { OnErr result (HoldsSame self.old self.new) }
     {
@@ -236,6 +237,7 @@ impl Held {
         inbound: Inbound,
         packet: Received,
     ) -> Result<Endpoint, Cause>
+        requires { AreUsedUpTo packet.now self.old }
         ensures one { ChangesOne (external_key packet.protocol packet.number) self.old self.new }
         ensures absent { seen timers packet.now (held_at self.old packet.protocol packet.number)
             ≡ None →

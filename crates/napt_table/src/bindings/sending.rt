@@ -1,7 +1,9 @@
 //! Bindings that begin, and packets that go out through them.
 
 ghost use Rattle.std.specs.Prelude.{◌≡◌, ◌≤◌, true, false, Some, None, Ok, OnOk, OnErr, IfOk, IfSome, cond};
+ghost use Rattle.std.specs.Option.{is_some};
 ghost use Rattle.napt_config.specs.Rules.{IsBlock};
+ghost use Rattle.napt_binding.specs.Slots.{NoneUsedAfter};
 
 use crate::bindings::Bindings;
 use crate::bindings::keys::key_of;
@@ -36,6 +38,7 @@ impl Bindings {
         requires at { binding.row.external.address ≡ self.old.held.address }
         requires free { held self.old.held (key_of binding) ≡ None }
         requires absent { IsAbsent self.old.held binding.row.protocol binding.row.inside }
+        requires used { NoneUsedAfter binding.flows self.old.at }
         ensures timers { self.new.timers ≡ self.old.timers }
         ensures at { self.new.at ≡ self.old.at }
         ensures place { IsSamePlace self.old.held self.new.held }
@@ -99,20 +102,25 @@ impl Bindings {
         Ok(())
     }
 
-    /// Sends a packet out through the live binding of its inside endpoint, if there is one; returns its number. If
-    /// memory is refused nothing that is held changes.
+    /// Sends a packet out through the live binding of its inside endpoint, if there is one; returns its number, and its
+    /// time becomes that of the packet. If memory is refused nothing that is held changes.
+    #[inline(always)]
     fn send_held(&mut self, alloc: Global, packet: Sent) -> Result<Option<u16>, AllocError>
         requires later { self.old.at ≤ packet.now }
         ensures timers { self.new.timers ≡ self.old.timers }
-        ensures at { self.new.at ≡ self.old.at }
+        ensures at { IfOk result (λ found.
+            self.new.at ≡ cond (is_some found) packet.now self.old.at) }
         ensures went { IfOk result (WentOut self.old.timers packet self.old.held self.new.held) }
         ensures refused { OnErr result (Stands self.old self.new) }
     {
         let timers = self.timers;
         timers.keep_limits();
         let held = &mut self.held;
-        let sent = held.send(alloc, timers, packet)?;
-        Ok(sent)
+        let Some(number) = held.send(alloc, timers, packet)? else {
+            return Ok(None);
+        };
+        self.at = packet.now;
+        Ok(Some(number))
     }
 
     /// Sends a packet out through the live binding of its inside endpoint, if there is one; returns its number. Else, or
@@ -130,13 +138,7 @@ impl Bindings {
         ensures refused { OnErr result (Stands self.old self.new) }
     {
         self.keep_names();
-        match self.send_held(alloc, packet)? {
-            Some(number) => {
-                self.at = packet.now;
-                Ok(Some(number))
-            }
-            None => Ok(None),
-        }
+        self.send_held(alloc, packet)
     }
 
     /// Takes the memory for a new binding for the outgoing packet, and begins its flows. What is held does not change.
@@ -209,7 +211,6 @@ impl Bindings {
     {
         self.keep_names();
         if let Some(number) = self.send_held(alloc, packet)? {
-            self.at = packet.now;
             return Ok(Ok(number));
         }
         let flows = self.prepare(alloc, packet)?;

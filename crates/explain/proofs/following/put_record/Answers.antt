@@ -1,5 +1,5 @@
 use Rattle.std.proofs.Common.{arith}
-use Rattle.napt_records.proofs.Sends.{length-record}
+use Rattle.napt_records.proofs.Texts.{length-record}
 use Rattle.explain.proofs.following.put_record.Goals as goal
 
 pub record-requires-clause-room : goal.record-requires-clause-room

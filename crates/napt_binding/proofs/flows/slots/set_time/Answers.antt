@@ -4,5 +4,5 @@ use Rattle.napt_binding.proofs.flows.slots.set_time.Goals as goal
 
 pub returns-else-ne-clause-times : goal.returns-else-ne-clause-times
 returns-else-ne-clause-times c =
-    set_same_time c.args.times.now.times c.args.place c.args.before c.args.time c.requires
+    set_same_time c.args.times.now.times c.args.place c.args.before c.args.time c.requires.before
     (sym c.ne.ensures ∙ c.if-ne.false)

@@ -1,49 +1,18 @@
--- What a write takes stands behind what is done.
-use Rattle.std.proofs.Common.{◌≡◌, ℕ, zero, suc, nat_eq, false, rules, ◌+◌, ◌-◌, ◌≤◌, List, ◌++◌, length, take, drop, Option, Result, Ok, Err, refl, sym, ap, ◌∙◌, subst, arith, length-drop}
+-- What the first write took, and then the rest.
+use Rattle.std.proofs.Common.{◌≡◌, ℕ, ◌+◌, ◌-◌, List, length, take, drop, subst}
 use Rattle.std.proofs.lemmas.List.{take_rest}
-use lib.Seq.{take-add}
-use Rattle.std.specs.Io.{WritesAtMost}
-use Rattle.std.specs.Io.KnownBytes.{Appends, WriteAppends}
-use Rattle.std.specs.Result.{result_unwrap_or}
-use Rattle.std.proofs.KnownBytes.{Appends-trans}
-use Rattle.napt_capture.specs.Device.{failed_writes}
-use Rattle.napt_capture.specs.declared.device.DeviceFault.{DeviceFault}
+use Rattle.napt_capture.specs.Writing.{Puts}
+use Rattle.napt_capture.proofs.Puts.{puts_more, takes_first}
 use Rattle.napt_capture.proofs.written.Written.put.Goals as goal
 
--- a write of the rest that took some bytes
-takes_more : (r : Result ℕ DeviceFault) (old mid new : Option (List ℕ)) (bytes : List ℕ)
-    (done count failed-0 failed-1 failed-2 : ℕ)
-    → count ≡ result_unwrap_or r 0 → (count ≡ 0 → ⊥) → WritesAtMost r (drop done bytes) →
-    WriteAppends mid new r (drop done bytes)
-    → failed-2 ≡ failed-1 + failed_writes r (drop done bytes)
-    → done ≤ length bytes → Appends old mid (take done bytes) → failed-1 ≡ failed-0
-    → (done + count ≤ length bytes) × Appends old new (take (done + count) bytes) × (failed-2 ≡ failed-0)
-takes_more (Err _) old mid new bytes done count f0 f1 f2 is some most appended counted within before same =
-    absurd (some is)
-takes_more (Ok zero) old mid new bytes done count f0 f1 f2 is some most appended counted within before same =
-    absurd (some is)
-takes_more (Ok (suc n)) old mid new bytes done count f0 f1 f2 is some most appended counted within before same =
-    let all : take done bytes ++ take (suc n) (drop done bytes) ≡ take (done + count) bytes =
-    sym (take-add done (suc n) bytes) ∙ ap (λ m. take (done + m) bytes) (sym is) in
-    let none : failed_writes {E = DeviceFault} (Ok (suc n)) (drop done bytes) ≡ 0 = let isnt : nat_eq (suc n) 0
-    ≡ false = search rules in rw isnt refl in (
-      omega (arith, is, most, length-drop done bytes),
-      subst (Appends old new) all
-          (Appends-trans old mid new _ _ before appended),
-      omega (arith, counted, none, same),
-    )
-
-pub loop-done-preserved : goal.loop-done-preserved
-loop-done-preserved g c =
+pub returns-clause-puts : goal.returns-clause-puts
+returns-clause-puts g c =
     let bytes = c.args.bytes.now in
-    let done = c.loop-done.done in
-    let rest : take (length bytes - done) (drop done bytes) ≡ drop done bytes = take_rest bytes done in
-    let call = c.write.ensures in
-    let before = g.W.Sink.failed c.loop-done.writer in
-    let after = g.W.Sink.failed c.write.new.self in
-    let counted = subst (λ part. after ≡ before + failed_writes c.write.result part) rest call.count in
-    takes_more c.write.result _ _ _ bytes done c.unwrap_or-count.result _ _ _ c.unwrap_or-count.ensures
-    c.if-count-eq0.false
-    (subst (WritesAtMost c.write.result) rest call.bound) (subst (WriteAppends _ _ c.write.result) rest call.bytes)
-    counted
-    c.loop-done.invariant.0 c.loop-done.invariant.1 c.loop-done.invariant.2
+    let count = c.unwrap_or-count.result in
+    let rest : take (length bytes - count) (drop count bytes) ≡ drop count bytes = take_rest bytes count in
+    let took = takes_first c.write.result _ _ bytes count c.unwrap_or-count.ensures c.if-count-eq0.false
+    c.write.ensures.bound c.write.ensures.bytes in
+    rw (← c.self.view_is)
+    (puts_more c.self.inside.bytes count _ _ _ bytes c.put_rest.result took.0 took.1
+    (subst (λ (part : List ℕ). Puts (c.self.inside.bytes + count) (g.W.Sink.contents c.write.new.self)
+    (g.W.Sink.contents c.put_rest.new.writer) part c.put_rest.result) rest c.put_rest.ensures.puts))

@@ -1,37 +1,13 @@
-use Rattle.std.proofs.Common.{◌≡◌, length, ◌∙◌, arith}
-use Rattle.std.proofs.lemmas.List.{with_items_is}
-use Rattle.napt_collections.proofs.Trees.{pushed}
+use Rattle.std.proofs.Common.{◌≡◌, length, ap, arith}
+use Rattle.std.specs.Vec.{vec_len}
+use Rattle.napt_collections.specs.PlacedTimes.{PlacedTimes}
+use Rattle.napt_collections.proofs.Placed.{pushed_set}
 use Rattle.napt_collections.proofs.times.Times.put.Goals as goal
 
-pub mend_after-requires-clause-others : goal.mend_after-requires-clause-others
-mend_after-requires-clause-others c =
-    let place : length c.self.inside.times.items ≡ c.len-place.result =
-    omega (arith, c.len-place.ensures, c.self.inside.times.ok.0) in
-    rw (
-      c.deref.ensures.value,
-      c.push_reserved.ensures.items,
-      c.deref_mut.ensures.value,
-      c.push_reserved-2.ensures.items,
-      c.no_times.ensures,
-    )
-    (λ i ne. pushed c.self.inside.times.items c.self.inside.spans.items c.args.time c.self.invariant.right i
-    (λ e. ne (e ∙ place)))
-
-pub invariant_of-self : goal.invariant_of-self
-invariant_of-self c =
-    let kept : length c.mend_after.new.spans ≡ c.push_reserved-2.new.self.len =
-    omega (arith, c.mend_after.auto.spans, c.deref_mut.ensures.len) in record {
-      lengths = rw (with_items_is c.push_reserved-2.new.self c.mend_after.new.spans kept)
-          (omega (
-            arith,
-            kept,
-            c.push_reserved.new.self.ok.0,
-            c.push_reserved.ensures.len,
-            c.push_reserved-2.ensures.len,
-            c.self.inside.times.ok.0,
-            c.self.inside.spans.ok.0,
-            c.self.invariant.lengths,
-          ));
-      right = λ i. rw (with_items_is c.push_reserved-2.new.self c.mend_after.new.spans kept, ← c.deref.ensures.value)
-          (c.mend_after.ensures i);
-    }
+pub returns-in-Some-clause-times : goal.returns-in-Some-clause-times
+returns-in-Some-clause-times c =
+    let shown : length c.self.inside.times.items ≡ length c.args.self.now.times =
+    ap (λ (v : PlacedTimes). length v.times) c.self.view_is in
+    let many : vec_len c.self.inside.times ≡ length c.args.self.now.times = omega (arith, c.self.inside.times.ok.0) in
+    rw (c.fill.ensures.times, c.put_none.ensures.times, c.in-Some.is, c.len-place.ensures, many)
+    (pushed_set c.args.self.now.times _)

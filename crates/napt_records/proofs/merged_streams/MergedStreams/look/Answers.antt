@@ -29,6 +29,6 @@ pub returns-in-Err-look-clause-looks : goal.returns-in-Err-look-clause-looks
 returns-in-Err-look-clause-looks g c live = record {
   inside_count = c.in_default.ensures.count live.0.0;
   outside_count = c.in-Err-look.ensures.count live.0.1;
-  stops = stops_outside c.args.self.now c.look.new.self c.look.new.firsts.items c.in-Err-look.fault
+  stops = stops_outside c.args.self.now c.look.new.self c.look.new.first c.in-Err-look.fault
       c.in_default.ensures.told (c.in_default.ensures.rest live.0.0) (c.in-Err-look.ensures.fault live.0.1);
 }

@@ -1,5 +1,5 @@
 use Rattle.std.proofs.Common.{arith}
-use Rattle.napt_run.proofs.Outputs.{length-record}
+use Rattle.napt_records.proofs.Texts.{length-record}
 use Rattle.napt_run.proofs.output.Output.put.Goals as goal
 
 pub record-requires-clause-room : goal.record-requires-clause-room

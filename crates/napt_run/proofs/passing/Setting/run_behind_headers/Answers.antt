@@ -18,9 +18,9 @@ live g c =
     begun_live c.over-inputs.result.arrivals (ap (λ s. s.live.fault) (ap (λ m. m.inside)
     c.over-inputs.ensures.arrivals ∙ c.new-merged.ensures.inside) ∙ c.new-ours.ensures.live)
     (ap (λ s. s.live.fault) (ap (λ m. m.outside) c.over-inputs.ensures.arrivals ∙ c.new-merged.ensures.outside)
-    ∙ c.new-theirs.ensures.live) (ap (λ m. m.inside_first.items) c.over-inputs.ensures.arrivals ∙
+    ∙ c.new-theirs.ensures.live) (ap (λ m. m.inside_first) c.over-inputs.ensures.arrivals ∙
     c.new-merged.ensures.inside_first)
-    (ap (λ m. m.outside_first.items) c.over-inputs.ensures.arrivals ∙ c.new-merged.ensures.outside_first)
+    (ap (λ m. m.outside_first) c.over-inputs.ensures.arrivals ∙ c.new-merged.ensures.outside_first)
 
 begun : (g : Over) (c : After-pass-passed g) (bytes others : Option (List ℕ)) →
     IsBehindHeader g.R.Source c.args.records.inside bytes c.args.inside.now →
@@ -37,8 +37,8 @@ begun g c bytes others ours theirs b o is same = record {
       (subst (λ (k : Option (List ℕ)). IsBegun c.new-theirs.result k) same
       (stream_begun c.new-theirs.result _ _ others theirs c.new-theirs.ensures.records c.new-theirs.ensures.value
       c.new-theirs.ensures.live c.new-theirs.ensures.cut));
-  inside_first = (ap (λ m. m.inside_first.items) c.over-inputs.ensures.arrivals ∙ c.new-merged.ensures.inside_first);
-  outside_first = (ap (λ m. m.outside_first.items) c.over-inputs.ensures.arrivals ∙
+  inside_first = (ap (λ m. m.inside_first) c.over-inputs.ensures.arrivals ∙ c.new-merged.ensures.inside_first);
+  outside_first = (ap (λ m. m.outside_first) c.over-inputs.ensures.arrivals ∙
       c.new-merged.ensures.outside_first);
   clock = (ap (λ m. m.clock) c.over-inputs.ensures.arrivals ∙ c.new-merged.ensures.clock);
 }

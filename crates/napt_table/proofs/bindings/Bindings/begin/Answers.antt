@@ -14,7 +14,7 @@ use Rattle.napt_table.specs.Bindings.{BindingsState, Begins}
 use Rattle.napt_table.specs.Holdings.{held, held_at}
 use Rattle.napt_table.specs.Keys.{key_eq, external_key, key_of}
 use Rattle.napt_table.proofs.Granted.{made_all}
-use Rattle.napt_table.proofs.Sends.{none_from, choice_is, made_live, made_seen}
+use Rattle.napt_table.proofs.Sends.{none_from, choice_is, made_live, made_used, made_seen}
 use Rattle.napt_table.proofs.bindings.Bindings.begin.Goals as goal
 
 pub returns-in_default-clause-begins : goal.returns-in_default-clause-begins
@@ -39,6 +39,13 @@ insert-requires-clause-live c =
 pub insert-requires-clause-at : goal.insert-requires-clause-at
 insert-requires-clause-at c = ap (λ (r : Row). r.external.address) c.new.ensures
     ∙ subst (λ (x : BindingsState). c.address.result ≡ x.held.address) c.self.view_is c.address.ensures
+
+pub insert-requires-clause-used : goal.insert-requires-clause-used
+insert-requires-clause-used c =
+    let limits : AreTimers c.args.self.now.timers =
+    subst (λ (x : BindingsState). AreTimers x.timers) c.self.view_is c.keep_limits.ensures in
+    rw c.requires.at (made_used c.args.self.now.timers limits c.address.result c.args.packet c.in-Some.number
+    c.args.flows c.requires.flows)
 
 pub insert-requires-clause-free : goal.insert-requires-clause-free
 insert-requires-clause-free c =

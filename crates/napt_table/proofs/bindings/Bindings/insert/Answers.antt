@@ -1,6 +1,7 @@
 use Rattle.std.proofs.Common.{◌≡◌, Some, None, cond, sym, subst}
 use Rattle.napt_table.specs.declared.bindings.keys.ExternalKey.{ExternalKey}
 use Rattle.napt_table.specs.Bindings.{BindingsState}
+use Rattle.napt_binding.specs.Slots.{NoneUsedAfter}
 use Rattle.napt_table.specs.Holdings.{held}
 use Rattle.napt_table.specs.Keys.{key_eq, key_of}
 use Rattle.napt_table.proofs.Queues.{inserted_due}
@@ -17,4 +18,5 @@ invariant_of-self c =
     (subst (λ (x : ExternalKey). (k : ExternalKey) → held c.insert.new.self k ≡ cond (key_eq x k) (Some b)
     (held s.held k)) is c.insert.ensures.held)
     c.until-end.result c.put.new.self.entries c.requires.loose c.put.ensures.entries c.until-end.ensures.near
-    c.until-end.ensures.lives
+    c.until-end.ensures.lives (subst (λ (x : BindingsState). NoneUsedAfter b.flows x.at) (sym c.self.view_is)
+    c.requires.used)

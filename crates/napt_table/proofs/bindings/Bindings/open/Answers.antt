@@ -1,4 +1,6 @@
-use Rattle.std.proofs.Common.{◌≡◌, None, sym, ap, subst, ◌∙◌}
+use Rattle.std.proofs.Common.{◌≡◌, ◌≤◌, None, sym, ap, subst, ◌∙◌}
+use Rattle.std.proofs.lemmas.List.Elements.{All-nil}
+use Rattle.napt_rules.specs.declared.Flow.{Flow}
 use Rattle.napt_rules.specs.Prelude.{Binding}
 use Rattle.napt_rules.specs.declared.Row.{Row}
 use Rattle.napt_table.specs.Bindings.{BindingsState}
@@ -16,4 +18,4 @@ invariant_of-self c =
     (subst (λ (r : Row). held s.held (external_key r.protocol r.external.number) ≡ None) (sym c.new.ensures)
     (subst (λ (x : BindingsState). held x.held key ≡ None) (sym c.self.view_is)
     (c.make_room.ensures.same.same.held_same key ∙ c.requires.free))) c.insert.ensures.held
-    (ap (λ (r : Row). r.fixed) c.new.ensures)
+    (ap (λ (r : Row). r.fixed) c.new.ensures) (rw c.new-2.ensures (All-nil (λ (f : Flow). f.last ≤ s.at)))

@@ -1,7 +1,15 @@
 use Rattle.std.proofs.Common.{◌≤◌, sym, subst}
 use Rattle.napt_table.specs.Bindings.{BindingsState}
+use Rattle.napt_table.proofs.Queues.{due_later}
 use Rattle.napt_table.proofs.Enters.{all_received, all_received_due}
 use Rattle.napt_table.proofs.bindings.Bindings.receive.Goals as goal
+
+pub receive-requires : goal.receive-requires
+receive-requires c =
+    let s = c.self.inside in
+    (due_later s.timers s.at c.args.packet.now s.held s.due.entries
+    (subst (λ (x : BindingsState). x.at ≤ c.args.packet.now) (sym c.self.view_is) c.requires.later)
+    c.self.invariant).used
 
 pub invariant_of-self : goal.invariant_of-self
 invariant_of-self c =

@@ -50,10 +50,10 @@ invariant_of-self c =
       reads = (
         side,
         reads_of_passes side _ (end_passes side c.args.end c.args.new c.self.inside.bytes.items passes
-            (is_plain c) (carries c)),
+            (carries c) (is_plain c)),
       );
-      found = end_found side c.args.end c.args.new c.self.inside.bytes.items _ _ passes (is_plain c)
-          (carries c) c.self.invariant.found;
+      found = end_found side c.args.end c.args.new c.self.inside.bytes.items passes (carries c) _ _
+          (is_plain c) c.self.invariant.found;
     }
 
 pub returns-clause-value : goal.returns-clause-value
@@ -65,8 +65,8 @@ returns-clause-reads c = λ side h.
     rw (is_new c)
     (reads_of_passes side _
     (end_passes side c.args.end c.args.new c.self.inside.bytes.items
-    (passes_of_read side c.self.inside.bytes.items c.self.inside.bytes.items (rw c.self.view_is h)) (is_plain c)
-    (carries c)))
+    (passes_of_read side c.self.inside.bytes.items c.self.inside.bytes.items (rw c.self.view_is h)) (carries c)
+    (is_plain c)))
 
 pub returns-clause-right : goal.returns-clause-right
 returns-clause-right c =

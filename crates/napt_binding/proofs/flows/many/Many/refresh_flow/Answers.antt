@@ -11,7 +11,7 @@ use Rattle.napt_binding.proofs.flows.many.Many.refresh_flow.Goals as goal
 pub returns-in_default-clause-flows : goal.returns-in_default-clause-flows
 returns-in_default-clause-flows c =
     sym (change_nowhere (traffic.is_flow_of c.args.remote) (traffic.used Tcp Incoming c.args.flags c.args.now) _
-    (not_found c.args.self.now c.args.remote c.requires (cc)))
+    (not_found c.args.self.now c.args.remote c.requires.many (cc)))
 
 pub change-requires-clause-stands : goal.change-requires-clause-stands
 change-requires-clause-stands c = (c.in-Some-get.flow, c.in-Some-get.ensures.stands, rw c.used.ensures (refl))
@@ -22,5 +22,5 @@ returns-clause-flows c =
     rw (c.change.ensures.slots, c.used.ensures)
     (flow_refreshed c.args.now c.args.remote c.args.flags c.args.self.now.slots.slots c.in-Some.place c.in-Some-get.flow
     c.in-Some-get.ensures.stands
-    (place_of_is c.args.self.now c.args.remote c.in-Some.place c.in-Some-get.flow c.requires at
-    c.in-Some-get.ensures.stands) (one c.args.self.now c.args.remote c.in-Some.place c.requires at))
+    (place_of_is c.args.self.now c.args.remote c.in-Some.place c.in-Some-get.flow c.requires.many at
+    c.in-Some-get.ensures.stands) (one c.args.self.now c.args.remote c.in-Some.place c.requires.many at))

@@ -1,10 +1,11 @@
-use Rattle.std.proofs.Common.{◌≡◌, ◌∙◌, ap, refl, List, [], ◌∷◌, ◌++◌, false}
+use Rattle.std.proofs.Common.{◌≡◌, ◌∙◌, ap, refl, sym, subst, List, [], ◌∷◌, ◌++◌, false}
 use Rattle.std.specs.List.{list_any}
 use Rattle.napt_rules.specs.declared.Flow.{Flow}
 use Rattle.napt_rules.specs.Prelude.{no_marks, is_live_flow, live_flows, is_flow_of}
-use Rattle.napt_binding.specs.Slots.{somes}
+use Rattle.napt_binding.specs.Slots.{somes, NoneUsedAfter}
 use Rattle.napt_binding.proofs.Manys.{no_place}
 use Rattle.napt_binding.proofs.Distinct.{put_next}
+use Rattle.napt_binding.proofs.Used.{live_flows_used}
 use Rattle.napt_binding.proofs.Standing.{none_left, flow_begun, live_begun}
 use Rattle.napt_binding.proofs.flows.many.Many.use_flow.Goals as goal
 
@@ -23,6 +24,14 @@ put-requires-clause-absent c =
     rw c.begun_by.ensures
     (no_place c.keep_standing.new.self sent.remote c.keep_standing.ensures.many
     (ap (list_any (is_flow_of sent.remote)) kept ∙ none))
+
+pub put-requires-clause-rising : goal.put-requires-clause-rising
+put-requires-clause-rising c =
+    let sent = c.args.sent in
+    let used = subst (λ (l : List Flow). NoneUsedAfter l sent.now)
+    (sym (c.in_ok-make_room.ensures.flows ∙ ap somes (c.if-use_standing.ensures.same refl))) c.requires.rising in
+    rw c.begun_by.ensures (subst (λ (l : List Flow). NoneUsedAfter l sent.now) (sym c.keep_standing.ensures.flows)
+    (live_flows_used c.args.timers sent.now sent.protocol (somes c.make_room.new.self.slots.slots) used))
 
 pub returns-clause-ok : goal.returns-clause-ok
 returns-clause-ok c =

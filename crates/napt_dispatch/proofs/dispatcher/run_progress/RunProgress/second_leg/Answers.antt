@@ -1,5 +1,13 @@
-use Rattle.napt_dispatch.proofs.Windows.{open_second}
+use Rattle.std.proofs.Common.{sym, ap, ◌∙◌}
+use Rattle.napt_dispatch.specs.Windows.{is_unknown}
+use Rattle.napt_dispatch.proofs.Windows.{open_get, open_second}
 use Rattle.napt_dispatch.proofs.dispatcher.run_progress.RunProgress.second_leg.Goals as goal
+
+pub second_leg-requires : goal.second_leg-requires
+second_leg-requires c =
+    sym (ap is_unknown (open_get c.self.inside.past.items c.self.inside.under_way.items c.args.self.now c.self.view_is
+    c.args.number c.in-Some.place c.in-Some.ensures.0 c.in-Some.ensures.1 c.index_mut.result.now
+    c.index_mut.ensures.value)) ∙ c.requires
 
 pub returns : goal.returns
 returns c =

@@ -1,6 +1,7 @@
 use Rattle.std.proofs.Common.{refl, sym, subst, ap, ◌∙◌}
 use Rattle.std.specs.Option.{IsSome}
 use Rattle.napt_rules.specs.Prelude.{with_live_flows, row}
+use Rattle.napt_table.specs.Holdings.{AreUsedUpTo}
 use Rattle.napt_table.specs.Keys.{external_key}
 use Rattle.napt_table.proofs.Ends.{written_held, written_one}
 use Rattle.napt_table.proofs.Enters.{left_row}
@@ -23,6 +24,10 @@ returns-then-not-is_live-clause-one c =
     c.self.invariant b b
     (sym c.in-Some.ensures.value)
     (λ k. ((c.get_mut.follows.holds b).3 (subst IsSome c.in-Some.ensures.value refl)).0 k) refl refl)
+
+pub take_in-requires : goal.take_in-requires
+take_in-requires c = subst (AreUsedUpTo c.args.packet.now) (sym c.self.view_is) c.requires
+    (external_key c.args.packet.protocol c.args.packet.number) c.in-Some.binding.now (sym c.in-Some.ensures.value)
 
 pub invariant_of-self-2 : goal.invariant_of-self-2
 invariant_of-self-2 c =

@@ -1,0 +1,15 @@
+use Rattle.std.proofs.Common.{[]}
+use Rattle.napt_dispatch.proofs.Passing.{goes_none}
+use Rattle.napt_dispatch.proofs.dispatcher.Dispatcher.make_ready.Goals as goal
+
+pub returns-then-has_room-clause-state : goal.returns-then-has_room-clause-state
+returns-then-has_room-clause-state g c =
+    rw c.take_told.ensures
+    (record {
+      went = [];
+      goes = goes_none c.requires.sized;
+      took = g.met.D.Departures.takes_none c.args.departures.now;
+    })
+
+pub returns-clause-state : goal.returns-clause-state
+returns-clause-state g c = rw c.take_told.ensures at c.go_on_until.ensures.state
