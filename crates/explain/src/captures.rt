@@ -2,7 +2,7 @@
 
 ghost use Rattle.std.specs.Prelude.{◌-◌, ◌^◌, ◌<◌};
 
-use crate::cuts::Cuts;
+use crate::flaws::{Flaws, StepBack};
 use crate::options::Options;
 use crate::passed::Consumer;
 use crate::reading::Written;
@@ -162,27 +162,29 @@ fn fault_of(error: &io::Error) -> CaptureFault {
 
 /// The packets of both captures, in the order in which `napt` takes them.
 #[derive(Drop)]
-pub struct Captures<'a, A: Source, B: Source> {
-    refusing: Refusing<'a>,
-    inside_head: &'a [u8],
-    outside_head: &'a [u8],
-    packets: MergedStreams<'a, 'a, A, B>,
+pub struct Captures<'r, 'i, 'o, A: Source, B: Source> {
+    refusing: Refusing<'r>,
+    inside_head: &'i [u8],
+    outside_head: &'o [u8],
+    packets: MergedStreams<'i, 'o, A, B>,
+    back: StepBack,
 }
 
-impl<'a, A: Source, B: Source> Captures<'a, A, B> {
+impl<'r, 'i, 'o, A: Source, B: Source> Captures<'r, 'i, 'o, A, B> {
     /// Those of captures past their headers.
     pub fn of(
         alloc: Global,
-        refusing: Refusing<'a>,
-        inside: Opened<'a, A>,
-        outside: Opened<'a, B>,
-    ) -> Captures<'a, A, B> {
+        refusing: Refusing<'r>,
+        inside: Opened<'i, A>,
+        outside: Opened<'o, B>,
+    ) -> Captures<'r, 'i, 'o, A, B> {
         let (inside_head, outside_head) = (inside.head, outside.head);
         Captures {
             refusing,
             inside_head,
             outside_head,
             packets: MergedStreams::new(alloc, inside.stream, outside.stream),
+            back: StepBack::none(),
         }
     }
 
@@ -206,6 +208,7 @@ impl<'a, A: Source, B: Source> Captures<'a, A, B> {
                     return Err(self.refuse(rt, fault));
                 }
             };
+            self.back.take(number, &input);
             consumer.take(rt, number, &input)?;
             spare = input.bytes;
         }
@@ -215,9 +218,12 @@ impl<'a, A: Source, B: Source> Captures<'a, A, B> {
     /// All packets. A refusal is explained.
     pub fn all<R: Eprint + AllocGlobal>(&mut self, rt: &R) -> Result<Vec<Input>, Stop> {
         let mut inputs = Vec::new(rt.alloc());
-        for _ in 0..u64::MAX {
+        for number in 1..u64::MAX {
             match self.packets.next(Vec::new(rt.alloc())) {
-                Ok(Some(input)) => inputs.push(input)?,
+                Ok(Some(input)) => {
+                    self.back.take(number, &input);
+                    inputs.push(input)?;
+                }
                 Ok(None) => return Ok(inputs),
                 Err(fault) => return Err(self.refuse(rt, fault)),
             }
@@ -225,13 +231,14 @@ impl<'a, A: Source, B: Source> Captures<'a, A, B> {
         Ok(inputs)
     }
 
-    /// Which captures end inside a record, once their end is reached.
-    pub fn cuts(&self) -> Cuts {
+    /// What they show against themselves, once their end is reached.
+    pub fn flaws(&self) -> Flaws {
         let cuts = self.packets.cuts();
-        Cuts {
+        Flaws {
             inside: cuts.inside,
             outside: cuts.outside,
             holds: self.refusing.options.outside,
+            back: self.back,
         }
     }
 

@@ -1,7 +1,7 @@
 //! What is asked for of a run, as it goes on.
 
 use crate::blocks::tell_needless;
-use crate::cuts::Cuts;
+use crate::flaws::Flaws;
 use crate::holders::Holders;
 use crate::lines::Line;
 use crate::living::Living;
@@ -99,7 +99,7 @@ impl<'a> Told<'a> {
     ) -> Result<(), AllocError> {
         match self {
             Told::Lines(lines) => lines.take(alloc, text, line, &passing.step.ended),
-            Told::Only(only) => only.take(alloc, text, passing, line),
+            Told::Only(only) => only.take(alloc, text, choice, (passing, line)),
             Told::Objects => {
                 if line.is_chosen(alloc, choice)? {
                     line.object().add_to(alloc, text)?;
@@ -192,7 +192,7 @@ impl<'a, 'b, W: Write + Drop> Explanation<'a, 'b, W> {
     }
 
     /// Tells what needs the end, behind all packets.
-    pub fn end<R: Print + Eprint + AllocGlobal>(self, rt: &R, cuts: Cuts) -> Result<(), Stop> {
+    pub fn end<R: Print + Eprint + AllocGlobal>(self, rt: &R, flaws: Flaws) -> Result<(), Stop> {
         let Explanation {
             options,
             replies,
@@ -209,7 +209,7 @@ impl<'a, 'b, W: Write + Drop> Explanation<'a, 'b, W> {
         let mut page = page;
         page.end(rt)?;
         progress.tell_end(rt, packets);
-        cuts.tell(rt, options.form)?;
+        flaws.tell(rt, options.form)?;
         tell_warning(rt, options.outside, None, &losses);
         let config = running.config();
         let rows = told.rows_of(rt.alloc(), &running)?;

@@ -26,7 +26,7 @@ For ICMP queries the number of an endpoint is the identifier, also in --host.
 
 The arguments of napt can be given unchanged: no output of napt is written. The statuses are those of napt, and whatever it
 refuses is explained on standard error. With --against the status is 1 if a packet differs, with --who and --requests if
-nobody had an endpoint; it is 4 if the file of --saved-log is no log."
+nobody had an endpoint, with --plan if no packet leaves; it is 4 if the file of --saved-log is no log."
             ),
         }
     };

@@ -19,11 +19,13 @@ const TOP: usize = 10;
 const NUMBERS: u64 = 64_512;
 
 /// Prints the figures of a run under a configuration.
-pub fn tell_sizes<R: Print + AllocGlobal>(
+pub fn tell_sizes<R: Print + Eprint + AllocGlobal>(
     rt: &R,
     config: &Config,
     sizes: &Sizes,
 ) -> Result<(), Stop> {
+    sizes.coverage.tell(rt);
+    sizes.coverage.tell_living(rt, None);
     let (usage, trials) = (&sizes.usage, &sizes.trials);
     for space in &usage.spaces {
         tell_space(rt, space)?;
@@ -31,7 +33,7 @@ pub fn tell_sizes<R: Print + AllocGlobal>(
     let ranked = usage.hosts.ranked(rt.alloc())?;
     tell_hosts(rt, &ranked)?;
     let greatest = ranked.first().map_or(0, |host| host.bindings.most);
-    tell_quotas(rt, trials.quotas(), greatest)?;
+    tell_quotas(rt, trials.quotas(), greatest, config.quota())?;
     tell_blocks(rt, trials.blocks(), config.host_count())?;
     tell_refusals(rt, "over-quota", &usage.over_quota)?;
     tell_refusals(rt, "no-port", &usage.no_number)?;
@@ -91,13 +93,25 @@ fn tell_host<R: Print>(rt: &R, host: &Host) -> Result<(), Stop> {
     Ok(())
 }
 
-/// Prints what each quota would have refused, up to the first that refuses nothing.
-fn tell_quotas<R: Print>(rt: &R, quotas: &[Quota], greatest: u64) -> Result<(), Stop> {
+/// Prints what each quota would have refused, up to the first that refuses nothing. A quota of the run itself hides what
+/// hosts would have had without it.
+fn tell_quotas<R: Print>(
+    rt: &R,
+    quotas: &[Quota],
+    greatest: u64,
+    own: Option<u16>,
+) -> Result<(), Stop> {
     let mut is_behind = false;
     for quota in quotas {
         if !is_behind {
             let (most, refused, hosts) = (quota.most, quota.refused, quota.hosts);
-            println!(rt; "quota {most}: new bindings refused {refused}, of hosts {hosts}")?;
+            print!(rt; "quota {most}: new bindings refused {refused}, of hosts {hosts}")?;
+            match own {
+                Some(own) if own <= most => println!(rt;
+                    ", besides those by the run's own quota {own}"
+                )?,
+                _ => println!(rt)?,
+            }
         }
         is_behind = is_behind || u64::from(quota.most) >= greatest;
     }

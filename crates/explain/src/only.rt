@@ -3,6 +3,7 @@
 use crate::digits::add_seconds;
 use crate::ended::add_binding;
 use crate::lines::Line;
+use crate::options::Choice;
 use crate::page::Page;
 use crate::passed::Passing;
 use crate::stop::Stop;
@@ -41,6 +42,8 @@ pub struct Only {
     number: u64,
     /// Whether it came.
     is_found: bool,
+    /// Whether it meets the other conditions.
+    is_chosen: bool,
     /// The binding that it went out through, and that it came in through.
     out: Option<Used>,
     into: Option<Used>,
@@ -52,28 +55,33 @@ impl Only {
         Only {
             number,
             is_found: false,
+            is_chosen: false,
             out: None,
             into: None,
         }
     }
 
-    /// Takes the next packet. The line of the one that is shown is appended.
+    /// Takes the next packet. The line of the one that is shown is appended, if it meets the other conditions.
     pub fn take(
         &mut self,
         alloc: Global,
         text: &mut String,
-        passing: Passing<'_>,
-        line: Line<'_>,
+        choice: Choice,
+        (passing, line): (Passing<'_>, Line<'_>),
     ) -> Result<(), AllocError> {
         let step = passing.step;
         self.take_entries(&step.ended);
         if line.number != self.number {
             return Ok(());
         }
+        self.is_found = true;
+        self.is_chosen = line.is_chosen(alloc, choice)?;
+        if !self.is_chosen {
+            return Ok(());
+        }
         let mut widths = Widths::new();
         widths.take(line.number, line.input);
         line.add(alloc, text, widths)?;
-        self.is_found = true;
         self.out = step.used.out.map(Used::at);
         self.into = step.used.into.map(Used::at);
         Ok(())
@@ -101,6 +109,12 @@ impl Only {
             let number = self.number;
             let _ = eprintln!(rt; "explain: --only {number}: there are {packets} packets");
             return Err(Stop::Told(napt_program::Stop::Usage));
+        }
+        if !self.is_chosen {
+            let number = self.number;
+            let _ = eprintln!(rt;
+                "explain: --only {number}: it does not meet the other conditions"
+            );
         }
         let mut only = self;
         only.take_entries(living);

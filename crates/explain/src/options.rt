@@ -669,17 +669,20 @@ fn time_of<R: Eprint>(rt: &R, matches: &ArgMatches<'_>, option: &str) -> Result<
     }
 }
 
+/// What the time of `--at` is to be.
+const WANTED: &str =
+    "expected seconds since 1970, as 90 or 1.5, or a date, as 2026-11-26T10:02:07Z";
+
 /// The time of `--at`. An invalid one is reported.
 fn span_at<R: Eprint>(rt: &R, matches: &ArgMatches<'_>) -> Result<Option<Span>, Stop> {
     let Some(text) = matches.get_str("at") else {
         return Ok(None);
     };
     match span_of(text) {
-        Some(span) => Ok(Some(span)),
-        None => {
-            let _ = eprintln!(rt;
-                "explain: --at {text}: expected seconds since 1970, as 90 or 1.5, or a date, as 2026-11-26T10:02:07Z"
-            );
+        Ok(span) => Ok(Some(span)),
+        Err(no_time) => {
+            let why = no_time.words(WANTED);
+            let _ = eprintln!(rt; "explain: --at {text}: {why}");
             Err(Stop::Told(napt_program::Stop::Usage))
         }
     }

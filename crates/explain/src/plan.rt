@@ -46,21 +46,29 @@ impl<'a> Plans<'a> {
         Ok(())
     }
 
-    /// Prints what there is to warn of, and the table.
+    /// Prints what there is to warn of, and the table. Fails with `Nothing` if no packet leaves under any configuration.
     pub fn tell<R: Print + Eprint + AllocGlobal>(
         &self,
         rt: &R,
         options: &Options<'_>,
     ) -> Result<(), Stop> {
+        if let Some(run) = self.runs.first() {
+            run.coverage.tell(rt);
+        }
         let mut lines = Vec::new(rt.alloc());
         for (path, run) in options.plans.iter().zip(&self.runs) {
             tell_warning(rt, options.outside, Some(path), &run.losses);
+            run.coverage.tell_living(rt, Some(path));
             lines.push(run.figures(rt.alloc())?)?;
         }
         match options.form {
-            Form::PlansInCsv => write_sheet(rt, &options.plans, &lines),
-            _ => tell_table(rt, &options.plans, &lines),
+            Form::PlansInCsv => write_sheet(rt, &options.plans, &lines)?,
+            _ => tell_table(rt, &options.plans, &lines)?,
         }
+        if lines.iter().all(|figures| figures.to_outside == 0) {
+            return Err(Stop::Nothing);
+        }
+        Ok(())
     }
 }
 

@@ -3,9 +3,10 @@
 use crate::options::{Form, party_of};
 use crate::places::tell_config;
 use crate::reading::configuration_text;
-use crate::spans::span_of;
+use crate::spans::{NoTime, span_of};
 use crate::stop::Stop;
 use napt_log_text::Request;
+use napt_records::protocol_name;
 use napt_wire::{Endpoint, Protocol};
 use std::alloc::{AllocError, Global};
 use std::rt::Files;
@@ -37,8 +38,15 @@ impl Asked {
 /// What a file of requests holds.
 enum Lines {
     Requests(Vec<Asked>),
-    /// The number of the first line that is no request.
-    Wrong(u64),
+    Wrong(Wrong),
+}
+
+/// The first line that is no request.
+#[derive(Clone, Copy)]
+struct Wrong {
+    /// Its number, from 1.
+    line: u64,
+    why: &'static str,
 }
 
 /// The requests of a form, none if it has none. A file that cannot be read, or a line of it that is no request, is
@@ -70,8 +78,8 @@ fn requests_at<R: Files + Input + Eprint + AllocGlobal>(
     };
     match lines_of(rt.alloc(), &text)? {
         Lines::Requests(asked) => Ok(asked),
-        Lines::Wrong(number) => {
-            let _ = eprintln!(rt; "explain: --requests {path}: line {number}: {WANTED}");
+        Lines::Wrong(Wrong { line, why }) => {
+            let _ = eprintln!(rt; "explain: --requests {path}: line {line}: {why}");
             Err(Stop::Told(napt_program::Stop::Usage))
         }
     }
@@ -81,7 +89,10 @@ fn requests_at<R: Files + Input + Eprint + AllocGlobal>(
 fn lines_of(alloc: Global, text: &[u8]) -> Result<Lines, AllocError> {
     let text = match str::from_utf8(text) {
         Ok(text) => text,
-        Err(error) => return Ok(Lines::Wrong(line_at(text, error.valid_up_to()))),
+        Err(error) => {
+            let line = line_at(text, error.valid_up_to());
+            return Ok(Lines::Wrong(Wrong { line, why: WANTED }));
+        }
     };
     let mut asked = Vec::new(alloc);
     let mut number = 0u64;
@@ -90,8 +101,12 @@ fn lines_of(alloc: Global, text: &[u8]) -> Result<Lines, AllocError> {
         if line.trim().is_empty() {
             continue;
         }
-        let Some(request) = request_of(line) else {
-            return Ok(Lines::Wrong(number));
+        let request = match request_of(line) {
+            Ok(request) => request,
+            Err(no_time) => {
+                let why = no_time.words(WANTED);
+                return Ok(Lines::Wrong(Wrong { line: number, why }));
+            }
         };
         asked.push(Asked {
             line: Some(number),
@@ -107,30 +122,41 @@ fn line_at(text: &[u8], place: usize) -> u64 {
     (ended as u64).saturating_add(1)
 }
 
-/// Parses an endpoint or an address, a time and maybe a protocol.
-fn request_of(line: &str) -> Option<Request> {
-    let mut words = line.split_whitespace();
-    let party = party_of(words.next()?)?;
-    let at = Some(span_of(words.next()?)?);
-    let protocol = match words.next() {
-        Some(name) => Some(protocol_of(name)?),
-        None => None,
+/// Parses an endpoint or an address, a time and maybe a protocol. A date may have a space before its time of day.
+fn request_of(line: &str) -> Result<Request, NoTime> {
+    let (party, rest) = first_word(line.trim());
+    let party = party_of(party).ok_or(NoTime::Unread)?;
+    let (time, last) = last_word(rest);
+    let (time, protocol) = match protocol_of(last) {
+        Some(protocol) => (time, Some(protocol)),
+        None => (rest, None),
     };
-    if words.next().is_some() {
-        return None;
-    }
-    Some(Request {
+    Ok(Request {
         protocol,
         party,
-        at,
+        at: Some(span_of(time)?),
     })
 }
 
-fn protocol_of(name: &str) -> Option<Protocol> {
-    match name {
-        "icmp" => Some(Protocol::Icmp),
-        "tcp" => Some(Protocol::Tcp),
-        "udp" => Some(Protocol::Udp),
-        _ => None,
+/// The first word of a text, and the text behind it.
+fn first_word(text: &str) -> (&str, &str) {
+    match text.split_once(|it: char| it.is_whitespace()) {
+        Some((word, rest)) => (word, rest.trim_start()),
+        None => (text, ""),
     }
+}
+
+/// The text before its last word, and that word.
+fn last_word(text: &str) -> (&str, &str) {
+    match text.rsplit_once(|it: char| it.is_whitespace()) {
+        Some((rest, word)) => (rest.trim_end(), word),
+        None => ("", text),
+    }
+}
+
+/// The protocol of a name, in letters of either case.
+fn protocol_of(name: &str) -> Option<Protocol> {
+    [Protocol::Icmp, Protocol::Tcp, Protocol::Udp]
+        .into_iter()
+        .find(|protocol| name.eq_ignore_ascii_case(protocol_name(*protocol)))
 }

@@ -116,7 +116,7 @@ impl<'a> Setting<'a> {
     fn explain<R: Files + Print + Eprint + AllocGlobal, A: Source, B: Source>(
         self,
         rt: &R,
-        captures: &mut Captures<'_, A, B>,
+        captures: &mut Captures<'_, '_, '_, A, B>,
     ) -> Result<(), Stop> {
         if !self.streams.output {
             return Err(Stop::NoOutput);
@@ -135,7 +135,7 @@ impl<'a> Setting<'a> {
     fn explain_against<R: Print + Eprint + AllocGlobal, A: Source, B: Source>(
         self,
         rt: &R,
-        captures: &mut Captures<'_, A, B>,
+        captures: &mut Captures<'_, '_, '_, A, B>,
         path: &str,
         other: &'a Config,
     ) -> Result<(), Stop> {
@@ -148,7 +148,7 @@ impl<'a> Setting<'a> {
         } else {
             captures.hand_over(rt, &mut against)?;
         }
-        captures.cuts().tell(rt, options.form)?;
+        captures.flaws().tell(rt, options.form)?;
         against.tell(rt, options, path)
     }
 
@@ -156,7 +156,7 @@ impl<'a> Setting<'a> {
     fn explain_plans<R: Print + Eprint + AllocGlobal, A: Source, B: Source>(
         self,
         rt: &R,
-        captures: &mut Captures<'_, A, B>,
+        captures: &mut Captures<'_, '_, '_, A, B>,
     ) -> Result<(), Stop> {
         let options = self.options;
         let mut plans = Plans::begin(rt.alloc(), self.plans)?;
@@ -166,7 +166,7 @@ impl<'a> Setting<'a> {
         } else {
             captures.hand_over(rt, &mut plans)?;
         }
-        captures.cuts().tell(rt, options.form)?;
+        captures.flaws().tell(rt, options.form)?;
         plans.tell(rt, options)
     }
 
@@ -174,7 +174,7 @@ impl<'a> Setting<'a> {
     fn explain_passing<R: Files + Print + Eprint + AllocGlobal, A: Source, B: Source>(
         self,
         rt: &R,
-        captures: &mut Captures<'_, A, B>,
+        captures: &mut Captures<'_, '_, '_, A, B>,
     ) -> Result<(), Stop> {
         let mut explanation = begin_explanation(
             rt,
@@ -184,14 +184,14 @@ impl<'a> Setting<'a> {
             None,
         )?;
         captures.hand_over(rt, &mut explanation)?;
-        explanation.end(rt, captures.cuts())
+        explanation.end(rt, captures.flaws())
     }
 
     /// Explains the packets once all are there, for what needs all of them: a picture, and replies that follow.
     fn explain_kept<R: Files + Print + Eprint + AllocGlobal, A: Source, B: Source>(
         self,
         rt: &R,
-        captures: &mut Captures<'_, A, B>,
+        captures: &mut Captures<'_, '_, '_, A, B>,
     ) -> Result<(), Stop> {
         let (options, config) = (self.options, &self.written.config);
         let mut inputs = captures.all(rt)?;
@@ -206,7 +206,7 @@ impl<'a> Setting<'a> {
         let replies = options.outside.replies(config, &ends);
         let mut explanation = begin_explanation(rt, options, config, self.asked, replies)?;
         take_all(rt, &inputs, &mut explanation)?;
-        explanation.end(rt, captures.cuts())
+        explanation.end(rt, captures.flaws())
     }
 }
 

@@ -11,6 +11,7 @@ pub mod spaces;
 pub mod trials;
 pub mod usage;
 
+use crate::coverage::Coverage;
 use crate::passed::Passing;
 use crate::sizes::lifetimes::Lifetimes;
 use crate::sizes::trials::Trials;
@@ -25,6 +26,7 @@ pub struct Sizes {
     pub usage: Usage,
     pub trials: Trials,
     pub lifetimes: Lifetimes,
+    pub coverage: Coverage,
 }
 
 impl Sizes {
@@ -34,6 +36,7 @@ impl Sizes {
             usage: Usage::of(alloc, config, opening)?,
             trials: Trials::new(alloc)?,
             lifetimes: Lifetimes::NONE,
+            coverage: Coverage::none(),
         })
     }
 
@@ -43,6 +46,7 @@ impl Sizes {
         self.usage.take(config, step)?;
         self.trials.take(&self.usage.hosts, step)?;
         self.lifetimes.take(step);
+        self.coverage.take(passing.input, step);
         Ok(())
     }
 }

@@ -9,15 +9,44 @@ const MINUTE: u64 = 60 * SECOND;
 
 const HOUR: u64 = 60 * MINUTE;
 
+/// The greatest number of seconds that is taken for a time since 1970, in the year 5138: more of them are milliseconds,
+/// microseconds or nanoseconds.
+const LAST: u64 = 100_000_000_000;
+
 /// How many decimals of a second there are.
 const DECIMALS: usize = 9;
 
 /// How many digits hours, minutes and seconds have together.
 const CLOCK: usize = 6;
 
+/// Why a text is no time.
+#[derive(Clone, Copy)]
+pub enum NoTime {
+    /// It is neither a number of seconds nor a date.
+    Unread,
+    /// More seconds than a time since 1970 has.
+    TooLate,
+}
+
+impl NoTime {
+    /// What is told of it, if `wanted` was expected.
+    pub fn words(self, wanted: &'static str) -> &'static str {
+        match self {
+            NoTime::Unread => wanted,
+            NoTime::TooLate => {
+                "more than 100000000000 seconds since 1970: are these milliseconds, microseconds or nanoseconds?"
+            }
+        }
+    }
+}
+
 /// The span that a time stands for: seconds since 1970, or a date in RFC 3339.
-pub fn span_of(text: &str) -> Option<Span> {
-    span_of_seconds(text).or_else(|| span_of_date(text))
+pub fn span_of(text: &str) -> Result<Span, NoTime> {
+    match span_of_seconds(text) {
+        Some(span) if span.first / u128::from(SECOND) > u128::from(LAST) => Err(NoTime::TooLate),
+        Some(span) => Ok(span),
+        None => span_of_date(text).ok_or(NoTime::Unread),
+    }
 }
 
 /// Parses seconds with up to nine decimals, as nanoseconds.

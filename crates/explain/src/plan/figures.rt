@@ -1,6 +1,6 @@
 //! The figures of a run in a plan.
 
-ghost use Rattle.std.specs.Prelude.{◌≡◌, ◌↔◌, true};
+ghost use Rattle.std.specs.Prelude.{◌≡◌, ◌≢◌, ◌↔◌, true};
 
 use crate::plan::fullest::{Fullest, fullest_of};
 use crate::sizes::hosts::percentile;
@@ -71,10 +71,11 @@ impl Figures {
         })
     }
 
-    /// Whether no packet was refused a binding.
-    pub fn refuses_nothing(self) -> bool
-        ensures { (result ≡ true) ↔ ((self.drops.no_port ≡ 0) × (self.drops.over_quota ≡ 0)) }
+    /// Whether packets left, and none was refused a binding.
+    pub fn is_enough(self) -> bool
+        ensures { (result ≡ true) ↔ ((self.to_outside ≢ 0) × (self.drops.no_port ≡ 0)
+            × (self.drops.over_quota ≡ 0)) }
     {
-        self.drops.no_port == 0 && self.drops.over_quota == 0
+        self.to_outside != 0 && self.drops.no_port == 0 && self.drops.over_quota == 0
     }
 }

@@ -1,5 +1,6 @@
 //! A run of a plan.
 
+use crate::coverage::Coverage;
 use crate::following::copied;
 use crate::losses::Losses;
 use crate::options::Outside;
@@ -19,6 +20,7 @@ pub struct PlannedRun<'a> {
     usage: Usage,
     counts: Counts,
     pub losses: Losses,
+    pub coverage: Coverage,
 }
 
 impl<'a> PlannedRun<'a> {
@@ -31,6 +33,7 @@ impl<'a> PlannedRun<'a> {
             usage: Usage::of(alloc, config, &opening)?,
             counts: Counts::new(),
             losses: Losses::new(alloc, config)?,
+            coverage: Coverage::none(),
         })
     }
 
@@ -41,6 +44,7 @@ impl<'a> PlannedRun<'a> {
         self.counts.count(&step.outcome);
         self.losses.take(config, input, &step.outcome);
         self.usage.take(config, &step)?;
+        self.coverage.take(input, &step);
         Ok(())
     }
 

@@ -165,16 +165,18 @@ fn add_fullest(text: &mut String, fullest: Option<Fullest>) -> Result<(), AllocE
 fn last_text(alloc: Global, paths: &[String], lines: &[Figures]) -> Result<String, AllocError> {
     let mut text = String::new(alloc);
     for (path, figures) in paths.iter().zip(lines) {
-        if figures.refuses_nothing() {
+        if figures.is_enough() {
             text.push_str(if text.is_empty() { "" } else { ", " })?;
             text.push_str(path)?;
         }
     }
-    if text.is_empty() {
-        return String::from_str(
-            alloc,
-            "each of them refuses a binding: no-port or over-quota",
-        );
+    if !text.is_empty() {
+        return format!(in alloc; "without no-port and over-quota: {text}");
     }
-    format!(in alloc; "without no-port and over-quota: {text}")
+    let why = if lines.iter().all(|figures| figures.to_outside == 0) {
+        "no packet leaves for the outside: nothing can be planned by these captures"
+    } else {
+        "each of them refuses a binding: no-port or over-quota"
+    };
+    String::from_str(alloc, why)
 }
