@@ -242,6 +242,12 @@ impl<'r, 'i, 'o, A: Source, B: Source> Captures<'r, 'i, 'o, A, B> {
         }
     }
 
+    /// Lets go of them.
+    pub fn close(self) {
+        let Captures { packets, .. } = self;
+        let _ = packets.into_streams();
+    }
+
     fn refuse<R: Eprint + AllocGlobal>(&self, rt: &R, fault: SideFault) -> Stop {
         let head = match fault.side {
             Side::Inside => self.inside_head,

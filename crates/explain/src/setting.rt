@@ -96,8 +96,7 @@ impl<'a> Setting<'a> {
         let Begun { head, reader } = self.refusing().begin(rt, Side::Outside, outside)?;
         let mut source = Watched::new(head.as_slice().chain(reader));
         let outside = self.refusing().open(rt, Side::Outside, &head, &mut source)?;
-        let mut captures = Captures::of(rt.alloc(), self.refusing(), inside, outside);
-        self.explain(rt, &mut captures)
+        self.explain_both(rt, inside, outside)
     }
 
     /// The same without an outside capture.
@@ -108,8 +107,20 @@ impl<'a> Setting<'a> {
     ) -> Result<(), Stop> {
         let mut source = NoPackets::new();
         let outside = self.refusing().open(rt, Side::Outside, &[], &mut source)?;
+        self.explain_both(rt, inside, outside)
+    }
+
+    /// Explains the packets of two captures.
+    fn explain_both<R: Files + Print + Eprint + AllocGlobal, A: Source, B: Source>(
+        self,
+        rt: &R,
+        inside: Opened<'_, A>,
+        outside: Opened<'_, B>,
+    ) -> Result<(), Stop> {
         let mut captures = Captures::of(rt.alloc(), self.refusing(), inside, outside);
-        self.explain(rt, &mut captures)
+        let told = self.explain(rt, &mut captures);
+        captures.close();
+        told
     }
 
     /// Explains the packets of the captures.
