@@ -29,7 +29,7 @@ const ENDS: usize = 3;
 /// fit without growth (`room`).
 ///
 /// The flows of a row are linked in the order in which they were last used. No flow is used before the latest, so a use
-/// puts it at the end of its row, and no call looks at more than four nodes.
+/// puts it at the end of its row: a call looks at the flow, its neighbours and the ends of rows alone.
 #[derive(Drop)]
 pub(crate) struct Slots {
     flows: Vec<Option<Flow>>,
@@ -213,7 +213,7 @@ impl Slots {
         Some((place, self.get(place)?))
     }
 
-    /// The flow of the row that was used first, with its place.
+    /// The flow of the row that has not been used for longest, with its place.
     fn first_used(&self, row: u32) -> Option<(usize, Flow)>
         requires { row < 2 }
         ensures { IsFirstUsed row self.now.slots result }
@@ -221,7 +221,7 @@ impl Slots {
         self.flow_at(self.links[row as usize].after)
     }
 
-    /// When a flow of the row was last used.
+    /// When a flow of the row was last used; `None` if it has no flow.
     fn latest(&self, row: u32) -> Option<u64>
         requires { row < 2 }
         ensures { IsLatest row self.now.slots result }
