@@ -1,15 +1,14 @@
 -- What stands in slots, when one is filled or emptied.
-use Rattle.std.proofs.Common.{◌≡◌, ◌≢◌, ℕ, zero, suc, ◌+◌, ◌<◌, ◌⊎◌, inl, inr, Bool, true, false, ◌||◌, cond, List, [], ◌∷◌, ◌++◌, length, map, set, Option, Some, None, nat_lt, refl, sym, ◌∙◌, ap, arith}
+use Rattle.std.proofs.Common.{◌≡◌, ◌≢◌, ℕ, zero, suc, ◌+◌, ◌<◌, ◌⊎◌, inl, inr, Bool, true, false, ◌||◌, cond, List, [], ◌∷◌, ◌++◌, length, set, Option, Some, None, nat_lt, refl, sym, ◌∙◌, ap, arith}
 use Rattle.std.specs.Prelude.{filter, ◌==◌}
 use Rattle.std.specs.List.{list_any}
 use Rattle.std.proofs.lemmas.Bool.Decides.{nat_tests}
 use Rattle.std.proofs.lemmas.Option.{same_Some}
 use Rattle.std.proofs.lemmas.List.{length_push}
 use Rattle.std.proofs.lemmas.List.Sums.{sum_by-cons}
-use Rattle.napt_config.specs.declared.settings.Timers.{Timers}
 use Rattle.napt_rules.specs.declared.Flow.{Flow}
-use Rattle.napt_rules.specs.Prelude.{change_first, is_established, is_recent, is_live_flow}
-use Rattle.napt_binding.specs.Slots.{somes, Stands, established_time, other_time, is_recent_time, of_address, count_of}
+use Rattle.napt_rules.specs.Prelude.{change_first}
+use Rattle.napt_binding.specs.Slots.{somes, Stands, of_address, count_of}
 
 module _ {X : Type 0} where
   pub stands_within : (slots : List (Option X)) (i : ℕ) (x : X) → Stands slots i x → i < length slots
@@ -44,6 +43,12 @@ module _ {X : Type 0} where
   stands_elsewhere (z ∷ slots) (suc i) o zero y differs h = h
   stands_elsewhere (z ∷ slots) (suc i) o (suc k) y differs h = stands_elsewhere slots i o k y (λ e.
       differs (ap suc e)) h
+
+  -- one that is changed twice
+  pub set_twice : (slots : List (Option X)) (i : ℕ) (a b : Option X) → set (set slots i a) i b ≡ set slots i b
+  set_twice [] i a b = refl
+  set_twice (z ∷ slots) zero a b = refl
+  set_twice (z ∷ slots) (suc i) a b = ap (λ (l : List (Option X)). z ∷ l) (set_twice slots i a b)
 
   -- after one more slot
   pub stands_pushed : (slots : List (Option X)) (o : Option X) (k : ℕ) (y : X) → Stands (slots ++ o ∷ []) k y →
@@ -153,25 +158,6 @@ module _ {X : Type 0} where
         | false ↦ λ e. refl
       ] refl in
       grind (arith, rest, other)
-
--- TIMES
-
-pub any_live : (timers : Timers) (now : ℕ) (slots : List (Option Flow)) →
-    list_any (is_live_flow timers now) (somes slots)
-    ≡ (list_any (is_recent_time now timers.established) (map established_time slots)
-    || list_any (is_recent_time now timers.transitory) (map other_time slots))
-any_live timers now [] = refl
-any_live timers now (None ∷ slots) = any_live timers now slots
-any_live timers now (Some f ∷ slots) =
-    elim (is_established f.marks) as (λ v. (is_recent now f.last (cond v timers.established timers.transitory)
-    || list_any (is_live_flow timers now) (somes slots))
-    ≡ ((is_recent_time now timers.established (cond v (Some f.last) None)
-    || list_any (is_recent_time now timers.established) (map established_time slots))
-    || (is_recent_time now timers.transitory (cond v None (Some f.last))
-    || list_any (is_recent_time now timers.transitory) (map other_time slots)))) [
-      | true ↦ grind (arith, any_live timers now slots)
-      | false ↦ grind (arith, any_live timers now slots)
-    ]
 
 -- COUNTS
 

@@ -1,14 +1,13 @@
 -- No flow was last used after a time.
-use Rattle.std.proofs.Common.{◌≡◌, ℕ, zero, suc, ◌≤◌, true, false, cond, List, [], ◌∷◌, map, set, Option, Some, None, refl, sym, arith, subst}
-use Rattle.std.specs.Prelude.{All, IfSome, filter}
+use Rattle.std.proofs.Common.{◌≡◌, ℕ, zero, suc, ◌≤◌, true, false, cond, List, [], ◌∷◌, set, Option, Some, None, subst}
+use Rattle.std.specs.Prelude.{All, filter, slice_index_or}
 use Rattle.std.proofs.lemmas.List.Elements.{All-cons, All-head, All-tail, All-filter}
 use Rattle.std.proofs.lemmas.Option.{same_Some}
-use Rattle.napt_collections.specs.Bounds.{StandsAt, NoneAfter}
 use Rattle.napt_wire.specs.declared.Protocol.{Protocol}
 use Rattle.napt_config.specs.declared.settings.Timers.{Timers}
 use Rattle.napt_rules.specs.declared.Flow.{Flow}
-use Rattle.napt_rules.specs.Prelude.{is_established, is_live_flow, is_tcp, live_flows}
-use Rattle.napt_binding.specs.Slots.{somes, NoneUsedAfter, established_time, other_time}
+use Rattle.napt_rules.specs.Prelude.{is_live_flow, is_tcp, live_flows}
+use Rattle.napt_binding.specs.Slots.{somes, NoneUsedAfter}
 
 -- one is put in a slot
 pub used_set : (P : Flow → Type 0) (slots : List (Option Flow)) (i : ℕ) (f : Flow) → All P (somes slots) → P f →
@@ -27,42 +26,27 @@ live_flows_used timers now protocol flows h = elim (is_tcp protocol) as (λ v.
     NoneUsedAfter (cond v (filter (is_live_flow timers now) flows) flows) now)
     [ true ↦ All-filter (is_live_flow timers now) (λ (x : Flow). x.last ≤ now) flows h | false ↦ h ]
 
--- TIMES OF SLOTS
+-- none in a slot was used after the time
+pub none_used : (slots : List (Option Flow)) (now : ℕ) → NoneUsedAfter (somes slots) now → (i : ℕ) (f : Flow) →
+    slice_index_or slots i None ≡ Some f → f.last ≤ now
+none_used [] now all i f h = cc
+none_used (None ∷ slots) now all zero f h = cc
+none_used (None ∷ slots) now all (suc i) f h = none_used slots now all i f h
+none_used (Some g ∷ slots) now all zero f h =
+    let is : g ≡ f = same_Some g f h in
+    let le : g.last ≤ now = All-head (λ (x : Flow). x.last ≤ now) g (somes slots) all in
+    subst (λ (x : Flow). x.last ≤ now) is le
+none_used (Some g ∷ slots) now all (suc i) f h =
+    none_used slots now (All-tail (λ (x : Flow). x.last ≤ now) g (somes slots) all) i f h
 
--- the times of flows of a kind
-module _ (time_of : Option Flow → Option ℕ) (none : time_of None ≡ None)
-    (some : (f : Flow) (t : ℕ) → time_of (Some f) ≡ Some t → f.last ≡ t) where
-  no_later : (slots : List (Option Flow)) (now : ℕ) → NoneUsedAfter (somes slots) now → (time place : ℕ) →
-      StandsAt (map time_of slots) time place → time ≤ now
-  no_later [] now all time place h = cc
-  no_later (None ∷ slots) now all time zero h = cc
-  no_later (None ∷ slots) now all time (suc i) h = no_later slots now all time i h
-  no_later (Some f ∷ slots) now all time zero h =
-      let is : f.last ≡ time = some f time (same_Some (time_of (Some f)) (Some time) h) in
-      let le : f.last ≤ now = All-head (λ (x : Flow). x.last ≤ now) f (somes slots) all in
-      omega arith
-  no_later (Some f ∷ slots) now all time (suc i) h =
-      no_later slots now (All-tail (λ (x : Flow). x.last ≤ now) f (somes slots) all) time i h
-
-  none_later : (slots : List (Option Flow)) (slot : Option Flow) →
-      IfSome slot (λ flow. NoneUsedAfter (somes slots) flow.last) → NoneAfter (map time_of slots) (time_of slot)
-  none_later slots None all = subst (NoneAfter (map time_of slots)) (sym none) tt
-  none_later slots (Some f) all = elim (time_of (Some f)) as (λ o. time_of (Some f) ≡ o →
-      NoneAfter (map time_of slots) o) [
-        | None ↦ λ e. tt
-        | Some t ↦ λ e time place h.
-            let le : time ≤ f.last = no_later slots f.last all time place h in
-            let is : f.last ≡ t = some f t e in
-            omega arith
-      ] refl
-
-pub none_after_established : (slots : List (Option Flow)) (slot : Option Flow) →
-    IfSome slot (λ flow. NoneUsedAfter (somes slots) flow.last) →
-    NoneAfter (map established_time slots) (established_time slot)
-none_after_established = none_later established_time refl (λ f t. elim (is_established f.marks) as (λ v.
-    cond v (Some f.last) None ≡ Some t → f.last ≡ t) [ true ↦ λ e. same_Some f.last t e | false ↦ λ e. cc ])
-
-pub none_after_others : (slots : List (Option Flow)) (slot : Option Flow) →
-    IfSome slot (λ flow. NoneUsedAfter (somes slots) flow.last) → NoneAfter (map other_time slots) (other_time slot)
-none_after_others = none_later other_time refl (λ f t. elim (is_established f.marks) as (λ v.
-    cond v None (Some f.last) ≡ Some t → f.last ≡ t) [ true ↦ λ e. cc | false ↦ λ e. same_Some f.last t e ])
+-- one is taken from a slot
+pub used_cleared : (slots : List (Option Flow)) (i now : ℕ) → NoneUsedAfter (somes slots) now →
+    NoneUsedAfter (somes (set slots i None)) now
+used_cleared [] i now all = all
+used_cleared (None ∷ slots) zero now all = all
+used_cleared (Some g ∷ slots) zero now all = All-tail (λ (x : Flow). x.last ≤ now) g (somes slots) all
+used_cleared (None ∷ slots) (suc i) now all = used_cleared slots i now all
+used_cleared (Some g ∷ slots) (suc i) now all =
+    All-cons (λ (x : Flow). x.last ≤ now) g (somes (set slots i None))
+    (All-head (λ (x : Flow). x.last ≤ now) g (somes slots) all)
+    (used_cleared slots i now (All-tail (λ (x : Flow). x.last ≤ now) g (somes slots) all))

@@ -30,15 +30,25 @@ pub record AreByLastUse (flows : List Flow) (entries : List (ℕ × Flow)) : Typ
 abbrev pub Stands : {X : Type 0} → List (Option X) → ℕ → X → Type 0
 Stands slots place x = slice_get slots place ≡ Some (Some x)
 
--- when an established flow was last used
-abbrev pub established_time : Option Flow → Option ℕ
-established_time None = None
-established_time (Some flow) = cond (is_established flow.marks) (Some flow.last) None
+-- the rows of flows: 0 of those that are established, 1 of the others
+abbrev pub row_of : Flow → ℕ
+row_of flow = cond (is_established flow.marks) 0 1
 
--- when another flow was last used
-abbrev pub other_time : Option Flow → Option ℕ
-other_time None = None
-other_time (Some flow) = cond (is_established flow.marks) None (Some flow.last)
+-- what holds of each flow of the row
+abbrev pub EachOf : ℕ → List (Option Flow) → (Flow → Type 0) → Type 0
+EachOf row slots P = (place : ℕ) (flow : Flow) → Stands slots place flow → row_of flow ≡ row → P flow
+
+-- it stands at the place, and none of its row was used before it
+abbrev pub IsFirstUsed : ℕ → List (Option Flow) → Option (ℕ × Flow) → Type 0
+IsFirstUsed row slots None = EachOf row slots (λ _. ⊥)
+IsFirstUsed row slots (Some e) =
+    Stands slots e.0 e.1 × (row_of e.1 ≡ row) × EachOf row slots (λ flow. e.1.last ≤ flow.last)
+
+-- a flow of the row was last used then, and none later
+abbrev pub IsLatest : ℕ → List (Option Flow) → Option ℕ → Type 0
+IsLatest row slots None = EachOf row slots (λ _. ⊥)
+IsLatest row slots (Some time) = ((place : ℕ) × (flow : Flow) × Stands slots place flow × (row_of flow ≡ row)
+    × (flow.last ≡ time)) × EachOf row slots (λ flow. flow.last ≤ time)
 
 -- there is a time, less than so many seconds ago
 abbrev pub is_recent_time : ℕ → ℕ → Option ℕ → Bool

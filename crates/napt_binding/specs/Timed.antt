@@ -1,16 +1,40 @@
--- How slots are kept: with the times of their flows beside them.
-use Rattle.std.specs.Prelude.{◌≡◌, ◌-◌, map, min}
+-- How slots are kept: with their flows linked in rows by last use.
+use Rattle.std.specs.Prelude.{◌≡◌, ℕ, ◌+◌, ◌-◌, ◌<◌, ◌≤◌, nat_lt, Bool, ◌||◌, min, List, length, slice_index_or, Option, Some, None, is_some}
 use Rattle.std.specs.Vec.{vec_len, vec_capacity}
-use Rattle.napt_binding.specs.Slots.{established_time, other_time}
+use Rattle.napt_collections.specs.declared.links.Links.{Links}
+use Rattle.napt_collections.specs.Links.{next, prev, IsRow}
+use Rattle.napt_rules.specs.declared.Flow.{Flow}
+use Rattle.napt_binding.specs.Slots.{row_of}
 use Rattle.napt_binding.specs.SlotsShown.{Shown}
 use Rattle.napt_binding.specs.declared.flows.slots.Slots.TheInside.{Inside}
+
+-- links have 32 bits
+abbrev pub most_links : ℕ
+most_links = 4294967295
 
 abbrev pub shown : Inside → Shown
 shown it = record {
   slots = it.flows.items;
-  room = min (vec_capacity it.flows - vec_len it.flows) (min it.established.room it.others.room);
+  room = min (most_links - vec_len it.links)
+      (min (vec_capacity it.flows - vec_len it.flows) (vec_capacity it.links - vec_len it.links));
 }
 
-pub record AreTimed (it : Inside) : Type 0 where
-  pub established_are : it.established.times ≡ map established_time it.flows.items
-  pub others_are : it.others.times ≡ map other_time it.flows.items
+-- what the slot has; none past the end
+abbrev pub flow_in : List (Option Flow) → ℕ → Option Flow
+flow_in flows place = slice_index_or flows place None
+
+-- an end of a row, or the node of a slot with a flow
+abbrev pub is_linked : List (Option Flow) → ℕ → Bool
+is_linked flows node = nat_lt node 3 || is_some (flow_in flows (node - 3))
+
+-- both rows are linked as one, and each goes from the node with its number to the one after
+pub record AreTimed (flows : List (Option Flow)) (links : List Links) : Type 0 where
+  pub lengths : length links ≡ length flows + 3
+  pub fits : length links ≤ most_links
+  pub rank : ℕ → ℕ
+  pub row : IsRow 0 2 (is_linked flows) (next links) (prev links) rank
+  pub ends : (row : ℕ) → row < 2 → rank row < rank (row + 1)
+  pub within : (i : ℕ) (f : Flow) → flow_in flows i ≡ Some f →
+      (rank (row_of f) < rank (i + 3)) × (rank (i + 3) < rank (row_of f + 1))
+  pub rising : (i j : ℕ) (f g : Flow) → flow_in flows i ≡ Some f → flow_in flows j ≡ Some g → row_of f ≡ row_of g →
+      rank (i + 3) ≤ rank (j + 3) → f.last ≤ g.last

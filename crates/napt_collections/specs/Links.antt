@@ -1,18 +1,22 @@
--- Places in an order: `END` is before the first and after the last.
-use Rattle.std.specs.Prelude.{◌≡◌, ℕ, ◌<◌, ◌⊎◌, List, length, slice_index_or}
+-- Nodes in a row, each linked to the next.
+use Rattle.std.specs.Prelude.{◌≡◌, ◌≢◌, ℕ, ◌+◌, ◌≤◌, Bool, true, List, slice_index_or}
 use Rattle.napt_collections.specs.declared.links.Links.{Links}
-use Rattle.napt_collections.specs.declared.links.TheConstants.{END}
 
--- past the end of the list are the links of `END`
-abbrev pub links_at : List Links → Links → ℕ → Links
-links_at links ends place = slice_index_or links place ends
+abbrev pub no_links : Links
+no_links = record { before = 0; after = 0 }
 
-abbrev pub next : List Links → Links → ℕ → ℕ
-next links ends place = (links_at links ends place).after
+abbrev pub next : List Links → ℕ → ℕ
+next links node = (slice_index_or links node no_links).after
 
-abbrev pub prev : List Links → Links → ℕ → ℕ
-prev links ends place = (links_at links ends place).before
+abbrev pub prev : List Links → ℕ → ℕ
+prev links node = (slice_index_or links node no_links).before
 
--- a place, or `END`
-abbrev pub IsNode : List Links → ℕ → Type 0
-IsNode links place = (place < length links) ⊎ (place ≡ END)
+-- the linked nodes are a row from the first to the last, in which ranks tell how far along each is
+pub record IsRow (first last : ℕ) (linked : ℕ → Bool) (next prev rank : ℕ → ℕ) : Type 0 where
+  pub first_linked : linked first ≡ true
+  pub last_linked : linked last ≡ true
+  pub lowest : (x : ℕ) → linked x ≡ true → rank first ≤ rank x
+  pub highest : (x : ℕ) → linked x ≡ true → rank x ≤ rank last
+  pub onward : (x : ℕ) → linked x ≡ true → x ≢ last → (linked (next x) ≡ true) × (rank (next x) ≡ rank x + 1)
+  pub back : (x : ℕ) → linked x ≡ true → x ≢ first → (linked (prev x) ≡ true) × (rank (prev x) + 1 ≡ rank x)
+  pub apart : (x y : ℕ) → linked x ≡ true → linked y ≡ true → rank x ≡ rank y → x ≡ y

@@ -20,6 +20,8 @@ mod due;
 #[cfg(test)]
 mod legs;
 #[cfg(test)]
+mod links;
+#[cfg(test)]
 mod messages;
 #[cfg(test)]
 mod numbers;
@@ -35,7 +37,5 @@ mod refused_configurations;
 mod remotes;
 #[cfg(test)]
 mod sizes;
-#[cfg(test)]
-mod times;
 #[cfg(test)]
 mod twins;

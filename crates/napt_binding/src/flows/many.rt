@@ -49,16 +49,16 @@ fn by_last_use(alloc: Global, flows: &[Flow]) -> Result<Vec<(usize, Flow)>, Allo
 impl Many {
     ghost use Rattle.napt_binding.specs.Many.{IsMany, HasRoom, place_at};
 
-    /// No flows. It takes no memory.
-    fn new(alloc: Global) -> Many
-        ensures many { IsMany result }
-        ensures none { result.slots.slots ≡ [] }
+    /// No flows.
+    fn new(alloc: Global) -> Result<Many, AllocError>
+        ensures many { IfOk result IsMany }
+        ensures none { IfOk result (λ many. many.slots.slots ≡ []) }
     {
-        Many {
-            slots: Slots::new(alloc),
+        Ok(Many {
+            slots: Slots::new(alloc)?,
             places: HashMap::new(alloc),
             addresses: Addresses::new(alloc),
-        }
+        })
     }
 
     /// Makes room for one more flow.
@@ -107,7 +107,7 @@ impl Many {
             return;
         };
         let slots = &mut self.slots;
-        slots.set(place, None);
+        slots.clear(place);
         let remote = flow.remote;
         self.places.remove(&(remote.address, remote.number));
         let addresses = &mut self.addresses;
@@ -124,7 +124,7 @@ impl Many {
         ensures slots { self.new.slots.slots ≡ slice_set self.old.slots.slots place (Some flow) }
     {
         let slots = &mut self.slots;
-        slots.set(place, Some(flow));
+        slots.change(place, flow);
     }
 
     /// Removes a dead TCP flow; returns whether there was one.
@@ -238,7 +238,7 @@ impl Many {
         ensures flows { IfOk result (λ many. somes many.slots.slots ≡ flows.now) }
         ensures none_empty { IfOk result (λ many. length many.slots.slots ≡ length flows.now) }
     {
-        let mut many = Many::new(alloc);
+        let mut many = Many::new(alloc)?;
         for flow in flows {
             many.reserve()?;
             many.put(Flow { last: 0, ..*flow });

@@ -1,31 +1,40 @@
-//! The flows of a binding in slots, with the times of their last use at hand.
+//! The flows of a binding in slots, and in rows by their last use.
 
-ghost use Rattle.std.specs.Prelude.{◌≡◌, ◌<◌, ◌≤◌, ◌+◌, ◌++◌, ◌^◌, ℕ, [], ◌∷◌, Some, true, false, nat_lt, length, slice_get, slice_set, filter, OnOk, IfSome, IfNone};
+ghost use Rattle.std.specs.Prelude.{◌≡◌, ◌≢◌, ◌<◌, ◌≤◌, ◌+◌, ◌++◌, ◌^◌, ℕ, [], ◌∷◌, Some, None, true, false, nat_lt, length, slice_get, slice_set, filter, OnOk, IfOk, IfSome, IfNone};
 ghost use Rattle.std.specs.List.{list_any};
 ghost use Rattle.napt_rules.specs.declared.Flow.{Flow};
 ghost use Rattle.napt_rules.specs.Life as life;
 ghost use Rattle.napt_binding.specs.Ends.{last_end};
 ghost use Rattle.napt_binding.specs.Slots as slots;
-ghost use Rattle.napt_binding.specs.Slots.{somes, Stands, NoneUsedAfter, is_recent_time};
-ghost use Rattle.napt_collections.specs.Bounds.{NoneAfter};
+ghost use Rattle.napt_binding.specs.Slots.{somes, Stands, NoneUsedAfter, EachOf, IsFirstUsed, IsLatest, is_recent_time};
 
 use crate::idle_timers::IdleTimers;
 use crate::life::{end_after, is_recent, last_moment};
 use crate::session::is_established;
-use napt_collections::Times;
+use napt_collections::{Links, put_before, take_out};
 use napt_rules::Flow;
 use std::alloc::{AllocError, Global};
 use std::marker::Model;
 
+/// The row of the established flows: it begins after node 0 and ends before node 1.
+const ESTABLISHED: u32 = 0;
+
+/// The row of the other flows: it begins after node 1 and ends before node 2.
+const OTHERS: u32 = 1;
+
+/// How many nodes are no slot's: the ends of the rows.
+const ENDS: usize = 3;
+
 /// A slot for each flow, oldest first; a removed flow leaves its slot empty. Contracts see the slots, and how many more
 /// fit without growth (`room`).
+///
+/// The flows of a row are linked in the order in which they were last used. No flow is used before the latest, so a use
+/// puts it at the end of its row: a call looks at the flow, its neighbours and the ends of rows alone.
 #[derive(Drop)]
 pub(crate) struct Slots {
     flows: Vec<Option<Flow>>,
-    /// When each established flow was last used.
-    established: Times,
-    /// When each other flow was.
-    others: Times,
+    /// Those of the ends of the rows, and then those of each slot with a flow.
+    links: Vec<Links>,
 }
 
 impl Model for Slots {
@@ -37,107 +46,80 @@ impl Model for Slots {
 
     ghost view = { shown };
 
-    ghost invariant = { AreTimed };
+    ghost invariant = { λ it. AreTimed it.flows.items it.links.items };
 }
 
-/// When the flow was last used, if it is established.
-fn established_time(slot: Option<Flow>) -> Option<u64>
-    ensures { result ≡ slots.established_time slot }
+/// The row of the flow.
+fn row_of(flow: Flow) -> u32
+    ensures { result ≡ slots.row_of flow }
 {
-    match slot {
-        Some(flow) if is_established(flow.marks) => Some(flow.last),
-        _ => None,
+    if is_established(flow.marks) {
+        ESTABLISHED
+    } else {
+        OTHERS
     }
 }
 
-/// When the flow was last used, if it is not established.
-fn other_time(slot: Option<Flow>) -> Option<u64>
-    ensures { result ≡ slots.other_time slot }
-{
-    match slot {
-        Some(flow) if !is_established(flow.marks) => Some(flow.last),
-        _ => None,
-    }
-}
-
-/// Changes the time at a place from `before`, if it is another one.
-fn set_time(times: &mut Times, place: usize, before: Option<u64>, time: Option<u64>)
-    requires before { slice_get times.old.times place ≡ Some before }
-    requires rising { NoneAfter times.old.times time }
-    ensures times { times.new.times ≡ slice_set times.old.times place time }
-    ensures room { times.new.room ≡ times.old.room }
-{
-    if before != time {
-        times.set(place, time);
-    }
-}
-
-/// Whether one of the times is less than `seconds` ago.
-fn is_some_recent(times: &Times, now: u64, seconds: u64) -> bool
+/// Whether there is a time, less than `seconds` ago.
+fn is_some_recent(latest: Option<u64>, now: u64, seconds: u64) -> bool
     requires { seconds ≤ 1_000_000_000 }
-    ensures { result ≡ list_any (is_recent_time now seconds) times.now.times }
+    ensures { result ≡ is_recent_time now seconds latest }
 {
-    match times.latest() {
+    match latest {
         Some(time) => is_recent(now, time, seconds),
         None => false,
     }
 }
 
-/// A place whose time is not less than `seconds` ago.
-fn outlived_place(times: &Times, now: u64, seconds: u64) -> Option<usize>
-    requires { seconds ≤ 1_000_000_000 }
-    ensures some { IfSome result (λ place. (time : ℕ) × Stands times.now.times place time
-        × (life.is_recent now time seconds ≡ false)) }
-    ensures none { IfNone result ((place time : ℕ) → Stands times.now.times place time →
-        life.is_recent now time seconds ≡ true) }
-{
-    let (time, place) = times.earliest()?;
-    if is_recent(now, time, seconds) {
-        None
-    } else {
-        Some(place)
-    }
-}
-
-/// The last moment at which one of the times is less than `seconds` ago, or the greatest time if that is earlier; at least
-/// `now`.
-fn last_moment_of(times: &Times, now: u64, seconds: u64) -> u64
+/// The last moment at which the time, if any, is less than `seconds` ago, or the greatest time if that is earlier; at
+/// least `now`.
+fn last_moment_of(latest: Option<u64>, now: u64, seconds: u64) -> u64
     requires some { 0 < seconds }
     requires few { seconds ≤ 1_000_000_000 }
     ensures later { now ≤ result }
-    ensures lives { (t : ℕ) → now < t → t ≤ result →
-        list_any (is_recent_time t seconds) times.now.times ≡ true }
-    ensures far { (t : ℕ) → t < 2 ^ 64 → list_any (is_recent_time t seconds) times.now.times
-        ≡ true → t ≤ result }
+    ensures lives { (t : ℕ) → now < t → t ≤ result → is_recent_time t seconds latest ≡ true }
+    ensures far { (t : ℕ) → t < 2 ^ 64 → is_recent_time t seconds latest ≡ true → t ≤ result }
 {
-    match times.latest() {
+    match latest {
         Some(time) => last_moment(time, seconds).max(now),
         None => now,
     }
 }
 
-/// When the latest of the times is `seconds` ago, in ns; 0 if there is none.
-fn end_of_times(times: &Times, seconds: u64) -> u128
+/// When the time, if any, is `seconds` ago, in ns; 0 if there is none.
+fn end_of_time(latest: Option<u64>, seconds: u64) -> u128
     requires some { 0 < seconds }
     requires few { seconds ≤ 1_000_000_000 }
-    ensures { (t : ℕ) → list_any (is_recent_time t seconds) times.now.times ≡ nat_lt t result }
+    ensures { (t : ℕ) → is_recent_time t seconds latest ≡ nat_lt t result }
 {
-    match times.latest() {
+    match latest {
         Some(time) => end_after(time, seconds),
         None => 0,
     }
 }
 
 impl Slots {
-    /// No slots. It takes no memory.
-    pub(crate) fn new(alloc: Global) -> Slots
-        ensures { result.slots ≡ [] }
+    /// No slots.
+    pub(crate) fn new(alloc: Global) -> Result<Slots, AllocError>
+        ensures { IfOk result (λ made. made.slots ≡ []) }
     {
-        Slots {
+        let mut links = Vec::new(alloc);
+        links.push(Links {
+            before: 0,
+            after: 1,
+        })?;
+        links.push(Links {
+            before: 0,
+            after: 2,
+        })?;
+        links.push(Links {
+            before: 1,
+            after: 2,
+        })?;
+        Ok(Slots {
             flows: Vec::new(alloc),
-            established: Times::new(alloc),
-            others: Times::new(alloc),
-        }
+            links,
+        })
     }
 
     /// How many slots there are.
@@ -155,16 +137,16 @@ impl Slots {
         *self.flows.get(place)?
     }
 
-    /// Makes room for one more slot.
+    /// Makes room for one more slot; `AllocError` also if there are 2^32 - 4.
     pub(crate) fn reserve(&mut self) -> Result<(), AllocError>
         ensures slots { self.new.slots ≡ self.old.slots }
         ensures room { OnOk result (0 < self.new.room) }
     {
+        if self.links.len() >= u32::MAX as usize {
+            return Err(AllocError);
+        }
         self.flows.reserve(1)?;
-        let established = &mut self.established;
-        established.reserve()?;
-        let others = &mut self.others;
-        others.reserve()
+        self.links.reserve(1)
     }
 
     /// Appends a slot with the flow, for which there is room; returns its place.
@@ -177,34 +159,91 @@ impl Slots {
     {
         let place = self.flows.len();
         self.flows.push_reserved(Some(flow));
-        let established = &mut self.established;
-        established.put(established_time(Some(flow)));
-        let others = &mut self.others;
-        others.put(other_time(Some(flow)));
+        self.links.push_reserved(Links {
+            before: 0,
+            after: 0,
+        });
+        put_before(&mut self.links, (place + ENDS) as u32, row_of(flow) + 1);
         place
     }
 
-    /// Fills or empties a slot. It takes no memory.
-    pub(crate) fn set(&mut self, place: usize, slot: Option<Flow>)
-        requires within { place < length self.old.slots }
-        requires rising { IfSome slot (λ flow. NoneUsedAfter (somes self.old.slots) flow.last) }
-        ensures slots { self.new.slots ≡ slice_set self.old.slots place slot }
+    /// Empties a slot.
+    pub(crate) fn clear(&mut self, place: usize)
+        requires { place < length self.old.slots }
+        ensures slots { self.new.slots ≡ slice_set self.old.slots place None }
         ensures room { self.new.room ≡ self.old.room }
     {
-        let before = self.flows[place];
-        self.flows[place] = slot;
-        set_time(
-            &mut self.established,
-            place,
-            established_time(before),
-            established_time(slot),
-        );
-        set_time(
-            &mut self.others,
-            place,
-            other_time(before),
-            other_time(slot),
-        );
+        if self.flows[place].is_none() {
+            return;
+        }
+        take_out(&mut self.links, (place + ENDS) as u32);
+        self.flows[place] = None;
+    }
+
+    /// Fills an empty slot.
+    fn fill(&mut self, place: usize, flow: Flow)
+        requires empty { slice_get self.old.slots place ≡ Some None }
+        requires rising { NoneUsedAfter (somes self.old.slots) flow.last }
+        ensures slots { self.new.slots ≡ slice_set self.old.slots place (Some flow) }
+        ensures room { self.new.room ≡ self.old.room }
+    {
+        put_before(&mut self.links, (place + ENDS) as u32, row_of(flow) + 1);
+        self.flows[place] = Some(flow);
+    }
+
+    /// Changes the flow in a slot.
+    pub(crate) fn change(&mut self, place: usize, flow: Flow)
+        requires within { place < length self.old.slots }
+        requires rising { NoneUsedAfter (somes self.old.slots) flow.last }
+        ensures slots { self.new.slots ≡ slice_set self.old.slots place (Some flow) }
+        ensures room { self.new.room ≡ self.old.room }
+    {
+        self.clear(place);
+        self.fill(place, flow);
+    }
+
+    /// The flow at a node, with its place; none at an end of a row.
+    fn flow_at(&self, node: u32) -> Option<(usize, Flow)>
+        ensures some { IfSome result (λ found. Stands self.now.slots found.0 found.1
+            × (found.0 + 3 ≡ node)) }
+        ensures none { IfNone result ((place : ℕ) (flow : Flow) →
+            Stands self.now.slots place flow → place + 3 ≢ node) }
+    {
+        let place = (node as usize).checked_sub(ENDS)?;
+        Some((place, self.get(place)?))
+    }
+
+    /// The flow of the row that has not been used for longest, with its place.
+    fn first_used(&self, row: u32) -> Option<(usize, Flow)>
+        requires { row < 2 }
+        ensures { IsFirstUsed row self.now.slots result }
+    {
+        self.flow_at(self.links[row as usize].after)
+    }
+
+    /// When a flow of the row was last used; `None` if it has no flow.
+    fn latest(&self, row: u32) -> Option<u64>
+        requires { row < 2 }
+        ensures { IsLatest row self.now.slots result }
+    {
+        Some(self.flow_at(self.links[row as usize + 1].before)?.1.last)
+    }
+
+    /// The place of a flow of the row that was not used less than `seconds` ago.
+    fn outlived_place(&self, row: u32, now: u64, seconds: u64) -> Option<usize>
+        requires row { row < 2 }
+        requires few { seconds ≤ 1_000_000_000 }
+        ensures some { IfSome result (λ place. (flow : Flow) × Stands self.now.slots place flow
+            × (slots.row_of flow ≡ row) × (life.is_recent now flow.last seconds ≡ false)) }
+        ensures none { IfNone result (EachOf row self.now.slots
+            (λ flow. life.is_recent now flow.last seconds ≡ true)) }
+    {
+        let (place, flow) = self.first_used(row)?;
+        if is_recent(now, flow.last, seconds) {
+            None
+        } else {
+            Some(place)
+        }
     }
 
     /// A place of a dead TCP flow. It takes two looks.
@@ -214,9 +253,9 @@ impl Slots {
         ensures none { IfNone result ((place : ℕ) (flow : Flow) → Stands self.now.slots place flow →
             life.is_live_flow timers now flow ≡ true) }
     {
-        match outlived_place(&self.established, now, timers.seconds.established) {
+        match self.outlived_place(ESTABLISHED, now, timers.seconds.established) {
             Some(place) => Some(place),
-            None => outlived_place(&self.others, now, timers.seconds.transitory),
+            None => self.outlived_place(OTHERS, now, timers.seconds.transitory),
         }
     }
 
@@ -224,12 +263,12 @@ impl Slots {
     pub(crate) fn has_live(&self, timers: IdleTimers, now: u64) -> bool
         ensures { result ≡ list_any (life.is_live_flow timers now) (somes self.now.slots) }
     {
-        is_some_recent(&self.established, now, timers.seconds.established)
-            || is_some_recent(&self.others, now, timers.seconds.transitory)
+        is_some_recent(self.latest(ESTABLISHED), now, timers.seconds.established)
+            || is_some_recent(self.latest(OTHERS), now, timers.seconds.transitory)
     }
 
-    /// The last moment at which one of these TCP flows is live, or the greatest time if that is earlier; one is live now.
-    /// It takes two looks.
+    /// The last moment at which one of these TCP flows is live, or the greatest time if that is earlier; one is live
+    /// now. It takes two looks.
     pub(crate) fn last_moment(&self, timers: IdleTimers, now: u64) -> u64
         requires live { list_any (life.is_live_flow timers now) (somes self.now.slots) ≡ true }
         ensures later { now ≤ result }
@@ -238,15 +277,15 @@ impl Slots {
         ensures far { (t : ℕ) → t < 2 ^ 64 → list_any (life.is_live_flow timers t)
             (somes self.now.slots) ≡ true → t ≤ result }
     {
-        let established = last_moment_of(&self.established, now, timers.seconds.established);
-        established.max(last_moment_of(&self.others, now, timers.seconds.transitory))
+        let established = last_moment_of(self.latest(ESTABLISHED), now, timers.seconds.established);
+        established.max(last_moment_of(self.latest(OTHERS), now, timers.seconds.transitory))
     }
 
     /// When the last of the TCP flows ends, in ns; 0 if there is none. It takes two looks.
     pub(crate) fn last_end(&self, timers: IdleTimers) -> u128
         ensures { result ≡ last_end timers (somes self.now.slots) }
     {
-        let established = end_of_times(&self.established, timers.seconds.established);
-        established.max(end_of_times(&self.others, timers.seconds.transitory))
+        let established = end_of_time(self.latest(ESTABLISHED), timers.seconds.established);
+        established.max(end_of_time(self.latest(OTHERS), timers.seconds.transitory))
     }
 }

@@ -9,13 +9,13 @@ use Rattle.napt_binding.proofs.flows.slots.Slots.last_end.Goals as goal
 
 pub returns : goal.returns
 returns c =
-    rw (← c.self.view_is, ← c.timers.view_is)
-    (c.max.ensures ∙ max_before c.end_of_times-established.result c.end_of_times.result
-    (λ t. list_any (is_recent_time t c.timers.inside.seconds.established) c.self.inside.established.times)
-    (λ t. list_any (is_recent_time t c.timers.inside.seconds.transitory) c.self.inside.others.times)
-    (λ t. list_any (is_live_flow c.timers.inside.seconds t) (somes c.self.inside.flows.items))
-    (last_end c.timers.inside.seconds (somes c.self.inside.flows.items))
-    c.end_of_times-established.ensures c.end_of_times.ensures
-    (λ t. live_is c.timers.inside.seconds t c.self.inside.flows.items c.self.inside.established.times
-    c.self.inside.others.times c.self.invariant.established_are c.self.invariant.others_are)
-    (λ t. flows_before c.timers.inside.seconds c.timers.invariant t (somes c.self.inside.flows.items)))
+    let timers = c.timers.inside.seconds in
+    let slots = c.args.self.now.slots in
+    rw (← c.timers.view_is)
+    (c.max.ensures ∙ max_before c.end_of_time-established.result c.end_of_time.result
+    (λ t. is_recent_time t timers.established c.latest.result)
+    (λ t. is_recent_time t timers.transitory c.latest-2.result)
+    (λ t. list_any (is_live_flow timers t) (somes slots)) (last_end timers (somes slots))
+    c.end_of_time-established.ensures c.end_of_time.ensures
+    (λ t. live_is timers t slots c.latest.result c.latest-2.result c.latest.ensures c.latest-2.ensures)
+    (λ t. flows_before timers c.timers.invariant t (somes slots)))

@@ -4,31 +4,27 @@ use Rattle.std.proofs.lemmas.Bool.{or_cases}
 use Rattle.napt_config.specs.declared.settings.Timers.{Timers}
 use Rattle.napt_rules.specs.Life as life
 use Rattle.napt_binding.specs.Slots.{somes}
-use Rattle.napt_binding.specs.SlotsShown.{Shown}
 use Rattle.napt_binding.proofs.Timed.{live_is, lives_until}
 use Rattle.napt_binding.proofs.flows.slots.Slots.last_moment.Goals as goal
 
 pub returns-clause-lives : goal.returns-clause-lives
 returns-clause-lives c t within =
     let m = c.max.ensures in
-    let live : list_any (life.is_live_flow c.timers.inside.seconds c.args.now) (somes c.self.inside.flows.items)
-    ≡ true =
-    ap (λ (x : Timers). list_any (life.is_live_flow x c.args.now) (somes c.self.inside.flows.items)) c.timers.view_is
-    ∙ (ap (λ (s : Shown). list_any (life.is_live_flow c.args.timers c.args.now) (somes s.slots)) c.self.view_is
-    ∙ c.requires.live) in
-    rw (← c.self.view_is, ← c.timers.view_is)
-    (lives_until c.timers.inside.seconds c.args.now c.self.inside.flows.items c.self.inside.established.times
-    c.self.inside.others.times c.last_moment_of-established.result c.last_moment_of.result
-    c.self.invariant.established_are c.self.invariant.others_are live c.last_moment_of-established.ensures.lives
-    c.last_moment_of.ensures.lives t (λ past. omega arith))
+    let slots = c.args.self.now.slots in
+    let live : list_any (life.is_live_flow c.timers.inside.seconds c.args.now) (somes slots) ≡ true =
+    ap (λ (x : Timers). list_any (life.is_live_flow x c.args.now) (somes slots)) c.timers.view_is ∙ c.requires.live in
+    rw (← c.timers.view_is)
+    (lives_until c.timers.inside.seconds c.args.now slots c.latest.result c.latest-2.result
+    c.last_moment_of-established.result c.last_moment_of.result c.latest.ensures c.latest-2.ensures live
+    c.last_moment_of-established.ensures.lives c.last_moment_of.ensures.lives t (λ past. omega arith))
 
 pub returns-clause-far : goal.returns-clause-far
 returns-clause-far c t small h =
     let m = c.max.ensures in
-    let shown : list_any (life.is_live_flow c.timers.inside.seconds t) (somes c.self.inside.flows.items) ≡ true =
-    ap (λ (x : Timers). list_any (life.is_live_flow x t) (somes c.self.inside.flows.items)) c.timers.view_is
-    ∙ (ap (λ (s : Shown). list_any (life.is_live_flow c.args.timers t) (somes s.slots)) c.self.view_is ∙ h) in
+    let slots = c.args.self.now.slots in
+    let shown : list_any (life.is_live_flow c.timers.inside.seconds t) (somes slots) ≡ true =
+    ap (λ (x : Timers). list_any (life.is_live_flow x t) (somes slots)) c.timers.view_is ∙ h in
     ⊎_elim (λ here. let within = c.last_moment_of-established.ensures.far t small here in omega arith)
     (λ here. let within = c.last_moment_of.ensures.far t small here in omega arith)
-    (or_cases _ _ (sym (live_is c.timers.inside.seconds t c.self.inside.flows.items c.self.inside.established.times
-    c.self.inside.others.times c.self.invariant.established_are c.self.invariant.others_are) ∙ shown))
+    (or_cases _ _ (sym (live_is c.timers.inside.seconds t slots c.latest.result c.latest-2.result c.latest.ensures
+    c.latest-2.ensures) ∙ shown))

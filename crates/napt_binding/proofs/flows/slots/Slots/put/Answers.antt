@@ -1,15 +1,31 @@
-use Rattle.std.proofs.Common.{Some, sym, subst}
+use Rattle.std.proofs.Common.{◌≡◌, ◌+◌, ◌<◌, length, arith, sym, subst}
+use Rattle.std.proofs.lemmas.List.{with_items_is, length_push}
+use Rattle.napt_collections.specs.Links.{no_links}
 use Rattle.napt_binding.specs.Slots.{somes, NoneUsedAfter}
 use Rattle.napt_binding.specs.SlotsShown.{Shown}
-use Rattle.napt_binding.proofs.Used.{none_after_established, none_after_others}
+use Rattle.napt_binding.proofs.Timed.{row_low, longer_within, pushed}
 use Rattle.napt_binding.proofs.flows.slots.Slots.put.Goals as goal
 
-pub put-requires-clause-rising : goal.put-requires-clause-rising
-put-requires-clause-rising c = rw (c.self.invariant.established_are, c.established_time.ensures)
-    (none_after_established c.self.inside.flows.items (Some c.args.flow)
-    (subst (λ (s : Shown). NoneUsedAfter (somes s.slots) c.args.flow.last) (sym c.self.view_is) c.requires.rising))
+pub put_before-requires-clause-before : goal.put_before-requires-clause-before
+put_before-requires-clause-before c = rw (c.deref_mut.ensures.value, c.push_reserved-2.ensures.items, c.row_of.ensures)
+    (longer_within c.self.inside.flows.items c.self.inside.links.items c.self.invariant _ (row_low c.args.flow))
 
-pub put-requires-2-clause-rising : goal.put-requires-2-clause-rising
-put-requires-2-clause-rising c = rw (c.self.invariant.others_are, c.other_time.ensures)
-    (none_after_others c.self.inside.flows.items (Some c.args.flow)
-    (subst (λ (s : Shown). NoneUsedAfter (somes s.slots) c.args.flow.last) (sym c.self.view_is) c.requires.rising))
+pub invariant_of-self : goal.invariant_of-self
+invariant_of-self c =
+    let flows = c.self.inside.flows.items in
+    let links = c.self.inside.links.items in
+    let place : c.len-place.result ≡ length flows = omega (arith, c.len-place.ensures, c.self.inside.flows.ok.0) in
+    let kept : length c.put_before.new.links ≡ c.push_reserved-2.new.self.len =
+    omega (arith, c.put_before.auto.links, c.deref_mut.ensures.len) in
+    let more : length c.push_reserved-2.new.self.items ≡ length links + 1 =
+    rw c.push_reserved-2.ensures.items (length_push links no_links) in
+    let room = subst (λ (s : Shown). 0 < s.room) (sym c.self.view_is) c.requires.room in
+    rw (with_items_is c.push_reserved-2.new.self c.put_before.new.links kept, c.push_reserved.ensures.items)
+    (pushed flows links c.self.invariant c.put_before.new.links c.args.flow
+    (subst (λ (s : Shown). NoneUsedAfter (somes s.slots) c.args.flow.last) (sym c.self.view_is) c.requires.rising)
+    (omega (arith, kept, c.push_reserved-2.new.self.ok.0, more, c.self.invariant.lengths))
+    (omega (arith, kept, c.push_reserved-2.new.self.ok.0, more, c.self.inside.links.ok.0, room))
+    (rw (c.deref_mut.ensures.value, c.push_reserved-2.ensures.items, c.row_of.ensures, place) at
+    c.put_before.ensures.nexts)
+    (rw (c.deref_mut.ensures.value, c.push_reserved-2.ensures.items, c.row_of.ensures, place) at
+    c.put_before.ensures.prevs))
