@@ -92,6 +92,29 @@ fn after_one(alloc: Global, timers: IdleTimers, sent: Sent, flow: Flow) -> Resul
     Ok(Kept::Few(flows))
 }
 
+/// These flows, no two of one remote, get maps, and that of the packet's remote is used. Out of line, since a function
+/// pays at its entry for all its locals.
+#[inline(never)]
+fn with_maps(
+    alloc: Global,
+    timers: IdleTimers,
+    sent: Sent,
+    flows: &[Flow],
+) -> Result<Kept, AllocError>
+    requires distinct { AreDistinct flows.now }
+    requires rising { NoneUsedAfter flows.now sent.now }
+    ensures kept { IfOk result IsKept }
+    ensures flows { IfOk result (λ kept. packets.standing_at timers sent (flows_of kept)
+        ≡ packets.used_by sent (packets.standing_at timers sent flows.now)) }
+    ensures live { IfOk result (λ kept.
+        list_any (life.is_live_flow timers sent.now) (flows_of kept) ≡ true) }
+    ensures maps { IfOk result (λ kept. storage.has_maps kept ≡ true) }
+{
+    let mut many = Many::of(alloc, flows)?;
+    many.use_flow(alloc, timers, sent)?;
+    Ok(Kept::Many(Box::new(alloc, many)?))
+}
+
 /// Uses the flow of the packet's remote; if none is live, begins one. If memory is refused nothing changes. Few flows
 /// get maps if they are full, and only then.
 fn use_kept(
@@ -125,9 +148,7 @@ fn use_kept(
             if !is_full(flows, timers, sent) {
                 return few::use_flow(flows, timers, sent);
             }
-            let mut many = Many::of(alloc, flows)?;
-            many.use_flow(alloc, timers, sent)?;
-            *kept = Kept::Many(Box::new(alloc, many)?);
+            *kept = with_maps(alloc, timers, sent, flows)?;
             return Ok(());
         }
         Kept::Many(many) => return many.use_flow(alloc, timers, sent),

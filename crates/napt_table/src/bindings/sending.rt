@@ -196,6 +196,7 @@ impl Bindings {
 
     /// Sends a packet out: returns the number of its binding, or of a new one if it has none; else `OverQuota` or
     /// `NoPort`. If memory is refused nothing that is held changes.
+    #[inline(never)]
     pub(crate) fn send(
         &mut self,
         alloc: Global,
