@@ -1,6 +1,6 @@
 -- What a whole run is told to come to, once its report is written or nobody wants one.
 use Rattle.std.specs.Result.{result_and}
-use Rattle.std.proofs.Common.{◌≡◌, ◌⊎◌, ℕ, ◌+◌, Bool, true, false, inl, append-nil, List, [], Option, Result, Ok, Err, IfErr, IfOk, OnOk, refl, sym, ◌∙◌, ap, subst}
+use Rattle.std.proofs.Common.{◌≡◌, ◌≢◌, ◌⊎◌, ℕ, ◌+◌, Bool, true, false, inl, append-nil, List, [], Option, Result, Ok, Err, IfErr, IfOk, OnOk, refl, sym, ◌∙◌, ap, subst}
 use Rattle.napt_wire.specs.declared.Side.TheVariants as sides
 use Rattle.napt_capture.specs.declared.device.Sink.{Ghosts}
 use Rattle.napt_config.specs.Rules.{Rules}
@@ -97,6 +97,12 @@ pub gate_ends : (open_gate : Bool) (told : Result Totals Fault) (result : Result
 gate_ends open_gate = at_end (λ told result. IfErr told (IsStopFault open_gate) → open_gate ≡ true →
     IfErr result (λ fault. tells_shut_gate fault ≡ false)) (λ totals p is. tt) (λ totals fault p is. refl)
     (λ totals p is. refl) (λ fault p is. gate_of open_gate fault is p)
+
+pub few_ends : (open_gate : Bool) (told : Result Totals Fault) (result : Result (Unit {0}) Fault) → Ends told result →
+    IfErr told (IsStopFault open_gate) → result ≢ Err (Run faults.TooMany)
+few_ends open_gate = at_end (λ told result. IfErr told (IsStopFault open_gate) → result ≢ Err (Run faults.TooMany))
+    (λ totals p is. cc) (λ totals fault p is. cc) (λ totals p is. cc)
+    (λ fault p is. subst (λ (r : Result (Unit {0}) Fault). IfErr r (IsStopFault open_gate)) is p)
 
 not_stopped : (fault : Fault) → ((let r : Result (Unit {0}) Fault = Err fault in IsOfRun r) → ⊥) →
     (let r : Result Totals Fault = Err fault in IsOfRun r) → ⊥

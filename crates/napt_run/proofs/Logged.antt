@@ -350,7 +350,7 @@ module _ {L : Type 0} {S : Ghosts L} (rules : Rules) (inside outside : Option (L
           gets = record {
             gets = IfHeld-map (λ all. all ≡ record { arrivals = s.inputs; end = Ok totals.cuts })
                 (λ all. HasLog rules all (S.contents old.output.device.now) (S.contents last.output.device.now))
-                inside outside (λ all is. rw is (refl, grown.appended)) s.all;
+                inside outside (λ all is. rw is (refl, p.on.at.few, grown.appended)) s.all;
             counts = grown.kept;
             settled = λ done. p.flushed;
           };

@@ -161,7 +161,7 @@ module _ (rules : Rules) (inside outside : Option (List ℕ)) (old new : Option 
           inputs = all.arrivals;
           front = ([], append-nil all.arrivals);
           within = omega arith;
-          appended = subst (λ (l : Text). Appends old new l) (sym (take_whole (log_text rules all.arrivals))) has.1;
+          appended = subst (λ (l : Text). Appends old new l) (sym (take_whole (log_text rules all.arrivals))) has.2;
         },
       ))
 

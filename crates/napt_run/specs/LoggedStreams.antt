@@ -1,5 +1,5 @@
 -- What a run with a log leaves over captures that are read as they arrive.
-use Rattle.std.specs.Prelude.{◌≡◌, ◌⊎◌, ℕ, ◌+◌, ◌-◌, ◌^◌, ◌≤◌, min, List, length, take, Bool, false, Option, Result, Ok, Err, IfErr, IfOk, IsOk}
+use Rattle.std.specs.Prelude.{◌≡◌, ◌⊎◌, ℕ, ◌+◌, ◌-◌, ◌^◌, ◌≤◌, ◌<◌, min, List, length, take, Bool, false, Option, Result, Ok, Err, IfErr, IfOk, IsOk}
 use Rattle.std.specs.Io.KnownBytes.{Appends}
 use Rattle.napt_wire.specs.declared.Side.{Side}
 use Rattle.napt_capture.specs.declared.device.Sink.{Ghosts}
@@ -41,9 +41,10 @@ DeviceGetsOr S rules which inside outside result old new =
 
 -- THE LOG
 
--- all of it
+-- all of it, and there are no more inputs than a run can count
 abbrev pub HasLog : Rules → Inputs → Option (List ℕ) → Option (List ℕ) → Type 0
-HasLog rules all old new = IsOk all.end × Appends old new (log_text rules all.arrivals)
+HasLog rules all old new =
+    IsOk all.end × (length all.arrivals < 2 ^ 32) × Appends old new (log_text rules all.arrivals)
 
 -- the rows of the inputs before a fault of a capture, without those of what lives at the end
 abbrev pub HasRows : Rules → Side → CaptureFault → Inputs → Option (List ℕ) → Option (List ℕ) → Type 0

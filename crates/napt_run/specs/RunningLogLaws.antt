@@ -1,5 +1,5 @@
 -- What is shown to a log in two parts is shown as one.
-use Rattle.std.specs.Prelude.{List, [], ◌++◌}
+use Rattle.std.specs.Prelude.{◌≡◌, ◌↔◌, ◌^◌, ◌≤◌, List, [], ◌++◌, length}
 use Rattle.std.proofs.Common.{sym, ◌∙◌, ap, subst, append-nil, append_assoc}
 use Rattle.napt_capture.specs.declared.device.Sink.{Ghosts}
 use Rattle.napt_config.specs.Rules.{Rules}
@@ -8,6 +8,7 @@ use Rattle.napt_log_text.specs.Logs.{rows_after}
 use Rattle.napt_log_text.specs.Times.{Text}
 use Rattle.napt_log_text.proofs.Logs.{rows_after-append}
 use Rattle.napt_records.specs.declared.fault.Fault.TheVariants as faults
+use Rattle.napt_sequential.specs.declared.fault.RunFault.TheVariants as reasons
 use Rattle.napt_run.specs.Outputs.{Breaks, Grows}
 use Rattle.napt_run.specs.LeavingLaws.{breaks_more, grows_more, grows_none}
 use Rattle.napt_account.specs.KnownRuns.{IsOfInputs}
@@ -47,6 +48,8 @@ module _ {L : Type 0} {S : Ghosts L} where
     wrote = subst (λ (l : Text). Grows x.output l z.output) (sym (rows_after-append rules before xs two.first))
         (grows_more x.output y.output z.output _ _ one two.wrote);
     of_inputs = subst (λ (l : List Arrival). IsOfInputs l fault) (append_assoc before xs ys) two.of_inputs;
+    too_many = subst (λ (l : List Arrival). (fault ≡ reasons.TooMany) ↔ (2 ^ 32 ≤ length l)) (append_assoc before xs ys)
+        two.too_many;
   }
   fails_by rules before xs ys x y z (Run (faults.Capture side fault)) one two = absurd two
   fails_by rules before xs ys x y z (Run (faults.Write which fault)) one two = absurd two

@@ -1,5 +1,5 @@
 -- What the log of a run does while inputs come.
-use Rattle.std.specs.Prelude.{◌≡◌, ◌⊎◌, ℕ, ◌+◌, Bool, List, [], ◌∷◌, ◌++◌, false, Result, Ok, Err}
+use Rattle.std.specs.Prelude.{◌≡◌, ◌↔◌, ◌⊎◌, ℕ, ◌+◌, ◌≤◌, ◌<◌, ◌^◌, Bool, List, [], ◌∷◌, ◌++◌, length, false, Result, Ok, Err}
 use Rattle.napt_capture.specs.declared.device.Sink.{Ghosts}
 use Rattle.napt_config.specs.Rules.{Rules}
 use Rattle.napt_rules.specs.Prelude.{Arrival}
@@ -28,9 +28,10 @@ abbrev pub FailsMore : Bool → ℕ → ℕ → Type 0
 FailsMore is_broken old new = (new ≡ old) ⊎ ((is_broken ≡ false) × (new ≡ old + 1))
 
 module _ {L : Type 0} {S : Ghosts L} where
-  -- it took these inputs, and goes on
+  -- it took these inputs, no more than a run can count, and goes on
   pub record IsAt (rules : Rules) (inputs : List Arrival) (log : RunningLog L S) : Type 0 where
     pub run : log.run ≡ record { rules = rules; inputs = inputs; is_stopped = false }
+    pub few : length inputs < 2 ^ 32
     pub sound : log.output.is_broken ≡ false
 
   -- it goes on after these inputs, and this text was written
@@ -51,6 +52,7 @@ module _ {L : Type 0} {S : Ghosts L} where
     pub both : inputs ≡ first ++ others
     pub wrote : Grows old.output (rows_after rules before first) new.output
     pub of_inputs : IsOfInputs (before ++ inputs) fault
+    pub too_many : (fault ≡ reasons.TooMany) ↔ (2 ^ 32 ≤ length (before ++ inputs))
 
   abbrev pub FailsBy : Rules → List Arrival → List Arrival → LoggedFault → RunningLog L S → RunningLog L S → Type 0
   FailsBy rules before inputs (Log fault) old new =

@@ -99,11 +99,11 @@ fn with_report(
 /// The header of the log and the rows of the redirects are written and flushed first, before the headers of the captures;
 /// the rows of the bindings that live at the end come last, before the report.
 ///
-/// Fails with `LoggedFault::Run` as `run_streams` does. In addition the fault is `TooMany` if there are more than
-/// 4,294,967,295 inputs, and `Memory` may come before anything is written. Fails with `LoggedFault::Log` if the log could not
-/// be written: it has the first `written` bytes of its text, a number that saturates. The captures are then as after a fault
-/// of the run, or untouched if the log could not be begun, and there is no report. After a fault of a capture the log has
-/// all rows of the packets before it, and after one of the report all of its text; no call of it failed, and it is flushed.
+/// Fails with `LoggedFault::Run` as `run_streams` does. In addition it stops at input 4,294,967,296, with `TooMany`, and
+/// `Memory` may come before anything is written. Fails with `LoggedFault::Log` if the log could not be written: it has the
+/// first `written` bytes of its text, a number that saturates. The captures are then as after a fault of the run, or
+/// untouched if the log could not be begun, and there is no report. After a fault of a capture the log has all rows of the
+/// packets before it, and after one of the report all of its text; no call of it failed, and it is flushed.
 /// After each other fault it has a part of its text, and at most one call of it failed.
 pub fn run_streams_with_log<
     T: Threads + Wait + Copy + Send + 'static,

@@ -121,6 +121,7 @@ impl<'a, W: Sink> Output<'a, W> {
     }
 
     /// Flushes what was written.
+    #[tactic(auto, using(crate::proofs::Outputs::keeps_as_none))]
     pub(crate) fn flush(&mut self) -> Result<(), WriteFault>
         ensures ok { OnOk result (Grows self.old [] self.new) }
         ensures flushed { OnOk result (W.is_flushed self.new.device.now) }

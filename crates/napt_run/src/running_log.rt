@@ -1,6 +1,6 @@
 //! The log of a run, written while its inputs come.
 
-ghost use Rattle.std.specs.Prelude.{◌≡◌, ◌++◌, [], ◌∷◌, List, IfOk, MatchResult, string_bytes};
+ghost use Rattle.std.specs.Prelude.{◌≡◌, ◌↔◌, ◌+◌, ◌^◌, ◌≤◌, ◌++◌, [], ◌∷◌, length, List, Err, IfOk, MatchResult, string_bytes};
 ghost use Rattle.std.specs.Io.KnownBytes.{Appends};
 ghost use Rattle.napt_config.specs.Rules.{Rules};
 ghost use Rattle.napt_rules.specs.Prelude.{Arrival};
@@ -14,7 +14,7 @@ use napt_account::KnownRun;
 use napt_capture::Sink;
 use napt_log_text::{add_living, add_opening, add_told};
 use napt_records::Fault;
-use napt_sequential::Input;
+use napt_sequential::{Input, RunFault};
 use std::alloc::{AllocError, Global};
 
 /// The log of a run, written while its inputs come.
@@ -123,10 +123,13 @@ impl<'a, 'b, L: Sink> RunningLog<'a, 'b, L> {
 
     /// Passes an input through the run, and returns its rows.
     fn step(&mut self, input: &Input) -> Result<String, LoggedFault>
-        ensures { (rules : Rules) (before : List Arrival) → IsAt rules before self.old →
+        ensures steps { (rules : Rules) (before : List Arrival) → IsAt rules before self.old →
             MatchResult result
             (λ text. StepsTo rules before input.now self.old self.new (string_bytes text))
             (λ fault. StepFails (before ++ input.now ∷ []) self.old fault self.new) }
+        ensures too_many { (rules : Rules) (before : List Arrival) → IsAt rules before self.old →
+            (result ≡ Err (LoggedFault.Run (Fault.Run RunFault.TooMany)))
+            ↔ (2 ^ 32 ≤ length before + 1) }
     {
         let told = self.run.step(self.alloc, input)?;
         let mut text = String::new(self.alloc);

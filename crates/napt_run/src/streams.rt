@@ -1,5 +1,5 @@
 //! A run over captures as they arrive.
-ghost use Rattle.std.specs.Prelude.{◌≡◌, ◌-◌, ◌^◌, ◌<◌, IfErr, true, false};
+ghost use Rattle.std.specs.Prelude.{◌≡◌, ◌≢◌, ◌-◌, ◌^◌, ◌<◌, IfErr, Err, true, false};
 ghost use Rattle.napt_records.specs.Faults.{tells_shut_gate};
 ghost use Rattle.napt_run.specs.Observers.{as_run};
 ghost use Rattle.napt_run.specs.Streams.{DeviceGets, Explains, HasRead, IsOfRun, ReportGets};
@@ -11,7 +11,7 @@ use napt_capture::{Sink, Source};
 use napt_config::Config;
 use napt_pool::Gate;
 use napt_records::{Fault, Which};
-use napt_sequential::NoFault;
+use napt_sequential::{NoFault, RunFault};
 use std::alloc::Global;
 use std::sync::{Arc, Wait};
 use std::thread::Threads;
@@ -76,6 +76,7 @@ pub fn run_streams<
         (Q.remaining outside.old) result report.old report.new }
     ensures fault { IfErr result
         (Explains (R.remaining inside.old) (Q.remaining outside.old)) }
+    ensures too_many { result ≢ Err (Fault.Run RunFault.TooMany) }
     ensures gate { G.is_open ≡ true → IfErr result (λ fault. tells_shut_gate fault ≡ false) }
     // Unless the run itself failed, the failed read is the reported one; a failed write may hide it.
     ensures readings { (¬ IsOfRun result) → HasRead R.failed Q.failed
