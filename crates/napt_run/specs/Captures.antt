@@ -1,6 +1,6 @@
 -- What a run over captures writes: texts, from texts. Nothing is claimed of the bytes of a reader or a writer that are
 -- not known.
-use Rattle.std.specs.Prelude.{◌≡◌, ⊤, ℕ, ◌+◌, ◌≤◌, ◌^◌, nat_le, if◌then◌else◌, List, length, map, take, IfSome, IsOk, IsOkAnd, string_bytes, Option, Result, Ok, Err}
+use Rattle.std.specs.Prelude.{◌≡◌, ⊤, ℕ, ◌+◌, ◌≤◌, ◌^◌, nat_le, if◌then◌else◌, List, length, take, IfSome, IsOk, IsOkAnd, string_bytes, Option, Result, Ok, Err}
 use Rattle.std.specs.Io.KnownBytes.{Appends}
 use Rattle.napt_wire.specs.declared.Side.{Side}
 use Rattle.napt_wire.specs.declared.Side.TheVariants as sides
