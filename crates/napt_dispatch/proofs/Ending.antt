@@ -1,5 +1,5 @@
 -- What a run from arrivals to departures comes to.
-use Rattle.std.proofs.Common.{◌≡◌, ℕ, Bool, false, inr, List, [], ◌++◌, length, map, replicate, Option, Some, None, MatchOption, refl, sym, ◌∙◌, ap, subst, arith, append-nil}
+use Rattle.std.proofs.Common.{◌≡◌, ℕ, Bool, false, inr, List, [], ◌++◌, length, replicate, Option, Some, None, MatchOption, refl, sym, ◌∙◌, ap, subst, arith, append-nil}
 use Rattle.std.proofs.lemmas.List.{length-map}
 use Rattle.napt_config.specs.Rules.{Rules}
 use Rattle.napt_rules.specs.Prelude.{Arrival, opening, run}
@@ -21,7 +21,7 @@ use Rattle.napt_pool.specs.Workers.{machine_of, accepted_of, taken_of}
 use Rattle.napt_dispatch.specs.Dispatch.{of_worker}
 use Rattle.napt_dispatch.specs.QueueStates.{unused, counts_in}
 use Rattle.napt_dispatch.specs.Windows.{progress_in}
-use Rattle.napt_dispatch.specs.Standing.{IsSizedFor, state_of, Stands}
+use Rattle.napt_dispatch.specs.Standing.{state_of, Stands}
 use Rattle.napt_dispatch.specs.Passing.{timed, HasCome, Reads, ReadsAll, ReadsSome, ReadsToHalt, EndsWith, EndsEarly, EndsHalted, EndsBy}
 use Rattle.napt_dispatch.proofs.Ended.{same_lengths}
 use Rattle.napt_dispatch.proofs.Passing.{many_read}

@@ -13,7 +13,7 @@ use Rattle.napt_sequential.specs.declared.fault.RunFault.{RunFault}
 use Rattle.napt_laws.proofs.Grown.{clock_more}
 use Rattle.napt_dispatch.specs.declared.dispatcher.Dispatcher.{Dispatcher}
 use Rattle.napt_dispatch.specs.Windows.{Window, IsHandedOver, times_in, progress_in, expecting}
-use Rattle.napt_dispatch.specs.QueueStates.{queue_of, many_held}
+use Rattle.napt_dispatch.specs.QueueStates.{many_held}
 use Rattle.napt_dispatch.specs.Dispatch.{of_worker}
 use Rattle.napt_dispatch.specs.Standing.{journal_of, state_of, IsSizedFor, Stands, Keeps, Continues, ContinuesUnlessFault, HaltsBy, Admits, HasRoom, IsDone}
 use Rattle.napt_dispatch.proofs.QueueStates.{held_none}
@@ -24,7 +24,7 @@ use Rattle.napt_dispatch.specs.declared.stopped.Halted.{Halted}
 use Rattle.napt_dispatch.specs.declared.stopped.Halted.TheVariants as halts
 use Rattle.napt_dispatch.specs.declared.dispatcher.reading.EndOfInputs.{EndOfInputs}
 use Rattle.napt_dispatch.specs.declared.dispatcher.progress.Progress.TheVariants.{Awaited}
-use Rattle.napt_dispatch.specs.Passing.{Fails, GoesOn, LetsGo, StopsAt, HaltsIn, HaltsAt, Serves, Reads, HasCome, ReadsToEnd, ReadsHalted}
+use Rattle.napt_dispatch.specs.Passing.{Fails, GoesOn, LetsGo, HaltsIn, HaltsAt, Serves, Reads, HasCome, ReadsToEnd, ReadsHalted}
 
 pub many_read : (d : Dispatcher) (inputs : List Arrival) → times_in d.progress ≡ map (λ i. i.time) inputs →
     length inputs ≡ length (progress_in d.progress)

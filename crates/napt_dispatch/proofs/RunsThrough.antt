@@ -2,7 +2,6 @@
 use Rattle.std.proofs.Common.{◌≡◌, ℕ, List, [], ◌++◌, length, map, Option, None, Some, Result, Ok, Err, refl, sym, ◌∙◌, ap, subst, append-nil, inl, inr}
 use Rattle.std.specs.Prelude.{IfOk, OnErr}
 use Rattle.napt_config.specs.Rules.{Rules}
-use Rattle.napt_rules.specs.declared.Row.{Row}
 use Rattle.napt_rules.specs.declared.Leg.{Leg}
 use Rattle.napt_rules.specs.declared.Answer.{Answer}
 use Rattle.napt_rules.specs.declared.Outcome.{Outcome}

@@ -1,6 +1,6 @@
 -- What stands while a dispatcher hands out the legs of a run.
 use Rattle.std.proofs.Common.{◌≡◌, ◌≢◌, ℕ, suc, ◌+◌, ◌<◌, ◌≤◌, ◌==◌, max, Bool, true, false, cond, List, [], ◌∷◌, ◌++◌, length, map, replicate, Option, Some, None, option_to_list, Ok, Err, refl, sym, ◌∙◌, ap, subst, arith, inl, inr, append_assoc, append-nil, length-append}
-use Rattle.std.specs.Prelude.{IfSome, MatchOption, flat_map, slice_index, slice_get, slice_set}
+use Rattle.std.specs.Prelude.{IfSome, drop, flat_map, slice_index, slice_get, slice_set}
 use Rattle.std.proofs.lemmas.Bool.{cases_eq, eq-eqb, ne_eqb}
 use Rattle.std.proofs.lemmas.List.{length_push, map-append, length-replicate, length-map, get_or-map}
 use Rattle.std.proofs.lemmas.Grind.{flat_map-append}
@@ -19,14 +19,16 @@ use Rattle.napt_rules.specs.declared.End.{End}
 use Rattle.napt_rules.specs.declared.End.TheVariants as ends
 use Rattle.napt_rules.specs.declared.Outcome.{Outcome}
 use Rattle.napt_rules.specs.declared.Outcome.TheVariants as outcomes
+use Rattle.napt_dispatch.specs.declared.dispatcher.holding.Front.{Front}
+use Rattle.napt_dispatch.specs.declared.dispatcher.holding.Front.TheVariants as fronts
 use Rattle.napt_dispatch.specs.declared.dispatcher.holding.Held.{Held}
 use Rattle.napt_dispatch.specs.declared.dispatcher.holding.Held.TheVariants.{Ready, Place}
 use Rattle.napt_dispatch.specs.declared.dispatcher.holding.Owed.{Owed}
 use Rattle.napt_dispatch.specs.declared.dispatcher.progress.Progress.{Progress}
-use Rattle.napt_dispatch.specs.declared.dispatcher.progress.Progress.TheVariants.{Awaited, Told}
+use Rattle.napt_dispatch.specs.declared.dispatcher.progress.Progress.TheVariants.{Told}
 use Rattle.napt_dispatch.specs.declared.dispatcher.Dispatcher.{Dispatcher}
 use Rattle.napt_laws.specs.Dispatching.{IsFront, IsTold, IsForetold, OnwardIsForetold}
-use Rattle.napt_laws.specs.Places.{first_act, second_legs, second_of, IsSeconded}
+use Rattle.napt_laws.specs.Places.{first_act, second_of, IsSeconded}
 use Rattle.napt_laws.proofs.Dispatched.{right_answers, answers_tell}
 use Rattle.napt_laws.proofs.Grown.{outcomes_long}
 use Rattle.napt_laws.proofs.OneInput.{acts_begin, outcomes_begin, get_at, grown}
@@ -37,12 +39,12 @@ use Rattle.napt_pool.specs.Pools.{accepts, takes}
 use Rattle.napt_dispatch.specs.Dispatch.{of_worker, fresh, Distinct, IsDispatched, Right}
 use Rattle.napt_dispatch.specs.Collecting.{outcome_of}
 use Rattle.napt_dispatch.specs.Passing.{timed}
-use Rattle.napt_dispatch.specs.QueueStates.{QueueState, unused, queue_of, counts_in, with_last, with_first, with_offers, with_oldest, with_queue, held_behind, owed_of}
-use Rattle.napt_dispatch.specs.Windows.{progress_in, times_in, is_incoming, is_unknown, refused, asked, Asks, IsKnown, AllKnown}
-use Rattle.napt_dispatch.specs.Standing.{Grows, Lane, DispatchState, state_with, state_of, LaneStands, resolved, lane_legs, IsRight, AreRight, Reaches, Stands, Keeps, Admits, IsDone}
+use Rattle.napt_dispatch.specs.QueueStates.{QueueState, unused, queue_of, counts_in, all_held, count_held, front_of, owed_of, first_leg, readied, answered, with_offers, with_queue, Holds, AllHold, only_at, place_at}
+use Rattle.napt_dispatch.specs.Windows.{Window, progress_in, times_in, is_incoming, refused, asked, IsKnown, AllKnown}
+use Rattle.napt_dispatch.specs.Standing.{Grows, Lane, DispatchState, state_with, state_of, LaneStands, resolved, lane_legs, IsRight, AreRight, Reaches, Stands, Keeps, Admits, Resolves, waits, IsDone}
 use Rattle.napt_dispatch.proofs.Ended.{map_at}
 use Rattle.napt_dispatch.proofs.Lanes.{fronts_both, place_within}
-use Rattle.napt_dispatch.proofs.QueueStates.{queue_own, queue_other, length_with, of_replicate}
+use Rattle.napt_dispatch.proofs.QueueStates.{queue_own, queue_other, length_with, nothing, of_replicate}
 use Rattle.napt_dispatch.proofs.Windows.{known_set, awaited_set, ended_known, second_known, left_front, left_whole, timed_outcomes}
 
 -- FRONTS
@@ -104,7 +106,8 @@ offered_front rules done all state s r w lt =
     let address : ℕ = slice_index rules.pool w in
     let more : IsFront (run rules done (opening rules)).acts (run rules all (opening rules)).acts =
     rw s.whole at (acts_begin rules 0 0 done s.rest (opening rules)) in
-    let held : List Leg = flat_map (resolved (run rules all (opening rules)).acts) (state.lane w).queue.held in (
+    let q : QueueState = (state.lane w).queue in
+    let held : List Leg = q.ready ++ flat_map (resolved (run rules all (opening rules)).acts) q.held in (
       held ++ legs_at address more.0,
       rw (
         ← append_assoc (state.lane w).offered held (legs_at address more.0),
@@ -157,37 +160,28 @@ lane_keeps w state later one two lt many was is others step = λ rules done all 
     }
 
 -- the queues of one worker, and perhaps what it was offered and answered
-pub queues_keep : (w : ℕ) (d later : Dispatcher) (queues : List QueueState) (one two : QueueState → QueueState)
-    (offered more : ℕ → List Leg) (taken answers : ℕ → List Answer) → w < length queues →
-    d.queues ≡ with_queue w one queues → later.queues ≡ with_queue w two queues →
+pub queues_keep : (w : ℕ) (d later : Dispatcher) (change : QueueState → QueueState) (offered more : ℕ → List Leg)
+    (taken answers : ℕ → List Answer) → w < length d.queues → later.queues ≡ with_queue w change d.queues →
     ((v : ℕ) → v ≢ w → (more v ≡ offered v) × (answers v ≡ taken v)) →
     ((rules : Rules) (all : List Arrival) → LaneKeeps rules all w
-    (record { offered = offered w; taken = taken w; queue = one (queue_of queues w) })
-    (record { offered = more w; taken = answers w; queue = two (queue_of queues w) })
+    (record { offered = offered w; taken = taken w; queue = queue_of d.queues w })
+    (record { offered = more w; taken = answers w; queue = change (queue_of d.queues w) })
     (progress_in d.progress) (progress_in later.progress)) →
     Keeps (state_with offered taken d) (state_with more answers later)
-queues_keep w d later queues one two offered more taken answers lt was is others step =
-    let many : length d.queues ≡ length queues = ap length was ∙ length_with queues w one in
-    let count : length later.queues ≡ length queues = ap length is ∙ length_with queues w two in
+queues_keep w d later change offered more taken answers lt is others step =
     lane_keeps w (state_with offered taken d) (state_with more answers later)
-    (record { offered = offered w; taken = taken w; queue = one (queue_of queues w) })
-    (record { offered = more w; taken = answers w; queue = two (queue_of queues w) })
-    (omega (arith, lt, many)) (count ∙ sym many)
-    (λ i. record {
-      offered = offered w;
-      taken = taken w;
-      queue = (ap (λ qs. queue_of qs w) was ∙ queue_own queues w one lt) i;
-    })
+    (record { offered = offered w; taken = taken w; queue = queue_of d.queues w })
+    (record { offered = more w; taken = answers w; queue = change (queue_of d.queues w) })
+    lt (ap length is ∙ length_with d.queues w change) refl
     (λ i. record {
       offered = more w;
       taken = answers w;
-      queue = (ap (λ qs. queue_of qs w) is ∙ queue_own queues w two lt) i;
+      queue = (ap (λ qs. queue_of qs w) is ∙ queue_own d.queues w change lt) i;
     })
     (λ v n i. record {
       offered = (others v n).0 i;
       taken = (others v n).1 i;
-      queue = (ap (λ qs. queue_of qs v) is ∙ (queue_other queues w two v n
-          ∙ sym (ap (λ qs. queue_of qs v) was ∙ queue_other queues w one v n))) i;
+      queue = (ap (λ qs. queue_of qs v) is ∙ queue_other d.queues w change v n) i;
     })
     step
 
@@ -211,18 +205,12 @@ known_keeps many lane progress later known = λ rules done all s. record {
 
 -- AN OFFER
 
--- the legs held first are counted as offered
-legs_resolved : (acts : List Act) (legs : List Leg) (rest : List Held) →
-    flat_map (resolved acts) (held_behind legs rest) ≡ legs ++ flat_map (resolved acts) rest
-legs_resolved acts [] rest = refl
-legs_resolved acts (leg ∷ legs) rest = ap (λ (ls : List Leg). leg ∷ ls) (legs_resolved acts legs rest)
-
-pub offers_keep : (rules : Rules) (all : List Arrival) (w : ℕ) (legs : List Leg) (rest : List Held)
-    (offered : List Leg) (taken : List Answer) (q : QueueState) (progress : List Progress) →
-    q.held ≡ held_behind legs rest →
+-- the first legs of the next message are counted as offered
+pub offers_keep : (rules : Rules) (all : List Arrival) (w : ℕ) (legs : List Leg) (offered : List Leg)
+    (taken : List Answer) (q : QueueState) (progress : List Progress) → q.ready ≡ legs ++ drop (length legs) q.ready →
     LaneKeeps rules all w (record { offered = offered; taken = taken; queue = q })
-    (record { offered = offered ++ legs; taken = taken; queue = with_offers legs rest q }) progress progress
-offers_keep rules all w legs rest offered taken q progress held_is =
+    (record { offered = offered ++ legs; taken = taken; queue = with_offers legs q }) progress progress
+offers_keep rules all w legs offered taken q progress ready_is =
     let address : ℕ = slice_index rules.pool w in
     let more = replies_more rules address offered legs (fresh rules address) in
     let replies = length_replies rules address offered (fresh rules address) in
@@ -240,41 +228,52 @@ offers_keep rules all w legs rest offered taken q progress held_is =
           short_front taken (kept_replies rules address offered (fresh rules address)) more.0
           (omega (arith, all, o.long, replies)) (rw more.1 at right);
       legs = λ known.
-          let acts = (run rules all (opening rules)).acts in
-          append_assoc offered legs (flat_map (resolved acts) rest)
-          ∙ ap (λ ls. offered ++ ls) (sym (ap (flat_map (resolved acts)) held_is ∙ legs_resolved acts legs rest));
+          let rest = drop (length legs) q.ready in
+          let held = flat_map (resolved (run rules all (opening rules)).acts) q.held in
+          append_assoc offered legs (rest ++ held)
+          ∙ ap (λ ls. offered ++ ls) (sym (append_assoc legs rest held) ∙ ap (λ ls. ls ++ held) (sym ready_is));
       known = λ o right front known. known;
     }
 
 -- WHAT IS HELD FIRST
 
-module _ (rules : Rules) (all : List Arrival) (w number : ℕ) (offered : List Leg) (taken : List Answer) (q : QueueState)
-    (progress : List Progress) where
-  -- a placeholder that stands for no leg
-  pub gone_keeps : is_unknown (slice_get progress number) ≡ false → Asks number progress None → LaneKeeps rules all w
-      (record { offered = offered; taken = taken; queue = with_first (Place number) q })
-      (record { offered = offered; taken = taken; queue = q }) progress progress
-  gone_keeps goes asks = record {
-    stands = λ o. o;
-    right = λ o right. right;
-    legs = λ known. ap (λ ls. offered ++ (ls ++ flat_map (resolved (run rules all (opening rules)).acts) q.held))
-        (sym (second_known (run rules all (opening rules)) progress number None goes asks known));
-    known = λ o right front known. known;
-  }
+resolves_known : (course : Course) (front : Front) (window later : Window) (second : Option Leg) →
+    Resolves front window second later → AllKnown course (progress_in window) → AllKnown course (progress_in later)
+resolves_known course fronts.Nothing window later second is known = rw is known
+resolves_known course fronts.FirstLeg window later second is known = rw is known
+resolves_known course (fronts.FirstPlace number) window later None is known = rw is.0.progress_stays known
+resolves_known course (fronts.FirstPlace number) window later (Some leg) is known =
+    rw is.0.progress_is (awaited_set course (progress_in window) number known)
 
-  -- one that stands for a leg that is known
-  pub next_keeps : (leg : Leg) → is_unknown (slice_get progress number) ≡ false → Asks number progress (Some leg) →
-      LaneKeeps rules all w
-      (record { offered = offered; taken = taken; queue = with_first (Place number) q })
-      (record { offered = offered; taken = taken; queue = with_first (Ready leg) q }) progress
-      (slice_set progress number Awaited)
-  next_keeps leg goes asks = record {
-    stands = λ o. o;
-    right = λ o right. right;
-    legs = λ known. ap (λ ls. offered ++ (ls ++ flat_map (resolved (run rules all (opening rules)).acts) q.held))
-        (sym (second_known (run rules all (opening rules)) progress number (Some leg) goes asks known));
-    known = λ o right front known. awaited_set (run rules all (opening rules)) progress number known;
-  }
+first_stands : (course : Course) (held : List Held) (window later : Window) (second : Option Leg) →
+    waits (progress_in window) (front_of held) ≡ false → Resolves (front_of held) window second later →
+    AllKnown course (progress_in window) →
+    flat_map (resolved course.acts) held ≡ first_leg second held ++ flat_map (resolved course.acts) (drop 1 held)
+first_stands course [] window later second goes is known = absurd cc
+first_stands course (Ready leg ∷ rest) window later second goes is known = refl
+first_stands course (Place number ∷ rest) window later None goes is known =
+    ap (λ ls. ls ++ flat_map (resolved course.acts) rest)
+    (second_known course (progress_in window) number None goes is.1 known)
+first_stands course (Place number ∷ rest) window later (Some leg) goes is known =
+    ap (λ ls. ls ++ flat_map (resolved course.acts) rest)
+    (second_known course (progress_in window) number (Some leg) goes is.1 known)
+
+-- it becomes a leg of the next message, or was a placeholder that stands for none
+pub readied_keeps : (rules : Rules) (all : List Arrival) (w : ℕ) (offered : List Leg) (taken : List Answer)
+    (q : QueueState) (window later : Window) (second : Option Leg) →
+    waits (progress_in window) (front_of q.held) ≡ false → Resolves (front_of q.held) window second later →
+    LaneKeeps rules all w (record { offered = offered; taken = taken; queue = q })
+    (record { offered = offered; taken = taken; queue = readied second q }) (progress_in window) (progress_in later)
+readied_keeps rules all w offered taken q window later second goes is =
+    let course : Course = run rules all (opening rules) in
+    record {
+      stands = λ o. o;
+      right = λ o right. right;
+      legs = λ known. ap (λ ls. offered ++ ls)
+          (append_assoc q.ready (first_leg second q.held) (flat_map (resolved course.acts) (drop 1 q.held))
+          ∙ ap (λ ls. q.ready ++ ls) (sym (first_stands course q.held window later second goes is known)));
+      known = λ o right front known. resolves_known course (front_of q.held) window later second is known;
+    }
 
 -- AN ANSWER
 
@@ -338,7 +337,7 @@ first_owed [] o os h = cc
 first_owed (leg ∷ legs) o os h = (leg, legs, refl, cc, cc)
 
 module _ (rules : Rules) (all : List Arrival) (w : ℕ) (answer : Answer) (owed : Owed) (offered : List Leg)
-    (taken : List Answer) (q : QueueState) where
+    (taken : List Answer) (q : QueueState) (owes : q.owed ≡ owed ∷ drop 1 q.owed) where
   abbrev course : Course
   course = run rules all (opening rules)
 
@@ -346,14 +345,14 @@ module _ (rules : Rules) (all : List Arrival) (w : ℕ) (answer : Answer) (owed 
   address = slice_index rules.pool w
 
   abbrev one : Lane
-  one = record { offered = offered; taken = taken; queue = with_oldest owed q }
+  one = record { offered = offered; taken = taken; queue = q }
 
   abbrev two : Lane
-  two = record { offered = offered; taken = taken ++ answer ∷ []; queue = q }
+  two = record { offered = offered; taken = taken ++ answer ∷ []; queue = answered q }
 
   head : (o : LaneStands one) → (leg : Leg) × (rest : List Leg) × (o.rest ≡ leg ∷ rest) × (owed ≡ owed_of leg)
-      × (q.owed ≡ map owed_of rest)
-  head o = first_owed o.rest owed q.owed o.owed_is
+      × (drop 1 q.owed ≡ map owed_of rest)
+  head o = first_owed o.rest owed (drop 1 q.owed) (sym owes ∙ o.owed_is)
 
   answer_known : LaneStands one → IsRight rules w two → IsFront offered (legs_at address course.acts) →
       IsKnown course answer.number (Told owed answer.end)
@@ -415,15 +414,25 @@ reads_if : {X Y : Type 0} (f : X → List Y) (b : Bool) (x : X) → flat_map f (
 reads_if f true x = append-nil (f x)
 reads_if f false x = refl
 
+legs_behind : (acts : List Act) (legs : List Leg) (rest : List Held) →
+    flat_map (resolved acts) (map (λ leg. Ready leg) legs ++ rest) ≡ legs ++ flat_map (resolved acts) rest
+legs_behind acts [] rest = refl
+legs_behind acts (leg ∷ legs) rest = ap (λ (ls : List Leg). leg ∷ ls) (legs_behind acts legs rest)
+
+-- all that is held, as legs
+legs_held : (acts : List Act) (q : QueueState) →
+    flat_map (resolved acts) (all_held q) ≡ q.ready ++ flat_map (resolved acts) q.held
+legs_held acts q = legs_behind acts q.ready q.held
+
 -- one worker holds more
-held_last : (queues : List QueueState) (w : ℕ) (x : Held) → w < length queues → (v : ℕ) →
-    queue_of (with_queue w (with_last x) queues) v ≡ record (queue_of queues v) {
-      held = (queue_of queues v).held ++ cond (v == w) (x ∷ []) [];
-    }
-held_last queues w x lt v = elim (cases_eq v w) [
-  | inl e ↦ rw (e, queue_own queues w (with_last x) lt, eq-eqb w w refl) refl
-  | inr n ↦ rw (queue_other queues w (with_last x) v n, ne_eqb v w n, append-nil) refl
-]
+lane_more : (acts : List Act) (offered : List Leg) (taken : List Answer) (q later : QueueState) (more : List Held) →
+    Holds more q later → lane_legs acts (record { offered = offered; taken = taken; queue = later })
+    ≡ lane_legs acts (record { offered = offered; taken = taken; queue = q }) ++ flat_map (resolved acts) more
+lane_more acts offered taken q later more h =
+    ap (λ ls. offered ++ ls) (sym (legs_held acts later) ∙ (ap (flat_map (resolved acts)) h.held_is
+    ∙ (flat_map-append (resolved acts) (all_held q) more
+    ∙ ap (λ ls. ls ++ flat_map (resolved acts) more) (legs_held acts q))))
+    ∙ sym (append_assoc offered (q.ready ++ flat_map (resolved acts) q.held) (flat_map (resolved acts) more))
 
 module _ (rules : Rules) (distinct : Distinct rules.pool) (done rest : List Arrival) (input : Arrival) (number now : ℕ)
     (long : length done ≡ number) (clock : max (last_clock 0 done) input.clock ≡ now) (offered : ℕ → List Leg)
@@ -442,32 +451,24 @@ module _ (rules : Rules) (distinct : Distinct rules.pool) (done rest : List Arri
 
   -- the same, but for more that is held and known, with the legs of one input more
   grown_stands : (extra : ℕ → List Held) → length later.queues ≡ length d.queues →
-      ((v : ℕ) → queue_of later.queues v ≡ record (queue_of d.queues v) {
-        held = (queue_of d.queues v).held ++ extra v;
-      }) →
+      AllHold extra d.queues later.queues →
       ((v : ℕ) → v < length rules.pool → legs_at (at_place v) (run rules now_done (opening rules)).acts
       ≡ legs_at (at_place v) (run rules done (opening rules)).acts ++ flat_map (resolved acts_all) (extra v)) →
       (AllKnown (run rules all_of (opening rules)) (progress_in d.progress) →
       AllKnown (run rules all_of (opening rules)) (progress_in later.progress)) →
       Stands rules done all_of (state_with offered taken d) →
       Stands rules now_done all_of (state_with offered taken later)
-  grown_stands extra many queue legs known s = record {
+  grown_stands extra many holds legs known s = record {
     rest = rest;
     whole = refl;
     many = many ∙ s.many;
-    lanes = λ v lt. rw (queue v) (s.lanes v lt);
+    lanes = λ v lt. rw ((holds v).offered_stays, (holds v).owed_stays) (s.lanes v lt);
     reaches = λ right.
         let r : Reaches rules done all_of (state_with offered taken d) = s.reaches right in
         record {
-          reached = λ v lt.
-              rw (
-                queue v,
-                flat_map-append,
-                ← append_assoc (offered v) (flat_map (resolved acts_all) (queue_of d.queues v).held)
-                    (flat_map (resolved acts_all) (extra v)),
-                r.reached v lt,
-              )
-              (sym (legs v lt));
+          reached = λ v lt. lane_more acts_all (offered v) (taken v) (queue_of d.queues v) (queue_of later.queues v)
+              (extra v) (holds v)
+              ∙ (ap (λ ls. ls ++ flat_map (resolved acts_all) (extra v)) (r.reached v lt) ∙ sym (legs v lt));
           known = known r.known;
         };
   }
@@ -490,7 +491,8 @@ module _ (rules : Rules) (distinct : Distinct rules.pool) (done rest : List Arri
       let there : slice_get (run rules all_of (opening rules)).outcomes number ≡ Some (outcomes.Dropped cause) =
       ap (λ (os : List Outcome). slice_get os number) e ∙ get_at before.outcomes (outcomes.Dropped cause) front.0
       number (outcomes_long rules 0 0 done (opening rules) ∙ long) in
-      grown_stands (λ v. []) (ap length queues) (λ v. rw (queues, append-nil) refl)
+      grown_stands (λ v. []) (ap length queues)
+      (λ v. rw queues (record { offered_stays = refl; owed_stays = refl; held_is = sym (append-nil _) }))
       (λ v lt. rw (acts, append-nil) refl)
       (λ known. rw written (known_set (run rules all_of (opening rules)) (progress_in d.progress) number
       (refused cause) (ended_known (run rules all_of (opening rules)) number (outcomes.Dropped cause) there) known))
@@ -502,23 +504,18 @@ module _ (rules : Rules) (distinct : Distinct rules.pool) (done rest : List Arri
     abbrev leg_of : Leg
     leg_of = record { number = number; now = now; way = way_from input.side; packet = packet }
 
-    abbrev queues_first : List QueueState
-    queues_first = with_queue w (with_last (Ready leg_of)) d.queues
-
-    long_first : length queues_first ≡ length d.queues
-    long_first = length_with d.queues w (with_last (Ready leg_of))
-
     same_first : (v : ℕ) → v < length rules.pool →
         (served_at rules (way_from input.side) packet == at_place v) ≡ (v == w)
     same_first v lt = rw (← served) (same_test rules.pool distinct v w lt within)
 
     -- its first leg alone
     pub alone_stands : (input.side ≡ Inside → place_of rules (destination packet).address ≡ None) →
-        later.queues ≡ queues_first → Stands rules done all_of (state_with offered taken d) →
+        length later.queues ≡ length d.queues →
+        AllHold (λ v. only_at w (Ready leg_of ∷ []) v ++ []) d.queues later.queues →
+        Stands rules done all_of (state_with offered taken d) →
         Stands rules now_done all_of (state_with offered taken later)
-    alone_stands none queues s =
-        grown_stands (λ v. cond (v == w) (Ready leg_of ∷ []) []) (ap length queues ∙ long_first)
-        (λ v. rw queues (held_last d.queues w (Ready leg_of) (rw s.many within) v))
+    alone_stands none many holds s =
+        grown_stands (λ v. only_at w (Ready leg_of ∷ []) v ++ []) many holds
         (λ v lt.
         let before : Course = run rules done (opening rules) in
         let at_w : ℕ = served_at rules (way_from input.side) packet in
@@ -537,24 +534,19 @@ module _ (rules : Rules) (distinct : Distinct rules.pool) (done rest : List Arri
           legs_append (at_place v) before.acts (first_act rules at_w leg_of before.list ∷ []),
           cond_map,
           same_first v lt,
+          append-nil (only_at w (Ready leg_of ∷ []) v),
           reads_if (resolved acts_all) (v == w) (Ready leg_of),
         ) refl)
         (λ known. rw same known) s
 
     -- with a place for the second
     pub placed_stands : (to : ℕ) → to < length rules.pool → at_place to ≡ (destination packet).address →
-        input.side ≡ Inside → later.queues ≡ with_queue to (with_last (Place number)) queues_first →
+        input.side ≡ Inside → length later.queues ≡ length d.queues →
+        AllHold (λ v. only_at w (Ready leg_of ∷ []) v ++ only_at to (Place number ∷ []) v) d.queues later.queues →
         Stands rules done all_of (state_with offered taken d) →
         Stands rules now_done all_of (state_with offered taken later)
-    placed_stands to to_within goes side queues s =
-        grown_stands (λ v. cond (v == w) (Ready leg_of ∷ []) [] ++ cond (v == to) (Place number ∷ []) [])
-        (ap length queues ∙ (length_with queues_first to (with_last (Place number)) ∙ long_first))
-        (λ v. rw (
-          queues,
-          held_last queues_first to (Place number) (rw (long_first, s.many) to_within) v,
-          held_last d.queues w (Ready leg_of) (rw s.many within) v,
-          append_assoc,
-        ) refl)
+    placed_stands to to_within goes side many holds s =
+        grown_stands (λ v. only_at w (Ready leg_of ∷ []) v ++ only_at to (Place number ∷ []) v) many holds
         (λ v lt. rw (
           place_stands rules done rest input number now long clock packet admitted foretold is (ap way_from side)
               (at_place v),
@@ -583,17 +575,18 @@ pub admitted_admits : (rules : Rules) (number now : ℕ) (input : Arrival) (d la
     progress_in later.progress ≡ progress_in d.progress →
     (to : Option ℕ) → IfSome to (λ place. (input.side ≡ Inside) × (place_of rules (destination packet).address
     ≡ Some place)) → (to ≡ None → input.side ≡ Inside → place_of rules (destination packet).address ≡ None) →
+    length later.queues ≡ length d.queues →
     (let leg : Leg = record { number = number; now = now; way = way_from input.side; packet = packet } in
-    let one : List QueueState = with_queue w (with_last (Ready leg)) d.queues in
-    MatchOption to (later.queues ≡ one) (λ v. later.queues ≡ with_queue v (with_last (Place number)) one)) →
+    AllHold (λ v. only_at w (Ready leg ∷ []) v ++ place_at number to v) d.queues later.queues) →
     Admits rules number now input d later
-admitted_admits rules number now input d later packet w distinct foretold is admitted place same None some none e =
+admitted_admits rules number now input d later packet w distinct foretold is admitted place same None some none many e =
     λ offered taken done rest long clock s.
     let p : (w < length rules.pool) × (slice_index rules.pool w ≡ served_at rules (way_from input.side) packet) =
     place_within rules.pool w (served_at rules (way_from input.side) packet) place in
     alone_stands rules distinct done rest input number now long clock offered taken d later packet admitted foretold is
-    w p.0 p.1 same (none refl) e s
-admitted_admits rules number now input d later packet w distinct foretold is admitted place same (Some v) some none e =
+    w p.0 p.1 same (none refl) many e s
+admitted_admits rules number now input d later packet w distinct foretold is admitted place same (Some v) some none many
+    e =
     λ offered taken done rest long clock s.
     let p : (w < length rules.pool) × (slice_index rules.pool w ≡ served_at rules (way_from input.side) packet) =
     place_within rules.pool w (served_at rules (way_from input.side) packet) place in
@@ -601,7 +594,7 @@ admitted_admits rules number now input d later packet w distinct foretold is adm
     place_within rules.pool v (destination packet).address
     (stands_at rules.pool (destination packet).address v some.1) in
     placed_stands rules distinct done rest input number now long clock offered taken d later packet admitted foretold is
-    w p.0 p.1 same v q.0 q.1 some.0 e s
+    w p.0 p.1 same v q.0 q.1 some.0 many e s
 
 -- THE START
 
@@ -667,7 +660,10 @@ module _ (rules : Rules) (inputs : List Arrival) (offered : List (List Leg)) (ta
   dispatched many idle none =
       let reached : (w : ℕ) → w < length rules.pool → of_worker offered w
       ≡ legs_at (slice_index rules.pool w) whole.acts = λ w lt.
-      rw (idle.held w, append-nil) at ((s.reaches right).reached w lt) in
+      let q : QueueState = queue_of d.queues w in
+      let none : count_held q ≡ 0 = idle.held w in
+      rw (nothing q.ready (omega (arith, none)), nothing q.held (omega (arith, none)), append-nil)
+      at ((s.reaches right).reached w lt) in
       let left : d.progress.left ≡ timed inputs whole.outcomes =
       left_whole whole d.progress inputs times (s.reaches right).known run_long none in (
         left,

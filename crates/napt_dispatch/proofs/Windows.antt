@@ -15,7 +15,7 @@ use Rattle.napt_dispatch.specs.declared.dispatcher.progress.OpenInput.{OpenInput
 use Rattle.napt_dispatch.specs.Collecting.{outcome_of}
 use Rattle.napt_dispatch.specs.Standing.{IsSecond, IsSecondOf}
 use Rattle.napt_dispatch.specs.Passing.{timed}
-use Rattle.napt_dispatch.specs.Windows.{Window, time_in, end_of, ended, ended_in, asked, Asks, unmarked, known_in, arrived, mark_of, progress_in, times_in, marks_in, outcome_in, is_unknown, opened, expecting, IsUnmarked, IsWritten, HasMark, IsMarked, Leaves, IsKnown, AllKnown, IsHandedOver}
+use Rattle.napt_dispatch.specs.Windows.{Window, time_in, end_of, ended, ended_in, Asks, unmarked, known_in, arrived, mark_of, progress_in, times_in, marks_in, outcome_in, is_unknown, opened, expecting, IsUnmarked, IsWritten, HasMark, IsMarked, Leaves, IsKnown, AllKnown, IsHandedOver}
 
 -- LISTS
 

@@ -1,5 +1,5 @@
 -- The queues of workers, and how they change.
-use Rattle.std.specs.Prelude.{◌≡◌, ℕ, ◌+◌, ◌<◌, ◌≤◌, ◌^◌, List, [], ◌∷◌, ◌++◌, map, length, slice_set, slice_index_or}
+use Rattle.std.specs.Prelude.{◌≡◌, ℕ, ◌+◌, ◌<◌, ◌≤◌, ◌^◌, ◌==◌, if◌then◌else◌, List, [], ◌∷◌, ◌++◌, drop, map, length, option_to_list, slice_set, slice_index_or, Option, Some, None}
 use Rattle.std.specs.List.{sum_by}
 use Rattle.napt_rules.specs.declared.Leg.{Leg}
 use Rattle.napt_dispatch.specs.declared.dispatcher.holding.Front.{Front}
@@ -8,15 +8,16 @@ use Rattle.napt_dispatch.specs.declared.dispatcher.holding.Held.{Held}
 use Rattle.napt_dispatch.specs.declared.dispatcher.holding.Held.TheVariants.{Ready, Place}
 use Rattle.napt_dispatch.specs.declared.dispatcher.holding.Owed.{Owed}
 
--- one worker: the number of legs offered, the legs not answered yet, and what is held
+-- one worker: the number of legs offered, those not answered yet, those of the next message, and what is held behind
 pub record QueueState : Type 0 where
   pub offered : ℕ
   pub owed : List Owed
+  pub ready : List Leg
   pub held : List Held
 
 -- before any offer
 abbrev pub unused : QueueState
-unused = record { offered = 0; owed = []; held = [] }
+unused = record { offered = 0; owed = []; ready = []; held = [] }
 
 -- the queues of worker w
 abbrev pub queue_of : List QueueState → ℕ → QueueState
@@ -26,12 +27,19 @@ queue_of queues w = slice_index_or queues w unused
 abbrev pub counts_in : List QueueState → List ℕ
 counts_in queues = map (λ q. q.offered) queues
 
+-- all that is held, oldest first, and its count
+abbrev pub all_held : QueueState → List Held
+all_held q = map (λ leg. Ready leg) q.ready ++ q.held
+
+abbrev pub count_held : QueueState → ℕ
+count_held q = length q.ready + length q.held
+
 -- how many legs are not answered yet, and how much is held, at all workers
 abbrev pub many_owed : List QueueState → ℕ
 many_owed queues = sum_by (λ q. length q.owed) queues
 
 abbrev pub many_held : List QueueState → ℕ
-many_held queues = sum_by (λ q. length q.held) queues
+many_held queues = sum_by count_held queues
 
 -- the count of legs and placeholders held is right, and there is a worker
 pub record AreCounted (many : ℕ) (queues : List QueueState) : Type 0 where
@@ -40,50 +48,60 @@ pub record AreCounted (many : ℕ) (queues : List QueueState) : Type 0 where
   pub some : 0 < length queues
   pub numbered : length queues < 2 ^ 32
 
--- what is held first
+-- what is first
 abbrev pub front_of : List Held → Front
 front_of [] = fronts.Nothing
 front_of (Ready leg ∷ rest) = fronts.FirstLeg
 front_of (Place number ∷ rest) = fronts.FirstPlace number
-
--- legs are held, and this behind them
-abbrev pub held_behind : List Leg → List Held → List Held
-held_behind legs rest = map (λ leg. Ready leg) legs ++ rest
 
 abbrev pub owed_of : Leg → Owed
 owed_of leg = record { way = leg.way; now = leg.now }
 
 -- STEPS
 
--- more is held, behind everything else or in front of it
-abbrev pub with_last : Held → QueueState → QueueState
-with_last held q = record q { held = q.held ++ held ∷ [] }
-
-abbrev pub with_first : Held → QueueState → QueueState
-with_first held q = record q { held = held ∷ q.held }
-
--- one more leg was offered, and awaits its answer
-abbrev pub with_offer : Owed → QueueState → QueueState
-with_offer owed q = record q { offered = q.offered + 1; owed = q.owed ++ owed ∷ [] }
-
--- these legs were offered, of those that were held first, and this is still held
-abbrev pub with_offers : List Leg → List Held → QueueState → QueueState
-with_offers legs rest q = record { offered = q.offered + length legs; owed = q.owed ++ map owed_of legs; held = rest }
-
-pub record OffersFirst (legs : List Leg) (q later : QueueState) : Type 0 where
-  pub held_is : q.held ≡ held_behind legs later.held
-  pub later_is : later ≡ with_offers legs later.held q
-
--- a leg awaits its answer before all others
-abbrev pub with_oldest : Owed → QueueState → QueueState
-with_oldest owed q = record q { owed = owed ∷ q.owed }
-
 -- the queues of worker w change, and no other
 abbrev pub with_queue : ℕ → (QueueState → QueueState) → List QueueState → List QueueState
 with_queue w change queues = slice_set queues w (change (queue_of queues w))
 
--- the same at worker w
-pub record OffersAt (w : ℕ) (legs : List Leg) (queues later : List QueueState) : Type 0 where
-  pub rest : List Held
-  pub held_is : (queue_of queues w).held ≡ held_behind legs rest
-  pub later_is : later ≡ with_queue w (with_offers legs rest) queues
+-- more is held, behind everything else
+pub record Holds (more : List Held) (q later : QueueState) : Type 0 where
+  pub offered_stays : later.offered ≡ q.offered
+  pub owed_stays : later.owed ≡ q.owed
+  pub held_is : all_held later ≡ all_held q ++ more
+
+-- for each worker
+abbrev pub AllHold : (ℕ → List Held) → List QueueState → List QueueState → Type 0
+AllHold more queues later = (v : ℕ) → Holds (more v) (queue_of queues v) (queue_of later v)
+
+-- for one worker, or for none
+abbrev pub only_at : ℕ → List Held → ℕ → List Held
+only_at w more v = if v == w then more else []
+
+abbrev pub place_at : ℕ → Option ℕ → ℕ → List Held
+place_at number None v = []
+place_at number (Some w) v = only_at w (Place number ∷ []) v
+
+-- the leg that is held first, or stands for the placeholder that is, becomes one of the next message
+abbrev pub first_leg : Option Leg → List Held → List Leg
+first_leg second [] = []
+first_leg second (Ready leg ∷ rest) = leg ∷ []
+first_leg second (Place number ∷ rest) = option_to_list second
+
+abbrev pub readied : Option Leg → QueueState → QueueState
+readied second q = record q { ready = q.ready ++ first_leg second q.held; held = drop 1 q.held }
+
+-- these legs, the first of the next message, were offered, and await their answers
+abbrev pub with_offers : List Leg → QueueState → QueueState
+with_offers legs q = record q {
+  offered = q.offered + length legs;
+  owed = q.owed ++ map owed_of legs;
+  ready = drop (length legs) q.ready;
+}
+
+-- the oldest leg was answered
+abbrev pub answered : QueueState → QueueState
+answered q = record q { owed = drop 1 q.owed }
+
+pub record AnswersAt (w : ℕ) (owed : Owed) (queues later : List QueueState) : Type 0 where
+  pub first : (queue_of queues w).owed ≡ owed ∷ drop 1 (queue_of queues w).owed
+  pub later_is : later ≡ with_queue w answered queues

@@ -15,6 +15,8 @@ use Rattle.napt_rules.specs.declared.Outcome.{Outcome}
 use Rattle.napt_laws.specs.Dispatching.{IsFront}
 use Rattle.napt_laws.specs.Places.{second_legs}
 use Rattle.napt_dispatch.specs.declared.dispatcher.Dispatcher.{Dispatcher}
+use Rattle.napt_dispatch.specs.declared.dispatcher.holding.Front.{Front}
+use Rattle.napt_dispatch.specs.declared.dispatcher.holding.Front.TheVariants as fronts
 use Rattle.napt_dispatch.specs.declared.dispatcher.holding.Held.{Held}
 use Rattle.napt_dispatch.specs.declared.dispatcher.holding.Held.TheVariants.{Ready, Place}
 use Rattle.napt_dispatch.specs.declared.dispatcher.holding.Owed.{Owed}
@@ -24,7 +26,7 @@ use Rattle.napt_dispatch.specs.declared.dispatcher.progress.Progress.TheVariants
 use Rattle.napt_dispatch.specs.declared.dispatcher.taking.Until.{Until}
 use Rattle.napt_dispatch.specs.declared.dispatcher.taking.Until.TheVariants as untils
 use Rattle.napt_dispatch.specs.Dispatch.{of_worker, fresh, IsDispatchFault}
-use Rattle.napt_dispatch.specs.QueueStates.{QueueState, queue_of, owed_of, many_owed, many_held, with_first, with_oldest, with_queue}
+use Rattle.napt_dispatch.specs.QueueStates.{QueueState, AnswersAt, all_held, count_held, front_of, queue_of, owed_of, many_owed, many_held}
 use Rattle.napt_dispatch.specs.Windows.{Window, progress_in, times_in, is_unknown, asked, Asks, AllKnown, IsWritten, HasMark, IsMarked}
 
 -- A DISPATCHER'S STATE
@@ -77,7 +79,7 @@ resolved acts (Place number) = second_legs number acts
 
 -- the legs offered to a worker, and those that are held for it
 abbrev pub lane_legs : List Act → Lane → List Leg
-lane_legs acts lane = lane.offered ++ flat_map (resolved acts) lane.queue.held
+lane_legs acts lane = lane.offered ++ (lane.queue.ready ++ flat_map (resolved acts) lane.queue.held)
 
 -- the answers of worker w are its translator's
 abbrev pub IsRight : Rules → ℕ → Lane → Type 0
@@ -105,12 +107,6 @@ pub record Stands (rules : Rules) (done all : List Arrival) (state : DispatchSta
 abbrev pub Keeps : DispatchState → DispatchState → Type 0
 Keeps state later = (rules : Rules) (done all : List Arrival) → Stands rules done all state →
     Stands rules done all later
-
--- whatever was offered and answered
-abbrev pub KeepsAlone : Dispatcher → Dispatcher → Type 0
-KeepsAlone d later =
-    (offered : ℕ → List Leg) (taken : ℕ → List Answer) → Keeps (state_with offered taken d)
-    (state_with offered taken later)
 
 -- OVER A POOL
 
@@ -168,7 +164,7 @@ ContinuesUnlessFault open_gate pool d later_pool later result =
 -- an answer of worker w was noted
 pub record Noted (w : ℕ) (answer : Answer) (d later : Dispatcher) : Type 0 where
   pub owed : Owed
-  pub answered : d.queues ≡ with_queue w (with_oldest owed) later.queues
+  pub answers : AnswersAt w owed d.queues later.queues
   pub written : IsWritten answer.number (Told owed answer.end) d.progress later.progress
 
 -- taking out the second leg of an open input, if it has one
@@ -194,22 +190,24 @@ Forgets progress later = (number : ℕ) → is_unknown (slice_get progress numbe
 abbrev pub IsSame : Dispatcher → Dispatcher → Type 0
 IsSame d later = (later.queues ≡ d.queues) × (later.progress ≡ d.progress)
 
--- the first leg or placeholder held for worker w was taken out, and these queues stand for the same legs
-pub record TakesFirst (w : ℕ) (d later : Dispatcher) (queues : List QueueState) : Type 0 where
-  pub first : Held
-  pub out : d.queues ≡ with_queue w (with_first first) later.queues
-  pub journal_stays : journal_of later.progress ≡ journal_of d.progress
-  pub forgets : Forgets (progress_in d.progress) (progress_in later.progress)
-  pub keeps : KeepsAlone d (record later { queues = queues })
-
--- nothing held can be offered: nothing is held, or a waiting placeholder is first
-abbrev pub first_waits : List Progress → List Held → Bool
-first_waits progress [] = true
-first_waits progress (Ready leg ∷ rest) = false
-first_waits progress (Place number ∷ rest) = is_unknown (slice_get progress number)
+-- what is held first cannot be offered: there is nothing, or a waiting placeholder
+abbrev pub waits : List Progress → Front → Bool
+waits progress fronts.Nothing = true
+waits progress fronts.FirstLeg = false
+waits progress (fronts.FirstPlace number) = is_unknown (slice_get progress number)
 
 abbrev pub waits_at : Dispatcher → ℕ → Bool
-waits_at d w = first_waits (progress_in d.progress) (queue_of d.queues w).held
+waits_at d w = waits (progress_in d.progress) (front_of (all_held (queue_of d.queues w)))
+
+-- behind the legs of the next message
+abbrev pub waits_behind : Dispatcher → ℕ → Bool
+waits_behind d w = waits (progress_in d.progress) (front_of (queue_of d.queues w).held)
+
+-- the second leg for what is held first, where that is a placeholder
+abbrev pub Resolves : Front → Window → Option Leg → Window → Type 0
+Resolves fronts.Nothing window second later = later ≡ window
+Resolves fronts.FirstLeg window second later = later ≡ window
+Resolves (fronts.FirstPlace number) window second later = IsSecond number window later second
 
 -- one more input was read
 abbrev pub Admits : Rules → ℕ → ℕ → Arrival → Dispatcher → Dispatcher → Type 0
@@ -232,12 +230,11 @@ pub record NotesAll (w : ℕ) (answers : List Answer) (d later : Dispatcher) : T
 
 -- OFFERS
 
--- the legs of a message to worker w were `legs` and are `more`: legs held for it were taken out and counted as offered,
--- whatever was offered before the message
-pub record Readies (w : ℕ) (legs : List Leg) (d : Dispatcher) (more : List Leg) (later : Dispatcher) : Type 0 where
+-- what is held for worker w was put behind the legs of its next message, or was a placeholder without a leg
+pub record Readies (w : ℕ) (d later : Dispatcher) : Type 0 where
   pub journal_stays : journal_of later.progress ≡ journal_of d.progress
   pub keeps : (offered : ℕ → List Leg) (taken : ℕ → List Answer) →
-      Keeps (state_with (added w legs offered) taken d) (state_with (added w more offered) taken later)
+      Keeps (state_with offered taken d) (state_with offered taken later)
   pub others : (v : ℕ) → v ≢ w → queue_of later.queues v ≡ queue_of d.queues v
   pub forgets : Forgets (progress_in d.progress) (progress_in later.progress)
 
@@ -272,7 +269,7 @@ pub record HasRoom (d : Dispatcher) : Type 0 where
 -- nothing is held, and every leg is answered
 pub record IsDone (d : Dispatcher) : Type 0 where
   pub owed : (w : ℕ) → (queue_of d.queues w).owed ≡ []
-  pub held : (w : ℕ) → (queue_of d.queues w).held ≡ []
+  pub held : (w : ℕ) → count_held (queue_of d.queues w) ≡ 0
 
 -- the state that a dispatcher goes on to
 abbrev pub HasReached : Until → Dispatcher → Type 0

@@ -71,11 +71,11 @@ outcome_in (Told owed end) = outcome_told end
 abbrev pub has_ended : Progress → Bool
 has_ended progress = is_some (outcome_in progress)
 
--- it is not known if the input has a second leg (RFC 4787, REQ-9)
 abbrev pub is_incoming : Way → Bool
 is_incoming Incoming = true
 is_incoming Outgoing = false
 
+-- it is not known if the input has a second leg (RFC 4787, REQ-9)
 abbrev pub is_unknown : Option Progress → Bool
 is_unknown None = true
 is_unknown (Some Awaited) = true

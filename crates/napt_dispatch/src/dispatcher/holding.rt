@@ -1,9 +1,8 @@
 //! What is held for a worker and what it owes, and the progress of the inputs.
 
-ghost use Rattle.std.specs.Prelude.{◌≡◌, ◌↔◌, ◌^◌, ◌<◌, true, false, [], length, None, IsOk, IfSome, OnOk};
-ghost use Rattle.napt_dispatch.specs.declared.dispatcher.holding.Held.TheVariants.{Ready};
-ghost use Rattle.napt_dispatch.specs.QueueStates.{with_first, with_queue};
-ghost use Rattle.napt_dispatch.specs.Standing.{Noted, TakesFirst, waits_at, IsDone};
+ghost use Rattle.std.specs.Prelude.{◌≡◌, ◌↔◌, ◌^◌, ◌<◌, true, false, [], length, IsOk, OnOk};
+ghost use Rattle.napt_dispatch.specs.Windows.{progress_in};
+ghost use Rattle.napt_dispatch.specs.Standing.{Noted, Resolves, waits, IsDone};
 
 use crate::dispatcher::Dispatcher;
 use crate::dispatcher::progress::Progress;
@@ -20,7 +19,7 @@ pub(crate) enum Held {
     Place(u64),
 }
 
-/// What is held first for a worker.
+/// What is held first behind the legs of a worker's next message.
 #[derive(Clone, Copy)]
 pub(crate) enum Front {
     Nothing,
@@ -38,31 +37,26 @@ pub(crate) struct Owed {
 }
 
 impl Dispatcher {
-    /// Takes out what is held first for worker `w`, which does not wait. Returns the leg, or `None` where that was a placeholder
-    /// whose input has no second leg.
-    pub(super) fn next_leg(&mut self, w: u32) -> Option<Leg>
-        requires place { w < length self.old.queues }
-        requires goes { waits_at self.old w ≡ false }
-        ensures many { length self.new.queues ≡ length self.old.queues }
-        ensures gone { result ≡ None → TakesFirst w self.old self.new self.new.queues }
-        ensures next { IfSome result (λ leg. TakesFirst w self.old self.new
-            (with_queue w (with_first (Ready leg)) self.new.queues)) }
+    /// Returns whether there is nothing to put into a message: nothing is held, or the placeholder held first waits.
+    pub(super) fn waits(&self, front: Front) -> bool
+        ensures { result ≡ waits (progress_in self.now.progress) front }
     {
-        match self.queues.release(w) {
-            Held::Ready(leg) => Some(leg),
-            Held::Place(number) => self.progress.second_leg(number),
-        }
-    }
-
-    /// Returns whether nothing held for worker `w` can be offered: nothing is held, or a placeholder that waits is first.
-    pub(super) fn first_waits(&self, w: u32) -> bool
-        requires { w < length self.now.queues }
-        ensures { result ≡ waits_at self.now w }
-    {
-        match self.queues.front(w) {
+        match front {
             Front::Nothing => true,
             Front::FirstLeg => false,
             Front::FirstPlace(number) => self.progress.is_unknown(number),
+        }
+    }
+
+    /// Takes out the second leg for a placeholder that does not wait, if its input has one.
+    pub(super) fn second_leg(&mut self, front: Front) -> Option<Leg>
+        requires { waits (progress_in self.old.progress) front ≡ false }
+        ensures same { self.new.queues ≡ self.old.queues }
+        ensures resolves { Resolves front self.old.progress result self.new.progress }
+    {
+        match front {
+            Front::Nothing | Front::FirstLeg => None,
+            Front::FirstPlace(number) => self.progress.second_leg(number),
         }
     }
 

@@ -1,15 +1,15 @@
 //! Placing the legs of an input: the first one and a placeholder for the second are held for their workers.
 
-ghost use Rattle.std.specs.Prelude.{◌≡◌, ◌+◌, ◌<◌, ◌≤◌, Bool, length, slice_get, Ok, Err, Some, None, IfOk, IfErr, IfSome, OnOk, MatchOption};
+ghost use Rattle.std.specs.Prelude.{◌≡◌, ◌+◌, ◌<◌, ◌≤◌, ◌∷◌, ◌++◌, [], Bool, length, slice_get, Ok, Err, Some, None, IfOk, IfErr, IfSome, OnOk};
 ghost use Rattle.napt_wire.specs.declared.Side.TheVariants.{Inside as InsideSide};
 ghost use Rattle.napt_wire.specs.Fields.{destination};
 ghost use Rattle.napt_wire.specs.Packet.{IsPacket};
 ghost use Rattle.napt_wire.specs.Reading.{reading};
 ghost use Rattle.napt_config.specs.Rules.{KeepsRules, place_of};
 ghost use Rattle.napt_rules.specs.Prelude.{way_from, served_at, admission_as};
-ghost use Rattle.napt_dispatch.specs.declared.dispatcher.holding.Held.TheVariants.{Ready, Place};
+ghost use Rattle.napt_dispatch.specs.declared.dispatcher.holding.Held.TheVariants.{Ready};
 ghost use Rattle.napt_dispatch.specs.Dispatch.{IsDispatchFault};
-ghost use Rattle.napt_dispatch.specs.QueueStates.{many_held, with_last, with_queue};
+ghost use Rattle.napt_dispatch.specs.QueueStates.{AllHold, many_held, only_at, place_at};
 ghost use Rattle.napt_dispatch.specs.Windows.{progress_in, refused, IsUnmarked, IsWritten};
 ghost use Rattle.napt_dispatch.specs.Standing.{journal_of, Admits};
 
@@ -30,8 +30,8 @@ impl Dispatcher {
         requires room { many_held self.old.queues < 65536 }
         requires open { IsUnmarked number self.old.progress }
         ensures many { length self.new.queues ≡ length self.old.queues }
-        ensures placed { OnOk result (MatchOption to (self.new.queues ≡ self.old.queues) (λ v.
-            self.new.queues ≡ with_queue v (with_last (Place number)) self.old.queues)) }
+        ensures placed { OnOk result (AllHold (place_at number to)
+            self.old.queues self.new.queues) }
         ensures progress { progress_in self.new.progress ≡ progress_in self.old.progress }
         ensures journal { journal_of self.new.progress ≡ journal_of self.old.progress }
     {
@@ -52,10 +52,8 @@ impl Dispatcher {
         requires room { many_held self.old.queues + 2 ≤ 65536 }
         requires open { IsUnmarked leg.number self.old.progress }
         ensures many { length self.new.queues ≡ length self.old.queues }
-        ensures placed { OnOk result
-            (let one : _ = with_queue w (with_last (Ready leg)) self.old.queues in
-            MatchOption to (self.new.queues ≡ one)
-            (λ v. self.new.queues ≡ with_queue v (with_last (Place leg.number)) one)) }
+        ensures placed { OnOk result (AllHold (λ v. only_at w (Ready leg ∷ []) v
+            ++ place_at leg.number to v) self.old.queues self.new.queues) }
         ensures progress { OnOk result (progress_in self.new.progress
             ≡ progress_in self.old.progress) }
         ensures journal { OnOk result (journal_of self.new.progress

@@ -1,9 +1,8 @@
 //! The queues of one worker.
 
-ghost use Rattle.std.specs.Prelude.{◌≡◌, ◌↔◌, ◌+◌, ◌<◌, ◌≤◌, ◌∷◌, ◌++◌, Bool, [], length, map, take, drop, vec_len, IfOk, IfErr, OnOk, OnErr, MatchOption};
-ghost use Rattle.napt_dispatch.specs.declared.dispatcher.holding.Held.TheVariants.{Ready};
+ghost use Rattle.std.specs.Prelude.{◌≡◌, ◌+◌, ◌≤◌, ◌∷◌, ◌++◌, Bool, [], length, map, take, drop, vec_len, IfOk, IfErr, OnOk, OnErr, MatchOption};
 ghost use Rattle.napt_dispatch.specs.Dispatch.{IsDispatchFault};
-ghost use Rattle.napt_dispatch.specs.QueueStates.{OffersFirst, front_of, held_behind, owed_of, unused, with_last, with_first, with_offer, with_offers};
+ghost use Rattle.napt_dispatch.specs.QueueStates.{Holds, count_held, front_of, owed_of, readied, unused, with_offers};
 
 use crate::dispatcher::holding::{Front, Held, Owed};
 use crate::stopped::ImpossibleAnswer;
@@ -17,7 +16,7 @@ use std::mem;
 /// The most legs that are put into a message as they come. Those behind them wait in a queue.
 const MOST_READY: usize = 64;
 
-/// The queues of one worker. Contracts see a count and two lists.
+/// The queues of one worker. Contracts see a count and three lists.
 #[derive(Drop)]
 pub(crate) struct WorkerQueue {
     /// The number of legs offered to the worker.
@@ -31,14 +30,15 @@ pub(crate) struct WorkerQueue {
 }
 
 impl Model for WorkerQueue {
-    ghost use Rattle.napt_dispatch.specs.QueueStates.{QueueState, held_behind};
+    ghost use Rattle.napt_dispatch.specs.QueueStates.{QueueState};
 
     ghost Value = { QueueState };
 
     ghost view = { λ queue. record {
       offered = queue.offered;
       owed = queue.owed.items;
-      held = held_behind queue.ready.items queue.held.items;
+      ready = queue.ready.items;
+      held = queue.held.items;
     } };
 }
 
@@ -62,86 +62,88 @@ impl WorkerQueue {
         self.offered
     }
 
-    /// Holds a leg or a placeholder behind everything held.
+    /// Holds a leg or a placeholder behind everything held. A leg is one of the next message, unless something is held behind
+    /// that, or it has as many as it may.
     #[inline(always)]
     pub(crate) fn hold(&mut self, held: Held) -> Result<(), AllocError>
-        ensures ok { OnOk result (self.new ≡ with_last held self.old) }
+        ensures ok { OnOk result (Holds (held ∷ []) self.old self.new) }
         ensures err { OnErr result (self.new ≡ self.old) }
     {
         match held {
-            Held::Ready(leg) => self.hold_leg(leg),
+            Held::Ready(leg) => {
+                if self.held.len() > 0 || self.ready.len() >= MOST_READY {
+                    return self.hold_behind(Held::Ready(leg));
+                }
+                self.ready.push(leg)?;
+                Ok(())
+            }
             Held::Place(number) => self.hold_behind(Held::Place(number)),
         }
-    }
-
-    /// Holds a leg behind everything held: it is one of the next message, unless there is a placeholder before it, or that has
-    /// as many as it may.
-    #[inline(always)]
-    fn hold_leg(&mut self, leg: Leg) -> Result<(), AllocError>
-        ensures ok { OnOk result (self.new ≡ with_last (Ready leg) self.old) }
-        ensures err { OnErr result (self.new ≡ self.old) }
-    {
-        if self.held.len() > 0 {
-            return self.hold_behind(Held::Ready(leg));
-        }
-        if self.ready.len() >= MOST_READY {
-            return self.hold_behind(Held::Ready(leg));
-        }
-        self.ready.push(leg)?;
-        Ok(())
     }
 
     /// Holds a leg or a placeholder behind everything held, and not in the next message.
     #[inline(never)]
     fn hold_behind(&mut self, held: Held) -> Result<(), AllocError>
-        ensures ok { OnOk result (self.new ≡ with_last held self.old) }
+        ensures ok { OnOk result (self.new
+            ≡ record self.old { held = self.old.held ++ held ∷ [] }) }
         ensures err { OnErr result (self.new ≡ self.old) }
     {
         self.held.push_back(held)?;
         Ok(())
     }
 
-    /// Returns what is held first.
+    /// Returns what is held first behind the legs of the next message.
     pub(crate) fn front(&self) -> Front
         ensures { result ≡ front_of self.now.held }
     {
-        if self.ready.len() > 0 {
-            return Front::FirstLeg;
+        match self.held.front() {
+            None => Front::Nothing,
+            Some(Held::Ready(_)) => Front::FirstLeg,
+            Some(Held::Place(number)) => Front::FirstPlace(*number),
         }
-        front_in(&self.held)
     }
 
-    /// Takes out the first leg or placeholder held.
-    pub(crate) fn release(&mut self) -> Held
-        requires { 0 < length self.old.held }
-        ensures { self.old ≡ with_first result self.new }
+    /// Puts the first leg behind those of the next message there too. Where a placeholder is first, `second` stands for it.
+    pub(crate) fn ready_first(&mut self, second: Option<Leg>) -> Result<(), AllocError>
+        ensures readied { OnOk result (self.new ≡ readied second self.old) }
+        ensures fewer { count_held self.new ≤ count_held self.old }
     {
-        if self.ready.len() > 0 {
-            return Held::Ready(self.ready.remove(0));
-        }
-        let Some(held) = self.held.pop_front() else {
-            unreachable!();
+        let leg = match self.held.pop_front() {
+            None => None,
+            Some(Held::Ready(leg)) => Some(leg),
+            Some(Held::Place(_)) => second,
         };
-        held
+        if let Some(leg) = leg {
+            self.ready.push(leg)?;
+        }
+        Ok(())
+    }
+
+    /// Returns the number of legs of the next message.
+    pub(crate) fn many_ready(&self) -> usize
+        ensures { result ≡ length self.now.ready }
+    {
+        self.ready.len()
     }
 
     /// Returns the number of legs and placeholders held.
     pub(crate) fn many_held(&self) -> usize
-        ensures { result ≡ length self.now.held }
+        ensures { result ≡ count_held self.now }
     {
         self.ready.len() + self.held.len()
     }
 
-    /// Takes out the first legs held, at most so many: all up to the first placeholder, if not more fit. Counts them as
-    /// offered, and notes them as not answered yet. Returns them in the vector `none`.
-    pub(crate) fn offer_ready(&mut self, most: usize, none: Vec<Leg>) -> Result<Vec<Leg>, RunFault>
-        requires { none.items ≡ [] }
-        ensures offers { IfOk result (λ legs. OffersFirst legs.items self.old self.new) }
-        ensures few { IfOk result (λ legs. vec_len legs ≤ most) }
-        ensures kept { OnErr result (self.new.held ≡ self.old.held) }
+    /// Takes out the first `count` legs of the next message. Counts them as offered, and notes them as not answered yet. They
+    /// are in the vector that held all, if these are all, and the vector `none` is in its place.
+    pub(crate) fn offer_ready(&mut self, count: usize, none: Vec<Leg>) -> Result<Vec<Leg>, RunFault>
+        requires count { count ≤ length self.old.ready }
+        requires none { none.items ≡ [] }
+        ensures offers { IfOk result (λ legs. self.new ≡ with_offers legs.items self.old) }
+        ensures first { IfOk result (λ legs. legs.items ≡ take count self.old.ready) }
+        ensures len { IfOk result (λ legs. vec_len legs ≡ count) }
+        ensures kept { OnErr result (count_held self.new ≡ count_held self.old) }
         ensures fault { (open_gate : Bool) → IfErr result (IsDispatchFault open_gate) }
     {
-        let count = self.ready.len().min(most);
         let Some(offered) = self.offered.checked_add(count as u64) else {
             return Err(RunFault::from(ImpossibleAnswer));
         };
@@ -153,19 +155,6 @@ impl WorkerQueue {
                 self.offered = offered;
                 Ok(legs)
             }
-            Err(_) => Err(RunFault::Memory),
-        }
-    }
-
-    /// Counts an offer, and notes the leg as not answered yet. A count is at most `u64::MAX`.
-    pub(crate) fn note_offer(&mut self, owed: Owed) -> Result<(), RunFault>
-        ensures ok { OnOk result (self.new ≡ with_offer owed self.old) }
-        ensures held { self.new.held ≡ self.old.held }
-        ensures fault { (open_gate : Bool) → IfErr result (IsDispatchFault open_gate) }
-    {
-        self.offered = self.offered.checked_add(1).ok_or(ImpossibleAnswer)?;
-        match self.owed.push_back(owed) {
-            Ok(()) => Ok(()),
             Err(_) => Err(RunFault::Memory),
         }
     }
@@ -184,17 +173,6 @@ impl WorkerQueue {
         ensures { result ≡ length self.now.owed }
     {
         self.owed.len()
-    }
-}
-
-/// Returns what is first in a list of what is held.
-fn front_in(held: &VecDeque<Held>) -> Front
-    ensures { result ≡ front_of held.now.items }
-{
-    match held.front() {
-        None => Front::Nothing,
-        Some(Held::Ready(_)) => Front::FirstLeg,
-        Some(Held::Place(number)) => Front::FirstPlace(*number),
     }
 }
 

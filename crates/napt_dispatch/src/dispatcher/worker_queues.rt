@@ -1,8 +1,8 @@
 //! The queues of all workers.
 
-ghost use Rattle.std.specs.Prelude.{◌≡◌, ◌↔◌, ◌+◌, ◌<◌, ◌≤◌, ℕ, Bool, [], length, replicate, true, vec_len, IfOk, IfErr, OnOk, MatchOption};
+ghost use Rattle.std.specs.Prelude.{◌≡◌, ◌↔◌, ◌+◌, ◌<◌, ◌≤◌, ℕ, Bool, [], ◌∷◌, length, replicate, take, true, vec_len, IfOk, IfErr, OnOk, MatchOption};
 ghost use Rattle.napt_dispatch.specs.Dispatch.{IsDispatchFault};
-ghost use Rattle.napt_dispatch.specs.QueueStates.{OffersAt, front_of, unused, queue_of, counts_in, many_held, with_last, with_first, with_offer, with_oldest, with_queue};
+ghost use Rattle.napt_dispatch.specs.QueueStates.{AllHold, AnswersAt, count_held, counts_in, front_of, many_held, only_at, queue_of, readied, unused, with_offers, with_queue};
 
 use crate::dispatcher::holding::{Front, Held, Owed};
 use crate::dispatcher::worker_queue::WorkerQueue;
@@ -68,7 +68,8 @@ impl WorkerQueues {
         requires place { w < length self.old }
         requires room { many_held self.old < 65536 }
         ensures many { length self.new ≡ length self.old }
-        ensures holds { OnOk result (self.new ≡ with_queue w (with_last held) self.old) }
+        ensures holds { OnOk result (AllHold (only_at w (held ∷ [])) self.old self.new) }
+        ensures counted { OnOk result (many_held self.new ≡ many_held self.old + 1) }
     {
         let queue = &mut self.queues[w as usize];
         queue.hold(held)?;
@@ -76,7 +77,7 @@ impl WorkerQueues {
         Ok(())
     }
 
-    /// Returns what is held first for worker `w`.
+    /// Returns what is held first for worker `w`, behind the legs of its next message.
     pub(crate) fn front(&self, w: u32) -> Front
         requires { w < length self.now }
         ensures { result ≡ front_of (queue_of self.now w).held }
@@ -84,64 +85,65 @@ impl WorkerQueues {
         self.queues[w as usize].front()
     }
 
-    /// Takes out the first leg or placeholder held for worker `w`.
-    pub(crate) fn release(&mut self, w: u32) -> Held
-        requires place { w < length self.old }
-        requires some { 0 < length (queue_of self.old w).held }
+    /// Puts what is held first for worker `w` behind the legs of its next message. Where that is a placeholder, `second` stands
+    /// for it.
+    pub(crate) fn ready_first(&mut self, w: u32, second: Option<Leg>) -> Result<(), AllocError>
+        requires { w < length self.old }
         ensures many { length self.new ≡ length self.old }
-        ensures first { self.old ≡ with_queue w (with_first result) self.new }
+        ensures readied { OnOk result (self.new ≡ with_queue w (readied second) self.old) }
     {
         let queue = &mut self.queues[w as usize];
-        let held = queue.release();
-        self.many -= 1;
-        held
+        let before = queue.many_held();
+        let done = queue.ready_first(second);
+        self.many -= (before - queue.many_held()) as u64;
+        done
     }
 
-    /// Takes out the first legs held for worker `w`, at most so many: all up to the first placeholder, if not more fit.
-    /// Counts them as offered, and notes them as not answered yet. Returns them in the vector `none`.
+    /// Returns the number of legs of the next message of worker `w`.
+    pub(crate) fn many_ready(&self, w: u32) -> usize
+        requires { w < length self.now }
+        ensures { result ≡ length (queue_of self.now w).ready }
+    {
+        self.queues[w as usize].many_ready()
+    }
+
+    /// Takes out the first `count` legs of the next message of worker `w`. Counts them as offered, and notes them as not answered
+    /// yet. They are in the vector that held all, if these are all, and the vector `none` is in its place.
     pub(crate) fn offer_ready(
         &mut self,
         w: u32,
-        most: usize,
+        count: usize,
         none: Vec<Leg>,
     ) -> Result<Vec<Leg>, RunFault>
         requires place { w < length self.old }
+        requires count { count ≤ length (queue_of self.old w).ready }
         requires none { none.items ≡ [] }
         ensures many { length self.new ≡ length self.old }
-        ensures offers { IfOk result (λ legs. OffersAt w legs.items self.old self.new) }
-        ensures few { IfOk result (λ legs. vec_len legs ≤ most) }
+        ensures offers { IfOk result (λ legs. self.new
+            ≡ with_queue w (with_offers legs.items) self.old) }
+        ensures first { IfOk result (λ legs. legs.items ≡ take count (queue_of self.old w).ready) }
+        ensures len { IfOk result (λ legs. vec_len legs ≡ count) }
         ensures fault { (open_gate : Bool) → IfErr result (IsDispatchFault open_gate) }
     {
         let queue = &mut self.queues[w as usize];
-        let legs = queue.offer_ready(most, none)?;
-        self.many -= legs.len() as u64;
+        let legs = queue.offer_ready(count, none)?;
+        self.many -= count as u64;
         Ok(legs)
     }
 
     /// Returns the number of legs and placeholders held for worker `w`.
     pub(crate) fn many_held(&self, w: u32) -> usize
         requires { w < length self.now }
-        ensures { result ≡ length (queue_of self.now w).held }
+        ensures { result ≡ count_held (queue_of self.now w) }
     {
         self.queues[w as usize].many_held()
     }
 
     /// Returns whether nothing is held for any worker.
     pub(crate) fn none_held(&self) -> bool
-        ensures { (result ≡ true) ↔ ((w : ℕ) → (queue_of self.now w).held ≡ []) }
+        ensures { (result ≡ true) ↔ ((w : ℕ) → count_held (queue_of self.now w) ≡ 0) }
     {
         self.many == 0
-    }
-
-    /// Counts a leg offered to worker `w`, and notes it as not answered yet.
-    pub(crate) fn note_offer(&mut self, w: u32, owed: Owed) -> Result<(), RunFault>
-        requires { w < length self.old }
-        ensures many { length self.new ≡ length self.old }
-        ensures owes { OnOk result (self.new ≡ with_queue w (with_offer owed) self.old) }
-        ensures fault { (open_gate : Bool) → IfErr result (IsDispatchFault open_gate) }
-    {
-        let queue = &mut self.queues[w as usize];
-        queue.note_offer(owed)
     }
 
     /// Takes out the oldest leg that worker `w` has not answered yet, if there is one.
@@ -150,7 +152,7 @@ impl WorkerQueues {
         requires { w < length self.old }
         ensures many { length self.new ≡ length self.old }
         ensures first { MatchOption result ((queue_of self.old w).owed ≡ [])
-            (λ owed. self.old ≡ with_queue w (with_oldest owed) self.new) }
+            (λ owed. AnswersAt w owed self.old self.new) }
     {
         let queue = &mut self.queues[w as usize];
         queue.note_answer()

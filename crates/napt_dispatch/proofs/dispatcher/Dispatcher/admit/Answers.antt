@@ -22,7 +22,7 @@ returns-in_ok-hold_first-in-Ok-clause-admits c =
     c.in-Ok.place c.requires.keeps.pool.distinct c.right_answers.ensures.foretold c.second_place-to.ensures.reads
     routed.0 routed.1 c.in_ok-hold_first-in-Ok.ensures.progress
     c.second_place-to.result c.second_place-to.ensures.some c.second_place-to.ensures.none
-    (rw c.way_from.ensures at c.in_ok-hold_first-in-Ok.ensures.placed))
+    c.hold_first.ensures.many (rw c.way_from.ensures at c.in_ok-hold_first-in-Ok.ensures.placed))
 
 pub returns-in_ok-note_dropped-in-Err-clause-admits : goal.returns-in_ok-note_dropped-in-Err-clause-admits
 returns-in_ok-note_dropped-in-Err-clause-admits c =

@@ -1,39 +1,73 @@
-use Rattle.std.proofs.Common.{rules}
+use Rattle.std.proofs.Common.{◌<◌, length, refl, sym, ap, ◌∙◌}
 use Rattle.std.proofs.lemmas.Result.{err_from_is_err_and}
-use Rattle.napt_dispatch.proofs.Lanes.{grows_none, grows_not, grows_offered}
-use Rattle.napt_dispatch.proofs.Offering.{over_pool, sent_keeps, only_sent, sent_all}
+use Rattle.napt_dispatch.specs.declared.dispatcher.Dispatcher.{Dispatcher}
+use Rattle.napt_dispatch.proofs.Lanes.{grows_none, grows_offered}
+use Rattle.napt_dispatch.proofs.Offering.{over_pool, none_sent, none_continue, none_alone, sent_keeps, only_sent, sent_all}
 use Rattle.napt_dispatch.proofs.dispatcher.Dispatcher.offer_held.Goals as goal
+
+pub returns-then-count-eq0-clause-state : goal.returns-then-count-eq0-clause-state
+returns-then-count-eq0-clause-state g c =
+    none_continue c.args.w c.room-most.result c.args.pool.now c.args.self.now c.ready_all.new.self
+    c.in_ok-ready_all.ensures.readies c.room-most.ensures c.in_ok-ready_all.ensures.all
+    (c.in_ok-ready_all.ensures.many ∙ c.requires.sized)
+
+pub returns-then-count-eq0-clause-alone : goal.returns-then-count-eq0-clause-alone
+returns-then-count-eq0-clause-alone g c =
+    none_alone c.args.w c.room-most.result c.args.pool.now c.args.self.now c.ready_all.new.self
+    c.in_ok-ready_all.ensures.readies c.room-most.ensures c.in_ok-ready_all.ensures.all
+
+pub returns-then-count-eq0-clause-offered : goal.returns-then-count-eq0-clause-offered
+returns-then-count-eq0-clause-offered g c =
+    none_sent c.args.w c.room-most.result c.args.pool.now c.args.self.now c.ready_all.new.self
+    c.in_ok-ready_all.ensures.readies c.room-most.ensures c.in_ok-ready_all.ensures.all
+    (rw c.many_ready.ensures at (sym c.if-count-eq0.true ∙ c.min-count.ensures))
 
 pub returns-in_err-legs-clause-state : goal.returns-in_err-legs-clause-state
 returns-in_err-legs-clause-state g c =
-    let p = err_from_is_err_and c.from_residual.result c.from_residual.ensures.1 in
+    let p = err_from_is_err_and c.from_residual-in_err-legs.result c.from_residual-in_err-legs.ensures.1 in
     rw (p.1, p.2)
     (record { grows = grows_none c.args.pool.now; fault_is = c.in_err-legs.ensures.fault g.G.Gate.is_open })
 
 pub returns-clause-state : goal.returns-clause-state
-returns-clause-state g c = record {
-  starts_stay = c.in_ok-send.ensures.starts;
-  grows = grows_offered c.args.w c.args.pool.now c.send.new.pool c.requires.place c.in_ok-send.ensures.starts
-      c.in_ok-legs.legs.items c.in_ok-send.ensures.takes c.in_ok-send.ensures.accepted;
-  sized = search rules;
-  journal_stays = c.in_ok-legs.ensures.readies.journal_stays;
-  keeps = over_pool (sent_keeps c.args.w c.in_ok-legs.legs.items c.args.pool.now
-      (record c.args.self.now { vectors = c.take-answers.new.self }) c.send.new.pool c.take_all_ready.new.self
-      c.requires.place c.in_ok-legs.ensures.readies c.in_ok-send.ensures.accepted c.in_ok-send.ensures.takes);
-}
+returns-clause-state g c =
+    let later : Dispatcher =
+    record c.ready_all.new.self { vectors = c.take-answers.new.self; queues = c.offer_ready.new.self } in
+    let inside : c.args.w < length c.ready_all.new.self.queues =
+    rw (c.in_ok-ready_all.ensures.many, c.requires.sized) c.requires.place in
+    let long = sym c.in_ok-legs.legs.ok.0 ∙ c.in_ok-legs.ensures.len in
+    record {
+      starts_stay = c.in_ok-send.ensures.starts;
+      grows = grows_offered c.args.w c.args.pool.now c.send.new.pool c.requires.place c.in_ok-send.ensures.starts
+          c.in_ok-legs.legs.items c.in_ok-send.ensures.takes c.in_ok-send.ensures.accepted;
+      sized = c.offer_ready.ensures.many ∙ (c.in_ok-ready_all.ensures.many
+          ∙ (c.requires.sized ∙ sym (ap length c.in_ok-send.ensures.starts)));
+      journal_stays = c.in_ok-ready_all.ensures.readies.journal_stays;
+      keeps = over_pool (sent_keeps c.args.w c.room-most.result c.args.pool.now c.args.self.now c.ready_all.new.self
+          c.in_ok-ready_all.ensures.readies c.room-most.ensures c.in_ok-ready_all.ensures.all c.in_ok-legs.legs.items
+          c.send.new.pool later c.requires.place inside c.in_ok-legs.ensures.offers refl c.in_ok-send.ensures.accepted
+          c.in_ok-send.ensures.takes c.min-count.result c.in_ok-legs.ensures.first long);
+    }
 
 pub returns-clause-alone : goal.returns-clause-alone
 returns-clause-alone g c =
-    let only = only_sent c.args.w c.in_ok-legs.legs.items c.args.pool.now
-    (record c.args.self.now { vectors = c.take-answers.new.self }) c.send.new.pool c.take_all_ready.new.self
-    c.requires.place c.in_ok-legs.ensures.readies c.in_ok-send.ensures.accepted c.in_ok-send.ensures.takes
-    c.in_ok-send.ensures.capacity in
-    record { capacity_stays = only.capacity_stays; others = only.others; forgets = only.forgets }
+    let later : Dispatcher =
+    record c.ready_all.new.self { vectors = c.take-answers.new.self; queues = c.offer_ready.new.self } in
+    let inside : c.args.w < length c.ready_all.new.self.queues =
+    rw (c.in_ok-ready_all.ensures.many, c.requires.sized) c.requires.place in
+    only_sent c.args.w c.room-most.result c.args.pool.now c.args.self.now c.ready_all.new.self
+    c.in_ok-ready_all.ensures.readies c.room-most.ensures c.in_ok-ready_all.ensures.all c.in_ok-legs.legs.items
+    c.send.new.pool later c.requires.place inside c.in_ok-legs.ensures.offers refl c.in_ok-send.ensures.accepted
+    c.in_ok-send.ensures.takes c.in_ok-send.ensures.capacity
 
 pub returns-clause-offered : goal.returns-clause-offered
 returns-clause-offered g c =
-    sent_all c.args.w c.in_ok-legs.legs.items c.args.pool.now
-    (record c.args.self.now { vectors = c.take-answers.new.self }) c.send.new.pool c.take_all_ready.new.self
-    c.requires.place c.in_ok-legs.ensures.readies c.in_ok-send.ensures.accepted c.in_ok-send.ensures.takes
-    c.in_ok-legs.legs.len c.room-most.result c.in_ok-legs.legs.ok.0 c.in_ok-send.ensures.capacity c.room-most.ensures
-    c.in_ok-legs.ensures.all
+    let later : Dispatcher =
+    record c.ready_all.new.self { vectors = c.take-answers.new.self; queues = c.offer_ready.new.self } in
+    let inside : c.args.w < length c.ready_all.new.self.queues =
+    rw (c.in_ok-ready_all.ensures.many, c.requires.sized) c.requires.place in
+    let count = rw c.many_ready.ensures at c.min-count.ensures in
+    let long = sym c.in_ok-legs.legs.ok.0 ∙ c.in_ok-legs.ensures.len in
+    sent_all c.args.w c.room-most.result c.args.pool.now c.args.self.now c.ready_all.new.self
+    c.in_ok-ready_all.ensures.readies c.room-most.ensures c.in_ok-ready_all.ensures.all c.in_ok-legs.legs.items
+    c.send.new.pool later c.requires.place inside c.in_ok-legs.ensures.offers refl c.in_ok-send.ensures.accepted
+    c.in_ok-send.ensures.takes (long ∙ count) c.in_ok-send.ensures.capacity

@@ -1,16 +1,13 @@
-use Rattle.std.proofs.Common.{◌≡◌, ◌+◌, ◌<◌, length, arith, ap, ◌∙◌}
-use Rattle.std.proofs.lemmas.List.{length_push}
-use Rattle.napt_dispatch.specs.QueueStates.{QueueState, many_held, with_last}
-use Rattle.napt_dispatch.proofs.QueueStates.{changed, counted_by}
+use Rattle.std.proofs.Common.{◌+◌, ◌<◌, [], ◌∷◌, length, arith, sym, ap, ◌∙◌}
+use Rattle.napt_dispatch.specs.QueueStates.{many_held}
+use Rattle.napt_dispatch.proofs.QueueStates.{holds_here, count_more, counted_by}
 use Rattle.napt_dispatch.proofs.dispatcher.worker_queues.WorkerQueues.hold.Goals as goal
 
 pub invariant_of-self-2 : goal.invariant_of-self-2
 invariant_of-self-2 c =
     let lt : c.args.w < length c.self.inside.queues.items = rw c.self.view_is c.requires.place in
     let room : many_held c.self.inside.queues.items < 65536 = rw c.self.view_is c.requires.room in
-    let more : length c.hold.new.self.held ≡ length c.index_mut-queue.result.now.held + 1 =
-    ap (λ (q : QueueState). length q.held) c.in_ok-hold.ensures.ok
-    ∙ length_push c.index_mut-queue.result.now.held c.args.held in
+    let more = count_more c.args.held c.index_mut-queue.result.now c.hold.new.self c.in_ok-hold.ensures.ok in
     counted_by c.self.inside.queues.items c.args.w c.index_mut-queue.result.now c.hold.new.self lt
     c.index_mut-queue.ensures.value c.self.inside.many (c.self.inside.many + 1) (omega (arith, more))
     (omega (arith, room, c.self.invariant.counted)) c.self.invariant
@@ -19,5 +16,15 @@ pub returns-clause-holds : goal.returns-clause-holds
 returns-clause-holds c =
     let lt : c.args.w < length c.self.inside.queues.items = rw c.self.view_is c.requires.place in
     rw (← c.self.view_is)
-    (changed c.self.inside.queues.items c.args.w c.index_mut-queue.result.now c.hold.new.self lt
-    c.index_mut-queue.ensures.value (with_last c.args.held) c.in_ok-hold.ensures.ok)
+    (holds_here c.self.inside.queues.items c.args.w c.index_mut-queue.result.now c.hold.new.self lt
+    c.index_mut-queue.ensures.value (c.args.held ∷ []) c.in_ok-hold.ensures.ok)
+
+pub returns-clause-counted : goal.returns-clause-counted
+returns-clause-counted c =
+    let lt : c.args.w < length c.self.inside.queues.items = rw c.self.view_is c.requires.place in
+    let room : many_held c.self.inside.queues.items < 65536 = rw c.self.view_is c.requires.room in
+    let more = count_more c.args.held c.index_mut-queue.result.now c.hold.new.self c.in_ok-hold.ensures.ok in
+    let now = counted_by c.self.inside.queues.items c.args.w c.index_mut-queue.result.now c.hold.new.self lt
+    c.index_mut-queue.ensures.value c.self.inside.many (c.self.inside.many + 1) (omega (arith, more))
+    (omega (arith, room, c.self.invariant.counted)) c.self.invariant in
+    rw (← c.self.view_is) (sym now.counted ∙ ap (λ n. n + 1) c.self.invariant.counted)
