@@ -49,6 +49,7 @@ fn change(
         order.remove(place);
         return Ok(());
     }
+    assert!(rt; order.len() > 1);
     let place = 1 + drawn % (order.len() - 1);
     let after = order[place];
     assert!(rt; is_inside(links, after));
