@@ -34,6 +34,7 @@ struct Outputs {
 }
 
 /// Reads the capture of a side.
+#[tactic(auto, using(crate::proofs::Received::read_known, crate::proofs::Received::unread, crate::proofs::Received::own_readings))]
 fn read_side<R: Source>(alloc: Global, side: Side, source: &mut R) -> Result<Capture, Fault>
     requires { R.failed source.old < 2 ^ 64 - 1 }
     ensures ok { IfOk result (IsReadFrom (R.remaining source.old)) }
