@@ -20,30 +20,12 @@ type Ends = (Option<(u64, usize)>, Option<u64>);
 
 /// The earliest time of a walk over all places.
 fn least(list: &[Option<u64>]) -> Option<u64> {
-    let mut least = None;
-    for time in list {
-        if let Some(time) = *time {
-            least = match least {
-                Some(other) if other <= time => Some(other),
-                _ => Some(time),
-            };
-        }
-    }
-    least
+    list.iter().filter_map(|time| *time).min()
 }
 
 /// The latest time of a walk over all places.
 fn greatest(list: &[Option<u64>]) -> Option<u64> {
-    let mut greatest = None;
-    for time in list {
-        if let Some(time) = *time {
-            greatest = match greatest {
-                Some(other) if other >= time => Some(other),
-                _ => Some(time),
-            };
-        }
-    }
-    greatest
+    list.iter().filter_map(|time| *time).max()
 }
 
 /// Whether the ends are those of a walk.
