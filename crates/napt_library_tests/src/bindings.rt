@@ -9,23 +9,10 @@ use napt_wire::{Endpoint, Protocol};
 use std::test::Fail;
 
 /// Redirects at both addresses, one of them by the pair of its host.
-const REDIRECTS: &str = r#"
-[[redirect]]
-protocol = "tcp"
-inside = "10.0.0.3:80"
-external = 8080
-[[redirect]]
-protocol = "udp"
-inside = "10.0.0.2:53"
-external = 53
-[[redirect]]
-protocol = "tcp"
-inside = "10.0.0.5:22"
-external = 2222
-[[pair]]
-host = "10.0.0.5"
-external = "203.0.113.1"
-"#;
+const REDIRECTS: &str =
+    redirects!["tcp" "10.0.0.3:80" 8080, "udp" "10.0.0.2:53" 53, "tcp" "10.0.0.5:22" 2222];
+
+const PAIR: &str = "[[pair]]\nhost = \"10.0.0.5\"\nexternal = \"203.0.113.1\"\n";
 
 fn redirected(protocol: Protocol, inside: Endpoint, number: u16) -> Row {
     Row {
@@ -38,7 +25,7 @@ fn redirected(protocol: Protocol, inside: Endpoint, number: u16) -> Row {
 
 #[test]
 fn redirects_are_found(rt: HostRuntime) -> Result<(), Fail> {
-    let text = format!(in rt.alloc(); "{TWO_ADDRESSES}{REDIRECTS}")?;
+    let text = format!(in rt.alloc(); "{TWO_ADDRESSES}{REDIRECTS}{PAIR}")?;
     let config = Config::read(rt.alloc(), text.as_bytes())?;
     let table = CheckedTable::of(rt.alloc(), EXTERNAL, &config)?;
     let (shell, names) = (host(5, 22), host(2, 53));
@@ -48,17 +35,10 @@ fn redirects_are_found(rt: HostRuntime) -> Result<(), Fail> {
         redirected(Protocol::Udp, names, 53),
     ];
     assert_eq!(rt; table.rows(u64::MAX)?.as_slice(), rows.as_slice());
-    for (protocol, number, inside) in [
-        (Protocol::Tcp, 2222, Some(shell)),
-        (Protocol::Udp, 2222, None),
-    ] {
-        assert_eq!(rt; table.inside_of(SECOND, protocol, number)?, inside);
-    }
-    for (protocol, inside, number) in [
-        (Protocol::Udp, names, Some(53)),
-        (Protocol::Tcp, host(3, 80), None),
-    ] {
-        assert_eq!(rt; table.number_of(SECOND, protocol, inside)?, number);
-    }
+    let (tcp, udp) = (Protocol::Tcp, Protocol::Udp);
+    assert_eq!(rt; table.inside_of(SECOND, tcp, 2222)?, Some(shell));
+    assert_eq!(rt; table.inside_of(SECOND, udp, 2222)?, None);
+    assert_eq!(rt; table.number_of(SECOND, udp, names)?, Some(53));
+    assert_eq!(rt; table.number_of(SECOND, tcp, host(3, 80))?, None);
     Ok(())
 }

@@ -56,15 +56,8 @@ fn place_and_parity_in_the_block(rt: HostRuntime) -> Result<(), Fail> {
     let rows = [(5118, 1150), (5054, 1088), (127, 1151), (63, 1089)];
     assert!(rt; gets(&mut table, BLOCK, Protocol::Udp, 2, &rows)?);
     // ports below 1024 do not stay there, and identifiers are taken in the same way
-    assert!(rt;
-        gets(
-            &mut table,
-            BLOCK,
-            Protocol::Tcp,
-            2,
-            &[(1, 1089), (22, 1110)]
-        )?
-    );
+    let rows = [(1, 1089), (22, 1110)];
+    assert!(rt; gets(&mut table, BLOCK, Protocol::Tcp, 2, &rows)?);
     let rows = [(7, 1095), (71, 1097), (0, 1088), (65_535, 1151)];
     assert!(rt; gets(&mut table, BLOCK, Protocol::Icmp, 3, &rows)?);
     Ok(())

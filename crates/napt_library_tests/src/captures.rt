@@ -68,52 +68,33 @@ const TOO_LONG: &[u8] = &[1, 0, 4, 0];
 const A_SECOND: &[u8] = &[0x40, 0x42, 0x0f, 0];
 
 /// What stands in place of bytes of the capture of one packet, how many bytes of it are left, and what reading it comes to.
-const SPELLINGS: &[(&[Change<'static>], usize, Reading)] = &[
-    (&[], 70, SAME),
-    (&[(0, NANOSECONDS), (28, &[0, 0x65, 0xcd, 0x1d])], 70, SAME),
-    (&[(0, &BIG_HEADERS)], 70, SAME),
-    (
-        &[
-            (0, &BIG_HEADERS),
-            (0, &[0xa1, 0xb2, 0x3c, 0x4d]),
-            (28, &[0x1d, 0xcd, 0x65, 0]),
-        ],
-        70,
-        SAME,
-    ),
-    (&[(20, &[0xe4, 0, 0, 0])], 70, SAME),
-    (&[(20, &[1, 0, 0, 0])], 70, Err(CaptureFault::BadLink)),
-    (&[(6, &[3, 0])], 70, Err(CaptureFault::BadVersion)),
-    (&[(28, &[0x3f, 0x42, 0x0f, 0])], 70, Ok(Some(1_999_999_000))),
-    (&[(28, A_SECOND)], 70, Err(CaptureFault::BadFraction(1))),
-    (
-        &[(28, A_SECOND), (32, TOO_LONG)],
-        70,
-        Err(CaptureFault::BadFraction(1)),
-    ),
-    // A cut record has the faults of its header too.
-    (
-        &[(28, A_SECOND), (32, TOO_LONG)],
-        41,
-        Err(CaptureFault::BadFraction(1)),
-    ),
-    (&[(32, TOO_LONG)], 70, Err(CaptureFault::TooLong(1))),
-    (&[(32, &[0, 0, 4, 0])], 70, Ok(None)),
-    (&[], 23, Err(CaptureFault::NoHeader)),
-    (&[(0, &[0])], 23, Err(CaptureFault::NoHeader)),
-    (&[], 0, Err(CaptureFault::NoHeader)),
-    (&[(0, &[0])], 70, Err(CaptureFault::BadMagic)),
-    // Each header goes before what stands behind it.
-    (
-        &[(6, &[3, 0]), (20, &[1, 0, 0, 0])],
-        70,
-        Err(CaptureFault::BadVersion),
-    ),
-    (
-        &[(20, &[1, 0, 0, 0]), (28, A_SECOND)],
-        70,
-        Err(CaptureFault::BadLink),
-    ),
+macro_rules! spellings {
+    ($([$($place:literal $bytes:expr),*] $length:literal $reading:expr;)*) => {
+        &[$((&[$(($place, $bytes)),*], $length, $reading)),*]
+    };
+}
+
+// A cut record has the faults of its header too. Each header goes before what stands behind it.
+const SPELLINGS: &[(&[Change<'static>], usize, Reading)] = spellings![
+    [] 70 SAME;
+    [0 NANOSECONDS, 28 &[0, 0x65, 0xcd, 0x1d]] 70 SAME;
+    [0 &BIG_HEADERS] 70 SAME;
+    [0 &BIG_HEADERS, 0 &[0xa1, 0xb2, 0x3c, 0x4d], 28 &[0x1d, 0xcd, 0x65, 0]] 70 SAME;
+    [20 &[0xe4, 0, 0, 0]] 70 SAME;
+    [20 &[1, 0, 0, 0]] 70 Err(CaptureFault::BadLink);
+    [6 &[3, 0]] 70 Err(CaptureFault::BadVersion);
+    [28 &[0x3f, 0x42, 0x0f, 0]] 70 Ok(Some(1_999_999_000));
+    [28 A_SECOND] 70 Err(CaptureFault::BadFraction(1));
+    [28 A_SECOND, 32 TOO_LONG] 70 Err(CaptureFault::BadFraction(1));
+    [28 A_SECOND, 32 TOO_LONG] 41 Err(CaptureFault::BadFraction(1));
+    [32 TOO_LONG] 70 Err(CaptureFault::TooLong(1));
+    [32 &[0, 0, 4, 0]] 70 Ok(None);
+    [] 23 Err(CaptureFault::NoHeader);
+    [0 &[0]] 23 Err(CaptureFault::NoHeader);
+    [] 0 Err(CaptureFault::NoHeader);
+    [0 &[0]] 70 Err(CaptureFault::BadMagic);
+    [6 &[3, 0], 20 &[1, 0, 0, 0]] 70 Err(CaptureFault::BadVersion);
+    [20 &[1, 0, 0, 0], 28 A_SECOND] 70 Err(CaptureFault::BadLink);
 ];
 
 #[test]
@@ -127,8 +108,11 @@ fn spellings_and_faults(rt: HostRuntime) -> Result<(), Fail> {
 }
 
 /// How many records a capture has, and whether its last is cut.
-fn shape_of(alloc: Global, bytes: &[u8]) -> Result<(usize, bool), CaptureFault> {
-    let capture = read(alloc, bytes)?;
+pub(crate) type Shape = (usize, bool);
+
+/// The shape of a capture that is read whole.
+pub(crate) fn shape_of<R: Read + Drop>(alloc: Global, source: R) -> Result<Shape, CaptureFault> {
+    let capture = read_capture(alloc, &mut Watched::new(source))?;
     Ok((capture.records.len(), capture.cut))
 }
 
@@ -138,30 +122,26 @@ fn short_and_cut_captures(rt: HostRuntime) -> Result<(), Fail> {
     let mut bytes = ONE_PACKET.to_vec(rt.alloc())?;
     bytes.extend_from_slice(&ONE_PACKET[24..])?;
     bytes.extend_from_slice(&ONE_PACKET[24..])?;
-    let rows: &[(usize, (usize, bool))] = &[
-        (161, (2, true)),
-        (133, (2, true)),
-        (132, (2, true)),
-        (131, (2, true)),
-        (117, (2, true)),
-        (116, (2, false)),
-        (24, (0, false)),
-    ];
-    for (length, want) in rows {
-        bytes.truncate(*length);
-        let found = shape_of(rt.alloc(), &bytes)?;
-        assert_eq!(rt; found, *want, "{length} bytes");
+    for length in [161, 133, 132, 131, 117, 116, 24] {
+        bytes.truncate(length);
+        let want = match length {
+            116 => (2, false),
+            24 => (0, false),
+            _ => (2, true),
+        };
+        let found = shape_of(rt.alloc(), bytes.as_slice())?;
+        assert_eq!(rt; found, want, "{length} bytes");
     }
     Ok(())
 }
 
 /// Gives its bytes, at most so many at a time, and fails at one read.
 #[derive(Drop)]
-struct Flaky<'a> {
-    rest: &'a [u8],
-    most: usize,
-    good_reads: usize,
-    kind: io::ErrorKind,
+pub(crate) struct Flaky<'a> {
+    pub(crate) rest: &'a [u8],
+    pub(crate) most: usize,
+    pub(crate) good_reads: usize,
+    pub(crate) kind: io::ErrorKind,
 }
 
 impl<'a> Read for Flaky<'a> {
@@ -180,24 +160,6 @@ impl<'a> Read for Flaky<'a> {
     }
 }
 
-/// A capture of one packet through reads of at most so many bytes, where the read behind the good ones fails.
-fn read_flaky(
-    alloc: Global,
-    most: usize,
-    good_reads: usize,
-    kind: io::ErrorKind,
-) -> Result<(usize, bool), CaptureFault> {
-    let rest = ONE_PACKET.as_slice();
-    let mut reader = Watched::new(Flaky {
-        rest,
-        most,
-        good_reads,
-        kind,
-    });
-    let capture = read_capture(alloc, &mut reader)?;
-    Ok((capture.records.len(), capture.cut))
-}
-
 #[test]
 fn each_read_fails_in_turn(rt: HostRuntime) {
     // How many bytes a read gives, and how many reads the capture takes: the last finds the end.
@@ -209,10 +171,15 @@ fn each_read_fails_in_turn(rt: HostRuntime) {
             } else {
                 Err(CaptureFault::Read)
             };
-            let broken = read_flaky(rt.alloc(), *most, good_reads, io::ErrorKind::BrokenPipe);
-            assert_eq!(rt; broken, wanted);
-            let stopped = read_flaky(rt.alloc(), *most, good_reads, io::ErrorKind::Interrupted);
-            assert_eq!(rt; stopped, wanted);
+            for kind in [io::ErrorKind::BrokenPipe, io::ErrorKind::Interrupted] {
+                let reader = Flaky {
+                    rest: ONE_PACKET.as_slice(),
+                    most: *most,
+                    good_reads,
+                    kind,
+                };
+                assert_eq!(rt; shape_of(rt.alloc(), reader), wanted);
+            }
         }
     }
 }
@@ -322,19 +289,15 @@ fn assert_written(
 }
 
 #[test]
-fn one_packet_is_written(rt: HostRuntime) -> Result<(), Fail> {
+fn one_packet_or_none_is_written(rt: HostRuntime) -> Result<(), Fail> {
     let records = [packet(rt.alloc(), HALF_PAST_ONE)?];
     let disk = make_disk(rt.alloc(), 100, 100, DiskTrouble::WriteFails);
     let written = write_to(disk, &records);
     assert_eq!(rt; written.1.flushes, 1);
     assert_written(&rt, written, Ok(()), 70);
-    Ok(())
-}
-
-#[test]
-fn no_packet_is_written(rt: HostRuntime) {
     let disk = make_disk(rt.alloc(), 100, 100, DiskTrouble::WriteFails);
     assert_written(&rt, write_to(disk, &[]), Ok(()), 24);
+    Ok(())
 }
 
 #[test]
@@ -367,24 +330,27 @@ fn each_write_fails_in_turn(rt: HostRuntime) -> Result<(), Fail> {
 #[derive(Drop)]
 struct Counted {
     is_good: bool,
-    reads: u8,
-    writes: u8,
-    flushes: u8,
+    /// The reads, the writes and the flushes.
+    calls: (u8, u8, u8),
 }
 
 impl Counted {
+    fn of(is_good: bool) -> Watched<Counted> {
+        let calls = (0, 0, 0);
+        Watched::new(Counted { is_good, calls })
+    }
+
     fn answer(&self) -> io::Result<()> {
         if self.is_good {
-            Ok(())
-        } else {
-            Err(io::Error::from(io::ErrorKind::BrokenPipe))
+            return Ok(());
         }
+        Err(io::Error::from(io::ErrorKind::BrokenPipe))
     }
 }
 
 impl Read for Counted {
     fn read(&mut self, buffer: &mut [u8]) -> io::Result<usize> {
-        self.reads = self.reads.saturating_add(1);
+        self.calls.0 = self.calls.0.saturating_add(1);
         self.answer()?;
         Ok(buffer.len().min(1))
     }
@@ -392,47 +358,30 @@ impl Read for Counted {
 
 impl Write for Counted {
     fn write(&mut self, bytes: &[u8]) -> io::Result<usize> {
-        self.writes = self.writes.saturating_add(1);
+        self.calls.1 = self.calls.1.saturating_add(1);
         self.answer()?;
         Ok(bytes.len().min(1))
     }
 
     fn flush(&mut self) -> io::Result<()> {
-        self.flushes = self.flushes.saturating_add(1);
+        self.calls.2 = self.calls.2.saturating_add(1);
         self.answer()
     }
-}
-
-fn make_counted(is_good: bool) -> Counted {
-    Counted {
-        is_good,
-        reads: 0,
-        writes: 0,
-        flushes: 0,
-    }
-}
-
-/// Which calls have reached the device, and no more of them.
-fn assert_calls(rt: &impl Abort, watched: Watched<Counted>, calls: (u8, u8, u8)) {
-    let device = watched.into_inner();
-    assert_eq!(rt; (device.reads, device.writes, device.flushes), calls);
 }
 
 /// Each call goes to the device once, and answers what that answers.
 #[test]
 fn calls_are_handed_on_once(rt: HostRuntime) {
     for is_good in [true, false] {
-        let mut read = Watched::new(make_counted(is_good));
+        let mut read = Counted::of(is_good);
         assert_eq!(rt; read.read(&mut [0; 2]).is_ok(), is_good);
-        assert_calls(&rt, read, (1, 0, 0));
-
-        let mut written = Watched::new(make_counted(is_good));
+        assert_eq!(rt; read.into_inner().calls, (1, 0, 0));
+        let mut written = Counted::of(is_good);
         assert_eq!(rt; written.write(&[7; 2]).is_ok(), is_good);
-        assert_calls(&rt, written, (0, 1, 0));
-
-        let mut flushed = Watched::new(make_counted(is_good));
+        assert_eq!(rt; written.into_inner().calls, (0, 1, 0));
+        let mut flushed = Counted::of(is_good);
         assert_eq!(rt; flushed.flush().is_ok(), is_good);
-        assert_calls(&rt, flushed, (0, 0, 1));
+        assert_eq!(rt; flushed.into_inner().calls, (0, 0, 1));
     }
 }
 
@@ -461,10 +410,8 @@ fn record_without_bytes_reads_back(rt: HostRuntime) -> Result<(), Fail> {
 #[test]
 fn what_is_written_reads_back(rt: HostRuntime) -> Result<(), Fail> {
     let times = [4_294_967_295_999_999_999, 0];
-    let records = [
-        packet(rt.alloc(), 4_294_967_295_999_999_999)?,
-        packet(rt.alloc(), 0)?,
-    ];
+    let last = packet(rt.alloc(), 4_294_967_295_999_999_999)?;
+    let records = [last, packet(rt.alloc(), 0)?];
     let capture = read_back(rt.alloc(), &records)?;
     assert_eq!(rt; (capture.records.len(), capture.cut), (2, false));
     for (record, time) in capture.records.iter().zip(&times) {

@@ -16,33 +16,22 @@ fn read(alloc: Global, head: &str, text: &str) -> Result<Config, Fail> {
     Ok(Config::read(alloc, text.as_bytes())?)
 }
 
-/// What a configuration is to answer.
-#[derive(Clone, Copy)]
-struct Settings<'a> {
-    pool: &'a [u32],
-    filter: Filter,
-    refresh: Refresh,
-    timers: Timers,
-    ring: usize,
-    quota: Option<u16>,
-    redirects: &'a [Redirect],
-}
-
-fn assert_settings(rt: &impl Abort, config: &Config, wanted: Settings) {
-    assert!(rt; config.pool() == wanted.pool, "pool");
-    assert!(rt; config.filter() == wanted.filter, "filter");
-    assert!(rt; config.refresh() == wanted.refresh, "refresh");
-    assert!(rt; config.timers() == wanted.timers, "timers");
-    assert!(rt; config.ring() == wanted.ring, "ring");
-    assert!(rt; config.quota() == wanted.quota, "quota");
-    assert!(rt; config.redirects() == wanted.redirects, "redirects");
-}
-
 /// Whether each host is inside.
 fn assert_inside(rt: &impl Abort, config: &Config, hosts: &[(u32, bool)]) {
     for (host, inside) in hosts {
         assert_eq!(rt; config.is_inside(*host), *inside, "{host:x}");
     }
+}
+
+/// The timers of a configuration: `udp`, `tcp-established`, `tcp-transitory` and `icmp`.
+fn seconds(config: &Config) -> [u64; 4] {
+    let timers = config.timers();
+    [
+        timers.udp,
+        timers.established,
+        timers.transitory,
+        timers.icmp,
+    ]
 }
 
 #[test]
@@ -68,30 +57,16 @@ inside = "10.0.0.3:7000"
 external = 7000
 "#;
     let config = read(rt.alloc(), "", text)?;
-    let hosts = [
-        (0x0A00_0000, true),
-        (0x0AFF_FFFF, true),
-        (0x09FF_FFFF, false),
-        (0x0B00_0000, false),
-    ];
-    assert_inside(&rt, &config, &hosts);
+    assert_inside(&rt, &config, &[(0x0A00_0000, true), (0x0AFF_FFFF, true)]);
+    assert_inside(&rt, &config, &[(0x09FF_FFFF, false), (0x0B00_0000, false)]);
     assert_eq!(rt; config.pair(0x0A00_0005), 0xCB00_7102);
-    let timers = Timers {
-        udp: 300,
-        established: 7440,
-        transitory: 240,
-        icmp: 60,
-    };
-    let wanted = Settings {
-        pool: &[0xCB00_7101, 0xCB00_7102],
-        filter: Filter::Independent,
-        refresh: Refresh::Outbound,
-        timers,
-        ring: 64,
-        quota: Some(512),
-        redirects: &[redirect(false, 0x0A00_0003, 7000, 7000)],
-    };
-    assert_settings(&rt, &config, wanted);
+    assert!(rt; config.pool() == [0xCB00_7101, 0xCB00_7102].as_slice());
+    assert_eq!(rt; config.filter(), Filter::Independent);
+    assert_eq!(rt; config.refresh(), Refresh::Outbound);
+    assert_eq!(rt; seconds(&config), [300, 7440, 240, 60]);
+    assert_eq!(rt; (config.ring(), config.quota()), (64, Some(512)));
+    let wanted = [redirect(false, 0x0A00_0003, 7000, 7000)];
+    assert!(rt; config.redirects() == wanted.as_slice());
     Ok(())
 }
 
@@ -107,37 +82,44 @@ timers = { icmp = 61, tcp-transitory = 241, tcp-established = 7441, udp = 100000
 "#;
     let config = read(rt.alloc(), "", text)?;
     assert_inside(&rt, &config, &[(0, true), (1, false), (0xFFFF_FFFF, true)]);
-    let timers = Timers {
-        udp: 1_000_000_000,
-        established: 7441,
-        transitory: 241,
-        icmp: 61,
-    };
-    let wanted = Settings {
-        pool: &[0x0B00_0001],
-        filter: Filter::AddressPort,
-        refresh: Refresh::Both,
-        timers,
-        ring: 4096,
-        quota: None,
-        redirects: &[],
-    };
-    assert_settings(&rt, &config, wanted);
+    assert!(rt; config.pool() == [0x0B00_0001].as_slice());
+    assert_eq!(rt; config.filter(), Filter::AddressPort);
+    assert_eq!(rt; config.refresh(), Refresh::Both);
+    assert_eq!(rt; seconds(&config), [1_000_000_000, 7441, 241, 61]);
+    assert_eq!(rt; (config.ring(), config.quota()), (4096, None));
+    assert!(rt; config.redirects().is_empty());
+    Ok(())
+}
+
+#[test]
+fn built_in_and_copy(rt: HostRuntime) -> Result<(), Fail> {
+    let config = Config::built_in(rt.alloc())?.copy(rt.alloc())?;
+    assert_inside(&rt, &config, &[(0x0A00_0001, true), (0xAC0F_FFFF, false)]);
+    assert_inside(&rt, &config, &[(0xAC10_0000, true), (0xAC1F_FFFF, true)]);
+    assert_inside(&rt, &config, &[(0xAC20_0000, false), (0xC0A8_FFFF, true)]);
+    assert_inside(&rt, &config, &[(0xC0A9_0000, false)]);
+    assert_eq!(rt; config.pair(7), 0xCB00_7101);
+    assert_eq!(rt; (config.block(), config.host_count()), (None, 0x0111_0000));
+    assert!(rt; config.pool() == [0xCB00_7101].as_slice());
+    assert_eq!(rt; config.filter(), Filter::Independent);
+    assert_eq!(rt; config.refresh(), Refresh::Outbound);
+    assert_eq!(rt; config.timers(), Timers::DEFAULT);
+    assert_eq!(rt; (config.ring(), config.quota()), (64, None));
+    assert!(rt; config.redirects().is_empty());
     Ok(())
 }
 
 #[test]
 fn quotas(rt: HostRuntime) -> Result<(), Fail> {
     let alloc = rt.alloc();
-    for (text, quota) in [
-        ("", None),
-        ("quota = 1\n", Some(1)),
-        ("quota = 2\n", Some(2)),
-        ("quota = 65535\n", Some(65535)),
-    ] {
-        let config = read(alloc, TWO_ADDRESSES, text)?;
-        assert_eq!(rt; config.quota(), quota, "{text}");
-        assert_eq!(rt; config.copy(alloc)?.quota(), quota, "{text}");
+    for quota in [None, Some(1), Some(2), Some(65535)] {
+        let text = match quota {
+            Some(quota) => format!(in alloc; "quota = {quota}\n")?,
+            None => String::new(alloc),
+        };
+        let config = read(alloc, TWO_ADDRESSES, &text)?;
+        assert_eq!(rt; config.quota(), quota);
+        assert_eq!(rt; config.copy(alloc)?.quota(), quota);
     }
     Ok(())
 }
@@ -146,40 +128,36 @@ fn quotas(rt: HostRuntime) -> Result<(), Fail> {
 const EIGHT_HOSTS: &str =
     "pool = [\"203.0.113.1\", \"203.0.113.2\"]\ninside = [\"10.0.0.0/29\"]\nblock = 64\n";
 
+/// Each host is at its external address, and has the numbers from the first on, as many as the size, and no others.
+fn assert_blocks(rt: &impl Abort, config: &Config, size: u16, rows: &[(u32, u32, u16)]) {
+    for (host, external, first) in rows {
+        let (host, external, first) = (*host, *external, *first);
+        assert_eq!(rt; config.pair(host), external, "{host:x}");
+        let block = Block { first, size };
+        assert_eq!(rt; config.block_of(host), Some(block), "{host:x}");
+        let (before, next) = (first.wrapping_sub(1), first.wrapping_add(size));
+        let last = next.wrapping_sub(1);
+        for (number, holder) in [(first, true), (last, true), (before, false), (next, false)] {
+            let found = config.host_of(external, number) == Some(host);
+            assert_eq!(rt; found, holder, "{host:x} {number}");
+        }
+    }
+}
+
 #[test]
 fn hosts_have_blocks(rt: HostRuntime) -> Result<(), Fail> {
     let alloc = rt.alloc();
     let config = read(alloc, EIGHT_HOSTS, "")?.copy(alloc)?;
-    assert_eq!(rt; config.block(), Some(64));
-    assert_eq!(rt; config.host_count(), 8);
-    for (host, external, first) in [
+    assert_eq!(rt; (config.block(), config.host_count()), (Some(64), 8));
+    let rows = [
         (0x0A00_0000, 0xCB00_7101, 1024),
         (0x0A00_0001, 0xCB00_7102, 1024),
         (0x0A00_0002, 0xCB00_7101, 1088),
         (0x0A00_0003, 0xCB00_7102, 1088),
         (0x0A00_0007, 0xCB00_7102, 1216),
-    ] {
-        assert_eq!(rt; config.pair(host), external, "{host:x}");
-        let block = Block { first, size: 64 };
-        assert_eq!(rt; config.block_of(host), Some(block), "{host:x}");
-        for (number, holder) in [
-            (first, true),
-            (first + 63, true),
-            (first - 1, false),
-            (first + 64, false),
-        ] {
-            let found = config.host_of(external, number) == Some(host);
-            assert_eq!(rt; found, holder, "{host:x} {number}");
-        }
-    }
+    ];
+    assert_blocks(&rt, &config, 64, &rows);
     assert_eq!(rt; config.block_of(0x0A00_0008), None);
-    Ok(())
-}
-
-#[test]
-fn endpoints_without_a_host(rt: HostRuntime) -> Result<(), Fail> {
-    let alloc = rt.alloc();
-    let config = read(alloc, EIGHT_HOSTS, "")?;
     for (address, number) in [
         (0xCB00_7101, 0),
         (0xCB00_7101, 1023),
@@ -187,16 +165,17 @@ fn endpoints_without_a_host(rt: HostRuntime) -> Result<(), Fail> {
         (0xCB00_7102, 65535),
         (0xCB00_7103, 1024),
     ] {
-        assert_eq!(rt;
-            config.host_of(address, number),
-            None,
-            "{address:x} {number}"
-        );
+        assert_eq!(rt; config.host_of(address, number), None, "{number}");
     }
-    let without = read(alloc, TWO_ADDRESSES, "")?;
-    assert_eq!(rt; without.block(), None);
-    assert_eq!(rt; without.block_of(0x0A00_0001), None);
-    assert_eq!(rt; without.host_of(0xCB00_7101, 1024), None);
+    Ok(())
+}
+
+#[test]
+fn hosts_without_blocks(rt: HostRuntime) -> Result<(), Fail> {
+    let config = read(rt.alloc(), TWO_ADDRESSES, "")?;
+    assert_eq!(rt; config.block(), None);
+    assert_eq!(rt; config.block_of(0x0A00_0001), None);
+    assert_eq!(rt; config.host_of(0xCB00_7101, 1024), None);
     Ok(())
 }
 
@@ -208,18 +187,14 @@ inside = ["10.0.0.4/30", "172.16.0.1/32", "10.0.0.0/31"]
 block = 1000
 "#;
     let config = read(rt.alloc(), "", text)?;
-    for (host, external, first) in [
+    let rows = [
         (0x0A00_0004, 0xCB00_7101, 1024),
         (0x0A00_0007, 0xCB00_7101, 2024),
         (0xAC10_0001, 0xCB00_7102, 2024),
         (0x0A00_0000, 0xCB00_7103, 2024),
         (0x0A00_0001, 0xCB00_7101, 3024),
-    ] {
-        assert_eq!(rt; config.pair(host), external, "{host:x}");
-        let block = Block { first, size: 1000 };
-        assert_eq!(rt; config.block_of(host), Some(block), "{host:x}");
-        assert_eq!(rt; config.host_of(external, first), Some(host), "{host:x}");
-    }
+    ];
+    assert_blocks(&rt, &config, 1000, &rows);
     assert_eq!(rt; config.host_of(0xCB00_7102, 3024), None);
     Ok(())
 }
@@ -245,20 +220,9 @@ fn largest_blocks(rt: HostRuntime) -> Result<(), Fail> {
 
 #[test]
 fn redirects_beside_blocks(rt: HostRuntime) -> Result<(), Fail> {
-    let text = r#"
-[[redirect]]
-protocol = "udp"
-inside = "10.0.0.2:80"
-external = 1023
-[[redirect]]
-protocol = "tcp"
-inside = "10.0.0.2:80"
-external = 1088
-[[redirect]]
-protocol = "udp"
-inside = "10.0.0.2:81"
-external = 1151
-"#;
+    let text = redirects![
+        "udp" "10.0.0.2:80" 1023, "tcp" "10.0.0.2:80" 1088, "udp" "10.0.0.2:81" 1151
+    ];
     let config = read(rt.alloc(), EIGHT_HOSTS, text)?;
     assert_eq!(rt; config.redirects().len(), 3);
     Ok(())
@@ -298,26 +262,11 @@ fn redirect(tcp: bool, address: u32, port: u16, external: u16) -> Redirect {
 
 #[test]
 fn redirects(rt: HostRuntime) -> Result<(), Fail> {
-    let alloc = rt.alloc();
-    let text = r#"
-[[redirect]]
-protocol = "tcp"
-inside = "10.0.0.3:7000"
-external = 65535
-[[redirect]]
-protocol = "udp"
-inside = "10.0.0.3:7000"
-external = 65535
-[[redirect]]
-protocol = "udp"
-inside = "10.0.0.4:65535"
-external = 65535
-[[redirect]]
-protocol = "udp"
-inside = "10.0.0.3:1"
-external = 1
-"#;
-    let config = read(alloc, TWO_ADDRESSES, text)?.copy(alloc)?;
+    let text = redirects![
+        "tcp" "10.0.0.3:7000" 65535, "udp" "10.0.0.3:7000" 65535, "udp" "10.0.0.4:65535" 65535,
+        "udp" "10.0.0.3:1" 1
+    ];
+    let config = read(rt.alloc(), TWO_ADDRESSES, text)?.copy(rt.alloc())?;
     let wanted = [
         redirect(true, 0x0A00_0003, 7000, 65535),
         redirect(false, 0x0A00_0003, 7000, 65535),
@@ -328,47 +277,33 @@ external = 1
     Ok(())
 }
 
-/// 256 pairs, the greatest host first.
-fn most_pairs(alloc: Global) -> Result<String, AllocError> {
-    let mut text = String::new(alloc);
-    for host in 0..256u32 {
-        let address = Address(0x0A00_0100 + 255 - host);
-        let pair = format!(in alloc;
-            "[[pair]]\nhost = \"{address}\"\nexternal = \"203.0.113.1\"\n"
-        )?;
-        text.push_str(pair.as_str())?;
-    }
-    Ok(text)
-}
-
-/// 256 redirects.
-fn most_redirects(alloc: Global) -> Result<String, AllocError> {
-    let mut text = String::new(alloc);
-    for port in 1..257u32 {
-        let entry = format!(in alloc;
+/// 256 pairs, the greatest host first, and 256 redirects.
+fn most(alloc: Global) -> Result<(String, String), AllocError> {
+    let (mut pairs, mut redirects) = (String::new(alloc), String::new(alloc));
+    for k in 0..256u32 {
+        let (host, port) = (Address(0x0A00_0100 + 255 - k), k + 1);
+        pairs.push_str(&format!(in alloc;
+            "[[pair]]\nhost = \"{host}\"\nexternal = \"203.0.113.1\"\n"
+        )?)?;
+        redirects.push_str(&format!(in alloc;
             "[[redirect]]\nprotocol = \"udp\"\ninside = \"10.0.0.3:{port}\"\nexternal = {port}\n"
-        )?;
-        text.push_str(entry.as_str())?;
+        )?)?;
     }
-    Ok(text)
+    Ok((pairs, redirects))
 }
 
 #[test]
 fn most_entries(rt: HostRuntime) -> Result<(), Fail> {
     let alloc = rt.alloc();
-    let pairs = most_pairs(alloc)?;
+    let (pairs, redirects) = most(alloc)?;
     let config = read(alloc, TWO_ADDRESSES, &pairs)?;
     for host in 0..256u32 {
         assert_eq!(rt; config.pair(0x0A00_0100 + host), 0xCB00_7101);
     }
     assert_eq!(rt; config.pair(0x0A00_0201), 0xCB00_7102);
-    let redirects = most_redirects(alloc)?;
-    assert_eq!(rt;
-        read(alloc, TWO_ADDRESSES, &redirects)?.redirects().len(),
-        256
-    );
-    let rows = [(&pairs, "[[pair]]\n"), (&redirects, "[[redirect]]\n")];
-    for (most, one_more) in rows {
+    let config = read(alloc, TWO_ADDRESSES, &redirects)?;
+    assert_eq!(rt; config.redirects().len(), 256);
+    for (most, one_more) in [(&pairs, "[[pair]]\n"), (&redirects, "[[redirect]]\n")] {
         let text = format!(in alloc; "{TWO_ADDRESSES}{most}{one_more}")?;
         let fault = Config::read(alloc, text.as_bytes()).err();
         assert_eq!(rt; fault, Some(ConfigFault::TooMany));
@@ -377,67 +312,20 @@ fn most_entries(rt: HostRuntime) -> Result<(), Fail> {
 }
 
 #[test]
-fn built_in_and_copy(rt: HostRuntime) -> Result<(), Fail> {
-    let alloc = rt.alloc();
-    let config = Config::built_in(alloc)?.copy(alloc)?;
-    let hosts = [
-        (0x0A00_0001, true),
-        (0xAC0F_FFFF, false),
-        (0xAC10_0000, true),
-        (0xAC1F_FFFF, true),
-        (0xAC20_0000, false),
-        (0xC0A8_FFFF, true),
-        (0xC0A9_0000, false),
-    ];
-    assert_inside(&rt, &config, &hosts);
-    assert_eq!(rt; config.pair(7), 0xCB00_7101);
-    assert_eq!(rt; config.block(), None);
-    assert_eq!(rt; config.host_count(), 0x0111_0000);
-    let wanted = Settings {
-        pool: &[0xCB00_7101],
-        filter: Filter::Independent,
-        refresh: Refresh::Outbound,
-        timers: Timers::DEFAULT,
-        ring: 64,
-        quota: None,
-        redirects: &[],
-    };
-    assert_settings(&rt, &config, wanted);
-    Ok(())
-}
-
-#[test]
-fn texts_of_addresses(rt: HostRuntime) -> Result<(), Fail> {
+fn texts_of_parts(rt: HostRuntime) -> Result<(), Fail> {
     let address = "203.0.113.1".parse::<Address>()?;
     assert_eq!(rt; address.0, 0xCB00_7101);
     assert_eq!(rt; address.to_string(rt.alloc())?.as_str(), "203.0.113.1");
     assert_eq!(rt; "10.0.0".parse::<Address>(), Err(ConfigFault::BadAddress));
-    Ok(())
-}
-
-#[test]
-fn texts_of_prefixes(rt: HostRuntime) -> Result<(), Fail> {
     let prefix = "172.16.0.0/12".parse::<Prefix>()?;
     assert!(rt; prefix.contains(0xAC1F_FFFF));
     assert_eq!(rt; prefix.to_string(rt.alloc())?.as_str(), "172.16.0.0/12");
     assert_eq!(rt; "10.0.0.0/".parse::<Prefix>(), Err(ConfigFault::BadPrefix));
-    Ok(())
-}
-
-#[test]
-fn texts_of_transport_addresses(rt: HostRuntime) -> Result<(), Fail> {
     let inside = "10.0.0.3:7000".parse::<TransportAddress>()?;
     assert_eq!(rt; (inside.address(), inside.port()), (0x0A00_0003, 7000));
     assert_eq!(rt; inside.to_string(rt.alloc())?.as_str(), "10.0.0.3:7000");
-    let refused: &[&str] = &[
-        "10.0.0.3",
-        "10.0.0.3:0",
-        "10.0.0.3:065",
-        "10.0.0.3:65536",
-        "10.0.0.3:+1",
-        ":1",
-    ];
-    for text in refused {
+    let refused = "10.0.0.3 10.0.0.3:0 10.0.0.3:065 10.0.0.3:65536 10.0.0.3:+1 :1";
+    for text in refused.split(' ') {
         let found = text.parse::<TransportAddress>();
         assert_eq!(rt; found, Err(ConfigFault::BadAddress), "{text}");
     }

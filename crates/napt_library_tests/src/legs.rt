@@ -28,33 +28,27 @@ fn translators(alloc: Global, text: &str) -> Result<Vec<Translator>, Fail> {
     Ok(all)
 }
 
-/// A packet from a side that comes to the translator at a place of the pool, at a time in ns.
-#[derive(Clone, Copy)]
-struct Arrival<'a> {
-    place: usize,
-    now: u64,
-    side: Side,
-    bytes: &'a [u8],
-}
+/// A packet that comes to the translator at a place of the pool, at a time in ns, from a side.
+type Arrival<'a> = (usize, u64, Side, &'a [u8]);
 
 /// Where an arriving packet ends. Its leg's number comes back.
 fn end_of(
     rt: &impl Abort,
     alloc: Global,
     all: &mut [Translator],
-    arrival: Arrival,
+    (place, now, side, bytes): Arrival<'_>,
 ) -> Result<End, Fail> {
-    let bytes = Vec::from_slice(alloc, arrival.bytes)?;
-    let packet = Packet::read(arrival.side, bytes).ok().ok_or("a packet")?;
+    let bytes = Vec::from_slice(alloc, bytes)?;
+    let packet = Packet::read(side, bytes).ok().ok_or("a packet")?;
     let leg = Leg {
-        number: arrival.now,
-        now: arrival.now,
-        way: way_from(arrival.side),
+        number: now,
+        now,
+        way: way_from(side),
         packet,
     };
-    let translator = all.get_mut(arrival.place).ok_or("a translator")?;
+    let translator = all.get_mut(place).ok_or("a translator")?;
     let Answer { number, end } = translator.translate(alloc, leg)?;
-    assert_eq!(rt; number, arrival.now);
+    assert_eq!(rt; number, now);
     Ok(end)
 }
 
@@ -74,13 +68,7 @@ type Hop<'a> = (usize, &'a [u8], Option<u32>, &'a [u8]);
 fn assert_hops(rt: &impl Abort, alloc: Global, pool: &str, hops: &[Hop<'_>]) -> Result<(), Fail> {
     let mut all = translators(alloc, pool)?;
     for (place, bytes, onward, out) in hops {
-        let arrival = Arrival {
-            place: *place,
-            now: SECOND,
-            side: Side::Inside,
-            bytes,
-        };
-        let end = end_of(rt, alloc, &mut all, arrival)?;
+        let end = end_of(rt, alloc, &mut all, (*place, SECOND, Side::Inside, *bytes))?;
         let (found, packet) = left(end).ok_or("a packet that leaves")?;
         assert_eq!(rt; found, *onward);
         assert_eq!(rt; packet.bytes(), *out);
@@ -121,23 +109,12 @@ fn errors_move_no_time(rt: HostRuntime) -> Result<(), Fail> {
     ];
     for (query, error, inside) in cases {
         let mut all = translators(alloc, ONE_ADDRESS)?;
-        let arrival = Arrival {
-            place: 0,
-            now: SECOND,
-            side: Side::Inside,
-            bytes: query,
-        };
-        end_of(&rt, alloc, &mut all, arrival)?;
+        end_of(&rt, alloc, &mut all, (0, SECOND, Side::Inside, query))?;
         let before = rows(alloc, &all, SECOND)?;
         assert_eq!(rt; before.len(), 1);
         for (now, want) in [(10_000 * SECOND, None), (2 * SECOND, Some(inside))] {
-            let arrival = Arrival {
-                now,
-                side: Side::Outside,
-                bytes: error,
-                ..arrival
-            };
-            match (end_of(&rt, alloc, &mut all, arrival)?, want) {
+            let end = end_of(&rt, alloc, &mut all, (0, now, Side::Outside, error))?;
+            match (end, want) {
                 (End::Dropped(cause), None) => assert_eq!(rt; cause, Cause::NoBinding),
                 (End::ToInside(packet), Some(bytes)) => assert_eq!(rt; packet.bytes(), bytes),
                 _ => panic!(rt; "another end"),

@@ -3,6 +3,24 @@
 //! program shows is in `tests/runs`.
 #![tactic(auto)]
 
+/// The text of redirects: the protocol, the inside endpoint and the external port of each.
+#[cfg(test)]
+macro_rules! redirects {
+    ($($protocol:literal $inside:literal $external:literal),*) => {
+        concat!($(
+            "[[redirect]]\nprotocol = \"", $protocol, "\"\ninside = \"", $inside, "\"\nexternal = ", $external, "\n"
+        ),*)
+    };
+}
+
+/// Times in ns, each by its seconds.
+#[cfg(test)]
+macro_rules! times {
+    ($($seconds:literal s $(+ $more:literal)? $(- $less:literal)?),* $(; $last:expr)?) => {
+        [$($seconds * SECOND $(+ $more)? $(- $less)?),* $(, $last)?]
+    };
+}
+
 #[cfg(test)]
 mod bindings;
 #[cfg(test)]

@@ -110,12 +110,12 @@ impl PlainBinding {
             }
     }
 
-    fn send(&mut self, now: u64, remote: Endpoint, flags: Flags) -> Result<(), AllocError> {
+    fn send(&mut self, sent: Sent) -> Result<(), AllocError> {
         if self.fixed {
             return Ok(());
         }
+        let (protocol, remote, flags, now) = (sent.protocol, sent.remote, sent.flags, sent.now);
         self.last = now;
-        let protocol = self.protocol;
         for flow in self.flows.iter_mut() {
             if flow.remote == remote {
                 *flow = flow.used(protocol, Way::Outgoing, flags, now);
@@ -272,25 +272,18 @@ impl PlainTable {
         alloc: Global,
         sent: Sent,
     ) -> Result<Result<u16, Cause>, AllocError> {
-        let Sent {
-            protocol,
-            inside,
-            remote,
-            flags,
-            now,
-            block,
-        } = sent;
-        self.purge(now);
+        let (protocol, inside) = (sent.protocol, sent.inside);
+        self.purge(sent.now);
         for binding in self.list.iter_mut() {
             if binding.protocol == protocol && binding.inside == inside {
-                binding.send(now, remote, flags)?;
+                binding.send(sent)?;
                 return Ok(Ok(binding.external));
             }
         }
         if self.is_over_quota(inside.address) {
             return Ok(Err(Cause::OverQuota));
         }
-        let chosen = match block {
+        let chosen = match sent.block {
             None => self.choose(protocol, inside.number),
             Some(block) => self.choose_in(block, protocol, inside.number),
         };
@@ -302,10 +295,10 @@ impl PlainTable {
             inside,
             external,
             fixed: false,
-            last: now,
+            last: sent.now,
             flows: Vec::new(alloc),
         };
-        binding.send(now, remote, flags)?;
+        binding.send(sent)?;
         self.list.push(binding)?;
         Ok(Ok(external))
     }

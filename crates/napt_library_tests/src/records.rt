@@ -1,28 +1,19 @@
 //! Records read one after another.
 
-use napt_capture::{CaptureFault, Next, Records, Watched, read_capture};
+use crate::captures::{Flaky, Shape, shape_of};
+use napt_capture::{CaptureFault, Next, Records, Watched};
 use napt_samples::captures::ONE_PACKET;
 use std::alloc::Global;
 use std::io;
-use std::io::Read;
 use std::test::*;
 
-/// Gives its bytes, at most so many at a time, and fails once so many reads were good.
-#[derive(Drop)]
-struct Pieces<'a> {
-    rest: &'a [u8],
-    most: usize,
-    good_reads: usize,
-}
-
-impl<'a> Read for Pieces<'a> {
-    fn read(&mut self, buffer: &mut [u8]) -> io::Result<usize> {
-        let Some(left) = self.good_reads.checked_sub(1) else {
-            return Err(io::Error::from(io::ErrorKind::BrokenPipe));
-        };
-        self.good_reads = left;
-        let count = self.most.min(buffer.len());
-        Read::read(&mut self.rest, &mut buffer[..count])
+/// A device that gives its bytes, at most so many at a time, and fails at the read behind the good ones.
+fn pieces(rest: &[u8], most: usize, good_reads: usize) -> Flaky<'_> {
+    Flaky {
+        rest,
+        most,
+        good_reads,
+        kind: io::ErrorKind::BrokenPipe,
     }
 }
 
@@ -36,7 +27,7 @@ fn two_packets(alloc: Global) -> Result<Vec<u8>, Fail> {
 }
 
 /// How many records a capture has, read one after another, and whether its last is cut.
-fn shape_one_by_one(alloc: Global, pieces: Pieces<'_>) -> Result<(usize, bool), CaptureFault> {
+fn shape_one_by_one(alloc: Global, pieces: Flaky<'_>) -> Result<Shape, CaptureFault> {
     let mut source = Watched::new(pieces);
     let mut records = Records::open(alloc, &mut source)?;
     for count in 0..9 {
@@ -49,12 +40,6 @@ fn shape_one_by_one(alloc: Global, pieces: Pieces<'_>) -> Result<(usize, bool), 
     Err(CaptureFault::TooLarge)
 }
 
-/// The same, read whole.
-fn shape_whole(alloc: Global, bytes: &[u8]) -> Result<(usize, bool), CaptureFault> {
-    let capture = read_capture(alloc, &mut Watched::new(bytes))?;
-    Ok((capture.records.len(), capture.cut))
-}
-
 /// Cut at each byte, and read in pieces of some size, a capture comes to the same as if it is read whole.
 #[test]
 fn one_by_one_is_the_same_as_whole(rt: HostRuntime) -> Result<(), Fail> {
@@ -62,17 +47,9 @@ fn one_by_one_is_the_same_as_whole(rt: HostRuntime) -> Result<(), Fail> {
     for length in 20..=90 {
         let rest = &bytes[..bytes.len().min(length)];
         let most = [1, 7, 4096][length % 3];
-        let pieces = Pieces {
-            rest,
-            most,
-            good_reads: usize::MAX,
-        };
-        let found = shape_one_by_one(rt.alloc(), pieces);
-        assert_eq!(rt;
-            found,
-            shape_whole(rt.alloc(), rest),
-            "{length} bytes by {most}"
-        );
+        let found = shape_one_by_one(rt.alloc(), pieces(rest, most, usize::MAX));
+        let whole = shape_of(rt.alloc(), rest);
+        assert_eq!(rt; found, whole, "{length} bytes by {most}");
     }
     Ok(())
 }
@@ -82,12 +59,7 @@ fn one_by_one_is_the_same_as_whole(rt: HostRuntime) -> Result<(), Fail> {
 fn a_failed_read_is_told(rt: HostRuntime) {
     for good_reads in 0..6 {
         // The header, then 16 bytes at a time; the sixth read finds the end.
-        let pieces = Pieces {
-            rest: &ONE_PACKET,
-            most: 16,
-            good_reads,
-        };
-        let found = shape_one_by_one(rt.alloc(), pieces);
+        let found = shape_one_by_one(rt.alloc(), pieces(&ONE_PACKET, 16, good_reads));
         assert_eq!(rt; found, Err(CaptureFault::Read), "{good_reads} good reads");
     }
 }

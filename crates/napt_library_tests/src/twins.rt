@@ -16,16 +16,7 @@ use std::test::Fail;
 const CALLS: u32 = 1_700;
 
 /// A redirect of each protocol that has some.
-const REDIRECTS: &str = r#"
-[[redirect]]
-protocol = "tcp"
-inside = "10.0.0.3:80"
-external = 1023
-[[redirect]]
-protocol = "udp"
-inside = "10.0.0.2:5000"
-external = 5002
-"#;
+const REDIRECTS: &str = redirects!["tcp" "10.0.0.3:80" 1023, "udp" "10.0.0.2:5000" 5002];
 
 /// Hosts, ports and identifiers, of which many share a class.
 pub(crate) const HOSTS: u16 = 40;
@@ -38,23 +29,8 @@ const PORTS: [u16; 10] = [1, 2, 3, 1022, 1023, 1024, 1025, 5000, 65_534, 65_535]
 const IDENTIFIERS: [u16; 10] = [0, 1, 2, 3, 1023, 1024, 5000, 5001, 65_534, 65_535];
 
 /// How far time goes on between two calls, in ns: mostly not at all, else past the ends of bindings and to them.
-const JUMPS: [u64; 16] = [
-    0,
-    0,
-    0,
-    0,
-    0,
-    0,
-    0,
-    1,
-    SECOND - 1,
-    SECOND,
-    59 * SECOND,
-    60 * SECOND,
-    119 * SECOND,
-    240 * SECOND,
-    300 * SECOND,
-    7440 * SECOND,
+const JUMPS: [u64; 16] = times![
+    0 s, 0 s, 0 s, 0 s, 0 s, 0 s, 0 s, 0 s + 1, 1 s - 1, 1 s, 59 s, 60 s, 119 s, 240 s, 300 s, 7440 s
 ];
 
 /// Numbers that look like any, the same each time.
@@ -68,6 +44,14 @@ pub(crate) struct Draws {
 }
 
 impl Draws {
+    pub(crate) fn of(state: u64, hosts: u16, block: Option<u16>) -> Draws {
+        Draws {
+            state,
+            hosts,
+            block,
+        }
+    }
+
     /// A number below the bound.
     pub(crate) fn below(&mut self, bound: u64) -> u64
         requires { 0 < bound }
@@ -173,16 +157,6 @@ impl Counts {
         };
         *counter = counter.saturating_add(1);
     }
-
-    fn and(self, other: Counts) -> Counts {
-        Counts {
-            passed: self.passed.saturating_add(other.passed),
-            no_port: self.no_port.saturating_add(other.no_port),
-            over_quota: self.over_quota.saturating_add(other.over_quota),
-            no_binding: self.no_binding.saturating_add(other.no_binding),
-            filtered: self.filtered.saturating_add(other.filtered),
-        }
-    }
 }
 
 const NONE: Counts = Counts {
@@ -199,7 +173,14 @@ fn plain_with(alloc: Global, settings: &str) -> Result<PlainTable, Fail> {
     Ok(PlainTable::new(alloc, EXTERNAL, &config)?)
 }
 
-/// A table and a plain one that hear the same calls.
+fn agree(is_same: bool) -> Result<(), Fail> {
+    if is_same {
+        return Ok(());
+    }
+    Err("the same answers".into())
+}
+
+/// A table and a plain one that hear the same calls. Each call fails where they answer differently.
 #[derive(Drop)]
 pub(crate) struct Twins {
     alloc: Global,
@@ -221,14 +202,13 @@ impl Twins {
         })
     }
 
-    pub(crate) fn send(&mut self, sent: Sent) -> Result<bool, Fail> {
+    pub(crate) fn send(&mut self, sent: Sent) -> Result<(), Fail> {
         let answer = self.table.send(sent)?;
-        let plain = self.plain.outbound(self.alloc, sent)?;
         self.counts.count(answer.err());
-        Ok(answer == plain)
+        agree(answer == self.plain.outbound(self.alloc, sent)?)
     }
 
-    fn receive(&mut self, now: u64, draws: &mut Draws) -> Result<bool, Fail> {
+    fn receive(&mut self, now: u64, draws: &mut Draws) -> Result<(), Fail> {
         let protocol = draws.protocol();
         let (number, remote, flags) = (draws.number(protocol), draws.remote(), draws.flags());
         self.hear(now, protocol, number, remote, flags)
@@ -241,22 +221,17 @@ impl Twins {
         number: u16,
         remote: Endpoint,
         flags: Flags,
-    ) -> Result<bool, Fail> {
+    ) -> Result<(), Fail> {
         let answer = self.table.receive(now, protocol, number, remote, flags)?;
-        let plain = self.plain.inbound(now, protocol, number, remote, flags);
         self.counts.count(answer.err());
-        Ok(answer == plain)
+        agree(answer == self.plain.inbound(now, protocol, number, remote, flags))
     }
 
     /// Looks up one number and one inside endpoint.
-    fn look(&self, now: u64, draws: &mut Draws) -> Result<bool, Fail> {
+    fn look(&self, now: u64, draws: &mut Draws) -> Result<(), Fail> {
         let protocol = draws.protocol();
-        self.look_at(
-            now,
-            protocol,
-            draws.number(protocol),
-            draws.inside(protocol),
-        )
+        let number = draws.number(protocol);
+        self.look_at(now, protocol, number, draws.inside(protocol))
     }
 
     pub(crate) fn look_at(
@@ -265,23 +240,20 @@ impl Twins {
         protocol: Protocol,
         number: u16,
         inside: Endpoint,
-    ) -> Result<bool, Fail> {
+    ) -> Result<(), Fail> {
         let found = self.table.inside_of(now, protocol, number)?;
+        agree(found == self.plain.by_external(now, protocol, number))?;
         let given = self.table.number_of(now, protocol, inside)?;
-        Ok(
-            found == self.plain.by_external(now, protocol, number)
-                && given == self.plain.by_inside(now, protocol, inside),
-        )
+        agree(given == self.plain.by_inside(now, protocol, inside))
     }
 
-    fn list(&self, now: u64) -> Result<bool, Fail> {
-        let rows = self.table.rows(now)?;
+    fn list(&self, now: u64) -> Result<(), Fail> {
         let plain = self.plain.bindings(self.alloc, now)?;
-        Ok(rows.as_slice() == plain.as_slice())
+        agree(self.table.rows(now)?.as_slice() == plain.as_slice())
     }
 
     /// One call that is drawn; looks at a later time move none.
-    fn call(&mut self, now: u64, draws: &mut Draws) -> Result<bool, Fail> {
+    fn call(&mut self, now: u64, draws: &mut Draws) -> Result<(), Fail> {
         let later = now.saturating_add(draws.jump());
         match draws.below(16) {
             0..=6 => self.send(draws.sent(now)),
@@ -291,20 +263,18 @@ impl Twins {
         }
     }
 
-    /// So many calls that are drawn, from that time on: the time of the last, where all agreed.
-    fn mix(&mut self, from: u64, draws: &mut Draws) -> Result<Option<u64>, Fail> {
+    /// So many calls that are drawn, from that time on: the time of the last.
+    fn mix(&mut self, from: u64, draws: &mut Draws) -> Result<u64, Fail> {
         let mut now = from;
         for _ in 0..CALLS {
             now = now.saturating_add(draws.jump());
-            if !self.call(now, draws)? {
-                return Ok(None);
-            }
+            self.call(now, draws)?;
         }
-        Ok(Some(now))
+        Ok(now)
     }
 
     /// More hosts than there are even ports below 1024, all with one block or none, send from one of those at one time.
-    fn crowd(&mut self, now: u64, block: Option<Block>) -> Result<bool, Fail> {
+    fn crowd(&mut self, now: u64, block: Option<Block>) -> Result<(), Fail> {
         for many in 0..520 {
             let sent = Sent {
                 protocol: Protocol::Udp,
@@ -314,43 +284,18 @@ impl Twins {
                 now,
                 block,
             };
-            if !self.send(sent)? {
-                return Ok(false);
-            }
+            self.send(sent)?;
         }
-        Ok(true)
+        Ok(())
     }
 }
 
-/// Calls that are drawn, from that time on, with these settings and so many hosts: what was counted, where all agreed.
-fn drawn(alloc: Global, settings: &str, hosts: u16, from: u64) -> Result<Option<Counts>, Fail> {
-    let draws = Draws {
-        state: from,
-        hosts,
-        block: None,
-    };
-    drawn_by(alloc, settings, draws, from)
-}
-
-/// The same by these draws.
-fn drawn_by(
-    alloc: Global,
-    settings: &str,
-    draws: Draws,
-    from: u64,
-) -> Result<Option<Counts>, Fail> {
+/// Calls that are drawn, from the time that is their seed on, with these settings: what is counted, beside what was before.
+fn drawn(alloc: Global, settings: &str, mut draws: Draws, before: Counts) -> Result<Counts, Fail> {
     let mut twins = Twins::with(alloc, settings)?;
-    let mut draws = draws;
-    let agreed = twins.mix(from, &mut draws)?;
-    Ok(agreed.map(|_| twins.counts))
-}
-
-/// The same under a filter and a refresh.
-fn run(alloc: Global, filter: &str, refresh: &str, from: u64) -> Result<Option<Counts>, Fail> {
-    let settings = format!(in alloc;
-        "filter = \"{filter}\"\nrefresh = \"{refresh}\"\n{REDIRECTS}"
-    )?;
-    drawn(alloc, &settings, HOSTS, from)
+    twins.counts = before;
+    twins.mix(draws.state, &mut draws)?;
+    Ok(twins.counts)
 }
 
 #[test]
@@ -358,8 +303,10 @@ fn table_and_plain_list_agree(rt: HostRuntime) -> Result<(), Fail> {
     let mut all = NONE;
     for filter in ["independent", "address", "address-port"] {
         for (refresh, from) in [("outbound", 0), ("both", u64::MAX - 20_000 * SECOND)] {
-            let counts = run(rt.alloc(), filter, refresh, from)?.ok_or("the same answers")?;
-            all = all.and(counts);
+            let settings = format!(in rt.alloc();
+                "filter = \"{filter}\"\nrefresh = \"{refresh}\"\n{REDIRECTS}"
+            )?;
+            all = drawn(rt.alloc(), &settings, Draws::of(from, HOSTS, None), all)?;
         }
     }
     assert!(rt; all.passed > 1_000);
@@ -371,15 +318,11 @@ fn table_and_plain_list_agree(rt: HostRuntime) -> Result<(), Fail> {
 #[test]
 fn full_classes_agree(rt: HostRuntime) -> Result<(), Fail> {
     let mut twins = Twins::with(rt.alloc(), REDIRECTS)?;
-    let mut draws = Draws {
-        state: 1,
-        hosts: HOSTS,
-        block: None,
-    };
-    assert!(rt; twins.crowd(0, None)?);
-    let now = twins.mix(0, &mut draws)?.ok_or("the same answers")?;
-    assert!(rt; twins.crowd(now, None)?);
-    assert!(rt; twins.mix(now, &mut draws)?.is_some());
+    let mut draws = Draws::of(1, HOSTS, None);
+    twins.crowd(0, None)?;
+    let now = twins.mix(0, &mut draws)?;
+    twins.crowd(now, None)?;
+    twins.mix(now, &mut draws)?;
     assert!(rt; twins.counts.no_port > 0);
     Ok(())
 }
@@ -388,10 +331,10 @@ fn full_classes_agree(rt: HostRuntime) -> Result<(), Fail> {
 fn hosts_at_their_quota_agree(rt: HostRuntime) -> Result<(), Fail> {
     let mut all = NONE;
     for quota in [1, 2, 3] {
+        let before = all.over_quota;
         let settings = format!(in rt.alloc(); "quota = {quota}\n{REDIRECTS}")?;
-        let counts = drawn(rt.alloc(), &settings, FEW_HOSTS, 0)?.ok_or("the same answers")?;
-        assert!(rt; counts.over_quota > 0);
-        all = all.and(counts);
+        all = drawn(rt.alloc(), &settings, Draws::of(0, FEW_HOSTS, None), all)?;
+        assert!(rt; all.over_quota > before);
     }
     assert!(rt; all.passed > 500);
     assert!(rt; all.over_quota > 100);
@@ -402,13 +345,8 @@ fn hosts_at_their_quota_agree(rt: HostRuntime) -> Result<(), Fail> {
 fn hosts_with_blocks_agree(rt: HostRuntime) -> Result<(), Fail> {
     let mut all = NONE;
     for (block, from) in [(64, 0), (66, 1), (96, 2)] {
-        let draws = Draws {
-            state: from,
-            hosts: HOSTS,
-            block: Some(block),
-        };
-        let counts = drawn_by(rt.alloc(), REDIRECTS, draws, from)?.ok_or("the same answers")?;
-        all = all.and(counts);
+        let draws = Draws::of(from, HOSTS, Some(block));
+        all = drawn(rt.alloc(), REDIRECTS, draws, all)?;
     }
     assert!(rt; all.passed > 500);
     Ok(())
@@ -417,12 +355,8 @@ fn hosts_with_blocks_agree(rt: HostRuntime) -> Result<(), Fail> {
 #[test]
 fn full_blocks_agree(rt: HostRuntime) -> Result<(), Fail> {
     let mut twins = Twins::with(rt.alloc(), REDIRECTS)?;
-    let block = Some(Block {
-        first: 1024,
-        size: 64,
-    });
-    assert!(rt; twins.crowd(0, block)?);
-    assert!(rt; twins.counts.passed == 64);
-    assert!(rt; twins.counts.no_port == 456);
+    let (first, size) = (1024, 64);
+    twins.crowd(0, Some(Block { first, size }))?;
+    assert_eq!(rt; (twins.counts.passed, twins.counts.no_port), (64, 456));
     Ok(())
 }
