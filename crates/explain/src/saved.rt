@@ -1,34 +1,14 @@
-//! A log that `--log` wrote, read again. docs/FORMATS.md describes its fields and the order of its rows; `napt_log_text`
-//! defines its rows.
+//! A log that `--log` wrote, read again. docs/FORMATS.md describes the order of its rows; `napt_log_text` reads each.
 
 use crate::places::tell_config;
 use crate::stop::Stop;
-use csv::{ErrorKind, ReaderBuilder, StringRecord};
 use napt_account::Entry;
-use napt_config::Address;
-use napt_log_text::header;
+use napt_log_text::{NO_TIME, SavedBinding, SavedRow, header};
 use napt_program::open_config;
-use napt_table::Row;
-use napt_wire::{Endpoint, Protocol};
-use std::alloc::{AllocError, AllocFailed, Global};
+use std::alloc::{AllocFailed, Global};
 use std::io;
-use std::io::Read;
+use std::io::{BufRead, BufReader, ErrorKind, Read};
 use std::rt::Files;
-
-// The places of the fields that are read.
-const AT: usize = 0;
-
-const EVENT: usize = 2;
-
-const PROTOCOL: usize = 3;
-
-const INSIDE: usize = 4;
-
-const EXTERNAL: usize = 6;
-
-const NUMBER: usize = 9;
-
-const REDIRECT: usize = 10;
 
 /// What a saved log says of bindings.
 #[derive(Drop)]
@@ -56,9 +36,13 @@ enum Fault {
     Wrong(&'static str),
 }
 
-impl From<AllocError> for Fault {
-    fn from(_refused: AllocError) -> Fault {
-        Fault::Memory
+impl From<io::Error> for Fault {
+    fn from(error: io::Error) -> Fault {
+        match error.kind() {
+            ErrorKind::OutOfMemory => Fault::Memory,
+            ErrorKind::InvalidData => Fault::Wrong("expected text in UTF-8"),
+            _ => Fault::Unread(error),
+        }
     }
 }
 
@@ -68,7 +52,7 @@ impl<T: Drop> From<AllocFailed<T>> for Fault {
     }
 }
 
-/// Reads the log at a path. Why it is refused is reported.
+/// Reads the log at a path. Why it is refused is reported, and that its last row breaks off: that row is left out.
 pub fn read_saved<R: Files + Input + Eprint + AllocGlobal>(
     rt: &R,
     path: &str,
@@ -78,8 +62,18 @@ pub fn read_saved<R: Files + Input + Eprint + AllocGlobal>(
         Err(napt_program::Stop::File(_)) => return Err(tell_config(rt, "saved-log", path)),
         Err(stop) => return Err(Stop::As(stop)),
     };
-    match rows_of(rt.alloc(), device) {
-        Ok(saved) => Ok(saved),
+    let mut saved = Saved {
+        entries: Vec::new(rt.alloc()),
+        last: 0,
+    };
+    match saved.read(rt.alloc(), device) {
+        Ok(None) => Ok(saved),
+        Ok(Some(row)) => {
+            let _ = eprintln!(rt;
+                "explain: --saved-log {path}: row {row}: it breaks off, and is left out"
+            );
+            Ok(saved)
+        }
         Err(refused) => Err(tell_refused(rt, path, &refused)),
     }
 }
@@ -100,80 +94,61 @@ fn tell_refused<R: Eprint>(rt: &R, path: &str, refused: &Refused) -> Stop {
     }
 }
 
-/// Reads the rows of a log.
-fn rows_of<D: Read + Drop>(alloc: Global, device: D) -> Result<Saved, Refused> {
-    let mut reader = ReaderBuilder::new()
-        .has_headers(false)
-        .from_reader(alloc, device);
-    let mut saved = Saved {
-        entries: Vec::new(alloc),
-        last: 0,
-    };
-    let mut record = StringRecord::new(alloc);
-    for row in 1..u64::MAX {
-        let taken = match reader.read_record(&mut record) {
-            Ok(found) if found || row == 1 => saved.take(row, &record),
-            Ok(_) => return Ok(saved),
-            Err(error) => Err(fault_of(error.into_kind())),
-        };
-        if let Err(fault) = taken {
-            return Err(Refused { row, fault });
-        }
-    }
-    Ok(saved)
-}
+const NO_NAMES: &str = "expected the names of the fields, as --log writes them";
 
-fn fault_of(kind: ErrorKind) -> Fault {
-    match kind {
-        ErrorKind::OutOfMemory => Fault::Memory,
-        ErrorKind::Io(error) => Fault::Unread(error),
-        ErrorKind::UnequalLengths { .. } => {
-            Fault::Wrong("expected as many fields as there are names")
-        }
-        _ => Fault::Wrong("expected text in UTF-8"),
-    }
-}
-
-/// Wants the names of the fields.
-fn judge_names(record: &StringRecord) -> Result<(), Fault> {
-    let names = header().trim_end();
-    let is_long = record.len() == names.split(',').count();
-    if is_long
-        && names
-            .split(',')
-            .enumerate()
-            .all(|(place, name)| field(record, place) == name)
-    {
-        Ok(())
-    } else {
-        Err(Fault::Wrong("expected the names of the fields, as --log writes them"))
-    }
-}
+const NO_BINDING: &str = "binding: no row above makes it, or it has ended";
 
 impl Saved {
-    /// Takes a row, of which the first has the names.
-    fn take(&mut self, row: u64, record: &StringRecord) -> Result<(), Fault> {
-        if row == 1 {
-            return judge_names(record);
-        }
-        match field(record, EVENT) {
-            "8" => self.make(record),
-            "9" => {
-                let at = self.time_of(record)?;
-                self.end(record, u128::from(at))
+    /// Takes the rows of a log. Returns the number of the last one, from 1, if it has no end of a line: it is not taken.
+    fn read<D: Read + Drop>(&mut self, alloc: Global, device: D) -> Result<Option<u64>, Refused> {
+        let mut reader = match BufReader::new(alloc, device) {
+            Ok(reader) => reader,
+            Err(error) => return Err(Refused {
+                row: 1,
+                fault: Fault::from(error),
+            }),
+        };
+        let mut line = String::new(alloc);
+        for row in 1..u64::MAX {
+            line.clear();
+            let taken = match reader.read_line(&mut line) {
+                Ok(_) if row == 1 && line.as_str() == header() => Ok(()),
+                Ok(_) if row == 1 => Err(Fault::Wrong(NO_NAMES)),
+                Ok(0) => return Ok(None),
+                Ok(_) => match line.strip_suffix('\n') {
+                    Some(text) => self.take(text),
+                    None => return Ok(Some(row)),
+                },
+                Err(error) => Err(Fault::from(error)),
+            };
+            if let Err(fault) = taken {
+                return Err(Refused { row, fault });
             }
-            "12" | "13" => {
-                self.time_of(record)?;
+        }
+        Ok(None)
+    }
+
+    /// Takes a row behind the names.
+    fn take(&mut self, text: &str) -> Result<(), Fault> {
+        match SavedRow::read(text) {
+            Ok(SavedRow::Made(made)) => self.make(made),
+            Ok(SavedRow::Ended(ended)) => {
+                let at = self.time_of(ended.time)?;
+                self.end(ended, u128::from(at))
+            }
+            Ok(SavedRow::Living(living)) => self.live_on(living),
+            Ok(SavedRow::Refused(time)) => {
+                self.time_of(time)?;
                 Ok(())
             }
-            "" => self.live_on(record),
-            _ => Err(Fault::Wrong("natEvent: expected 8, 9, 12, 13 or nothing")),
+            Err(why) => Err(Fault::Wrong(why)),
         }
     }
 
     /// The time of an event, which is no earlier than those above.
-    fn time_of(&mut self, record: &StringRecord) -> Result<u64, Fault> {
-        match field(record, AT).parse::<u64>() {
+    fn time_of(&mut self, time: Option<u128>) -> Result<u64, Fault> {
+        let time = time.ok_or(Fault::Wrong(NO_TIME))?;
+        match u64::try_from(time) {
             Ok(at) if at >= self.last => {
                 self.last = at;
                 Ok(at)
@@ -186,17 +161,16 @@ impl Saved {
     }
 
     /// Begins the entry of a binding.
-    fn make(&mut self, record: &StringRecord) -> Result<(), Fault> {
-        let made = self.time_of(record)?;
-        let binding = binding_of(record)?;
+    fn make(&mut self, saved: SavedBinding) -> Result<(), Fault> {
+        let made = self.time_of(saved.time)?;
         let next = (self.entries.len() as u64).saturating_add(1);
-        if field(record, NUMBER).parse::<u64>() != Ok(next) {
+        if saved.number != Some(next) {
             return Err(Fault::Wrong(
                 "binding: expected the number behind that of the binding made before",
             ));
         }
         self.entries.push(Entry {
-            binding,
+            binding: saved.binding,
             made,
             end: None,
             sent: 0,
@@ -207,35 +181,25 @@ impl Saved {
         Ok(())
     }
 
-    /// Takes the row of a binding that lives at the end of the log: when it ends if no packet comes. A redirect never
-    /// does.
-    fn live_on(&mut self, record: &StringRecord) -> Result<(), Fault> {
-        match field(record, AT) {
-            "" => self.live_on_always(record),
-            at => match at.parse::<u128>() {
-                Ok(end) => self.end(record, end),
-                Err(_) => Err(Fault::Wrong(NO_TIME)),
-            },
+    /// Takes a binding that lives at the end of the log, with the time at which it ends if no packet comes. A redirect
+    /// never does.
+    fn live_on(&mut self, saved: SavedBinding) -> Result<(), Fault> {
+        if let Some(end) = saved.time {
+            return self.end(saved, end);
         }
-    }
-
-    /// Takes the row of a redirect that lives at the end of the log.
-    fn live_on_always(&mut self, record: &StringRecord) -> Result<(), Fault> {
-        let binding = binding_of(record)?;
-        if !binding.fixed {
+        if !saved.binding.fixed {
             return Err(Fault::Wrong(NO_TIME));
         }
-        match self.entry_of(field(record, NUMBER)) {
-            Some(entry) if entry.binding == binding => Ok(()),
-            _ => Err(Fault::Wrong(NO_BINDING)),
+        match self.entry_of(saved) {
+            Some(_) => Ok(()),
+            None => Err(Fault::Wrong(NO_BINDING)),
         }
     }
 
     /// Ends the entry of a binding.
-    fn end(&mut self, record: &StringRecord, end: u128) -> Result<(), Fault> {
-        let binding = binding_of(record)?;
-        match self.entry_of(field(record, NUMBER)) {
-            Some(entry) if entry.end.is_none() && entry.binding == binding && !binding.fixed => {
+    fn end(&mut self, saved: SavedBinding, end: u128) -> Result<(), Fault> {
+        match self.entry_of(saved) {
+            Some(entry) if entry.end.is_none() && !saved.binding.fixed => {
                 entry.end = Some(end);
                 Ok(())
             }
@@ -243,66 +207,14 @@ impl Saved {
         }
     }
 
-    /// The entry of a number.
-    fn entry_of(&mut self, number: &str) -> Option<&mut Entry> {
-        let place = number.parse::<usize>().ok()?.checked_sub(1)?;
-        self.entries.get_mut(place)
+    /// The entry of a binding, if a row above made it.
+    fn entry_of(&mut self, saved: SavedBinding) -> Option<&mut Entry> {
+        let place = usize::try_from(saved.number?.checked_sub(1)?).ok()?;
+        let entry = self.entries.get_mut(place)?;
+        if entry.binding == saved.binding {
+            Some(entry)
+        } else {
+            None
+        }
     }
-}
-
-const NO_TIME: &str = "observationTimeNanoseconds: expected a number";
-
-const NO_BINDING: &str = "binding: no row above makes it, or it has ended";
-
-/// A field of a row; each is there.
-fn field(record: &StringRecord, place: usize) -> &str {
-    record.get(place).unwrap_or("")
-}
-
-/// The binding of a row.
-fn binding_of(record: &StringRecord) -> Result<Row, Fault> {
-    let Some(protocol) = protocol_of(field(record, PROTOCOL)) else {
-        return Err(Fault::Wrong("protocolIdentifier: expected 1, 6 or 17"));
-    };
-    let Some(inside) = endpoint_at(record, INSIDE) else {
-        return Err(Fault::Wrong(
-            "sourceIPv4Address, sourceTransportPort: expected an address and a number",
-        ));
-    };
-    let Some(external) = endpoint_at(record, EXTERNAL) else {
-        return Err(Fault::Wrong(
-            "postNATSourceIPv4Address, postNAPTSourceTransportPort: expected an address and a number",
-        ));
-    };
-    let fixed = match field(record, REDIRECT) {
-        "0" => false,
-        "1" => true,
-        _ => return Err(Fault::Wrong("redirect: expected 0 or 1")),
-    };
-    Ok(Row {
-        protocol,
-        inside,
-        external,
-        fixed,
-    })
-}
-
-/// A protocol by its number (IANA).
-fn protocol_of(number: &str) -> Option<Protocol> {
-    match number {
-        "1" => Some(Protocol::Icmp),
-        "6" => Some(Protocol::Tcp),
-        "17" => Some(Protocol::Udp),
-        _ => None,
-    }
-}
-
-/// The endpoint of a field and the one behind it.
-fn endpoint_at(record: &StringRecord, place: usize) -> Option<Endpoint> {
-    let address = field(record, place).parse::<Address>().ok()?;
-    let number = field(record, place.checked_add(1)?).parse::<u16>().ok()?;
-    Some(Endpoint {
-        address: address.0,
-        number,
-    })
 }

@@ -1,3 +1,4 @@
 pub mod Days
 pub mod Logs
 pub mod Quoted
+pub mod SavedRows

@@ -5,3 +5,4 @@ pub mod Requests
 pub mod Holders
 pub mod Logs
 pub mod Objects
+pub mod SavedRows

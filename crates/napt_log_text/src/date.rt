@@ -1,5 +1,5 @@
 //! Days of the Gregorian calendar.
-ghost use Rattle.std.specs.Prelude.{ℕ, ◌≡◌, ◌+◌, ◌++◌, ◌≤◌, ◌<◌, ◌^◌, OnOk, string_bytes};
+ghost use Rattle.std.specs.Prelude.{ℕ, ◌≡◌, ◌+◌, ◌++◌, ◌≤◌, ◌<◌, OnOk, string_bytes};
 ghost use Rattle.napt_log_text.specs.Calendar as calendar;
 ghost use Rattle.napt_log_text.specs.Times.{day_text};
 
@@ -27,9 +27,9 @@ impl Date {
         Date::after(year, days - days_before(year))
     }
 
-    /// The day that comes so many days after the first of January of a year.
+    /// The day that comes so many days after the first of January of a year: few, since it goes from month to month.
     fn after(year: u32, days: u32) -> Date
-        requires { year + days < 2 ^ 32 }
+        requires { (year < 10000) × (days < 7000) }
         ensures { (begin : ℕ) → calendar.date_on begin ≡ calendar.first_of_month year 1 →
             result ≡ calendar.date_on (begin + days) }
     {

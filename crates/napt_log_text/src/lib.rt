@@ -10,6 +10,7 @@ mod log_rows;
 mod moment;
 mod object;
 mod request;
+mod saved_row;
 mod suffix;
 #[cfg(test)]
 mod tests;
@@ -22,3 +23,4 @@ pub use moment::Moment;
 pub use napt_account::Listed;
 pub use object::Object;
 pub use request::{Nearest, Request, Span};
+pub use saved_row::{NO_TIME, SavedBinding, SavedRow};

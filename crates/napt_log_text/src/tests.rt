@@ -2,7 +2,8 @@
 //! kind.
 
 use crate::{
-    Event, Listed, Moment, Object, Request, Span, add_holder, add_mark, add_nobody, header,
+    Event, Listed, Moment, NO_TIME, Object, Request, SavedBinding, SavedRow, Span, add_holder,
+    add_mark, add_nobody, header,
 };
 use napt_account::{Entry, Note, Party, Shortage};
 use napt_config::Config;
@@ -105,6 +106,41 @@ fn each_event_has_a_row(rt: HostRuntime) -> Result<(), Fail> {
         "5,1970-01-01T00:00:00.000000005Z,13,1,10.0.0.3,,203.0.113.1,,3,,,,,,\n"
     );
     assert_eq!(rt; header().matches(',').count(), refused.matches(',').count());
+    Ok(())
+}
+
+#[test]
+fn rows_are_read_back(rt: HostRuntime) -> Result<(), Fail> {
+    let binding = SavedBinding {
+        time: Some(304_000_000_000),
+        number: Some(7),
+        binding: ENTRY.binding,
+    };
+    let row = "304000000000,,9,17,10.0.0.2,5000,203.0.113.1,1024,,7,0,3,2,4000000000,";
+    assert_eq!(rt; SavedRow::read(row), Ok(SavedRow::Ended(binding)));
+    let row = "304000000000,,,17,10.0.0.2,5000,203.0.113.1,1024,,7,0,3,2,4000000000,";
+    assert_eq!(rt; SavedRow::read(row), Ok(SavedRow::Living(binding)));
+    let redirect = SavedBinding {
+        time: Some(1),
+        number: None,
+        binding: Row {
+            protocol: Protocol::Tcp,
+            fixed: true,
+            ..ENTRY.binding
+        },
+    };
+    let row = "1,,8,6,10.0.0.2,5000,203.0.113.1,1024,,x,1,0,0,,";
+    assert_eq!(rt; SavedRow::read(row), Ok(SavedRow::Made(redirect)));
+    let row = "5,,12,1,10.0.0.3,,203.0.113.1,,,,,,,,";
+    assert_eq!(rt; SavedRow::read(row), Ok(SavedRow::Refused(Some(5))));
+    assert_eq!(rt;
+        SavedRow::read("x,,13,1,10.0.0.3,,203.0.113.1,,3,,,,,,"),
+        Err(NO_TIME)
+    );
+    assert_eq!(rt;
+        SavedRow::read(",,,,,,,,,,,,,"),
+        Err("expected as many fields as there are names")
+    );
     Ok(())
 }
 

@@ -1,0 +1,36 @@
+use Rattle.std.proofs.Common.{ℕ, ◌≡◌, ◌∙◌, Some, sym, ap, arith}
+use Rattle.std.specs.Result.{result_ok}
+use Rattle.std.proofs.lemmas.Fmt.{parse-decimal}
+use Rattle.std.proofs.lemmas.Option.{none-some}
+use Rattle.napt_wire.specs.declared.Endpoint.{Endpoint}
+use Rattle.napt_config.specs.declared.address.Address.{Address}
+use Rattle.napt_log_text.proofs.saved_row.endpoint_of.Goals as goal
+
+both : (address : Address) (number : ℕ) (endpoint : Endpoint) → Some address ≡ Some (record { 0 = endpoint.address }) →
+    Some number ≡ Some endpoint.number → Some (record { address = address.0; number = number }) ≡ Some endpoint
+both address number endpoint one other =
+    let same : address ≡ record { 0 = endpoint.address } = cc in
+    let first : address.0 ≡ endpoint.address = ap (λ (a : Address). a.0) same in
+    let second : number ≡ endpoint.number = cc in
+    rw (first, second)
+
+pub returns-in_err-address : goal.returns-in_err-address
+returns-in_err-address c endpoint fits is_address is_number =
+    let read = c.ok.ensures.value
+    ∙ ap result_ok (c.parse.ensures.value.only (record { 0 = endpoint.address }) fits.0 is_address) in
+    absurd (none-some _ (sym c.in_err-address.was ∙ read))
+
+pub returns-in_err-number : goal.returns-in_err-number
+returns-in_err-number c endpoint fits is_address is_number =
+    let read = c.ok-2.ensures.value
+    ∙ ap result_ok (parse-decimal 16 endpoint.number _ _ fits.1 (omega arith) is_number c.parse-2.ensures.value.0) in
+    absurd (none-some _ (sym c.in_err-number.was ∙ read))
+
+pub returns : goal.returns
+returns c endpoint fits is_address is_number =
+    let first = c.ok.ensures.value
+    ∙ ap result_ok (c.parse.ensures.value.only (record { 0 = endpoint.address }) fits.0 is_address) in
+    let second = c.ok-2.ensures.value
+    ∙ ap result_ok (parse-decimal 16 endpoint.number _ _ fits.1 (omega arith) is_number c.parse-2.ensures.value.0) in
+    both c.in_ok-address.address c.in_ok-number.number endpoint (sym c.in_ok-address.was ∙ first)
+    (sym c.in_ok-number.was ∙ second)
