@@ -7,7 +7,6 @@ use Rattle.napt_rules.specs.Prelude.{Arrival}
 use Rattle.napt_account.specs.declared.log.Listed.{Listed}
 use Rattle.napt_account.specs.declared.log.Shortage.{Shortage}
 use Rattle.napt_account.specs.Telling.{Told, living_of, told_by}
-use Rattle.napt_log_text.specs.declared.event.Event.{Event}
 use Rattle.napt_log_text.specs.declared.event.Event.TheVariants.{Made, Ended, Living, Refused}
 use Rattle.napt_log_text.specs.Rows.{csv_row, header}
 use Rattle.napt_log_text.specs.Times.{Text}

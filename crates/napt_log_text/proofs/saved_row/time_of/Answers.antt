@@ -1,4 +1,4 @@
-use Rattle.std.proofs.Common.{ℕ, ◌≡◌, ◌==◌, ◌^◌, ◌<◌, ◌∙◌, Bool, true, false, List, length, Option, Some, None, Result, Ok, Err, eqb-true, refl, sym, ap, arith}
+use Rattle.std.proofs.Common.{ℕ, ◌≡◌, ◌==◌, ◌∙◌, true, false, List, length, Option, Some, None, Result, Ok, Err, eqb-true, refl, sym, ap, arith}
 use Rattle.std.specs.Str.Parse.{ParsesUnsigned}
 use Rattle.std.proofs.lemmas.Fmt.{decimal_is_IsNumeral_wide, parse-decimal_wide}
 use Rattle.napt_log_text.specs.Rows.{number_if_any}

@@ -1,4 +1,4 @@
-use Rattle.std.proofs.Common.{◌≡◌, ◌∙◌, Ok, [], codes, sym, ap, arith}
+use Rattle.std.proofs.Common.{◌∙◌, Ok, [], codes, sym, ap, arith}
 use Rattle.napt_log_text.proofs.SavedRows.{binding_not_refused, binding_read, fields_read-many, no_other, time_not_refused, time_read}
 use Rattle.napt_log_text.proofs.saved_row.SavedRow.read.Goals as goal
 
