@@ -335,9 +335,9 @@ struct Counted {
 }
 
 impl Counted {
-    fn of(is_good: bool) -> Watched<Counted> {
+    fn of(is_good: bool) -> Counted {
         let calls = (0, 0, 0);
-        Watched::new(Counted { is_good, calls })
+        Counted { is_good, calls }
     }
 
     fn answer(&self) -> io::Result<()> {
@@ -373,13 +373,13 @@ impl Write for Counted {
 #[test]
 fn calls_are_handed_on_once(rt: HostRuntime) {
     for is_good in [true, false] {
-        let mut read = Counted::of(is_good);
+        let mut read = Watched::new(Counted::of(is_good));
         assert_eq!(rt; read.read(&mut [0; 2]).is_ok(), is_good);
         assert_eq!(rt; read.into_inner().calls, (1, 0, 0));
-        let mut written = Counted::of(is_good);
+        let mut written = Watched::new(Counted::of(is_good));
         assert_eq!(rt; written.write(&[7; 2]).is_ok(), is_good);
         assert_eq!(rt; written.into_inner().calls, (0, 1, 0));
-        let mut flushed = Counted::of(is_good);
+        let mut flushed = Watched::new(Counted::of(is_good));
         assert_eq!(rt; flushed.flush().is_ok(), is_good);
         assert_eq!(rt; flushed.into_inner().calls, (0, 0, 1));
     }
